@@ -1,0 +1,10 @@
+pub mod Disconnects
+pub mod Field
+pub mod MethodPlaces
+pub mod Methods
+pub mod Names
+pub mod Open
+pub mod OpenFailures
+pub mod Ptys
+pub mod Reading
+pub mod Signals
