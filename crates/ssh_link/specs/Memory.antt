@@ -1,0 +1,100 @@
+-- The outsides in memory: what they still have, and which of their calls fail.
+use Rattle.std.specs.Prelude.{◌+◌, ◌^◌, ◌==◌, ◌&&◌, ℕ, Bool, nat_lt, if◌then◌else◌, List, [], ◌∷◌, ◌++◌, drop}
+use Rattle.std.specs.List.{list_any}
+use Rattle.ssh_link.specs.declared.frame.Frame.{Frame}
+use Rattle.ssh_link.specs.declared.frame.Input.{Input}
+use Rattle.ssh_link.specs.declared.frame.InputKind.TheVariants.{End}
+use Rattle.ssh_link.specs.declared.link.TraceEntry.{TraceEntry}
+use Rattle.ssh_link.specs.declared.link.TraceEntry.TheVariants.{Took, Sent}
+
+pub record Failures : Type 0 where
+  -- the numbers of the calls that are to fail; the first call is number 1
+  pub fails : List ℕ
+  -- how many calls were made
+  pub calls : ℕ
+  -- how many of them failed
+  pub faults : ℕ
+
+-- before the first call
+abbrev pub no_calls : List ℕ → Failures
+no_calls fails = record { fails = fails; calls = 0; faults = 0 }
+
+-- whether one more call still has a number
+abbrev pub is_numbered : Failures → Bool
+is_numbered f = nat_lt (f.calls + 1) (2 ^ 64)
+
+-- whether the next call fails: its number is among those that are to fail
+abbrev pub fails_next : Failures → Bool
+fails_next f = is_numbered f && list_any (λ call. call == f.calls + 1) f.fails
+
+-- after one more call, which failed where its number says so
+abbrev pub called : Failures → Failures
+called f =
+    if is_numbered f
+    then record f { calls = f.calls + 1; faults = if fails_next f then f.faults + 1 else f.faults }
+    else f
+
+-- what a link in memory has
+pub record Remembered : Type 0 where
+  -- the inputs that were not given yet, in order
+  pub left : List Input
+  -- the moment of the input that was given last, and 0 before the first
+  pub moment : ℕ
+  -- its calls that fail
+  pub failures : Failures
+  -- its finished calls in order
+  pub trace : List TraceEntry
+
+-- a link that has these inputs and was not called yet
+abbrev pub unused : List Input → List ℕ → Remembered
+unused inputs fails = record { left = inputs; moment = 0; failures = no_calls fails; trace = [] }
+
+-- the first of these inputs; where none is left the end, at the moment of the last input
+abbrev pub first_or_end : List Input → ℕ → Input
+first_or_end [] moment = record { moment = moment; kind = End }
+first_or_end (input ∷ inputs) moment = input
+
+-- the input that comes next
+abbrev pub next_input : Remembered → Input
+next_input link = first_or_end link.left link.moment
+
+-- after a call that was not finished
+abbrev pub failed : Remembered → Remembered
+failed link = record link { failures = called link.failures }
+
+-- after the next input was given
+abbrev pub gave : Remembered → Bool → Bool → Remembered
+gave link commands replies = record {
+  left = drop 1 link.left;
+  moment = (next_input link).moment;
+  failures = called link.failures;
+  trace = link.trace ++ Took commands replies (next_input link) ∷ [];
+}
+
+-- after a frame was taken
+abbrev pub took_frame : Remembered → Frame → Remembered
+took_frame link frame = record link { failures = called link.failures; trace = link.trace ++ Sent frame ∷ [] }
+
+-- what a source in memory has
+pub record Readable : Type 0 where
+  -- the bytes that were not read yet
+  pub left : List ℕ
+  -- its calls that fail
+  pub failures : Failures
+
+-- what a sink in memory has
+pub record Written : Type 0 where
+  -- the bytes that were written
+  pub held : List ℕ
+  -- its calls that fail
+  pub failures : Failures
+  -- how many of its other calls found no memory
+  pub starved : ℕ
+
+-- after a call that failed as planned
+abbrev pub refused : Written → Written
+refused sink = record sink { failures = called sink.failures }
+
+-- after the whole piece was written
+abbrev pub wrote : Written → List ℕ → Written
+wrote sink piece = record sink { held = sink.held ++ piece; failures = called sink.failures }

@@ -1,0 +1,25 @@
+//! What a session sees of the outside: inputs come in and frames go out through a `Link`, the
+//! bytes of a program through a `Source` and a `Sink`.
+//!
+//! What the crates above rely on: an outside fails only where its count of faults rose, and
+//! whatever tells its calls goes on telling them.
+#![tactic(auto)]
+
+mod failures;
+mod frame;
+mod io;
+mod link;
+mod lists;
+mod memory_io;
+mod memory_link;
+mod standard;
+#[cfg(test)]
+mod tests;
+
+pub use frame::{Frame, Input, InputKind};
+pub use io::{IoFailed, Sink, Source};
+pub use link::{Link, LinkFault, TraceEntry};
+pub use lists::{Calls, Inputs};
+pub use memory_io::{MemorySink, MemorySource};
+pub use memory_link::MemoryLink;
+pub use standard::{StdSink, StdSource};

@@ -1,0 +1,80 @@
+// The link of a session to its peer.
+ghost use Rattle.std.specs.Prelude.{◌≡◌, ◌<◌, ◌≤◌, ℕ, List, Option, IfOk, IfErr, OnOk, OnErr, IsErrOf};
+ghost use Rattle.ssh_wire.specs.declared.error.WireError.TheVariants.{NoMemory};
+ghost use Rattle.ssh_link.specs.declared.link.TraceEntry.{TraceEntry};
+ghost use Rattle.ssh_link.specs.declared.link.TraceEntry.TheVariants.{Took, Sent};
+ghost use Rattle.ssh_link.specs.Told.{AddsOne, AddsNothing};
+
+use crate::{Frame, Input};
+use ssh_wire::WireError;
+
+/// A call of a link that was finished, as the link tells it.
+#[derive(Debug, Drop, PartialEq, Eq)]
+pub enum TraceEntry {
+    /// An input was taken.
+    Took {
+        /// Whether commands were asked for.
+        commands: bool,
+        /// Whether replies to opens were asked for.
+        replies: bool,
+        /// The input that was given.
+        input: Input,
+    },
+    /// A frame was handed on.
+    Sent(Frame),
+}
+
+impl TraceEntry {
+    /// An equal entry. `NoMemory` is the only error.
+    pub fn copy(&self) -> Result<TraceEntry, WireError>
+        ensures ok { IfOk result (λ entry. entry ≡ self.now) }
+        ensures memory { IfErr result (λ e. e ≡ NoMemory) }
+    {
+        match self {
+            TraceEntry::Took {
+                commands,
+                replies,
+                input,
+            } => Ok(TraceEntry::Took {
+                commands: *commands,
+                replies: *replies,
+                input: input.copy()?,
+            }),
+            TraceEntry::Sent(frame) => Ok(TraceEntry::Sent(frame.copy()?)),
+        }
+    }
+}
+
+/// Why a call of a link was not finished.
+#[derive(Clone, Copy, Debug, PartialEq, Eq)]
+pub enum LinkFault {
+    /// The outside failed: the link's count of faults rose.
+    Failed,
+    /// There was no memory.
+    NoMemory,
+}
+
+/// Where inputs come from, and where frames go to. A link that tells its calls goes on telling
+/// them.
+pub trait Link {
+    /// The finished calls in order, where the link tells them.
+    ghost trace: { Self → Option (List TraceEntry) };
+
+    /// How often the outside has failed.
+    ghost faults: { Self → ℕ };
+
+    /// The next input. A link gives a command only where `commands` asks for it, and a reply to
+    /// an open only where `replies` asks for it.
+    fn next(&mut self, commands: bool, replies: bool) -> Result<Input, LinkFault>
+        ensures took { IfOk result (λ input. AddsOne (trace self.old) (trace self.new) (Took commands replies input)) }
+        ensures err { OnErr result (AddsNothing (trace self.old) (trace self.new)) }
+        ensures cause { IsErrOf result LinkFault.Failed → faults self.old < faults self.new }
+        ensures later { faults self.old ≤ faults self.new };
+
+    /// Hands a frame on to the peer.
+    fn send(&mut self, frame: Frame) -> Result<(), LinkFault>
+        ensures sent { OnOk result (AddsOne (trace self.old) (trace self.new) (Sent frame)) }
+        ensures err { OnErr result (AddsNothing (trace self.old) (trace self.new)) }
+        ensures cause { IsErrOf result LinkFault.Failed → faults self.old < faults self.new }
+        ensures later { faults self.old ≤ faults self.new };
+}
