@@ -1,0 +1,9 @@
+-- What a session lends to a callback.
+use Rattle.std.specs.Prelude.{ℕ, List}
+use Rattle.ssh_handler.specs.declared.config.Config.{Config}
+
+pub record Lent : Type 0 where
+  -- how the server is set up
+  pub config : Config
+  -- the line by which the peer's software named itself (RFC 4253 section 4.2)
+  pub remote_sshid : List ℕ

@@ -1,0 +1,4 @@
+pub mod Settings
+pub mod Lent
+pub mod Plan
+pub mod Recording

@@ -1,0 +1,62 @@
+// How a server is set up.
+ghost use Rattle.std.specs.Prelude.{◌≡◌};
+ghost use Rattle.ssh_handler.specs.Settings.{standard_config};
+
+use ssh_wire::{Limits, MethodSet};
+
+/// How a server is set up.
+#[derive(Clone, Copy)]
+pub struct Config {
+    /// The authentication methods that can continue at first.
+    pub methods: MethodSet,
+    /// How long a refusal of authentication is held, in milliseconds.
+    pub auth_rejection_time: u64,
+    /// How long the refusal of a first request by method none is held, in milliseconds; None
+    /// holds it as any other.
+    pub auth_rejection_time_initial: Option<u64>,
+    /// After how many bytes, or how long, keys are exchanged again.
+    pub limits: Limits,
+    /// The window that each channel grants its peer, in bytes.
+    pub window_size: u32,
+    /// The largest packet that each channel takes from its peer, in bytes.
+    pub maximum_packet_size: u32,
+    /// How many messages wait for the user of a channel.
+    pub channel_buffer_size: usize,
+    /// How many commands wait for the session.
+    pub event_buffer_size: usize,
+    /// After how many refusals the peer is disconnected; 0 sets no end.
+    pub max_auth_attempts: usize,
+    /// After how long without an input the link ends the connection, in milliseconds; told to
+    /// whoever builds the link.
+    pub inactivity_timeout: Option<u64>,
+    /// How long the link waits between keepalive ticks, in milliseconds; told to whoever builds
+    /// the link.
+    pub keepalive_interval: Option<u64>,
+    /// How many keepalive requests may go unanswered; 0 sets no end.
+    pub keepalive_max: usize,
+    /// Whether the socket sends small packets at once; told to whoever builds the link.
+    pub nodelay: bool,
+}
+
+impl Config {
+    /// The set-up of a server that names nothing else. It takes no memory.
+    pub fn standard() -> Config
+        ensures { result ≡ standard_config }
+    {
+        Config {
+            methods: MethodSet::server_supported(),
+            auth_rejection_time: 1000,
+            auth_rejection_time_initial: None,
+            limits: Limits::standard(),
+            window_size: 2_097_152,
+            maximum_packet_size: 32_768,
+            channel_buffer_size: 100,
+            event_buffer_size: 10,
+            max_auth_attempts: 10,
+            inactivity_timeout: Some(600_000),
+            keepalive_interval: None,
+            keepalive_max: 3,
+            nodelay: false,
+        }
+    }
+}

@@ -1,0 +1,99 @@
+// Handlers by example, through the trait alone.
+use crate::{Auth, Call, Commands, Config, Handler, RecordError, Recorded, Unwritten};
+use ssh_wire::Text;
+use std::alloc::Global;
+use std::test::Fail;
+
+// What the three callbacks answered: whether there was a banner, whether the user was let in,
+// and the error that came last.
+fn answers<H: Handler>(
+    handler: &mut H,
+    user: &str,
+    config: &Config,
+) -> (bool, bool, Option<H::Error>) {
+    let banner = matches!(handler.authentication_banner(), Ok(Some(_)));
+    let accepted = matches!(handler.auth_none(user), Ok(Auth::Accept));
+    let mut session = Commands::new(config, b"SSH-2.0-test");
+    let error = handler.auth_succeeded(&mut session).err();
+    (banner, accepted, error)
+}
+
+// Writes no callback.
+#[derive(Drop)]
+struct Silent;
+
+impl Handler for Silent {
+    type Error = ();
+
+    fn untold(&mut self, _by: Unwritten) -> Result<(), ()> {
+        Ok(())
+    }
+}
+
+// Lets anna in, and has no time for anyone.
+#[derive(Drop)]
+struct Greeter {
+    alloc: Global,
+}
+
+#[derive(Clone, Copy, Debug, Drop, PartialEq, Eq)]
+struct Late;
+
+impl Handler for Greeter {
+    type Error = Late;
+
+    fn untold(&mut self, _by: Unwritten) -> Result<(), Late> {
+        Ok(())
+    }
+
+    fn authentication_banner(&mut self) -> Result<Option<Text>, Late> {
+        Ok(Text::new(self.alloc, "hello").ok())
+    }
+
+    fn auth_none(&mut self, user: &str) -> Result<Auth, Late> {
+        if user == "anna" {
+            Ok(Auth::Accept)
+        } else {
+            Ok(Auth::reject())
+        }
+    }
+
+    fn auth_succeeded(&mut self, _session: &mut Commands<'_>) -> Result<(), Late> {
+        Err(Late)
+    }
+}
+
+#[test]
+fn unwritten_callbacks_refuse_and_go_on(rt: HostRuntime) {
+    let config = Config::standard();
+    assert_eq!(rt; answers(&mut Silent, "anna", &config), (false, false, None));
+}
+
+#[test]
+fn recorded_tells_each_call(rt: HostRuntime) -> Result<(), Fail> {
+    let alloc = rt.alloc();
+    let config = Config::standard();
+    let mut handler = Recorded::new(alloc, Greeter { alloc });
+    let late = Some(RecordError::Inner(Late));
+    assert_eq!(rt; answers(&mut handler, "anna", &config), (true, true, late));
+    assert_eq!(rt; answers(&mut handler, "bert", &config), (true, false, late));
+    let mut users = Vec::new(alloc);
+    for call in handler.calls() {
+        if let Call::AuthNone { user, answer } = call {
+            users.push((user.copy()?, matches!(answer, Ok(Auth::Accept))))?;
+        }
+    }
+    assert_eq!(rt; handler.calls().len(), 6);
+    assert_eq!(rt; users.len(), 2);
+    assert_eq!(rt; (users[0].0.as_str(), users[0].1), ("anna", true));
+    assert_eq!(rt; (users[1].0.as_str(), users[1].1), ("bert", false));
+    Ok(())
+}
+
+#[test]
+fn commands_lend_what_they_were_given(rt: HostRuntime) {
+    let config = Config::standard();
+    let session = Commands::new(&config, b"SSH-2.0-test");
+    assert_eq!(rt; session.config().window_size, 2_097_152);
+    assert_eq!(rt; session.remote_sshid(), b"SSH-2.0-test".as_slice());
+}
