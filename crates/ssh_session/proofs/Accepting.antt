@@ -1,0 +1,264 @@
+-- Nothing of the connection is served before an accepted authentication: by induction over a run.
+use Rattle.std.proofs.Common.{◌≡◌, ◌≤◌, ◌⊎◌, ℕ, List, [], ◌∷◌, ◌++◌, Option, Some, None, Result, Ok, Err, Bool, true, false, refl, sym, ◌∙◌, ap, subst, inl, inr, arith}
+use Rattle.std.specs.Prelude.{bytes_eq, codes, if◌then◌else◌, length, drop, option_to_list, unwrap_or}
+use Rattle.ssh_wire.specs.declared.method.MethodKind.TheVariants as method_kind
+use Rattle.ssh_wire.specs.Methods.{without, names_text}
+use Rattle.ssh_wire.specs.Field.{string}
+use Rattle.ssh_link.specs.declared.frame.Frame.{Frame}
+use Rattle.ssh_link.specs.declared.frame.InputKind.{InputKind}
+use Rattle.ssh_link.specs.declared.frame.InputKind.TheVariants.{Payload, End}
+use Rattle.ssh_link.specs.declared.link.TraceEntry.{TraceEntry}
+use Rattle.ssh_handler.specs.declared.auth.Auth.{Auth}
+use Rattle.ssh_handler.specs.declared.auth.Auth.TheVariants.{Reject, Accept}
+use Rattle.ssh_handler.specs.declared.call.Call.{Call}
+use Rattle.ssh_handler.specs.Plan.{Plan, Finish, Ask, Question, Answer, Answered, Authentication_banner, Auth_none, Auth_succeeded, Follows, Begins, Breaks}
+use Rattle.ssh_session.specs.declared.phase.Phase.TheVariants.{Accepted}
+use Rattle.ssh_session.specs.declared.error.RunError.{RunError}
+use Rattle.ssh_session.specs.declared.error.RunError.TheVariants as error
+use Rattle.ssh_session.specs.declared.gate.Gate.{Gate}
+use Rattle.ssh_session.specs.declared.gate.Gate.TheVariants as gate
+use Rattle.ssh_session.specs.declared.auth_request.AuthRequest.{AuthRequest}
+use Rattle.ssh_session.specs.World.{Settings, World, opening_world}
+use Rattle.ssh_session.specs.Gate.{gate_of}
+use Rattle.ssh_session.specs.Said.{Said, Nothing, Disconnect, Service, Request, Unfit, Unbuilt, Method, None_method, Unfit_method, Unbuilt_method, Fits}
+use Rattle.ssh_session.specs.Outcome.{Outcome, Goes, Ends, Fails, Inconsistent}
+use Rattle.ssh_session.specs.Rows.{row, accept_row, none_verdict, none_row, method_row, moment_after, none_hold}
+use Rattle.ssh_session.specs.Layout.{at_once, held, service_accept, failure, success, flag}
+use Rattle.ssh_session.specs.Run.{OwesKind, Turn, Run}
+use Rattle.ssh_session.specs.Step.{SendsPart, Stops, Closes, Ran}
+use Rattle.ssh_session.specs.Authorised.{IsRequestOf, IsAccepting, IsOfConnection, IsOfChannel, SomeAccepting, AuthorisedCalls, AuthorisedFrames, Authorised}
+use Rattle.ssh_session.proofs.Gates.{is_userauth}
+
+-- ---- plans in which nothing of the connection comes before an accepting answer
+
+-- the question is one of the connection
+abbrev pub AsksConnection : Question → Type 0
+AsksConnection Authentication_banner = ⊥
+AsksConnection (Auth_none user) = ⊥
+AsksConnection Auth_succeeded = Unit {0}
+
+-- the answer accepts the user of this input's request
+abbrev pub Accepts : InputKind → (question : Question) → Answer question → Type 0
+Accepts kind Authentication_banner answer = ⊥
+Accepts kind (Auth_none user) Accept = IsRequestOf user kind
+Accepts kind (Auth_none user) (Reject methods partial) = ⊥
+Accepts kind Auth_succeeded answer = ⊥
+
+abbrev pub GuardedOutcome : Type 0 → Outcome → Type 0
+GuardedOutcome accepted (Goes frames world) = AuthorisedFrames accepted frames × (world.phase ≡ Accepted → accepted)
+GuardedOutcome accepted (Ends frames) = AuthorisedFrames accepted frames
+GuardedOutcome accepted (Fails fault) = Unit {0}
+
+abbrev pub Guarded : Type 0 → InputKind → Plan Outcome → Type 0
+Guarded accepted kind (Finish outcome) = GuardedOutcome accepted outcome
+Guarded accepted kind (Ask question next) =
+    (AsksConnection question → accepted) × ((answer : Answer question) → Guarded (accepted ⊎ Accepts kind question answer) kind (next answer))
+
+-- ---- what was accepted stays so
+
+frames_weak : (a b : Type 0) (frames : List Frame) → (a → b) → AuthorisedFrames a frames → AuthorisedFrames b frames
+frames_weak a b [] f h = tt
+frames_weak a b (frame ∷ frames) f h = (λ c. f (h.0 c), frames_weak a b frames f h.1)
+
+outcome_weak : (a b : Type 0) (outcome : Outcome) → (a → b) → GuardedOutcome a outcome → GuardedOutcome b outcome
+outcome_weak a b (Goes frames world) f h = (frames_weak a b frames f h.0, λ p. f (h.1 p))
+outcome_weak a b (Ends frames) f h = frames_weak a b frames f h
+outcome_weak a b (Fails fault) f h = tt
+
+either : {A B C : Type 0} → (A → C) → (B → C) → A ⊎ B → C
+either f g (inl a) = f a
+either f g (inr b) = g b
+
+guarded_weak : (a b : Type 0) (kind : InputKind) (plan : Plan Outcome) → (a → b) → Guarded a kind plan → Guarded b kind plan
+guarded_weak a b kind (Finish outcome) f h = outcome_weak a b outcome f h
+guarded_weak a b kind (Ask question next) f h = (
+  λ q. f (h.0 q),
+  λ answer. guarded_weak (a ⊎ Accepts kind question answer) (b ⊎ Accepts kind question answer) kind (next answer) (either (λ x. inl (f x)) inr) (h.1 answer),
+)
+
+calls_weak : {E : Type 0} (a b : Type 0) (kind : InputKind) (calls : List (Call E)) → (a → b) → AuthorisedCalls a kind calls → AuthorisedCalls b kind calls
+calls_weak a b kind [] f h = tt
+calls_weak a b kind (call ∷ calls) f h = (
+  λ q. f (h.0 q),
+  calls_weak (a ⊎ IsAccepting kind call) (b ⊎ IsAccepting kind call) kind calls (either (λ x. inl (f x)) inr) h.1,
+)
+
+-- ---- the calls of such a plan
+
+-- a call is of the connection only where its question is
+connection_asked : {E : Type 0} (question : Question) (answer : Result (Answer question) E) (call : Call E) → Answered question answer call → IsOfConnection call → AsksConnection question
+connection_asked Authentication_banner answer call is h = let k = subst IsOfConnection is h in k
+connection_asked (Auth_none user) answer call is h = let k = subst IsOfConnection is h in k
+connection_asked Auth_succeeded answer call is h = tt
+
+-- an accepting answer makes an accepting call
+accepting : {E : Type 0} (kind : InputKind) (question : Question) (answer : Answer question) (call : Call E) → Answered question (Ok answer) call → Accepts kind question answer → IsAccepting kind call
+accepting kind Authentication_banner answer call is h = absurd h
+accepting kind (Auth_none user) Accept call is h = subst (IsAccepting kind) (sym is) h
+accepting kind (Auth_none user) (Reject methods partial) call is h = absurd h
+accepting kind Auth_succeeded answer call is h = absurd h
+
+-- what is guarded after an answer is guarded after its call
+after_call : {E : Type 0} (a : Type 0) (kind : InputKind) (question : Question) (next : Answer question → Plan Outcome) (answer : Answer question) (call : Call E) →
+    Answered question (Ok answer) call → Guarded a kind (Ask question next) → Guarded (a ⊎ IsAccepting kind call) kind (next answer)
+after_call a kind question next answer call is h =
+    guarded_weak (a ⊎ Accepts kind question answer) (a ⊎ IsAccepting kind call) kind (next answer)
+    (either (λ x. inl x) (λ x. inr (accepting kind question answer call is x))) (h.1 answer)
+
+pub begins_guarded : {E : Type 0} (a : Type 0) (kind : InputKind) (plan : Plan Outcome) (calls : List (Call E)) → Guarded a kind plan → Begins plan calls → AuthorisedCalls a kind calls
+begins_guarded a kind plan [] h b = tt
+begins_guarded a kind (Finish outcome) (call ∷ calls) h b = absurd b
+begins_guarded a kind (Ask question next) (call ∷ calls) h b = (
+  λ q. h.0 (connection_asked question (Ok b.0) call b.1 q),
+  begins_guarded (a ⊎ IsAccepting kind call) kind (next b.0) calls (after_call a kind question next b.0 call b.1 h) b.2,
+)
+
+pub breaks_guarded : {E : Type 0} (a : Type 0) (kind : InputKind) (plan : Plan Outcome) (calls : List (Call E)) (e : E) → Guarded a kind plan → Breaks plan calls e → AuthorisedCalls a kind calls
+breaks_guarded a kind plan [] e h b = tt
+breaks_guarded a kind (Finish outcome) (call ∷ calls) e h b = absurd b
+breaks_guarded a kind (Ask question next) (call ∷ []) e h b = (λ q. h.0 (connection_asked question (Err e) call b q), tt)
+breaks_guarded a kind (Ask question next) (call ∷ d ∷ calls) e h b = (
+  λ q. h.0 (connection_asked question (Ok b.0) call b.1 q),
+  breaks_guarded (a ⊎ IsAccepting kind call) kind (next b.0) (d ∷ calls) e (after_call a kind question next b.0 call b.1 h) b.2,
+)
+
+pub follows_guarded : {E : Type 0} (a : Type 0) (kind : InputKind) (plan : Plan Outcome) (calls : List (Call E)) (outcome : Outcome) → Guarded a kind plan → Follows plan calls outcome →
+    AuthorisedCalls a kind calls × GuardedOutcome (a ⊎ SomeAccepting kind calls) outcome
+follows_guarded a kind (Finish planned) [] outcome h b = (tt, outcome_weak a (a ⊎ ⊥) outcome (λ x. inl x) (subst (GuardedOutcome a) (sym b) h))
+follows_guarded a kind (Finish planned) (call ∷ calls) outcome h b = absurd b
+follows_guarded a kind (Ask question next) [] outcome h b = absurd b
+follows_guarded a kind (Ask question next) (call ∷ calls) outcome h b =
+    let more = follows_guarded (a ⊎ IsAccepting kind call) kind (next b.0) calls outcome (after_call a kind question next b.0 call b.1 h) b.2 in (
+      (λ q. h.0 (connection_asked question (Ok b.0) call b.1 q), more.0),
+      outcome_weak ((a ⊎ IsAccepting kind call) ⊎ SomeAccepting kind calls) (a ⊎ SomeAccepting kind (call ∷ calls)) outcome
+          (either (either (λ x. inl x) (λ x. inr (inl x))) (λ x. inr (inr x))) more.1,
+    )
+
+-- ---- the rows are such plans
+
+-- a frame of another number is no frame of a channel
+low_frame : (a : Type 0) (frame : Frame) (n : ℕ) (rest : List ℕ) → frame.payload ≡ n ∷ rest → (90 ≤ n → ⊥) → IsOfChannel frame → a
+low_frame a frame n rest is low h =
+    let e : n ≡ h.0 = cc in
+    absurd (low (subst (λ m. 90 ≤ m) (sym e) h.3))
+
+accept_guarded : (a : Type 0) (kind : InputKind) (w : World) (banner : Option (List ℕ)) → Guarded (a ⊎ ⊥) kind (accept_row w banner)
+accept_guarded a kind w None = ((low_frame (a ⊎ ⊥) (at_once service_accept) 6 (string (codes "ssh-userauth")) refl (λ h. omega (arith, h)), tt), λ e. cc)
+accept_guarded a kind w (Some text) = tt
+
+service_guarded : (a : Type 0) (kind : InputKind) (w : World) (b : Bool) → (w.phase ≡ Accepted → a) →
+    Guarded a kind (if b then Ask Authentication_banner (accept_row w) else Finish (Goes [] w))
+service_guarded a kind w true p = (λ q. absurd q, λ banner. accept_guarded a kind w banner)
+service_guarded a kind w false p = (tt, p)
+
+verdict_guarded : (a : Type 0) (kind : InputKind) (settings : Settings) (moment : ℕ) (w : World) (user : List ℕ) (auth : Auth) → IsRequestOf user kind → (w.phase ≡ Accepted → a) →
+    Guarded (a ⊎ Accepts kind (Auth_none user) auth) kind (none_verdict settings moment w auth)
+verdict_guarded a kind settings moment w user Accept is p =
+    (λ q. inr is, λ done. ((low_frame ((a ⊎ Accepts kind (Auth_none user) Accept) ⊎ ⊥) (at_once success) 52 [] refl (λ h. omega (arith, h)), tt), λ e. inl (inr is)))
+verdict_guarded a at settings moment w user (Reject methods partial) is p =
+    let names = unwrap_or methods (without method_kind.None w.auth.methods) in
+    ((low_frame (a ⊎ ⊥) (held (failure names partial) (moment_after moment (none_hold settings.config w.requested))) 51 (string (names_text names) ++ flag partial ∷ []) refl (λ h. omega (arith, h)), tt), λ e. inl (p e))
+
+none_guarded : (a : Type 0) (kind : InputKind) (settings : Settings) (moment : ℕ) (w : World) (user : List ℕ) (auth : Option AuthRequest) → IsRequestOf user kind → (w.phase ≡ Accepted → a) →
+    Guarded a kind (none_row settings moment w user auth)
+none_guarded a kind settings moment w user None is p = tt
+none_guarded a kind settings moment w user (Some auth) is p =
+    (λ q. absurd q, λ answer. verdict_guarded a kind settings moment (record w { auth = auth }) user answer is p)
+
+method_guarded : (a : Type 0) (kind : InputKind) (settings : Settings) (moment : ℕ) (w : World) (user service : List ℕ) (method : Method) → IsRequestOf user kind → (w.phase ≡ Accepted → a) →
+    Guarded a kind (method_row settings moment w user service method)
+method_guarded a kind settings moment w user service None_method is p = none_guarded a kind settings moment w user _ is p
+method_guarded a kind settings moment w user service (Unfit_method why) is p = tt
+method_guarded a kind settings moment w user service Unbuilt_method is p = tt
+
+request_guarded : (a : Type 0) (kind : InputKind) (settings : Settings) (moment : ℕ) (w : World) (user service : List ℕ) (method : Method) (b : Bool) → IsRequestOf user kind → (w.phase ≡ Accepted → a) →
+    Guarded a kind (if b then method_row settings moment w user service method else Finish (Fails Inconsistent))
+request_guarded a kind settings moment w user service method true is p = method_guarded a kind settings moment w user service method is p
+request_guarded a kind settings moment w user service method false is p = tt
+
+-- what a payload says, says that it is a request of its user
+said_request : (settings : Settings) (w : World) (payload : List ℕ) (user service : List ℕ) (method : Method) →
+    Fits (gate_of settings w payload) (drop 1 payload) (Request user service method) → IsRequestOf user (Payload payload)
+said_request settings w payload user service method h = of_gate (gate_of settings w payload) refl h
+  where
+    of_gate : (at : Gate) → gate_of settings w payload ≡ at → Fits at (drop 1 payload) (Request user service method) → IsRequestOf user (Payload payload)
+    of_gate gate.UserauthRequest e h = (drop 1 payload, service, h.0, h.1, is_userauth settings w payload e, h.2)
+    of_gate gate.Nothing e h = absurd h
+    of_gate gate.Ends e h = absurd h
+    of_gate gate.OverCap e h = absurd h
+    of_gate gate.ServiceRequest e h = absurd h
+    of_gate gate.NotBuilt e h = absurd h
+
+pub row_guarded : (a : Type 0) (settings : Settings) (moment : ℕ) (w : World) (payload : List ℕ) (said : Said) → Fits (gate_of settings w payload) (drop 1 payload) said →
+    (w.phase ≡ Accepted → a) → Guarded a (Payload payload) (row settings moment w said)
+row_guarded a settings moment w payload Nothing h p = (tt, p)
+row_guarded a settings moment w payload Disconnect h p = tt
+row_guarded a settings moment w payload (Service name) h p = service_guarded a (Payload payload) w (bytes_eq name (codes "ssh-userauth")) p
+row_guarded a settings moment w payload (Request user service method) h p =
+    request_guarded a (Payload payload) settings moment w user service method (bytes_eq service (codes "ssh-connection")) (said_request settings w payload user service method h) p
+row_guarded a settings moment w payload (Unfit why) h p = tt
+row_guarded a settings moment w payload Unbuilt h p = tt
+
+owed_guarded : (a : Type 0) (settings : Settings) (w : World) (moment : ℕ) (kind : InputKind) (plan : Plan Outcome) → OwesKind settings w moment kind plan →
+    (w.phase ≡ Accepted → a) → Guarded a kind plan
+owed_guarded a settings w moment End plan o p = subst (Guarded a End) (sym o) tt
+owed_guarded a settings w moment (Payload payload) plan o p =
+    subst (Guarded a (Payload payload)) (sym o.2) (row_guarded a settings moment w payload o.0 o.1 p)
+
+-- ---- over a run
+
+frames_front : (a : Type 0) (sent rest : List Frame) → AuthorisedFrames a (sent ++ rest) → AuthorisedFrames a sent
+frames_front a [] rest h = tt
+frames_front a (frame ∷ sent) rest h = (h.0, frames_front a sent rest h.1)
+
+-- the calls and the frames of an input
+abbrev pub AuthorisedTurn : {E : Type 0} → Type 0 → Turn E → Type 0
+AuthorisedTurn accepted turn =
+    AuthorisedCalls accepted turn.input.kind turn.calls × AuthorisedFrames (accepted ⊎ SomeAccepting turn.input.kind turn.calls) turn.frames
+
+part_guarded : {E : Type 0} (a : Type 0) (kind : InputKind) (plan : Plan Outcome) (calls : List (Call E)) (sent : List Frame) → Guarded a kind plan → SendsPart plan calls sent →
+    AuthorisedCalls a kind calls × AuthorisedFrames (a ⊎ SomeAccepting kind calls) sent
+part_guarded {E} a kind plan calls sent g h = of_either h.1
+  where
+    of_either : ((world : World) × Follows plan calls (Goes (sent ++ h.0) world)) ⊎ Follows plan calls (Ends (sent ++ h.0)) → AuthorisedCalls a kind calls × AuthorisedFrames (a ⊎ SomeAccepting kind calls) sent
+    of_either (inl k) = let f = follows_guarded a kind plan calls (Goes (sent ++ h.0) k.0) g k.1 in (f.0, frames_front _ sent h.0 f.1.0)
+    of_either (inr k) = let f = follows_guarded a kind plan calls (Ends (sent ++ h.0)) g k in (f.0, frames_front _ sent h.0 f.1)
+
+stopped_guarded : {E : Type 0} (a : Type 0) (kind : InputKind) (plan : Plan Outcome) (calls : List (Call E)) (sent : List Frame) (rose : Type 0) (e : RunError E) → Guarded a kind plan →
+    Stops plan calls sent rose e → AuthorisedCalls a kind calls × AuthorisedFrames (a ⊎ SomeAccepting kind calls) sent
+stopped_guarded a kind plan calls sent rose error.NoMemory g (inl h) = (begins_guarded a kind plan calls g h.1, subst (AuthorisedFrames _) (sym h.0) tt)
+stopped_guarded a kind plan calls sent rose error.NoMemory g (inr h) = part_guarded a kind plan calls sent g h
+stopped_guarded a kind plan calls sent rose error.LinkFault g h = part_guarded a kind plan calls sent g h.1
+stopped_guarded a kind plan calls sent rose error.InputLimit g h = absurd h
+stopped_guarded a kind plan calls sent rose (error.Encoding why) g h = ((follows_guarded a kind plan calls _ g h.1).0, subst (AuthorisedFrames _) (sym h.0) tt)
+stopped_guarded a kind plan calls sent rose error.Inconsistent g h = ((follows_guarded a kind plan calls _ g h.1).0, subst (AuthorisedFrames _) (sym h.0) tt)
+stopped_guarded a kind plan calls sent rose (error.Handler e) g h = (breaks_guarded a kind plan calls e g h.1, subst (AuthorisedFrames _) (sym h.0) tt)
+stopped_guarded a kind plan calls sent rose error.NotBuilt g h = ((follows_guarded a kind plan calls _ g h.1).0, subst (AuthorisedFrames _) (sym h.0) tt)
+
+-- the one more input that ended a run or was not finished
+last_authorised : {E : Type 0} (a : Type 0) (settings : Settings) (w : World) (count max : ℕ) (last : Option (Turn E)) (rose : Type 0) (result : Result (Unit {0}) (RunError E)) →
+    (w.phase ≡ Accepted → a) → Closes settings w count max last rose result → Authorised a (option_to_list last)
+last_authorised a settings w count max None rose result p c = tt
+last_authorised a settings w count max (Some turn) rose (Ok done) p c =
+    let g = owed_guarded a settings w turn.input.moment turn.input.kind c.0 c.1 p in
+    let f = follows_guarded a turn.input.kind c.0 turn.calls (Ends turn.frames) g c.2 in (f.0, f.1, tt)
+last_authorised a settings w count max (Some turn) rose (Err e) p c =
+    let g = owed_guarded a settings w turn.input.moment turn.input.kind c.0 c.1 p in
+    let f = stopped_guarded a turn.input.kind c.0 turn.calls turn.frames rose e g c.2 in (f.0, f.1, tt)
+
+run_authorised : {E : Type 0} (a : Type 0) (settings : Settings) (w : World) (turns : List (Turn E)) (world : World) (count max : ℕ) (last : Option (Turn E)) (rose : Type 0)
+    (result : Result (Unit {0}) (RunError E)) → (w.phase ≡ Accepted → a) → Run settings w turns world → Closes settings world count max last rose result →
+    Authorised a (turns ++ option_to_list last)
+run_authorised a settings w [] world count max last rose result p run c =
+    last_authorised a settings world count max last rose result (λ e. p (ap (λ v. v.phase) (sym run) ∙ e)) c
+run_authorised a settings w (turn ∷ turns) world count max last rose result p run c =
+    let t = run.1 in
+    let g = owed_guarded a settings w turn.input.moment turn.input.kind t.0 t.1 p in
+    let f = follows_guarded a turn.input.kind t.0 turn.calls (Goes turn.frames run.0) g t.2 in
+    (f.0, f.1.0, run_authorised (a ⊎ SomeAccepting turn.input.kind turn.calls) settings run.0 turns world count max last rose result f.1.1 run.2 c)
+
+-- a run is authorised
+pub authorised : {E : Type 0} (settings : Settings) (before after : Option (List (Call E))) (trace trace' : Option (List TraceEntry)) (faults faults' max : ℕ) (result : Result (Unit {0}) (RunError E)) →
+    (account : Ran settings before after trace trace' faults faults' max result) → Authorised ⊥ (account.turns ++ option_to_list account.last)
+authorised settings before after trace trace' faults faults' max result account =
+    run_authorised ⊥ settings (opening_world settings) account.turns account.world (length account.turns) max account.last _ result (λ e. cc) account.run account.closes

@@ -1,0 +1,12 @@
+pub mod Layout
+pub mod World
+pub mod Gate
+pub mod Said
+pub mod Failure
+pub mod Outcome
+pub mod Rows
+pub mod Serve
+pub mod Run
+pub mod Step
+pub mod Valid
+pub mod Authorised

@@ -1,0 +1,21 @@
+-- What an input comes to once its calls are made.
+use Rattle.std.specs.Prelude.{List}
+use Rattle.ssh_wire.specs.declared.error.WireError.{WireError}
+use Rattle.ssh_link.specs.declared.frame.Frame.{Frame}
+use Rattle.ssh_session.specs.World.{World}
+
+-- why an input cannot be finished
+pub data Fault : Type 0 where
+  -- a field does not fit
+  Encoding : (why : WireError) → Fault
+  -- the payload contradicts the protocol
+  Inconsistent : Fault
+  -- what it asks for is not built
+  Not_built : Fault
+
+pub data Outcome : Type 0 where
+  -- these frames go out, and this is the world from then on
+  Goes : (frames : List Frame) → (world : World) → Outcome
+  -- these frames go out, and the run is over
+  Ends : (frames : List Frame) → Outcome
+  Fails : (fault : Fault) → Outcome

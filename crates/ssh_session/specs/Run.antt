@@ -1,0 +1,44 @@
+-- A run: inputs, each with its calls and its frames.
+use Rattle.std.specs.Prelude.{◌≡◌, ℕ, List, [], ◌∷◌, map, true}
+use Rattle.ssh_link.specs.declared.frame.Frame.{Frame}
+use Rattle.ssh_link.specs.declared.frame.Input.{Input}
+use Rattle.ssh_link.specs.declared.frame.InputKind.{InputKind}
+use Rattle.ssh_link.specs.declared.frame.InputKind.TheVariants.{Payload, End}
+use Rattle.ssh_link.specs.declared.link.TraceEntry.{TraceEntry}
+use Rattle.ssh_link.specs.declared.link.TraceEntry.TheVariants.{Took, Sent}
+use Rattle.ssh_handler.specs.declared.call.Call.{Call}
+use Rattle.ssh_handler.specs.Plan.{Plan, Finish, Follows}
+use Rattle.ssh_session.specs.World.{Settings, World}
+use Rattle.ssh_session.specs.Gate.{gate_of}
+use Rattle.ssh_session.specs.Said.{Said, Says}
+use Rattle.ssh_session.specs.Outcome.{Outcome, Goes, Ends}
+use Rattle.ssh_session.specs.Rows.{row}
+
+-- an input of this kind, taken in this world at this moment, owes this plan
+abbrev pub OwesKind : Settings → World → ℕ → InputKind → Plan Outcome → Type 0
+OwesKind settings w moment End plan = plan ≡ Finish (Ends [])
+OwesKind settings w moment (Payload payload) plan =
+    (said : Said) × Says (gate_of settings w payload) payload said × (plan ≡ row settings moment w said)
+
+abbrev pub Owes : Settings → World → Input → Plan Outcome → Type 0
+Owes settings w input plan = OwesKind settings w input.moment input.kind plan
+
+-- an input, the calls that it made and the frames that were handed on
+pub record Turn (E : Type 0) : Type 0 where
+  pub input : Input
+  pub calls : List (Call E)
+  pub frames : List Frame
+
+-- the turn is the row of its input, and leads from world to world
+abbrev pub Turns : {E : Type 0} → Settings → World → Turn E → World → Type 0
+Turns settings w turn world =
+    (plan : Plan Outcome) × Owes settings w turn.input plan × Follows plan turn.calls (Goes turn.frames world)
+
+-- these turns one after another
+abbrev pub Run : {E : Type 0} → Settings → World → List (Turn E) → World → Type 0
+Run settings w [] world = world ≡ w
+Run settings w (turn ∷ turns) world = (mid : World) × Turns settings w turn mid × Run settings mid turns world
+
+-- what the link tells of a turn: commands and replies are asked for in every world so far
+abbrev pub entries : {E : Type 0} → Turn E → List TraceEntry
+entries turn = Took true true turn.input ∷ map Sent turn.frames

@@ -1,0 +1,31 @@
+-- The state of a session in the standard's terms. It is a record of the definitions alone: the code
+-- has what it needs of it, and the relation `Refines` ties the two.
+use Rattle.std.specs.Prelude.{ℕ, List, Bool, false, None}
+use Rattle.ssh_handler.specs.declared.config.Config.{Config}
+use Rattle.ssh_session.specs.declared.phase.Phase.{Phase}
+use Rattle.ssh_session.specs.declared.phase.Phase.TheVariants.{ServiceRequest}
+use Rattle.ssh_session.specs.declared.auth_request.AuthRequest.{AuthRequest}
+
+-- what is fixed in a run
+pub record Settings : Type 0 where
+  pub config : Config
+  pub session_id : List ℕ
+
+-- a run of a server that is set up so, over a key exchange with this session id
+abbrev pub settings_of : Config → List ℕ → Settings
+settings_of config session_id = record { config = config; session_id = session_id }
+
+pub record World : Type 0 where
+  pub phase : Phase
+  -- the bound user and service, the methods that can continue, the partial flag and the count of rejections
+  pub auth : AuthRequest
+  -- a USERAUTH_REQUEST was finished
+  pub requested : Bool
+
+-- before the first input
+abbrev pub opening_world : Settings → World
+opening_world settings = record {
+  phase = ServiceRequest;
+  auth = record { principal = None; methods = settings.config.methods; partial_success = false; rejection_count = 0 };
+  requested = false;
+}

@@ -1,0 +1,63 @@
+// How a session goes on, and why it may not.
+ghost use Rattle.std.specs.Prelude.{◌≡◌};
+ghost use Rattle.ssh_session.specs.declared.error.RunError.TheVariants.{NoMemory};
+ghost use Rattle.ssh_session.specs.Failure.{run_error_of};
+
+use ssh_wire::WireError;
+use std::alloc::{AllocError, AllocFailed};
+
+/// Whether a session takes another input.
+#[derive(Clone, Copy, Debug, PartialEq, Eq)]
+pub enum Flow {
+    Continue,
+    Ended,
+}
+
+/// Why a session stopped. `HE` is the handler's error.
+#[derive(Debug, Drop)]
+pub enum RunError<HE> {
+    /// There was no memory.
+    NoMemory,
+    /// The link failed: its count of faults rose.
+    LinkFault,
+    /// As many inputs as were allowed were finished, and none ended the run.
+    InputLimit,
+    /// A field of the payload does not fit its layout.
+    Encoding(WireError),
+    /// A request of authentication names another service than `ssh-connection`, or the session is
+    /// spent.
+    Inconsistent,
+    /// The handler answered this error.
+    Handler(HE),
+    /// The payload asks for what is not built yet: a key exchange, a message of the connection, a
+    /// method other than none, another user than the bound one, a request over the cap on
+    /// attempts, a response to prompts, or a banner.
+    NotBuilt,
+}
+
+impl<HE> From<AllocError> for RunError<HE> {
+    ghost from_gives = { λ _ e. e ≡ NoMemory };
+
+    fn from(_: AllocError) -> RunError<HE> {
+        RunError::NoMemory
+    }
+}
+
+impl<HE, T: Drop> From<AllocFailed<T>> for RunError<HE> {
+    ghost from_gives = { λ _ e. e ≡ NoMemory };
+
+    fn from(_: AllocFailed<T>) -> RunError<HE> {
+        RunError::NoMemory
+    }
+}
+
+impl<HE> From<WireError> for RunError<HE> {
+    ghost from_gives = { λ e r. r ≡ run_error_of e };
+
+    fn from(error: WireError) -> RunError<HE> {
+        match error {
+            WireError::NoMemory => RunError::NoMemory,
+            refused => RunError::Encoding(refused),
+        }
+    }
+}

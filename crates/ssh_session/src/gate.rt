@@ -1,0 +1,109 @@
+// Which payloads a session reads, by their number.
+ghost use Rattle.std.specs.Prelude.{◌≡◌, ◌==◌, if◌then◌else◌};
+ghost use Rattle.ssh_session.specs.World.{Settings, World};
+ghost use Rattle.ssh_session.specs.Serve.{Refines};
+ghost use Rattle.ssh_session.specs.Gate.{gate_of, phase_gate, authentication_gate, is_over_cap, is_connection_number};
+
+use crate::Session;
+use crate::phase::Phase;
+
+/// What a payload is to a session, by its number alone.
+#[derive(Clone, Copy, Debug, PartialEq, Eq)]
+pub enum Gate {
+    /// It does nothing.
+    Nothing,
+    /// It ends the run, unread.
+    Ends,
+    /// It comes after as many rejected requests as are allowed.
+    OverCap,
+    /// It asks for a service.
+    ServiceRequest,
+    /// It asks for authentication.
+    UserauthRequest,
+    /// What it asks for is not built.
+    NotBuilt,
+}
+
+const DISCONNECT: u8 = 1;
+
+const SERVICE_REQUEST: u8 = 5;
+
+const KEXINIT: u8 = 20;
+
+const USERAUTH_REQUEST: u8 = 50;
+
+const USERAUTH_INFO_RESPONSE: u8 = 61;
+
+impl Session {
+    /// What this payload is to the session.
+    pub(crate) fn gate(&self, payload: &[u8]) -> Gate
+        ensures { (settings : Settings) (w : World) → Refines settings self.now w → result ≡ gate_of settings w payload.now }
+    {
+        let Some(number) = payload.first() else {
+            return Gate::Nothing;
+        };
+        let number = *number;
+        if number == DISCONNECT {
+            return Gate::Ends;
+        }
+        if number == KEXINIT {
+            return Gate::NotBuilt;
+        }
+        self.phase_gate(number)
+    }
+
+    /// What a message of this number is to the session's phase.
+    fn phase_gate(&self, number: u8) -> Gate
+        ensures { (settings : Settings) (w : World) → Refines settings self.now w → result ≡ phase_gate settings w w.phase number }
+    {
+        match self.phase {
+            Phase::ServiceRequest => service_gate(number),
+            Phase::Authentication => self.authentication_gate(number),
+            Phase::Accepted => connection_gate(number),
+        }
+    }
+
+    fn authentication_gate(&self, number: u8) -> Gate
+        ensures { (settings : Settings) (w : World) → Refines settings self.now w → result ≡ authentication_gate settings w number }
+    {
+        if number != USERAUTH_REQUEST && number != USERAUTH_INFO_RESPONSE {
+            return Gate::Nothing;
+        }
+        if self.is_over_cap() {
+            return Gate::OverCap;
+        }
+        if number == USERAUTH_REQUEST {
+            return Gate::UserauthRequest;
+        }
+        Gate::NotBuilt
+    }
+
+    /// Whether so many requests were rejected that no more are read.
+    fn is_over_cap(&self) -> bool
+        ensures { (settings : Settings) (w : World) → Refines settings self.now w → result ≡ is_over_cap settings w }
+    {
+        self.config.max_auth_attempts > 0
+            && self.auth.rejection_count >= self.config.max_auth_attempts
+    }
+}
+
+fn service_gate(number: u8) -> Gate
+    ensures { result ≡ (if number == 5 then Gate.ServiceRequest else Gate.Nothing) }
+{
+    if number == SERVICE_REQUEST {
+        Gate::ServiceRequest
+    } else {
+        Gate::Nothing
+    }
+}
+
+/// The messages of the connection are not built.
+fn connection_gate(number: u8) -> Gate
+    ensures { result ≡ (if is_connection_number number then Gate.NotBuilt else Gate.Nothing) }
+{
+    if (80..=82).contains(&number) || (90..=98).contains(&number) {
+        Gate::NotBuilt
+    } else {
+        Gate::Nothing
+    }
+}

@@ -1,0 +1,22 @@
+//! A session of an SSH server above the encrypted transport: it takes opened payloads one at a
+//! time, calls a handler and hands on payloads to send (RFC 4252, RFC 4253 section 10).
+//!
+//! What the crates above rely on is the contract of [`run_stream`]: the callbacks, the frames and
+//! the answer are exactly those that the inputs owe by the reply table in `specs/Rows.antt`.
+#![tactic(auto)]
+
+mod auth_request;
+mod authentication;
+mod error;
+mod gate;
+mod message;
+mod phase;
+mod run;
+mod service;
+mod session;
+mod staged;
+mod step;
+
+pub use error::{Flow, RunError};
+pub use run::run_stream;
+pub use session::Session;
