@@ -1,0 +1,18 @@
+-- Numbers and their digits.
+use Rattle.std.proofs.Common.{◌≡◌, ◌≢◌, ℕ, List, Result, Ok, Err, sym, ◌∙◌, ap}
+use Rattle.std.specs.Str.Parse.{ParsesUnsigned}
+use Rattle.std.specs.Fmt.{decimal}
+use Rattle.std.proofs.lemmas.Fmt.{parse-decimal}
+use Rattle.ssh_script.specs.Grammar.{IsNumber}
+
+pub no_number : {E : Type 0} (digits : List ℕ) (r : Result ℕ E) (e : E) → ParsesUnsigned 64 10 digits r → r ≡ Err e → (n : ℕ) → IsNumber digits n → ⊥
+no_number digits r e p is n k =
+    let q : r ≡ Ok n = parse-decimal 64 n digits r k.0 k.0 k.1 p in
+    cc
+
+pub other_digits : {E : Type 0} (digits written : List ℕ) (r : Result ℕ E) (m : ℕ) → ParsesUnsigned 64 10 digits r → r ≡ Ok m →
+    written ≡ decimal m → written ≢ digits → (n : ℕ) → IsNumber digits n → ⊥
+other_digits digits written r m p is a ne n k =
+    let q : r ≡ Ok n = parse-decimal 64 n digits r k.0 k.0 k.1 p in
+    let mn : m ≡ n = cc in
+    ne (a ∙ (ap decimal mn ∙ sym k.1))

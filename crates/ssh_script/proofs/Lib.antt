@@ -1,0 +1,13 @@
+pub mod Reading
+pub mod Digits
+pub mod Queues
+pub mod Telling
+pub mod Cutting
+pub mod LinesOnce
+pub mod Heads
+pub mod Kept
+pub mod Endings
+pub mod SaysOnce
+pub mod PlansOnce
+pub mod RunsOnce
+pub mod TranscriptsOnce

@@ -1,0 +1,97 @@
+-- What a script's handler and link tell.
+use Rattle.std.proofs.Common.{◌≡◌, ℕ, List, [], ◌∷◌, ◌++◌, Option, Some, None, Result, Ok, Err, Bool, true, false, refl, sym, ◌∙◌, ap, append_assoc, subst, OnOk, OnErr}
+use Rattle.ssh_link.specs.Told.{Adds, AddsOrStops, Tells}
+use Rattle.ssh_link.specs.declared.link.TraceEntry.{TraceEntry}
+use Rattle.ssh_handler.specs.declared.auth.Auth.{Auth}
+use Rattle.ssh_handler.specs.declared.call.Call.{Call}
+use Rattle.ssh_handler.specs.declared.call.Call.TheVariants.{AuthNone}
+use Rattle.ssh_script.specs.declared.asked.Asked.{Asked}
+use Rattle.ssh_script.specs.declared.asked.Asked.TheVariants as asked
+use Rattle.ssh_script.specs.declared.script_link.Event.{Event}
+use Rattle.ssh_script.specs.Played.{Failure, Queues, first_verdict, verdict_answer, answered, after, played, left_after, heading, told_of}
+use Rattle.ssh_script.specs.Given.{Supply, told_as, traced, trace_of}
+use Rattle.ssh_script.specs.Given.{after as after_event, left_after as left_after_events, heading as input_heading}
+
+-- one more callback
+played_more : (queues : Queues) (all : List Asked) (one : Asked) →
+    played queues (all ++ one ∷ []) ≡ played queues all ++ answered (left_after queues all) one ∷ []
+played_more queues [] one = refl
+played_more queues (first ∷ all) one = ap (λ t. answered queues first ∷ t) (played_more (after queues first) all one)
+
+left_more : (queues : Queues) (all : List Asked) (one : Asked) → left_after queues (all ++ one ∷ []) ≡ after (left_after queues all) one
+left_more queues [] one = refl
+left_more queues (first ∷ all) one = left_more (after queues first) all one
+
+pub left_next : (queues left left' : Queues) (all new : List Asked) (one : Asked) → left_after queues all ≡ left → new ≡ all ++ one ∷ [] → after left one ≡ left' →
+    left_after queues new ≡ left'
+left_next queues left left' all new one l n e = ap (left_after queues) n ∙ (left_more queues all one ∙ (ap (λ q. after q one) l ∙ e))
+
+-- a handler that kept one more callback tells one more call
+adds_call : (lost : Bool) (queues : Queues) (all : List Asked) (one : Asked) →
+    Adds (told_of lost queues all) (told_of lost queues (all ++ one ∷ [])) (answered (left_after queues all) one ∷ [])
+adds_call true queues all one = refl
+adds_call false queues all one =
+    ap (λ t. Some (heading queues ++ t)) (played_more queues all one)
+    ∙ ap Some (sym (append_assoc (heading queues) (played queues all) (answered (left_after queues all) one ∷ [])))
+
+or_stops : {A : Type 0} (old new : Option (List A)) (more : List A) → Adds old new more → AddsOrStops old new more
+or_stops None None more h = tt
+or_stops None (Some new) more h = absurd (let z : Some new ≡ None = h in cc)
+or_stops (Some old) None more h = tt
+or_stops (Some old) (Some new) more h = let z : Some new ≡ Some (old ++ more) = h in cc
+
+tells : {A T E : Type 0} (old new : Option (List A)) (result : Result T E) (call : A) → Adds old new (call ∷ []) → Tells old new result call
+tells old new (Ok value) call h = h
+tells old new (Err error) call h = or_stops old new (call ∷ []) h
+
+pub tells_call : {T : Type 0} (lost lost' : Bool) (queues left : Queues) (all new : List Asked) (one : Asked) (result : Result T Failure) (call : Call Failure) →
+    left_after queues all ≡ left → new ≡ all ++ one ∷ [] → lost' ≡ lost → answered left one ≡ call →
+    Tells (told_of lost queues all) (told_of lost' queues new) result call
+tells_call lost lost' queues left all new one result call l n k e =
+    let c : answered (left_after queues all) one ≡ call = ap (λ q. answered q one) l ∙ e in
+    let h : Adds (told_of lost queues all) (told_of lost queues (all ++ one ∷ [])) (call ∷ []) =
+    subst (λ x. Adds (told_of lost queues all) (told_of lost queues (all ++ one ∷ [])) (x ∷ [])) c (adds_call lost queues all one) in
+    let i : Adds (told_of lost queues all) (told_of lost queues new) (call ∷ []) =
+    subst (λ x. Adds (told_of lost queues all) (told_of lost queues x) (call ∷ [])) (sym n) h in
+    tells (told_of lost queues all) (told_of lost' queues new) result call
+    (subst (λ b. Adds (told_of lost queues all) (told_of b queues new) (call ∷ [])) (sym k) i)
+
+-- one more call of the link
+traced_more : (supply : Supply) (all : List Event) (one : Event) →
+    traced supply (all ++ one ∷ []) ≡ traced supply all ++ told_as (left_after_events supply all) one ∷ []
+traced_more supply [] one = refl
+traced_more supply (first ∷ all) one = ap (λ t. told_as supply first ∷ t) (traced_more (after_event supply first) all one)
+
+left_more_events : (supply : Supply) (all : List Event) (one : Event) → left_after_events supply (all ++ one ∷ []) ≡ after_event (left_after_events supply all) one
+left_more_events supply [] one = refl
+left_more_events supply (first ∷ all) one = left_more_events (after_event supply first) all one
+
+pub left_next_event : (supply left left' : Supply) (all new : List Event) (one : Event) → left_after_events supply all ≡ left → new ≡ all ++ one ∷ [] → after_event left one ≡ left' →
+    left_after_events supply new ≡ left'
+left_next_event supply left left' all new one l n e =
+    ap (left_after_events supply) n ∙ (left_more_events supply all one ∙ (ap (λ q. after_event q one) l ∙ e))
+
+pub adds_entry : (supply left : Supply) (all new : List Event) (one : Event) (entry : TraceEntry) →
+    left_after_events supply all ≡ left → new ≡ all ++ one ∷ [] → told_as left one ≡ entry →
+    Adds (trace_of supply all) (trace_of supply new) (entry ∷ [])
+adds_entry supply left all new one entry l n e =
+    let c : told_as (left_after_events supply all) one ≡ entry = ap (λ q. told_as q one) l ∙ e in
+    ap (trace_of supply) n
+    ∙ (ap (λ t. Some (input_heading supply ++ t)) (traced_more supply all one)
+    ∙ (ap (λ x. Some (input_heading supply ++ (traced supply all ++ x ∷ []))) c
+    ∙ ap Some (sym (append_assoc (input_heading supply) (traced supply all) (entry ∷ [])))))
+
+pub told_answer : (user name : List ℕ) (queues : Queues) (answer : Result Auth Failure) → user ≡ name → answer ≡ verdict_answer (first_verdict queues.verdicts) →
+    answered queues (asked.AuthNone user) ≡ AuthNone name answer
+told_answer user name queues answer u a = ap (λ x. AuthNone x (verdict_answer (first_verdict queues.verdicts))) u ∙ ap (AuthNone name) (sym a)
+
+-- a callback that leaves the answers as they are leaves them so whether it is kept or not
+pub left_same : {T E : Type 0} (result : Result T E) (queues left : Queues) (all new : List Asked) (one : Asked) → left_after queues all ≡ left →
+    OnOk result (new ≡ all ++ one ∷ []) → OnErr result (new ≡ all) → after left one ≡ left → left_after queues new ≡ left
+left_same (Ok value) queues left all new one l n m e = left_next queues left left all new one l n e
+left_same (Err error) queues left all new one l n m e = ap (left_after queues) m ∙ l
+
+pub left_same_event : {T E : Type 0} (result : Result T E) (supply left : Supply) (all new : List Event) (one : Event) → left_after_events supply all ≡ left →
+    OnOk result (new ≡ all ++ one ∷ []) → OnErr result (new ≡ all) → after_event left one ≡ left → left_after_events supply new ≡ left
+left_same_event (Ok value) supply left all new one l n m e = left_next_event supply left left all new one l n e
+left_same_event (Err error) supply left all new one l n m e = ap (left_after_events supply) m ∙ l

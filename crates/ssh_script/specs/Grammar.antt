@@ -1,0 +1,124 @@
+-- How the lines of a script are written: words with one space between each two.
+use Rattle.std.specs.Prelude.{◌≡◌, ◌≢◌, ◌<◌, ◌^◌, ◌⊎◌, ◌==◌, ℕ, List, [], ◌∷◌, length, codes, bytes_eq, Bool, true, false, nat_lt, if◌then◌else◌, Option, Some, None, Ok, IsUtf8}
+use Rattle.std.specs.List.{position_or_len, before_first, after_first}
+use Rattle.std.specs.Fmt.{decimal}
+use Rattle.hex.specs.Hex.{decode_of}
+use Rattle.ssh_script.specs.declared.lines.Verdict.TheVariants as verdict
+use Rattle.ssh_script.specs.declared.lines.Setting.TheVariants as setting
+use Rattle.ssh_script.specs.declared.lines.InputLine.TheVariants as input
+use Rattle.ssh_script.specs.declared.lines.Line.{Line}
+use Rattle.ssh_script.specs.declared.lines.Line.TheVariants as line
+
+-- a number is written in decimal, in one way
+abbrev pub IsNumber : List ℕ → ℕ → Type 0
+IsNumber digits n = (n < 2 ^ 64) × (digits ≡ decimal n)
+
+abbrev pub IsNumberIn : List ℕ → Option ℕ → Type 0
+IsNumberIn digits (Some n) = IsNumber digits n
+IsNumberIn digits None = (n : ℕ) → IsNumber digits n → ⊥
+
+-- bytes are written in hex, with either case of letters, and as - where there are none
+abbrev pub IsHex : List ℕ → List ℕ → Type 0
+IsHex digits bytes = ((digits ≡ codes "-") × (bytes ≡ [])) ⊎ ((digits ≢ []) × (decode_of digits ≡ Ok bytes))
+
+abbrev pub IsHexIn : List ℕ → Option (List ℕ) → Type 0
+IsHexIn digits (Some bytes) = IsHex digits bytes
+IsHexIn digits None = (bytes : List ℕ) → IsHex digits bytes → ⊥
+
+-- what a line is by its words
+pub data Form : Type 0 where
+  -- no line has these words
+  No_form : Form
+  -- its words say this
+  Whole : (says : Line) → Form
+  -- these digits write the number of which it speaks
+  Of_number : (says : ℕ → Line) → (digits : List ℕ) → Form
+  -- these digits write the bytes of which it speaks
+  Of_bytes : (says : List ℕ → Line) → (digits : List ℕ) → Form
+
+-- the first word, and what follows the space after it; None where there is no space
+abbrev pub is_space : ℕ → Bool
+is_space byte = byte == 32
+
+abbrev pub cut : List ℕ → Option (List ℕ × List ℕ)
+cut text =
+    if nat_lt (position_or_len is_space text) (length text) then Some (before_first is_space text, after_first is_space text) else None
+
+-- answer none accept, reject or fail
+abbrev pub none_form : List ℕ → Form
+none_form word =
+    if bytes_eq word (codes "accept") then Whole (line.Setting (setting.AnswerNone verdict.Accept))
+    else if bytes_eq word (codes "reject") then Whole (line.Setting (setting.AnswerNone verdict.Reject))
+    else if bytes_eq word (codes "fail") then Whole (line.Setting (setting.AnswerNone verdict.Fail))
+    else No_form
+
+-- answer banner fail
+abbrev pub banner_form : List ℕ → Form
+banner_form word = if bytes_eq word (codes "fail") then Whole (line.Setting setting.FailBanner) else No_form
+
+-- answer, a name and a word
+abbrev pub answer_words : Option (List ℕ × List ℕ) → Form
+answer_words None = No_form
+answer_words (Some parts) =
+    if bytes_eq parts.0 (codes "none") then none_form parts.1
+    else if bytes_eq parts.0 (codes "banner") then banner_form parts.1
+    else No_form
+
+abbrev pub answer_form : List ℕ → Form
+answer_form rest = answer_words (cut rest)
+
+-- config, a name and a number
+abbrev pub config_words : Option (List ℕ × List ℕ) → Form
+config_words None = No_form
+config_words (Some parts) =
+    if bytes_eq parts.0 (codes "reject") then Of_number (λ time. line.Setting (setting.Reject time)) parts.1
+    else if bytes_eq parts.0 (codes "reject-initial") then Of_number (λ time. line.Setting (setting.RejectInitial time)) parts.1
+    else No_form
+
+abbrev pub config_form : List ℕ → Form
+config_form rest = config_words (cut rest)
+
+-- a word, and what follows it
+abbrev pub word_form : List ℕ → List ℕ → Form
+word_form word rest =
+    if bytes_eq word (codes "session") then Of_bytes (λ id. line.Setting (setting.Session id)) rest
+    else if bytes_eq word (codes "inputs") then Of_number (λ n. line.Setting (setting.Inputs n)) rest
+    else if bytes_eq word (codes "config") then config_form rest
+    else if bytes_eq word (codes "answer") then answer_form rest
+    else if bytes_eq word (codes "at") then Of_number (λ moment. line.Input (input.At moment)) rest
+    else if bytes_eq word (codes "recv") then Of_bytes (λ bytes. line.Input (input.Recv bytes)) rest
+    else No_form
+
+-- one word alone
+abbrev pub lone_form : List ℕ → Form
+lone_form word = if bytes_eq word (codes "end") then Whole (line.Input input.End) else No_form
+
+abbrev pub words_form : List ℕ → Option (List ℕ × List ℕ) → Form
+words_form text None = lone_form text
+words_form text (Some parts) = word_form parts.0 parts.1
+
+abbrev pub form_of : List ℕ → Form
+form_of text = words_form text (cut text)
+
+-- a line of this form says this; None says that it is bad
+abbrev pub Fits : Form → Option Line → Type 0
+Fits No_form said = said ≡ None
+Fits (Whole says) said = said ≡ Some says
+Fits (Of_number says digits) (Some said) = (n : ℕ) × IsNumber digits n × (said ≡ says n)
+Fits (Of_number says digits) None = (n : ℕ) → IsNumber digits n → ⊥
+Fits (Of_bytes says digits) (Some said) = (bytes : List ℕ) × IsHex digits bytes × (said ≡ says bytes)
+Fits (Of_bytes says digits) None = (bytes : List ℕ) → IsHex digits bytes → ⊥
+
+-- an empty line, or a comment, which begins with #
+abbrev pub is_passed : List ℕ → Bool
+is_passed [] = true
+is_passed (byte ∷ more) = byte == 35
+
+-- a line that is neither empty nor a comment says this; one that is no text in UTF-8 is bad
+abbrev pub ReadsWords : Bool → List ℕ → Option Line → Type 0
+ReadsWords true text said = said ≡ Some line.Passed
+ReadsWords false text said = (IsUtf8 text × Fits (form_of text) said) ⊎ ((IsUtf8 text → ⊥) × (said ≡ None))
+
+-- the line says this; None says that it is bad
+abbrev pub Reads : List ℕ → Option Line → Type 0
+Reads text said = ReadsWords (is_passed text) text said

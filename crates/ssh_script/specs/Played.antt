@@ -1,0 +1,92 @@
+-- What the handler of a script answers.
+use Rattle.std.specs.Prelude.{◌≡◌, ℕ, ◌-◌, ◌==◌, List, [], ◌∷◌, ◌++◌, map, Bool, true, false, Option, Some, None, Result, Ok, Err, if◌then◌else◌}
+use Rattle.ssh_handler.specs.declared.auth.Auth.{Auth}
+use Rattle.ssh_handler.specs.declared.auth.Auth.TheVariants.{Reject, Accept}
+use Rattle.ssh_handler.specs.declared.call.Call.{Call}
+use Rattle.ssh_handler.specs.declared.call.Call.TheVariants.{AuthenticationBanner, AuthNone, AuthSucceeded}
+use Rattle.ssh_handler.specs.declared.recorded.RecordError.{RecordError}
+use Rattle.ssh_handler.specs.declared.recorded.RecordError.TheVariants.{Inner}
+use Rattle.ssh_script.specs.Queue.{rest}
+use Rattle.ssh_script.specs.declared.lines.Verdict.{Verdict}
+use Rattle.ssh_script.specs.declared.lines.Verdict.TheVariants as verdict
+use Rattle.ssh_script.specs.declared.asked.Asked.{Asked}
+use Rattle.ssh_script.specs.declared.asked.Asked.TheVariants as asked
+use Rattle.ssh_script.specs.declared.script_handler.ScriptError.{ScriptError}
+
+-- the error of a script's handler: the script's own, or want of memory
+abbrev pub Failure : Type 0
+Failure = RecordError ScriptError
+
+abbrev pub fails : {T : Type 0} → Result T Failure
+fails = Err (Inner (record {}))
+
+-- the answers of a script that were not given yet
+pub record Queues : Type 0 where
+  -- to requests of method none
+  pub verdicts : List Verdict
+  -- how many banner callbacks fail
+  pub banners : ℕ
+
+abbrev pub queues_of : List Verdict → ℕ → Queues
+queues_of verdicts banners = record { verdicts = verdicts; banners = banners }
+
+-- the next verdict; requests are refused where there is none
+abbrev pub first_verdict : List Verdict → Verdict
+first_verdict [] = verdict.Reject
+first_verdict (one ∷ more) = one
+
+abbrev pub verdict_answer : Verdict → Result Auth Failure
+verdict_answer verdict.Accept = Ok Accept
+verdict_answer verdict.Reject = Ok (Reject None false)
+verdict_answer verdict.Fail = fails
+
+abbrev pub banner_answer : ℕ → Result (Option (List ℕ)) Failure
+banner_answer left = if left == 0 then Ok None else fails
+
+-- the callback, and what it is answered
+abbrev pub answered : Queues → Asked → Call Failure
+answered queues asked.AuthenticationBanner = AuthenticationBanner (banner_answer queues.banners)
+answered queues (asked.AuthNone user) = AuthNone user (verdict_answer (first_verdict queues.verdicts))
+answered queues asked.AuthSucceeded = AuthSucceeded (Ok tt)
+
+-- the answers that are left after it
+abbrev pub after : Queues → Asked → Queues
+after queues asked.AuthenticationBanner = record queues { banners = queues.banners - 1 }
+after queues (asked.AuthNone user) = record queues { verdicts = rest queues.verdicts }
+after queues asked.AuthSucceeded = queues
+
+-- the callbacks in order, each with its answer
+abbrev pub played : Queues → List Asked → List (Call Failure)
+played queues [] = []
+played queues (one ∷ more) = answered queues one ∷ played (after queues one) more
+
+abbrev pub left_after : Queues → List Asked → Queues
+left_after queues [] = queues
+left_after queues (one ∷ more) = left_after (after queues one) more
+
+-- a call without its answer
+abbrev pub asked_of : {E : Type 0} → Call E → Asked
+asked_of (AuthenticationBanner answer) = asked.AuthenticationBanner
+asked_of (AuthNone user answer) = asked.AuthNone user
+asked_of (AuthSucceeded answer) = asked.AuthSucceeded
+
+-- each of these calls was answered by the script, in order
+abbrev pub IsAnswered : Queues → List (Call Failure) → Type 0
+IsAnswered queues [] = Unit {0}
+IsAnswered queues (call ∷ calls) =
+    (call ≡ answered queues (asked_of call)) × IsAnswered (after queues (asked_of call)) calls
+
+-- the answers as a handler tells them before its calls: a call for each verdict, and one for the number of banners that fail
+abbrev pub told_verdict : Verdict → Call Failure
+told_verdict one = AuthNone [] (verdict_answer one)
+
+abbrev pub told_banners : ℕ → Call Failure
+told_banners count = AuthenticationBanner (Ok (Some (count ∷ [])))
+
+abbrev pub heading : Queues → List (Call Failure)
+heading queues = map told_verdict queues.verdicts ++ told_banners queues.banners ∷ []
+
+-- what a handler tells that has these answers and was called so; one that lost a call tells nothing
+abbrev pub told_of : Bool → Queues → List Asked → Option (List (Call Failure))
+told_of true queues all = None
+told_of false queues all = Some (heading queues ++ played queues all)

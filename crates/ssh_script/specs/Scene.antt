@@ -1,0 +1,113 @@
+-- What the lines of a script say together.
+use Rattle.std.specs.Prelude.{◌≡◌, ◌+◌, ◌^◌, ◌==◌, ℕ, List, [], ◌∷◌, ◌++◌, length, nat_lt, false, if◌then◌else◌, Option, Some, None, Result, Ok, Err, MatchOption}
+use Rattle.ssh_link.specs.declared.frame.Input.{Input}
+use Rattle.ssh_link.specs.declared.frame.InputKind.TheVariants.{Payload}
+use Rattle.ssh_handler.specs.declared.config.Config.{Config}
+use Rattle.ssh_handler.specs.Settings.{standard_config}
+use Rattle.ssh_script.specs.declared.lines.Setting.{Setting}
+use Rattle.ssh_script.specs.declared.lines.Setting.TheVariants as setting
+use Rattle.ssh_script.specs.declared.lines.InputLine.{InputLine}
+use Rattle.ssh_script.specs.declared.lines.InputLine.TheVariants as input
+use Rattle.ssh_script.specs.declared.lines.Line.{Line}
+use Rattle.ssh_script.specs.declared.lines.Line.TheVariants as line
+use Rattle.ssh_script.specs.declared.script.Stage.{Stage}
+use Rattle.ssh_script.specs.declared.script.Stage.TheVariants as stage
+use Rattle.ssh_script.specs.declared.script.Script.{Script}
+use Rattle.ssh_script.specs.Grammar.{Reads}
+use Rattle.ssh_script.specs.Played.{Queues}
+
+-- what a script says
+pub record Scene : Type 0 where
+  pub session_id : List ℕ
+  -- after how many inputs the run stops
+  pub max_inputs : ℕ
+  pub config : Config
+  -- what the callbacks answer
+  pub queues : Queues
+  pub inputs : List Input
+  -- the moment in force
+  pub moment : ℕ
+  -- which lines may follow
+  pub stage : Stage
+
+-- what no line says
+abbrev pub opening_scene : Scene
+opening_scene = record {
+  session_id = [];
+  max_inputs = 1000000;
+  config = standard_config;
+  queues = record { verdicts = []; banners = 0 };
+  inputs = [];
+  moment = 0;
+  stage = stage.Settings;
+}
+
+-- after a setting; None where it is out of range
+abbrev pub set : Setting → Scene → Option Scene
+set (setting.Session id) s = if nat_lt (length id) (2 ^ 32) then Some (record s { session_id = id }) else None
+set (setting.Inputs count) s = Some (record s { max_inputs = count })
+set (setting.Reject time) s = Some (record s { config = record s.config { auth_rejection_time = time } })
+set (setting.RejectInitial time) s = Some (record s { config = record s.config { auth_rejection_time_initial = Some time } })
+set (setting.AnswerNone verdict) s = Some (record s { queues = record s.queues { verdicts = s.queues.verdicts ++ verdict ∷ [] } })
+set setting.FailBanner s = Some (record s { queues = record s.queues { banners = s.queues.banners + 1 } })
+
+-- settings come before the first input line
+abbrev pub set_in : Stage → Setting → Scene → Option Scene
+set_in stage.Settings one s = set one s
+set_in stage.Inputs one s = None
+set_in stage.Ended one s = None
+
+-- after an input line
+abbrev pub after_input : InputLine → Scene → Scene
+after_input (input.At moment) s = record s { moment = moment; stage = stage.Inputs }
+after_input (input.Recv bytes) s = record s { inputs = s.inputs ++ (record { moment = s.moment; kind = Payload bytes }) ∷ []; stage = stage.Inputs }
+after_input input.End s = record s { stage = stage.Ended }
+
+-- once the peer is gone, input lines are not taken
+abbrev pub taken : Stage → InputLine → Scene → Scene
+taken stage.Settings one s = after_input one s
+taken stage.Inputs one s = after_input one s
+taken stage.Ended one s = s
+
+-- after one more line; None where it is bad, or may not stand here
+abbrev pub with_line : Scene → Option Line → Option Scene
+with_line s None = None
+with_line s (Some line.Passed) = Some s
+with_line s (Some (line.Setting one)) = set_in s.stage one s
+with_line s (Some (line.Input one)) = Some (taken s.stage one s)
+
+-- the lines of a text: each ends in a newline, which the last may lack
+abbrev pub onto_first : ℕ → List (List ℕ) → List (List ℕ)
+onto_first byte [] = (byte ∷ []) ∷ []
+onto_first byte (line ∷ lines) = (byte ∷ line) ∷ lines
+
+abbrev pub lines_of : List ℕ → List (List ℕ)
+lines_of [] = []
+lines_of (byte ∷ bytes) = if byte == 10 then [] ∷ lines_of bytes else onto_first byte (lines_of bytes)
+
+-- after so many lines, these give this scene, or this is the number of the first bad one
+abbrev pub Gives : ℕ → Scene → List (List ℕ) → Result Scene ℕ → Type 0
+Gives done scene [] read = read ≡ Ok scene
+Gives done scene (text ∷ lines) read = (said : Option Line) × Reads text said ×
+    MatchOption (with_line scene said) (read ≡ Err (done + 1)) (λ next. Gives (done + 1) next lines read)
+
+-- no newline is among them
+abbrev pub IsOneLine : List ℕ → Type 0
+IsOneLine [] = Unit {0}
+IsOneLine (byte ∷ bytes) = ((byte == 10) ≡ false) × IsOneLine bytes
+
+-- what a script says, as the code holds it
+abbrev pub scene_of : Script → Scene
+scene_of script = record {
+  session_id = script.session_id;
+  max_inputs = script.max_inputs;
+  config = script.config;
+  queues = record { verdicts = script.verdicts.items; banners = script.failing_banners };
+  inputs = script.inputs.items;
+  moment = script.moment;
+  stage = script.stage;
+}
+
+abbrev pub seen : Result Script ℕ → Result Scene ℕ
+seen (Ok script) = Ok (scene_of script)
+seen (Err number) = Err number

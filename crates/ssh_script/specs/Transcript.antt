@@ -1,0 +1,97 @@
+-- What the program owes: its status, and the text that it writes.
+use Rattle.std.specs.Prelude.{◌≡◌, ◌≢◌, ◌<◌, ◌≤◌, ◌⊎◌, ℕ, List, [], ◌∷◌, ◌++◌, codes, flat_map, length, Option, Some, None, option_to_list, IfSome, Result, Ok, Err}
+use Rattle.std.specs.Fmt.{decimal}
+use Rattle.ssh_link.specs.Told.{Adds}
+use Rattle.ssh_handler.specs.declared.call.Call.{Call}
+use Rattle.ssh_handler.specs.declared.recorded.RecordError.TheVariants as record_error
+use Rattle.ssh_session.specs.declared.error.RunError.{RunError}
+use Rattle.ssh_session.specs.declared.error.RunError.TheVariants as error
+use Rattle.ssh_session.specs.World.{Settings, settings_of, World, opening_world}
+use Rattle.ssh_session.specs.Run.{Turn, Run, entries}
+use Rattle.ssh_session.specs.Step.{Closes}
+use Rattle.ssh_script.specs.Transfer.{IsAll, AddsPart}
+use Rattle.ssh_script.specs.Scene.{Scene, opening_scene, lines_of, Gives}
+use Rattle.ssh_script.specs.Played.{Failure, IsAnswered}
+use Rattle.ssh_script.specs.Given.{supply_of, IsGiven}
+use Rattle.ssh_script.specs.Print.{printed}
+
+-- the status of a run: 0 where it is Ok, 1 where it ended by an error; want of memory has none
+abbrev pub status_of : Result (Unit {0}) (RunError Failure) → Option ℕ
+status_of (Ok done) = Some 0
+status_of (Err error.NoMemory) = None
+status_of (Err (error.Handler record_error.NoMemory)) = None
+status_of (Err e) = Some 1
+
+abbrev pub scene_settings : Scene → Settings
+scene_settings scene = settings_of scene.config scene.session_id
+
+abbrev pub calls_of : {E : Type 0} → Turn E → List (Call E)
+calls_of turn = turn.calls
+
+-- this is the status and the text of a run of the scene, in which each callback is answered by the scene and each input is the scene's
+pub record IsRun (scene : Scene) (status : ℕ) (text : List ℕ) : Type 0 where
+  pub turns : List (Turn Failure)
+  pub world : World
+  pub run : Run (scene_settings scene) (opening_world (scene_settings scene)) turns world
+  pub last : Option (Turn Failure)
+  pub result : Result (Unit {0}) (RunError Failure)
+  -- a script's link has no faults
+  pub closes : Closes (scene_settings scene) world (length turns) scene.max_inputs last ⊥ result
+  pub room : IfSome last (λ turn. length turns < scene.max_inputs)
+  pub answered : IsAnswered scene.queues (flat_map calls_of (turns ++ option_to_list last))
+  pub given : IsGiven (supply_of scene.inputs scene.moment) (flat_map entries (turns ++ option_to_list last))
+  pub status_is : status_of result ≡ Some status
+  pub text_is : text ≡ printed (flat_map calls_of (turns ++ option_to_list last)) (flat_map entries (turns ++ option_to_list last)) result
+
+-- the status and the text of a script with this scene, or with this first bad line
+abbrev pub Shows : Result Scene ℕ → ℕ → List ℕ → Type 0
+Shows (Ok scene) status text = IsRun scene status text
+Shows (Err number) status text = (status ≡ 2) × (text ≡ codes "bad line " ++ decimal number ++ codes "\n")
+
+-- the longest script
+abbrev pub longest : ℕ
+longest = 16777216
+
+abbrev pub IsTooLong : List ℕ → Type 0
+IsTooLong bytes = longest < length bytes
+
+-- the status and the text of this script
+abbrev pub Scripted : List ℕ → ℕ → List ℕ → Type 0
+Scripted bytes status text =
+    (IsTooLong bytes × (status ≡ 2) × (text ≡ codes "script too long\n"))
+    ⊎ ((length bytes ≤ longest) × (read : Result Scene ℕ) × Gives 0 opening_scene (lines_of bytes) read × Shows read status text)
+
+-- the words that ask for a run
+abbrev pub run_words : List (List ℕ)
+run_words = codes "run" ∷ []
+
+abbrev pub usage : List ℕ
+usage = codes "usage: ssh_script run | generate <n> | threads <n>\n"
+
+-- the status and the text of these words and this script: words come first
+abbrev pub Transcript : List (List ℕ) → List ℕ → ℕ → List ℕ → Type 0
+Transcript words bytes status text =
+    ((words ≢ run_words) × (status ≡ 2) × (text ≡ usage)) ⊎ ((words ≡ run_words) × Scripted bytes status text)
+
+-- a script that is not run: it is too long, or has a bad line
+abbrev pub IsBadScript : List ℕ → Type 0
+IsBadScript bytes = IsTooLong bytes ⊎ ((number : ℕ) × Gives 0 opening_scene (lines_of bytes) (Err number))
+
+-- the same of the bytes that are left in a source, where it tells them
+abbrev pub Owed : List (List ℕ) → Option (List ℕ) → ℕ → List ℕ → Type 0
+Owed words left status text = (bytes : List ℕ) × IsAll left bytes × Transcript words bytes status text
+
+abbrev pub read_fault : List ℕ
+read_fault = codes "read fault\n"
+
+-- how the program ends, by its status: what is owed, whether the source's faults rose and the sink's, and what the sink held before and after
+pub data Ends (owed : ℕ → List ℕ → Type 0) (source_rose sink_rose : Type 0) (held held' : Option (List ℕ)) (status : ℕ) : Type 0 where
+  -- the whole text was written
+  Shown : (text : List ℕ) → status < 3 → owed status text → Adds held held' text → Ends owed source_rose sink_rose held held' status
+  -- the source failed
+  Unread : status ≡ 3 → source_rose → Adds held held' read_fault → Ends owed source_rose sink_rose held held' status
+  -- the sink failed, and a front of the text was written
+  Unwritten : status ≡ 4 → sink_rose → (text : List ℕ) → (((s : ℕ) × owed s text) ⊎ (source_rose × (text ≡ read_fault))) → AddsPart held held' text →
+      Ends owed source_rose sink_rose held held' status
+  -- there was no memory
+  Starved : status ≡ 5 → Ends owed source_rose sink_rose held held' status

@@ -1,0 +1,25 @@
+//! The program of this repository as a library: a script says what a session is given, and what
+//! it does is written line by line.
+//!
+//! What stands above it relies on the contract of `run_script`: the status and the bytes written
+//! are those that the script owes.
+#![tactic(auto)]
+
+mod asked;
+mod grammar;
+mod lines;
+mod print;
+mod queue;
+mod run;
+mod scene;
+mod script;
+mod script_handler;
+mod script_link;
+mod transfer;
+
+pub use asked::Asked;
+pub use lines::{InputLine, Line, Setting, Verdict};
+pub use run::{one_transcript, run_script};
+pub use script::{Script, Stage};
+pub use script_handler::{ScriptError, ScriptHandler};
+pub use script_link::{Event, ScriptLink};

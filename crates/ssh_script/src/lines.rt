@@ -1,0 +1,53 @@
+// The lines of a script.
+
+use bytes::Bytes;
+
+/// What a script answers to a request of method none.
+#[derive(Clone, Copy, Debug, PartialEq, Eq)]
+pub enum Verdict {
+    /// The user is let in.
+    Accept,
+    /// The request is refused.
+    Reject,
+    /// The handler answers an error.
+    Fail,
+}
+
+/// How a session is set up, and what its handler answers.
+#[derive(Debug, Drop)]
+pub enum Setting {
+    /// The session id, of at most 2^32 - 1 bytes.
+    Session(Bytes),
+    /// After how many inputs the run stops.
+    Inputs(u64),
+    /// How long a rejection is held, in milliseconds.
+    Reject(u64),
+    /// How long the rejection of a first request of method none is held, in milliseconds.
+    RejectInitial(u64),
+    /// One more answer to the requests of method none.
+    AnswerNone(Verdict),
+    /// One more banner callback fails.
+    FailBanner,
+}
+
+/// What comes in.
+#[derive(Debug, Drop)]
+pub enum InputLine {
+    /// From here on inputs come at this moment, in milliseconds.
+    At(u64),
+    /// The peer's payload.
+    Recv(Bytes),
+    /// The peer is gone.
+    End,
+}
+
+/// What one line of a script says.
+#[derive(Debug, Drop)]
+pub enum Line {
+    /// Nothing: it is empty, or a comment.
+    Passed,
+    /// A setting, which stands before the first input line.
+    Setting(Setting),
+    /// An input, or its moment.
+    Input(InputLine),
+}

@@ -1,0 +1,125 @@
+// What the lines of a script say together.
+ghost use Rattle.std.specs.Prelude.{◌≡◌, ◌<◌, ◌∷◌, [], length, Some, None, if◌then◌else◌, IfOk, IfSome, MatchOption};
+ghost use Rattle.ssh_script.specs.Scene.{scene_of, seen, opening_scene, set, taken, with_line, lines_of, Gives};
+
+use crate::grammar::read_line;
+use crate::lines::{InputLine, Line, Setting};
+use crate::script::{Script, Stage};
+use bytes::Bytes;
+use ssh_handler::Config;
+use ssh_link::{Input, InputKind};
+use std::alloc::{AllocError, Global};
+
+impl Script {
+    /// What no line says.
+    fn new(alloc: Global) -> Result<Script, AllocError>
+        ensures { IfOk result (λ script. scene_of script ≡ opening_scene) }
+    {
+        Ok(Script {
+            session_id: Bytes::copy_from_slice(alloc, &[])?,
+            max_inputs: 1_000_000,
+            config: Config::standard(),
+            verdicts: Vec::new(alloc),
+            failing_banners: 0,
+            inputs: Vec::new(alloc),
+            moment: 0,
+            stage: Stage::Settings,
+        })
+    }
+
+    /// Takes in a setting; false where it is out of range.
+    fn set(&mut self, setting: Setting) -> Result<bool, AllocError>
+        ensures { IfOk result (λ done. set setting (scene_of self.old) ≡ (if done then Some (scene_of self.new) else None)) }
+    {
+        match setting {
+            Setting::Session(id) => {
+                if id.len() > 0xffff_ffff {
+                    return Ok(false);
+                }
+                self.session_id = id;
+            }
+            Setting::Inputs(count) => self.max_inputs = count,
+            Setting::Reject(time) => self.config.auth_rejection_time = time,
+            Setting::RejectInitial(time) => self.config.auth_rejection_time_initial = Some(time),
+            Setting::AnswerNone(verdict) => self.verdicts.push(verdict)?,
+            Setting::FailBanner => {
+                self.failing_banners = self.failing_banners.checked_add(1).ok_or(AllocError)?;
+            }
+        }
+        Ok(true)
+    }
+
+    /// Takes in an input line.
+    fn take(&mut self, line: InputLine) -> Result<(), AllocError>
+        ensures { IfOk result (λ _. taken self.old.stage line (scene_of self.old) ≡ scene_of self.new) }
+    {
+        if self.stage == Stage::Ended {
+            return Ok(());
+        }
+        self.stage = Stage::Inputs;
+        match line {
+            InputLine::At(moment) => self.moment = moment,
+            InputLine::Recv(bytes) => self.inputs.push(Input {
+                moment: self.moment,
+                kind: InputKind::Payload(bytes),
+            })?,
+            InputLine::End => self.stage = Stage::Ended,
+        }
+        Ok(())
+    }
+
+    /// Takes in one more line; false where it may not stand here.
+    fn add(&mut self, line: Line) -> Result<bool, AllocError>
+        ensures { IfOk result (λ done. with_line (scene_of self.old) (Some line) ≡ (if done then Some (scene_of self.new) else None)) }
+    {
+        match line {
+            Line::Passed => Ok(true),
+            Line::Setting(setting) => {
+                if self.stage != Stage::Settings {
+                    return Ok(false);
+                }
+                self.set(setting)
+            }
+            Line::Input(input) => {
+                self.take(input)?;
+                Ok(true)
+            }
+        }
+    }
+}
+
+/// The first line, without its newline, and the bytes after it.
+fn first_line(text: &[u8]) -> Option<(&[u8], &[u8])>
+    ensures cut { MatchOption result (text.now ≡ []) (λ pair. lines_of text.now ≡ pair.0.now ∷ lines_of pair.1.now) }
+    ensures less { IfSome result (λ pair. length pair.1.now < length text.now) }
+{
+    if text.is_empty() {
+        return None;
+    }
+    for i in 0..text.len() {
+        if text[i] == b'\n' {
+            return Some((&text[..i], &text[i + 1..]));
+        }
+    }
+    Some((text, &text[text.len()..]))
+}
+
+/// What the lines say together, or the number of the first bad one.
+pub(crate) fn read_script(alloc: Global, text: &[u8]) -> Result<Result<Script, u64>, AllocError>
+    ensures { IfOk result (λ read. Gives 0 opening_scene (lines_of text.now) (seen read)) }
+{
+    let mut script = Script::new(alloc)?;
+    let mut rest = text;
+    let mut done: u64 = 0;
+    while let Some((line, more)) = first_line(rest) {
+        done += 1;
+        let Some(line) = read_line(alloc, line)? else {
+            return Ok(Err(done));
+        };
+        if !script.add(line)? {
+            return Ok(Err(done));
+        }
+        rest = more;
+    }
+    Ok(Ok(script))
+}

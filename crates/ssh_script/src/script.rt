@@ -1,0 +1,40 @@
+// What a script says.
+ghost use Rattle.std.specs.Prelude.{◌<◌, ◌^◌, length};
+
+use crate::lines::Verdict;
+use bytes::Bytes;
+use ssh_handler::Config;
+use ssh_link::Input;
+
+/// Which lines may follow.
+#[derive(Clone, Copy, Debug, PartialEq, Eq)]
+pub enum Stage {
+    /// All.
+    Settings,
+    /// All but settings: there was an input line.
+    Inputs,
+    /// All but settings, and input lines are not taken: the peer is gone.
+    Ended,
+}
+
+/// What a script says.
+#[derive(Drop)]
+pub struct Script {
+    /// The session id.
+    pub session_id: Bytes,
+    /// After how many inputs the run stops.
+    pub max_inputs: u64,
+    /// How the server is set up.
+    pub config: Config,
+    /// What the requests of method none are answered, in order.
+    pub verdicts: Vec<Verdict>,
+    /// How many banner callbacks fail.
+    pub failing_banners: u64,
+    /// The inputs, in order.
+    pub inputs: Vec<Input>,
+    /// The moment in force, in milliseconds.
+    pub moment: u64,
+    /// Which lines may follow.
+    pub stage: Stage,
+    ghost short: { length session_id < 2 ^ 32 },
+}
