@@ -1,0 +1,126 @@
+// Runs over links in memory, with handlers of the tests' own.
+use bytes::Bytes;
+use ssh_handler::{Auth, Commands, Config, Handler, RecordError, Recorded, Unwritten};
+use ssh_link::{Calls, Input, InputKind, Inputs, MemoryLink, TraceEntry};
+use ssh_session::{Flow, RunError, Session, run_stream};
+use ssh_wire::Text;
+use std::alloc::Global;
+use std::test::Fail;
+
+// SERVICE_REQUEST for the service ssh-userauth.
+const SERVICE: &[u8] = b"\x05\x00\x00\x00\x0cssh-userauth";
+
+// Why a handler of the tests fails.
+#[derive(Clone, Copy, Debug, Drop, PartialEq, Eq)]
+struct Tired;
+
+// A handler that fails where it is asked for a banner.
+#[derive(Drop)]
+struct NoBanner;
+
+impl Handler for NoBanner {
+    type Error = Tired;
+
+    fn untold(&mut self, _by: Unwritten) -> Result<(), Tired> {
+        Ok(())
+    }
+
+    fn authentication_banner(&mut self) -> Result<Option<Text>, Tired> {
+        Err(Tired)
+    }
+}
+
+// A handler that lets everybody in.
+#[derive(Drop)]
+struct Open;
+
+impl Handler for Open {
+    type Error = Tired;
+
+    fn untold(&mut self, _by: Unwritten) -> Result<(), Tired> {
+        Ok(())
+    }
+
+    fn auth_none(&mut self, _user: &str) -> Result<Auth, Tired> {
+        Ok(Auth::Accept)
+    }
+
+    fn auth_succeeded(&mut self, _session: &mut Commands<'_>) -> Result<(), Tired> {
+        Ok(())
+    }
+}
+
+fn input(alloc: Global, payload: &[u8]) -> Result<Input, Fail> {
+    Ok(Input {
+        moment: 0,
+        kind: InputKind::Payload(Bytes::copy_from_slice(alloc, payload)?),
+    })
+}
+
+// A link with the service request, whose calls of these numbers fail.
+fn service_link(alloc: Global, fails: &[u64]) -> Result<MemoryLink, Fail> {
+    let mut inputs = Inputs::new(alloc);
+    inputs.push(input(alloc, SERVICE)?)?;
+    let mut calls = Calls::new(alloc);
+    for number in fails {
+        calls.push(*number)?;
+    }
+    Ok(MemoryLink::new(alloc, inputs, calls))
+}
+
+fn sent(link: &MemoryLink) -> usize {
+    let mut count = 0usize;
+    for entry in link.trace() {
+        if matches!(entry, TraceEntry::Sent(_)) {
+            count = count.saturating_add(1);
+        }
+    }
+    count
+}
+
+#[test]
+fn a_link_that_fails(rt: HostRuntime) -> Result<(), Fail> {
+    let alloc = rt.alloc();
+    let config = Config::standard();
+    // Call 1 takes the input, call 2 hands the frame on, call 3 takes the end.
+    for (number, frames) in [(1u64, 0usize), (2, 0), (3, 1)] {
+        let mut link = service_link(alloc, &[number])?;
+        let mut handler = Recorded::new(alloc, Open);
+        let run = run_stream(alloc, &config, b"", b"", &mut handler, &mut link, 10);
+        assert!(rt; matches!(run, Err(RunError::LinkFault)));
+        assert_eq!(rt; sent(&link), frames);
+    }
+    Ok(())
+}
+
+#[test]
+fn a_handler_that_fails(rt: HostRuntime) -> Result<(), Fail> {
+    let alloc = rt.alloc();
+    let config = Config::standard();
+    let mut link = service_link(alloc, &[])?;
+    let mut handler = Recorded::new(alloc, NoBanner);
+    let run = run_stream(alloc, &config, b"", b"", &mut handler, &mut link, 10);
+    assert!(rt; matches!(run, Err(RunError::Handler(RecordError::Inner(Tired)))));
+    assert_eq!(rt; sent(&link), 0);
+    assert_eq!(rt; handler.calls().len(), 1);
+    Ok(())
+}
+
+#[test]
+fn a_session_that_is_spent(rt: HostRuntime) -> Result<(), Fail> {
+    let alloc = rt.alloc();
+    let config = Config::standard();
+    let mut link = service_link(alloc, &[])?;
+    let mut handler = Recorded::new(alloc, Open);
+    let mut session = Session::new(alloc, &config, b"", b"SSH-2.0-test")?;
+    let first = session.step(&mut handler, &mut link, input(alloc, SERVICE)?);
+    assert!(rt; matches!(first, Ok(Flow::Continue)));
+    let disconnect = session.step(&mut handler, &mut link, input(alloc, b"\x01")?);
+    assert!(rt; matches!(disconnect, Ok(Flow::Ended)));
+    assert!(rt; session.spent());
+    let later = session.step(&mut handler, &mut link, input(alloc, SERVICE)?);
+    assert!(rt; matches!(later, Err(RunError::Inconsistent)));
+    assert_eq!(rt; handler.calls().len(), 1);
+    assert_eq!(rt; sent(&link), 1);
+    Ok(())
+}

@@ -1,0 +1,221 @@
+// Scripts, and what the program writes for them.
+ghost use Rattle.std.specs.Prelude.{None};
+
+use bytes::Bytes;
+use ssh_link::{Calls, IoFailed, MemorySink, MemorySource, Sink};
+use ssh_script::run_script;
+use std::alloc::Global;
+use std::test::Fail;
+
+// The request for the service ssh-userauth.
+const SERVICE: &[u8] = b"recv 050000000c7373682d7573657261757468\n";
+
+#[derive(Drop)]
+struct Case {
+    script: &'static [u8],
+    status: u8,
+    written: &'static [u8],
+}
+
+fn calls(alloc: Global, numbers: &[u64]) -> Result<Calls, Fail> {
+    let mut calls = Calls::new(alloc);
+    for number in numbers {
+        calls.push(*number)?;
+    }
+    Ok(calls)
+}
+
+fn run(
+    alloc: Global,
+    words: &[&str],
+    script: &[u8],
+    failing_reads: &[u64],
+    failing_writes: &[u64],
+) -> Result<(u8, MemorySink), Fail> {
+    let script = Bytes::copy_from_slice(alloc, script)?;
+    let mut source = MemorySource::new(script, calls(alloc, failing_reads)?);
+    let mut sink = MemorySink::new(alloc, calls(alloc, failing_writes)?);
+    let status = run_script(alloc, words, &mut source, &mut sink);
+    Ok((status, sink))
+}
+
+#[test]
+fn runs(rt: HostRuntime) -> Result<(), Fail> {
+    let cases = [
+        Case {
+            script: b"recv 050000000c7373682d7573657261757468",
+            status: 0,
+            written: b"call authentication_banner\ninput 1\nsend - 060000000c7373682d7573657261757468\ninput 2\nok\n",
+        },
+        Case {
+            script: b"recv 050000000c7373682d757365726175746800\n",
+            status: 1,
+            written: b"input 1\nerror Encoding\n",
+        },
+        Case {
+            script: b"answer none accept\nrecv 050000000c7373682d7573657261757468\nrecv 3200000005616c6963650000000e7373682d636f6e6e656374696f6e000000046e6f6e65\n",
+            status: 0,
+            written: b"call authentication_banner\ncall auth_none 616c696365\ncall auth_succeeded\ninput 1\nsend - 060000000c7373682d7573657261757468\ninput 2\nsend - 34\ninput 3\nok\n",
+        },
+        Case {
+            script: b"config reject-initial 10\nat 5000\nrecv 050000000c7373682d7573657261757468\nrecv 3200000005616c6963650000000e7373682d636f6e6e656374696f6e000000046e6f6e65\n",
+            status: 0,
+            written: b"call authentication_banner\ncall auth_none 616c696365\ninput 1\nsend - 060000000c7373682d7573657261757468\ninput 2\nsend - 330000003170617373776f72642c7075626c69636b65792c686f737462617365642c6b6579626f6172642d696e74657261637469766500 hold 5010\ninput 3\nok\n",
+        },
+        Case {
+            script: b"inputs 1\nrecv 050000000c7373682d7573657261757468\n",
+            status: 1,
+            written: b"call authentication_banner\ninput 1\nsend - 060000000c7373682d7573657261757468\nerror InputLimit\n",
+        },
+        Case {
+            script: b"inputs 1\ninputs 0\nrecv 050000000c7373682d7573657261757468\n",
+            status: 1,
+            written: b"error InputLimit\n",
+        },
+        Case {
+            script: b"answer banner fail\nrecv 050000000c7373682d7573657261757468\n",
+            status: 1,
+            written: b"call authentication_banner\ninput 1\nerror Handler\n",
+        },
+        Case {
+            script: b"answer none fail\nrecv 050000000c7373682d7573657261757468\nrecv 3200000005616c6963650000000e7373682d636f6e6e656374696f6e000000046e6f6e65\n",
+            status: 1,
+            written: b"call authentication_banner\ncall auth_none 616c696365\ninput 1\nsend - 060000000c7373682d7573657261757468\ninput 2\nerror Handler\n",
+        },
+        Case {
+            script: b"# any bytes: \xff\n\nsession -\nsession 00FFa0\nrecv -\nend\nat 7\nrecv 01\n",
+            status: 0,
+            written: b"input 1\ninput 2\nok\n",
+        },
+    ];
+    for case in &cases {
+        let (status, sink) = run(rt.alloc(), &["run"], case.script, &[], &[])?;
+        assert_eq!(rt; status, case.status);
+        assert_eq!(rt; sink.bytes(), case.written);
+    }
+    Ok(())
+}
+
+#[test]
+fn bad_lines(rt: HostRuntime) -> Result<(), Fail> {
+    let scripts: [&[u8]; 18] = [
+        b"recv",
+        b"recv ",
+        b"recv 0",
+        b"recv 0g",
+        b"recv 00 ",
+        b"recv  00",
+        b"recv\t00",
+        b" ",
+        b"end ",
+        b"End",
+        b"inputs 01",
+        b"inputs +1",
+        b"inputs 18446744073709551616",
+        b"config accept 1",
+        b"answer none",
+        b"answer none hold",
+        b"answer banner accept",
+        b"at -1\r",
+    ];
+    for script in &scripts {
+        let (status, sink) = run(rt.alloc(), &["run"], *script, &[], &[])?;
+        assert_eq!(rt; status, 2);
+        assert_eq!(rt; sink.bytes(), b"bad line 1\n".as_slice());
+    }
+    Ok(())
+}
+
+#[test]
+fn a_setting_after_an_input_line(rt: HostRuntime) -> Result<(), Fail> {
+    let script = b"inputs 5\n# no input\n\nat 1\ninputs 5\nbad too\n";
+    let (status, sink) = run(rt.alloc(), &["run"], script.as_slice(), &[], &[])?;
+    assert_eq!(rt; status, 2);
+    assert_eq!(rt; sink.bytes(), b"bad line 5\n".as_slice());
+    Ok(())
+}
+
+#[test]
+fn other_words(rt: HostRuntime) -> Result<(), Fail> {
+    let words: [&[&str]; 4] = [&[], &["run", "run"], &["Run"], &["threads", "2"]];
+    for words in &words {
+        let (status, sink) = run(rt.alloc(), *words, SERVICE, &[1], &[])?;
+        assert_eq!(rt; status, 2);
+        assert_eq!(rt;
+            sink.bytes(),
+            b"usage: ssh_script run | generate <n> | threads <n>\n".as_slice()
+        );
+    }
+    Ok(())
+}
+
+#[test]
+fn failing_sources_and_sinks(rt: HostRuntime) -> Result<(), Fail> {
+    for number in [1, 2] {
+        let (status, sink) = run(rt.alloc(), &["run"], SERVICE, &[number], &[])?;
+        assert_eq!(rt; status, 3);
+        assert_eq!(rt; sink.bytes(), b"read fault\n".as_slice());
+    }
+    let (status, sink) = run(rt.alloc(), &["run"], SERVICE, &[], &[1])?;
+    assert_eq!(rt; status, 4);
+    assert_eq!(rt; sink.bytes().len(), 0);
+    Ok(())
+}
+
+// A sink that takes four bytes at a time, and fails from its fourth call on.
+#[derive(Drop)]
+struct SlowSink {
+    bytes: Vec<u8>,
+    calls: u64,
+    faults: u64,
+}
+
+impl Sink for SlowSink {
+    ghost held = { λ _. None };
+
+    ghost faults = { λ s. s.faults };
+
+    fn write(&mut self, piece: &[u8]) -> Result<usize, IoFailed> {
+        let count = piece.len().min(4);
+        if self.calls == 3 || self.bytes.extend_from_slice(&piece[..count]).is_err() {
+            self.faults = self.faults.saturating_add(1);
+            return Err(IoFailed);
+        }
+        self.calls = self.calls.saturating_add(1);
+        Ok(count)
+    }
+}
+
+#[test]
+fn a_sink_that_fails_on_the_way(rt: HostRuntime) -> Result<(), Fail> {
+    let alloc = rt.alloc();
+    let mut source = MemorySource::new(Bytes::copy_from_slice(alloc, SERVICE)?, calls(alloc, &[])?);
+    let mut sink = SlowSink {
+        bytes: Vec::new(alloc),
+        calls: 0,
+        faults: 0,
+    };
+    let status = run_script(alloc, &["run"], &mut source, &mut sink);
+    assert_eq!(rt; status, 4);
+    assert_eq!(rt; sink.bytes.as_slice(), b"call authent".as_slice());
+    Ok(())
+}
+
+#[test]
+fn a_script_that_is_too_long(rt: HostRuntime) -> Result<(), Fail> {
+    let alloc = rt.alloc();
+    let mut script = Vec::new(alloc);
+    for _ in 0..262144 {
+        script.extend_from_slice(
+            b"################################################################",
+        )?;
+    }
+    let (status, sink) = run(alloc, &["run"], script.as_slice(), &[], &[])?;
+    assert_eq!(rt; status, 0);
+    assert_eq!(rt; sink.bytes(), b"input 1\nok\n".as_slice());
+    script.push(b'#')?;
+    let (status, sink) = run(alloc, &["run"], script.as_slice(), &[], &[])?;
+    assert_eq!(rt; status, 2);
+    assert_eq!(rt; sink.bytes(), b"script too long\n".as_slice());
+    Ok(())
+}
