@@ -1,0 +1,45 @@
+-- The state of authentication between requests (RFC 4252 section 5).
+use Rattle.std.specs.Prelude.{ℕ, ◌+◌, ◌-◌, ◌^◌, ◌&&◌, min, List, Bool, false, Option, Some, None, option_map, bytes_eq, if◌then◌else◌}
+use Rattle.std.specs.Borrow.{Bor}
+use Rattle.ssh_wire.specs.declared.method.MethodKind.{MethodKind}
+use Rattle.ssh_auth.specs.declared.auth_request.Principal.{Principal}
+use Rattle.ssh_auth.specs.declared.auth_request.AuthRequest.{AuthRequest}
+
+-- before the first request of a server with these methods
+abbrev pub server_request : List MethodKind → AuthRequest
+server_request methods = record { methods = methods; partial_success = false; rejection_count = 0; bound = None; initial = methods }
+
+-- whether this user and service are the bound pair
+abbrev pub is_bound : Option Principal → List ℕ → List ℕ → Bool
+is_bound None user service = false
+is_bound (Some principal) user service = bytes_eq principal.user user && bytes_eq principal.service service
+
+-- another user or service is bound in place of the old one: the initial methods come back, the partial flag is cleared, and the count of rejections stays
+abbrev pub bound_anew : AuthRequest → List ℕ → List ℕ → AuthRequest
+bound_anew auth user service = record auth {
+  bound = Some (record { user = user; service = service });
+  methods = auth.initial;
+  partial_success = false;
+}
+
+-- after a request named this user and service
+abbrev pub bound_to : AuthRequest → List ℕ → List ℕ → AuthRequest
+bound_to auth user service = if is_bound auth.bound user service then auth else bound_anew auth user service
+
+-- a request begins with no partial success
+abbrev pub begun : AuthRequest → List ℕ → List ℕ → AuthRequest
+begun auth user service = record (bound_to auth user service) { partial_success = false }
+
+-- the count of rejections after one more: a partial success is none
+abbrev pub count_after : Bool → ℕ → ℕ
+count_after partial count = if partial then count else min (count + 1) (2 ^ 64 - 1)
+
+-- what a caller sees of it
+abbrev pub principal_of : AuthRequest → Option (List ℕ × List ℕ)
+principal_of auth = option_map (λ principal. (principal.user, principal.service)) auth.bound
+
+abbrev pub pair_of : Option (Bor (List ℕ) × Bor (List ℕ)) → Option (List ℕ × List ℕ)
+pair_of pair = option_map (λ p. (p.0.now, p.1.now)) pair
+
+abbrev pub initial_of : AuthRequest → List MethodKind
+initial_of auth = auth.initial

@@ -1,0 +1,32 @@
+-- What serving a request of authentication does.
+use Rattle.std.specs.Prelude.{◌≡◌, ℕ, List, ◌∷◌, Option, Result, Ok, Err}
+use Rattle.ssh_link.specs.Told.{Adds, AddsOrStops}
+use Rattle.ssh_auth.specs.declared.call.Call.{Call}
+use Rattle.ssh_auth.specs.declared.auth_request.AuthRequest.{AuthRequest}
+use Rattle.ssh_auth.specs.declared.auth_step.AuthStep.{AuthStep}
+use Rattle.ssh_auth.specs.declared.error.AuthError.{AuthError}
+use Rattle.ssh_auth.specs.declared.error.AuthError.TheVariants as error
+use Rattle.ssh_auth.specs.Plan.{Plan, Follows, Begins, Breaks}
+use Rattle.ssh_auth.specs.Verdict.{Outcome, Replies, Fails, Encoding, Inconsistent, Not_built}
+
+-- the payload has this number
+abbrev pub IsNumbered : ℕ → List ℕ → Type 0
+IsNumbered number payload = (fields : List ℕ) × (payload ≡ number ∷ fields)
+
+-- with these calls the plan gives this answer, and leaves this state
+abbrev pub Answers : {E : Type 0} → Plan Outcome → List (Call E) → AuthRequest → Result AuthStep (AuthError E) → Type 0
+Answers plan calls auth (Ok step) = Follows plan calls (Replies step.reply step.verdict auth)
+Answers plan calls auth (Err error.NoMemory) = Begins plan calls
+Answers plan calls auth (Err (error.Encoding why)) = Follows plan calls (Fails (Encoding why))
+Answers plan calls auth (Err error.Inconsistent) = Follows plan calls (Fails Inconsistent)
+Answers plan calls auth (Err (error.Handler e)) = Breaks plan calls e
+Answers plan calls auth (Err error.NotBuilt) = Follows plan calls (Fails Not_built)
+
+-- the handler was told these calls; after one that answered an error it may tell nothing
+abbrev pub ToldBy : {T E : Type 0} → Result T (AuthError E) → Option (List (Call E)) → Option (List (Call E)) → List (Call E) → Type 0
+ToldBy (Err (error.Handler e)) told told' calls = AddsOrStops told told' calls
+ToldBy _ told told' calls = Adds told told' calls
+
+-- the same, and the handler was told these calls
+abbrev pub Serves : {E : Type 0} → Plan Outcome → Option (List (Call E)) → Option (List (Call E)) → AuthRequest → Result AuthStep (AuthError E) → Type 0
+Serves {E} plan told told' auth result = (calls : List (Call E)) × ToldBy result told told' calls × Answers plan calls auth result

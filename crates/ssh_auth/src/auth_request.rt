@@ -1,0 +1,110 @@
+// The state of authentication between requests.
+ghost use Rattle.std.specs.Prelude.{◌≡◌, true, false, not, IfOk, IfErr, OnOk, OnErr};
+ghost use Rattle.ssh_wire.specs.declared.error.WireError.TheVariants.{NoMemory};
+ghost use Rattle.ssh_auth.specs.Request.{server_request, principal_of, pair_of, initial_of, is_bound, bound_to, count_after};
+
+use ssh_wire::{MethodSet, Text, WireError};
+use std::alloc::Global;
+
+/// The user and the service that a request named (RFC 4252 section 5).
+#[derive(Drop)]
+pub struct Principal {
+    pub user: Text,
+    pub service: Text,
+}
+
+/// What is known of a client that asks to be authenticated.
+#[derive(Drop)]
+pub struct AuthRequest {
+    /// The methods that can continue.
+    pub methods: MethodSet,
+    /// Whether the last rejection was a partial success (RFC 4252 section 5.1).
+    pub partial_success: bool,
+    /// How many requests were rejected, partial successes left out.
+    pub rejection_count: usize,
+    bound: Option<Principal>,
+    initial: MethodSet,
+}
+
+impl AuthRequest {
+    /// Before the first request, of a server with these methods.
+    pub fn server(methods: MethodSet) -> AuthRequest
+        ensures { result ≡ server_request methods }
+    {
+        AuthRequest {
+            methods,
+            partial_success: false,
+            rejection_count: 0,
+            bound: None,
+            initial: methods,
+        }
+    }
+
+    /// The user and the service that the last request named.
+    pub fn principal(&self) -> Option<(&str, &str)>
+        ensures { pair_of result ≡ principal_of self.now }
+    {
+        match &self.bound {
+            Some(principal) => Some((principal.user.as_str(), principal.service.as_str())),
+            None => None,
+        }
+    }
+
+    /// The methods that another user can continue with.
+    pub fn initial_methods(&self) -> MethodSet
+        ensures { result ≡ initial_of self.now }
+    {
+        self.initial
+    }
+
+    /// Binds the user and the service that a request names. True where they differ from the bound
+    /// ones: then the initial methods come back and the partial flag is cleared, and the count of
+    /// rejections stays.
+    pub fn bind_or_reset_principal(
+        &mut self,
+        alloc: Global,
+        user: &str,
+        service: &str,
+    ) -> Result<bool, WireError>
+        ensures ok { OnOk result (self.new ≡ bound_to self.old user.now service.now) }
+        ensures differed { IfOk result (λ differed. differed ≡ not (is_bound self.old.bound user.now service.now)) }
+        ensures restored { result ≡ Ok true → (self.new.methods ≡ initial_of self.old) × (self.new.partial_success ≡ false)
+            × (self.new.rejection_count ≡ self.old.rejection_count) }
+        ensures memory { IfErr result (λ e. e ≡ NoMemory) }
+        ensures err { OnErr result (self.new ≡ self.old) }
+    {
+        if self.is_bound(user, service) {
+            return Ok(false);
+        }
+        self.bound = Some(Principal {
+            user: Text::new(alloc, user)?,
+            service: Text::new(alloc, service)?,
+        });
+        self.methods = self.initial;
+        self.partial_success = false;
+        Ok(true)
+    }
+
+    /// Whether these are the bound user and service.
+    fn is_bound(&self, user: &str, service: &str) -> bool
+        ensures { result ≡ is_bound self.now.bound user.now service.now }
+    {
+        match &self.bound {
+            Some(principal) => {
+                principal.user.as_str() == user && principal.service.as_str() == service
+            }
+            None => false,
+        }
+    }
+}
+
+/// The count of rejections after one more. A partial success is none.
+pub(crate) fn count_after_rejection(partial_success: bool, count: usize) -> usize
+    ensures { result ≡ count_after partial_success count }
+{
+    if partial_success {
+        count
+    } else {
+        count.saturating_add(1)
+    }
+}

@@ -1,0 +1,34 @@
+// What a handler tells of a callback.
+use crate::Auth;
+use ssh_wire::Text;
+
+/// One call of a callback of a handler: its arguments, and what it answered.
+#[derive(Drop)]
+pub enum Call<E> {
+    /// The banner was asked for.
+    AuthenticationBanner {
+        /// The banner, or none.
+        answer: Result<Option<Text>, E>,
+    },
+    /// A user asked to be let in by method none.
+    AuthNone {
+        /// The user's name.
+        user: Text,
+        /// The verdict.
+        answer: Result<Auth, E>,
+    },
+    /// A user asked to be let in by a password.
+    AuthPassword {
+        /// The user's name.
+        user: Text,
+        /// The password.
+        password: Text,
+        /// The verdict.
+        answer: Result<Auth, E>,
+    },
+    /// The user was authenticated.
+    AuthSucceeded {
+        /// Whether the handler goes on.
+        answer: Result<(), E>,
+    },
+}

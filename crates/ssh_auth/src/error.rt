@@ -1,0 +1,31 @@
+// Why a request of authentication gets no reply.
+ghost use Rattle.std.specs.Prelude.{◌≡◌};
+ghost use Rattle.ssh_auth.specs.Failure.{auth_error_of};
+
+use ssh_wire::WireError;
+
+/// Why a request of authentication gets no reply. `E` is the handler's error.
+#[derive(Debug, Drop)]
+pub enum AuthError<E> {
+    /// There was no memory.
+    NoMemory,
+    /// A field of the payload does not fit its layout.
+    Encoding(WireError),
+    /// The request names another service than `ssh-connection`.
+    Inconsistent,
+    /// The handler answered this error.
+    Handler(E),
+    /// The request is by a method that is not built yet: publickey or keyboard-interactive.
+    NotBuilt,
+}
+
+impl<E> From<WireError> for AuthError<E> {
+    ghost from_gives = { λ e r. r ≡ auth_error_of e };
+
+    fn from(error: WireError) -> AuthError<E> {
+        match error {
+            WireError::NoMemory => AuthError::NoMemory,
+            refused => AuthError::Encoding(refused),
+        }
+    }
+}

@@ -1,0 +1,64 @@
+// The callbacks that authenticate.
+ghost use Rattle.std.specs.Prelude.{◌≡◌, List, Option, None, Result};
+ghost use Rattle.ssh_link.specs.Told.{Tells, IsUntold};
+ghost use Rattle.ssh_auth.specs.declared.call.Call.{Call};
+ghost use Rattle.ssh_auth.specs.declared.call.Call.TheVariants.{AuthenticationBanner, AuthNone, AuthPassword};
+
+use crate::Auth;
+use ssh_wire::Text;
+
+/// Shows that a callback was not written by its handler. The bodies of the callbacks make one;
+/// nobody else has a use for it.
+#[derive(Clone, Copy, Debug)]
+pub struct Unwritten {
+    kept: (),
+}
+
+impl Unwritten {
+    /// For the body of a callback that a handler did not write.
+    pub fn new() -> Unwritten {
+        Unwritten { kept: () }
+    }
+}
+
+/// What a server answers to requests of authentication. A handler that tells its calls goes on
+/// telling them, unless one answered an error. An error of a callback ends the session's run.
+pub trait AuthHandler {
+    /// Why a callback cannot go on.
+    type Error: Drop;
+
+    /// The calls so far in order, where the handler tells them.
+    ghost told: { Self → Option (List (Call Self.Error)) } = { λ _. None };
+
+    /// Called by each body that the handler did not write. A handler that tells no calls answers
+    /// Ok; one that tells them cannot tell this one, and answers an error.
+    fn untold(&mut self, by: Unwritten) -> Result<(), Self::Error>
+        ensures { IsUntold (told self.old) (told self.new) result };
+
+    /// The banner that is shown to the user before authentication (RFC 4252 section 5.4): none
+    /// where it is not written.
+    fn authentication_banner(&mut self) -> Result<Option<Text>, Self::Error>
+        ensures { Tells (told self.old) (told self.new) result (AuthenticationBanner result) }
+    {
+        self.untold(Unwritten::new())?;
+        Ok(None)
+    }
+
+    /// A user asks to be let in by method none (RFC 4252 section 5.2): refused where it is not
+    /// written.
+    fn auth_none(&mut self, user: &str) -> Result<Auth, Self::Error>
+        ensures { Tells (told self.old) (told self.new) result (AuthNone user.now result) }
+    {
+        self.untold(Unwritten::new())?;
+        Ok(Auth::reject())
+    }
+
+    /// A user asks to be let in by a password (RFC 4252 section 8): refused where it is not
+    /// written.
+    fn auth_password(&mut self, user: &str, password: &str) -> Result<Auth, Self::Error>
+        ensures { Tells (told self.old) (told self.new) result (AuthPassword user.now password.now result) }
+    {
+        self.untold(Unwritten::new())?;
+        Ok(Auth::reject())
+    }
+}
