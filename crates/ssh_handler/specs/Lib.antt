@@ -1,4 +1,3 @@
 pub mod Settings
 pub mod Lent
-pub mod Plan
 pub mod Recording

@@ -1,7 +1,7 @@
 -- What a handler tells that records the calls it passes on.
 use Rattle.std.specs.Prelude.{◌≡◌, ◌⊎◌, Bool, true, false, List, Option, Some, None, Result, Ok, Err}
 use Rattle.ssh_link.specs.Told.{AddsOne, Tells}
-use Rattle.ssh_handler.specs.declared.call.Call.{Call}
+use Rattle.ssh_auth.specs.declared.call.Call.{Call}
 use Rattle.ssh_handler.specs.declared.recorded.RecordError.{RecordError}
 use Rattle.ssh_handler.specs.declared.recorded.RecordError.TheVariants.{NoMemory, Inner}
 

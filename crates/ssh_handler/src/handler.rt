@@ -1,55 +1,19 @@
 // The callbacks of a session.
-ghost use Rattle.std.specs.Prelude.{◌≡◌, List, Option, None, Result};
-ghost use Rattle.ssh_link.specs.Told.{Tells, IsUntold};
-ghost use Rattle.ssh_handler.specs.declared.call.Call.{Call};
-ghost use Rattle.ssh_handler.specs.declared.call.Call.TheVariants.{AuthenticationBanner, AuthNone, AuthSucceeded};
+ghost use Rattle.std.specs.Prelude.{◌≡◌};
+ghost use Rattle.ssh_link.specs.Told.{Tells};
+ghost use Rattle.ssh_auth.specs.declared.call.Call.TheVariants.{AuthSucceeded};
 
-use crate::{Auth, Commands};
-use ssh_wire::Text;
+use crate::Commands;
+use ssh_auth::{AuthHandler, Unwritten};
 
-/// Shows that a callback was not written by its handler: only the bodies below make one.
-#[derive(Clone, Copy, Debug)]
-pub struct Unwritten {
-    kept: (),
-}
-
-/// What a server answers to its peer, and what it is told. A handler that tells its calls goes
-/// on telling them, unless one answered an error. An error of a callback ends the session's run.
-pub trait Handler {
-    /// Why a callback cannot go on.
-    type Error: Drop;
-
-    /// The calls so far in order, where the handler tells them.
-    ghost told: { Self → Option (List (Call Self.Error)) } = { λ _. None };
-
-    /// Called by each body that the handler did not write. A handler that tells no calls answers
-    /// Ok; one that tells them cannot tell this one, and answers an error.
-    fn untold(&mut self, by: Unwritten) -> Result<(), Self::Error>
-        ensures { IsUntold (told self.old) (told self.new) result };
-
-    /// The banner that is shown to the user before authentication (RFC 4252 section 5.4): none
-    /// where it is not written.
-    fn authentication_banner(&mut self) -> Result<Option<Text>, Self::Error>
-        ensures { Tells (told self.old) (told self.new) result (AuthenticationBanner result) }
-    {
-        self.untold(Unwritten { kept: () })?;
-        Ok(None)
-    }
-
-    /// A user asks to be let in by method none (RFC 4252 section 5.2): refused where it is not
-    /// written.
-    fn auth_none(&mut self, user: &str) -> Result<Auth, Self::Error>
-        ensures { Tells (told self.old) (told self.new) result (AuthNone user.now result) }
-    {
-        self.untold(Unwritten { kept: () })?;
-        Ok(Auth::reject())
-    }
-
+/// What a server is told by its session once a user is authenticated. What `AuthHandler` says of
+/// its callbacks holds of these too.
+pub trait Handler: AuthHandler {
     /// The user is authenticated, and the success message is staged (RFC 4252 section 5.1).
     fn auth_succeeded(&mut self, session: &mut Commands<'_>) -> Result<(), Self::Error>
-        ensures { Tells (told self.old) (told self.new) result (AuthSucceeded result) }
+        ensures { Tells (Self.told self.old) (Self.told self.new) result (AuthSucceeded result) }
     {
-        self.untold(Unwritten { kept: () })?;
+        self.untold(Unwritten::new())?;
         Ok(())
     }
 }

@@ -3,9 +3,10 @@ ghost use Rattle.std.specs.Prelude.{◌≡◌, [], ◌∷◌, ◌++◌, Some, No
 ghost use Rattle.ssh_link.specs.Told.{AddsOne, Tells};
 ghost use Rattle.ssh_handler.specs.declared.recorded.RecordError.TheVariants.{NoMemory};
 ghost use Rattle.ssh_handler.specs.Recording.{Passes, Records, passed_on};
-ghost use Rattle.ssh_handler.specs.declared.call.Call.TheVariants.{AuthenticationBanner, AuthNone, AuthSucceeded};
+ghost use Rattle.ssh_auth.specs.declared.call.Call.TheVariants.{AuthenticationBanner, AuthNone, AuthPassword, AuthSucceeded};
 
-use crate::{Auth, Call, Commands, Handler, Unwritten};
+use crate::{Commands, Handler};
+use ssh_auth::{Auth, AuthHandler, Call, Unwritten};
 use ssh_wire::{Text, WireError};
 use std::alloc::Global;
 use std::marker::Model;
@@ -21,14 +22,14 @@ pub enum RecordError<E> {
 
 /// A handler that passes each call on to another, and tells them with their answers.
 #[derive(Drop)]
-pub struct Recorded<H: Handler> {
+pub struct Recorded<H: AuthHandler> {
     inner: H,
     calls: Vec<Call<RecordError<H::Error>>>,
     telling: bool,
     alloc: Global,
 }
 
-impl<H: Handler> Model for Recorded<H> {
+impl<H: AuthHandler> Model for Recorded<H> {
     ghost use Rattle.ssh_handler.specs.Recording.{Recording, told_while};
 
     ghost Value = { Recording H H.Error };
@@ -36,7 +37,7 @@ impl<H: Handler> Model for Recorded<H> {
     ghost view = { λ r. record { inner = r.inner; told = told_while r.telling r.calls.items } };
 }
 
-impl<H: Handler> Recorded<H>
+impl<H: AuthHandler> Recorded<H>
 where
     H::Error: Copy,
 {
@@ -70,7 +71,7 @@ fn pushed<T: Drop>(items: &mut Vec<T>, item: T) -> Result<(), WireError>
     Ok(())
 }
 
-impl<H: Handler> Recorded<H>
+impl<H: AuthHandler> Recorded<H>
 where
     H::Error: Copy,
 {
@@ -143,7 +144,22 @@ fn made_auth_none<E: Copy>(
     })
 }
 
-impl<H: Handler> Handler for Recorded<H>
+fn made_auth_password<E: Copy>(
+    alloc: Global,
+    user: &str,
+    password: &str,
+    answer: &Result<Auth, E>,
+) -> Result<Call<E>, WireError>
+    ensures { IfOk result (λ call. call ≡ AuthPassword user.now password.now answer.now) }
+{
+    Ok(Call::AuthPassword {
+        user: Text::new(alloc, user)?,
+        password: Text::new(alloc, password)?,
+        answer: copied_auth(answer),
+    })
+}
+
+impl<H: AuthHandler> AuthHandler for Recorded<H>
 where
     H::Error: Copy,
 {
@@ -176,10 +192,25 @@ where
         answer
     }
 
+    fn auth_password(&mut self, user: &str, password: &str) -> Result<Auth, RecordError<H::Error>>
+        ensures tells { Tells self.old.told self.new.told result (AuthPassword user.now password.now result) }
+        ensures records { Records self.old.told self.new.told result (AuthPassword user.now password.now result) }
+        ensures passes { Passes (H.told self.old.inner) (H.told self.new.inner) result (AuthPassword user.now password.now) }
+    {
+        let answer = passed(self.inner.auth_password(user, password));
+        self.keep(made_auth_password(self.alloc, user, password, &answer))?;
+        answer
+    }
+}
+
+impl<H: Handler> Handler for Recorded<H>
+where
+    H::Error: Copy,
+{
     fn auth_succeeded(&mut self, session: &mut Commands<'_>) -> Result<(), RecordError<H::Error>>
         ensures tells { Tells self.old.told self.new.told result (AuthSucceeded result) }
         ensures records { Records self.old.told self.new.told result (AuthSucceeded result) }
-        ensures passes { Passes (H.told self.old.inner) (H.told self.new.inner) result AuthSucceeded }
+        ensures passes { Passes (H.AuthHandler.told self.old.inner) (H.AuthHandler.told self.new.inner) result AuthSucceeded }
     {
         let answer = passed(self.inner.auth_succeeded(session));
         self.keep(Ok(Call::AuthSucceeded { answer }))?;

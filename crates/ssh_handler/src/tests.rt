@@ -1,5 +1,6 @@
 // Handlers by example, through the trait alone.
-use crate::{Auth, Call, Commands, Config, Handler, RecordError, Recorded, Unwritten};
+use crate::{Commands, Config, Handler, RecordError, Recorded};
+use ssh_auth::{Auth, AuthHandler, Call, Unwritten};
 use ssh_wire::Text;
 use std::alloc::Global;
 use std::test::Fail;
@@ -22,13 +23,15 @@ fn answers<H: Handler>(
 #[derive(Drop)]
 struct Silent;
 
-impl Handler for Silent {
+impl AuthHandler for Silent {
     type Error = ();
 
     fn untold(&mut self, _by: Unwritten) -> Result<(), ()> {
         Ok(())
     }
 }
+
+impl Handler for Silent {}
 
 // Lets anna in, and has no time for anyone.
 #[derive(Drop)]
@@ -39,7 +42,7 @@ struct Greeter {
 #[derive(Clone, Copy, Debug, Drop, PartialEq, Eq)]
 struct Late;
 
-impl Handler for Greeter {
+impl AuthHandler for Greeter {
     type Error = Late;
 
     fn untold(&mut self, _by: Unwritten) -> Result<(), Late> {
@@ -58,6 +61,16 @@ impl Handler for Greeter {
         }
     }
 
+    fn auth_password(&mut self, _user: &str, password: &str) -> Result<Auth, Late> {
+        if password == "please" {
+            Ok(Auth::Accept)
+        } else {
+            Ok(Auth::UnsupportedMethod)
+        }
+    }
+}
+
+impl Handler for Greeter {
     fn auth_succeeded(&mut self, _session: &mut Commands<'_>) -> Result<(), Late> {
         Err(Late)
     }

@@ -4,8 +4,7 @@ use Rattle.std.specs.Prelude.{flat_map, option_to_list}
 use Rattle.std.proofs.lemmas.List.{append-nil}
 use Rattle.ssh_link.specs.declared.frame.Input.{Input}
 use Rattle.ssh_link.specs.declared.link.TraceEntry.{TraceEntry}
-use Rattle.ssh_script.specs.declared.lines.Verdict.{Verdict}
-use Rattle.ssh_handler.specs.declared.call.Call.{Call}
+use Rattle.ssh_auth.specs.declared.call.Call.{Call}
 use Rattle.ssh_session.specs.declared.error.RunError.{RunError}
 use Rattle.ssh_session.specs.declared.error.RunError.TheVariants as error
 use Rattle.ssh_session.specs.World.{Settings, settings_of, World}
@@ -17,7 +16,7 @@ use Rattle.ssh_script.specs.declared.asked.Asked.TheVariants as asked
 use Rattle.ssh_script.specs.declared.script_link.Event.{Event}
 use Rattle.ssh_script.specs.declared.script_link.Event.TheVariants as event
 use Rattle.ssh_script.specs.Scene.{Scene}
-use Rattle.ssh_script.specs.Played.{Failure, Queues, queues_of, after, played, IsAnswered, heading, told_of}
+use Rattle.ssh_script.specs.Played.{Failure, Queues, after, played, IsAnswered, heading, told_of}
 use Rattle.ssh_script.specs.Given.{Supply, supply_of, traced, IsGiven, trace_of}
 use Rattle.ssh_script.specs.Given.{after as after_event, heading as input_heading}
 use Rattle.ssh_script.specs.Print.{asked_line, call_line, entry_lines, event_lines, frame_line, input_line, last_line}
@@ -29,6 +28,7 @@ is_answered : (queues : Queues) (all : List Asked) → IsAnswered queues (played
 is_answered queues [] = tt
 is_answered queues (asked.AuthenticationBanner ∷ all) = (refl, is_answered (after queues asked.AuthenticationBanner) all)
 is_answered queues (asked.AuthNone user ∷ all) = (refl, is_answered (after queues (asked.AuthNone user)) all)
+is_answered queues (asked.AuthPassword user password ∷ all) = (refl, is_answered (after queues (asked.AuthPassword user password)) all)
 is_answered queues (asked.AuthSucceeded ∷ all) = (refl, is_answered queues all)
 
 -- it prints as it was kept
@@ -36,6 +36,8 @@ calls_print : (queues : Queues) (all : List Asked) → flat_map asked_line all �
 calls_print queues [] = refl
 calls_print queues (asked.AuthenticationBanner ∷ all) = ap (λ t. asked_line asked.AuthenticationBanner ++ t) (calls_print (after queues asked.AuthenticationBanner) all)
 calls_print queues (asked.AuthNone user ∷ all) = ap (λ t. asked_line (asked.AuthNone user) ++ t) (calls_print (after queues (asked.AuthNone user)) all)
+calls_print queues (asked.AuthPassword user password ∷ all) =
+    ap (λ t. asked_line (asked.AuthPassword user password) ++ t) (calls_print (after queues (asked.AuthPassword user password)) all)
 calls_print queues (asked.AuthSucceeded ∷ all) = ap (λ t. asked_line asked.AuthSucceeded ++ t) (calls_print queues all)
 
 is_given : (supply : Supply) (all : List Event) → IsGiven supply (traced supply all)
@@ -134,9 +136,6 @@ kept scene status result lost lost' queues queues' old all supply supply' events
 
 pub text_of : (t0 t1 t2 t3 a b c : List ℕ) → t0 ≡ [] → t1 ≡ t0 ++ a → t2 ≡ t1 ++ b → t3 ≡ t2 ++ c → t3 ≡ a ++ b ++ c
 text_of t0 t1 t2 t3 a b c e f g h = h ∙ ap (λ x. x ++ c) (g ∙ ap (λ x. x ++ b) (f ∙ ap (λ x. x ++ a) e))
-
-pub queues_same : (vs ws : List Verdict) (m n : ℕ) → vs ≡ ws → m ≡ n → queues_of vs m ≡ queues_of ws n
-queues_same vs ws m n e f = ap (λ v. queues_of v m) e ∙ ap (queues_of ws) f
 
 pub supply_same : (xs ys : List Input) (m n : ℕ) → xs ≡ ys → m ≡ n → supply_of xs m ≡ supply_of ys n
 supply_same xs ys m n e f = ap (λ v. supply_of v m) e ∙ ap (supply_of ys) f

@@ -1,7 +1,7 @@
 -- A plan whose calls are answered by a script has one list of calls, and one end.
 use Rattle.std.proofs.Common.{◌≡◌, ◌⊎◌, List, [], ◌∷◌, ◌++◌, Result, Ok, Err, refl, sym, ◌∙◌, ap, subst, inl, inr}
-use Rattle.ssh_handler.specs.declared.call.Call.{Call}
-use Rattle.ssh_handler.specs.Plan.{Question, Authentication_banner, Auth_none, Auth_succeeded, Answer, Answered, Plan, Finish, Ask, Follows, Breaks}
+use Rattle.ssh_auth.specs.declared.call.Call.{Call}
+use Rattle.ssh_auth.specs.Plan.{Question, Authentication_banner, Auth_none, Auth_password, Auth_succeeded, Answer, Answered, Plan, Finish, Ask, Follows, Breaks}
 use Rattle.ssh_session.specs.Outcome.{Outcome}
 use Rattle.ssh_script.specs.declared.asked.Asked.{Asked}
 use Rattle.ssh_script.specs.declared.asked.Asked.TheVariants as asked
@@ -15,12 +15,14 @@ Comes plan calls (Err error) = Breaks plan calls error
 -- what a question is answered by a script
 abbrev answer_to : Queues → (question : Question) → Result (Answer question) Failure
 answer_to queues Authentication_banner = banner_answer queues.banners
-answer_to queues (Auth_none user) = verdict_answer (first_verdict queues.verdicts)
+answer_to queues (Auth_none user) = verdict_answer (first_verdict queues.none)
+answer_to queues (Auth_password user password) = verdict_answer (first_verdict queues.password)
 answer_to queues Auth_succeeded = Ok tt
 
 abbrev asked_by : Question → Asked
 asked_by Authentication_banner = asked.AuthenticationBanner
 asked_by (Auth_none user) = asked.AuthNone user
+asked_by (Auth_password user password) = asked.AuthPassword user password
 asked_by Auth_succeeded = asked.AuthSucceeded
 
 -- the call is the question, with its answer by the script
@@ -33,6 +35,10 @@ call_is Authentication_banner queues answer call h k =
 call_is (Auth_none user) queues answer call h k =
     let a : asked_of call ≡ asked.AuthNone user = ap asked_of h in
     let e : call ≡ answered queues (asked.AuthNone user) = k ∙ ap (answered queues) a in
+    (let z = sym h ∙ e in cc, a, e)
+call_is (Auth_password user password) queues answer call h k =
+    let a : asked_of call ≡ asked.AuthPassword user password = ap asked_of h in
+    let e : call ≡ answered queues (asked.AuthPassword user password) = k ∙ ap (answered queues) a in
     (let z = sym h ∙ e in cc, a, e)
 call_is Auth_succeeded queues answer call h k =
     let a : asked_of call ≡ asked.AuthSucceeded = ap asked_of h in

@@ -42,7 +42,7 @@ adds_more (Some old) b c xs ys h k = subst (λ o. Adds o c ys) h k ∙ ap Some (
 adds_nothing : (a b c : Option (List ℕ)) (xs : List ℕ) → Adds a b xs → Adds b c [] → Adds a c xs
 adds_nothing a b c xs h k = let e : xs ++ [] ≡ xs = append-nil xs in subst (Adds a c) e (adds_more a b c xs [] h k)
 
-adds_start : (a : Option (List ℕ)) → Adds a a []
+pub adds_start : (a : Option (List ℕ)) → Adds a a []
 adds_start None = refl
 adds_start (Some old) = ap Some (sym (append-nil old))
 

@@ -7,8 +7,8 @@ use Rattle.ssh_link.specs.declared.frame.InputKind.{InputKind}
 use Rattle.ssh_link.specs.declared.frame.InputKind.TheVariants.{Payload, End}
 use Rattle.ssh_link.specs.declared.link.TraceEntry.{TraceEntry}
 use Rattle.ssh_link.specs.declared.link.TraceEntry.TheVariants.{Sent}
-use Rattle.ssh_handler.specs.declared.call.Call.{Call}
-use Rattle.ssh_handler.specs.Plan.{Plan}
+use Rattle.ssh_auth.specs.declared.call.Call.{Call}
+use Rattle.ssh_auth.specs.Plan.{Plan}
 use Rattle.ssh_session.specs.declared.error.RunError.{RunError}
 use Rattle.ssh_session.specs.declared.error.RunError.TheVariants as error
 use Rattle.ssh_session.specs.World.{Settings, World}

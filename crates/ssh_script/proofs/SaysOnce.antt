@@ -1,35 +1,108 @@
 -- A payload says one thing.
-use Rattle.std.proofs.Common.{◌≡◌, ℕ, List, [], ◌∷◌, refl, sym, ◌∙◌, ap, subst}
-use Rattle.ssh_wire.specs.Field.{Text}
+use Rattle.std.proofs.Common.{◌≡◌, ◌⊎◌, ℕ, List, [], ◌∷◌, Bool, true, false, refl, sym, ◌∙◌, ap, subst, inl, inr}
+use Rattle.std.specs.Prelude.{codes}
+use Rattle.ssh_wire.specs.declared.error.WireError.{WireError}
+use Rattle.ssh_wire.specs.Field.{Flag, Text, SpellsAll, SpellsWhole, MisfitsAll, MisfitsWhole}
 use Rattle.ssh_wire.proofs.Fields.{spells_all_once, spells_whole_once, misfits_all_not_spells, misfits_whole_not_spells, misfits_all_once, misfits_whole_once}
+use Rattle.ssh_auth.specs.Said.{head_fields, Method, None_method, Password_method, Change_method, Other_method, Unbuilt_method, Unfit_method, SaysNone, SaysPassword, Named, Is_none, Is_password, Is_unbuilt, Is_other, named_by, SaysMethod, Other_service}
+use Rattle.ssh_auth.specs.Said.{Said as Asked, Says as Asks}
+use Rattle.ssh_auth.specs.Said as asks
 use Rattle.ssh_session.specs.declared.gate.Gate.{Gate}
 use Rattle.ssh_session.specs.declared.gate.Gate.TheVariants as gate
-use Rattle.ssh_session.specs.Said.{Method, None_method, Unfit_method, Unbuilt_method, Said, Nothing, Disconnect, Service, Request, Unfit, Unbuilt, SaysMethod, Fits}
+use Rattle.ssh_session.specs.Said.{Said, Nothing, Disconnect, Over_cap, Service, Request, Unfit, Unbuilt, Fits}
 
-method_once : (name rest : List ℕ) (a b : Method) → SaysMethod name rest a → SaysMethod name rest b → a ≡ b
-method_once name rest None_method None_method h k = refl
-method_once name rest None_method (Unfit_method why) h k = absurd (k.1.0 h.1)
-method_once name rest None_method Unbuilt_method h k = absurd (k h.0)
-method_once name rest (Unfit_method why) None_method h k = absurd (h.1.0 k.1)
-method_once name rest (Unfit_method why) (Unfit_method other) h k = ap Unfit_method (misfits_whole_once [] rest why other h.1 k.1)
-method_once name rest (Unfit_method why) Unbuilt_method h k = absurd (k h.0)
-method_once name rest Unbuilt_method None_method h k = absurd (h k.0)
-method_once name rest Unbuilt_method (Unfit_method why) h k = absurd (h k.0)
-method_once name rest Unbuilt_method Unbuilt_method h k = refl
+none_once : (rest : List ℕ) (a b : Method) → SaysNone rest a → SaysNone rest b → a ≡ b
+none_once rest None_method None_method h k = refl
+none_once rest None_method (Unfit_method why) h k = absurd (misfits_whole_not_spells [] tt rest why k h)
+none_once rest (Unfit_method why) None_method h k = absurd (misfits_whole_not_spells [] tt rest why h k)
+none_once rest (Unfit_method why) (Unfit_method other) h k = ap Unfit_method (misfits_whole_once [] rest why other h k)
+none_once rest None_method _ h k = absurd k
+none_once rest (Unfit_method why) _ h k = absurd k
+none_once rest _ b h k = absurd h
 
-request_once : (user service user' service' : List ℕ) (method method' : Method) → user ≡ user' → service ≡ service' → method ≡ method' →
-    Request user service method ≡ Request user' service' method'
-request_once user service user' service' method method' e f g = cc
+-- what follows the flag of a password, by the flag
+abbrev AfterFlag : Bool → List ℕ → Method → Type 0
+AfterFlag false rest (Password_method password) = SpellsWhole (Text ∷ []) (password, tt) rest
+AfterFlag false rest (Unfit_method why) = MisfitsWhole (Text ∷ []) rest why
+AfterFlag true rest (Change_method password new_password) = SpellsWhole (Text ∷ Text ∷ []) (password, (new_password, tt)) rest
+AfterFlag true rest (Unfit_method why) = MisfitsWhole (Text ∷ Text ∷ []) rest why
+AfterFlag _ rest _ = ⊥
 
-requests_once : (fields user service user' service' : List ℕ) (method method' : Method) →
-    Fits gate.UserauthRequest fields (Request user service method) → Fits gate.UserauthRequest fields (Request user' service' method') →
-    Request user service method ≡ Request user' service' method'
-requests_once fields user service user' service' method method' h k =
-    let t = spells_all_once (Text ∷ Text ∷ Text ∷ []) (user, (service, (h.0, tt))) (user', (service', (k.0, tt))) fields h.1 k.1 h.2 k.2 in
+-- the flag misfits, or is one and is followed so
+abbrev ByFlag : List ℕ → Method → Type 0
+ByFlag fields method =
+    ((why : WireError) × MisfitsAll (Flag ∷ []) fields why × (method ≡ Unfit_method why))
+    ⊎ ((flag : Bool) × (rest : List ℕ) × SpellsAll (Flag ∷ []) (flag, tt) fields rest × AfterFlag flag rest method)
+
+by_flag : (fields : List ℕ) (method : Method) → SaysPassword fields method → ByFlag fields method
+by_flag fields (Password_method password) h = inr (false, h.1, (h.0, h.1, h.2, h.3, refl), h.4)
+by_flag fields (Change_method password new_password) h = inr (true, h.1, (h.0, h.1, h.2, h.3, refl), h.4)
+by_flag fields (Unfit_method why) (inl h) = inl (why, h, refl)
+by_flag fields (Unfit_method why) (inr (inl h)) = inr (false, h.0, h.1, h.2)
+by_flag fields (Unfit_method why) (inr (inr h)) = inr (true, h.0, h.1, h.2)
+by_flag fields _ h = absurd h
+
+after_flag_once : (flag : Bool) (rest : List ℕ) (a b : Method) → AfterFlag flag rest a → AfterFlag flag rest b → a ≡ b
+after_flag_once false rest (Password_method password) (Password_method other) h k =
+    ap Password_method (ap (λ v. v.0) (spells_whole_once (Text ∷ []) (password, tt) (other, tt) rest h k))
+after_flag_once false rest (Password_method password) (Unfit_method why) h k = absurd (misfits_whole_not_spells (Text ∷ []) (password, tt) rest why k h)
+after_flag_once false rest (Unfit_method why) (Password_method password) h k = absurd (misfits_whole_not_spells (Text ∷ []) (password, tt) rest why h k)
+after_flag_once false rest (Unfit_method why) (Unfit_method other) h k = ap Unfit_method (misfits_whole_once (Text ∷ []) rest why other h k)
+after_flag_once false rest (Password_method password) _ h k = absurd k
+after_flag_once false rest (Unfit_method why) _ h k = absurd k
+after_flag_once false rest _ b h k = absurd h
+after_flag_once true rest (Change_method password new_password) (Change_method other new_other) h k =
+    let e = spells_whole_once (Text ∷ Text ∷ []) (password, (new_password, tt)) (other, (new_other, tt)) rest h k in
+    let f : password ≡ other = ap (λ v. v.0) e in
+    let g : new_password ≡ new_other = ap (λ v. v.1.0) e in cc
+after_flag_once true rest (Change_method password new_password) (Unfit_method why) h k =
+    absurd (misfits_whole_not_spells (Text ∷ Text ∷ []) (password, (new_password, tt)) rest why k h)
+after_flag_once true rest (Unfit_method why) (Change_method password new_password) h k =
+    absurd (misfits_whole_not_spells (Text ∷ Text ∷ []) (password, (new_password, tt)) rest why h k)
+after_flag_once true rest (Unfit_method why) (Unfit_method other) h k = ap Unfit_method (misfits_whole_once (Text ∷ Text ∷ []) rest why other h k)
+after_flag_once true rest (Change_method password new_password) _ h k = absurd k
+after_flag_once true rest (Unfit_method why) _ h k = absurd k
+after_flag_once true rest _ b h k = absurd h
+
+by_flag_once : (fields : List ℕ) (a b : Method) → ByFlag fields a → ByFlag fields b → a ≡ b
+by_flag_once fields a b (inl h) (inl k) = h.2 ∙ (ap Unfit_method (misfits_all_once (Flag ∷ []) fields h.0 k.0 h.1 k.1) ∙ sym k.2)
+by_flag_once fields a b (inl h) (inr k) = absurd (misfits_all_not_spells (Flag ∷ []) (k.0, tt) fields k.1 h.0 h.1 k.2)
+by_flag_once fields a b (inr h) (inl k) = absurd (misfits_all_not_spells (Flag ∷ []) (h.0, tt) fields h.1 k.0 k.1 h.2)
+by_flag_once fields a b (inr h) (inr k) =
+    let t = spells_all_once (Flag ∷ []) (h.0, tt) (k.0, tt) fields h.1 k.1 h.2 k.2 in
+    let f : h.0 ≡ k.0 = ap (λ v. v.0) t.0 in
+    after_flag_once h.0 h.1 a b h.3 (subst (λ x. AfterFlag h.0 x b) (sym t.1) (subst (λ x. AfterFlag x k.1 b) (sym f) k.3))
+
+method_once : (named : Named) (rest : List ℕ) (a b : Method) → SaysMethod named rest a → SaysMethod named rest b → a ≡ b
+method_once Is_none rest a b h k = none_once rest a b h k
+method_once Is_password rest a b h k = by_flag_once rest a b (by_flag rest a h) (by_flag rest b k)
+method_once Is_unbuilt rest a b h k = h ∙ sym k
+method_once Is_other rest a b h k = h ∙ sym k
+
+request_once : (user user' : List ℕ) (method method' : Method) → user ≡ user' → method ≡ method' → asks.Request user method ≡ asks.Request user' method'
+request_once user user' method method' e f = cc
+
+-- the fields of a USERAUTH_REQUEST say one thing
+asked_once : (fields : List ℕ) (a b : Asked) → Asks fields a → Asks fields b → a ≡ b
+asked_once fields (asks.Request user method) (asks.Request user' method') h k =
+    let t = spells_all_once head_fields (user, (codes "ssh-connection", (h.0, tt))) (user', (codes "ssh-connection", (k.0, tt))) fields h.1 k.1 h.2 k.2 in
     let n : h.0 ≡ k.0 = ap (λ v. v.1.1.0) t.0 in
-    let r : h.1 ≡ k.1 = t.1 in
-    let m : SaysMethod h.0 h.1 method' = subst (λ x. SaysMethod h.0 x method') (sym r) (subst (λ x. SaysMethod x k.1 method') (sym n) k.3) in
-    request_once user service user' service' method method' (ap (λ v. v.0) t.0) (ap (λ v. v.1.0) t.0) (method_once h.0 h.1 method method' h.3 m)
+    let m : SaysMethod (named_by h.0) h.1 method' = subst (λ x. SaysMethod (named_by h.0) x method') (sym t.1) (subst (λ x. SaysMethod (named_by x) k.1 method') (sym n) k.3) in
+    request_once user user' method method' (ap (λ v. v.0) t.0) (method_once (named_by h.0) h.1 method method' h.3 m)
+asked_once fields (asks.Request user method) Other_service h k =
+    let t = spells_all_once head_fields (user, (codes "ssh-connection", (h.0, tt))) (k.0, (k.1, (k.2, tt))) fields h.1 k.3 h.2 k.4 in
+    absurd (k.5 (sym (ap (λ v. v.1.0) t.0)))
+asked_once fields Other_service (asks.Request user method) h k =
+    let t = spells_all_once head_fields (user, (codes "ssh-connection", (k.0, tt))) (h.0, (h.1, (h.2, tt))) fields k.1 h.3 k.2 h.4 in
+    absurd (h.5 (sym (ap (λ v. v.1.0) t.0)))
+asked_once fields Other_service Other_service h k = refl
+asked_once fields (asks.Unfit why) (asks.Unfit other) h k = ap asks.Unfit (misfits_all_once head_fields fields why other h k)
+asked_once fields (asks.Request user method) (asks.Unfit why) h k =
+    absurd (misfits_all_not_spells head_fields (user, (codes "ssh-connection", (h.0, tt))) fields h.1 why k h.2)
+asked_once fields (asks.Unfit why) (asks.Request user method) h k =
+    absurd (misfits_all_not_spells head_fields (user, (codes "ssh-connection", (k.0, tt))) fields k.1 why h k.2)
+asked_once fields Other_service (asks.Unfit why) h k = absurd (misfits_all_not_spells head_fields (h.0, (h.1, (h.2, tt))) fields h.3 why k h.4)
+asked_once fields (asks.Unfit why) Other_service h k = absurd (misfits_all_not_spells head_fields (k.0, (k.1, (k.2, tt))) fields k.3 why h k.4)
 
 nothing_said : (fields : List ℕ) (said : Said) → Fits gate.Nothing fields said → said ≡ Nothing
 nothing_said fields Nothing h = refl
@@ -39,8 +112,8 @@ ends_said : (fields : List ℕ) (said : Said) → Fits gate.Ends fields said →
 ends_said fields Disconnect h = refl
 ends_said fields _ h = absurd h
 
-over_cap_said : (fields : List ℕ) (said : Said) → Fits gate.OverCap fields said → said ≡ Unbuilt
-over_cap_said fields Unbuilt h = refl
+over_cap_said : (fields : List ℕ) (said : Said) → Fits gate.OverCap fields said → said ≡ Over_cap
+over_cap_said fields Over_cap h = refl
 over_cap_said fields _ h = absurd h
 
 not_built_said : (fields : List ℕ) (said : Said) → Fits gate.NotBuilt fields said → said ≡ Unbuilt
@@ -58,14 +131,8 @@ service_said fields (Unfit why) _ h k = absurd k
 service_said fields _ b h k = absurd h
 
 userauth_said : (fields : List ℕ) (a b : Said) → Fits gate.UserauthRequest fields a → Fits gate.UserauthRequest fields b → a ≡ b
-userauth_said fields (Request user service method) (Request user' service' method') h k = requests_once fields user service user' service' method method' h k
-userauth_said fields (Request user service method) (Unfit why) h k =
-    absurd (misfits_all_not_spells (Text ∷ Text ∷ Text ∷ []) (user, (service, (h.0, tt))) fields h.1 why k h.2)
-userauth_said fields (Unfit why) (Request user service method) h k =
-    absurd (misfits_all_not_spells (Text ∷ Text ∷ Text ∷ []) (user, (service, (k.0, tt))) fields k.1 why h k.2)
-userauth_said fields (Unfit why) (Unfit other) h k = ap Unfit (misfits_all_once (Text ∷ Text ∷ Text ∷ []) fields why other h k)
-userauth_said fields (Request user service method) _ h k = absurd k
-userauth_said fields (Unfit why) _ h k = absurd k
+userauth_said fields (Request asked) (Request other) h k = ap Request (asked_once fields asked other h k)
+userauth_said fields (Request asked) _ h k = absurd k
 userauth_said fields _ b h k = absurd h
 
 -- at a gate the fields say one thing

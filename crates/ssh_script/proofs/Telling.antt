@@ -2,9 +2,9 @@
 use Rattle.std.proofs.Common.{◌≡◌, ℕ, List, [], ◌∷◌, ◌++◌, Option, Some, None, Result, Ok, Err, Bool, true, false, refl, sym, ◌∙◌, ap, append_assoc, subst, OnOk, OnErr}
 use Rattle.ssh_link.specs.Told.{Adds, AddsOrStops, Tells}
 use Rattle.ssh_link.specs.declared.link.TraceEntry.{TraceEntry}
-use Rattle.ssh_handler.specs.declared.auth.Auth.{Auth}
-use Rattle.ssh_handler.specs.declared.call.Call.{Call}
-use Rattle.ssh_handler.specs.declared.call.Call.TheVariants.{AuthNone}
+use Rattle.ssh_auth.specs.declared.auth.Auth.{Auth}
+use Rattle.ssh_auth.specs.declared.call.Call.{Call}
+use Rattle.ssh_auth.specs.declared.call.Call.TheVariants.{AuthNone, AuthPassword}
 use Rattle.ssh_script.specs.declared.asked.Asked.{Asked}
 use Rattle.ssh_script.specs.declared.asked.Asked.TheVariants as asked
 use Rattle.ssh_script.specs.declared.script_link.Event.{Event}
@@ -81,9 +81,15 @@ adds_entry supply left all new one entry l n e =
     ∙ (ap (λ x. Some (input_heading supply ++ (traced supply all ++ x ∷ []))) c
     ∙ ap Some (sym (append_assoc (input_heading supply) (traced supply all) (entry ∷ [])))))
 
-pub told_answer : (user name : List ℕ) (queues : Queues) (answer : Result Auth Failure) → user ≡ name → answer ≡ verdict_answer (first_verdict queues.verdicts) →
+pub told_none_answer : (user name : List ℕ) (queues : Queues) (answer : Result Auth Failure) → user ≡ name → answer ≡ verdict_answer (first_verdict queues.none) →
     answered queues (asked.AuthNone user) ≡ AuthNone name answer
-told_answer user name queues answer u a = ap (λ x. AuthNone x (verdict_answer (first_verdict queues.verdicts))) u ∙ ap (AuthNone name) (sym a)
+told_none_answer user name queues answer u a = ap (λ x. AuthNone x (verdict_answer (first_verdict queues.none))) u ∙ ap (AuthNone name) (sym a)
+
+pub told_password_answer : (user name password word : List ℕ) (queues : Queues) (answer : Result Auth Failure) → user ≡ name → password ≡ word →
+    answer ≡ verdict_answer (first_verdict queues.password) → answered queues (asked.AuthPassword user password) ≡ AuthPassword name word answer
+told_password_answer user name password word queues answer u w a =
+    ap (λ x. AuthPassword x password (verdict_answer (first_verdict queues.password))) u
+    ∙ (ap (λ x. AuthPassword name x (verdict_answer (first_verdict queues.password))) w ∙ ap (AuthPassword name word) (sym a))
 
 -- a callback that leaves the answers as they are leaves them so whether it is kept or not
 pub left_same : {T E : Type 0} (result : Result T E) (queues left : Queues) (all new : List Asked) (one : Asked) → left_after queues all ≡ left →

@@ -3,7 +3,9 @@ use Rattle.std.specs.Prelude.{◌≡◌, ◌≢◌, ◌<◌, ◌^◌, ◌⊎◌,
 use Rattle.std.specs.List.{position_or_len, before_first, after_first}
 use Rattle.std.specs.Fmt.{decimal}
 use Rattle.hex.specs.Hex.{decode_of}
-use Rattle.ssh_script.specs.declared.lines.Verdict.TheVariants as verdict
+use Rattle.ssh_script.specs.declared.answers.Verdict.{Verdict}
+use Rattle.ssh_script.specs.declared.answers.Verdict.TheVariants as verdict
+use Rattle.ssh_script.specs.declared.lines.Setting.{Setting}
 use Rattle.ssh_script.specs.declared.lines.Setting.TheVariants as setting
 use Rattle.ssh_script.specs.declared.lines.InputLine.TheVariants as input
 use Rattle.ssh_script.specs.declared.lines.Line.{Line}
@@ -44,13 +46,25 @@ abbrev pub cut : List ℕ → Option (List ℕ × List ℕ)
 cut text =
     if nat_lt (position_or_len is_space text) (length text) then Some (before_first is_space text, after_first is_space text) else None
 
--- answer none accept, reject or fail
+-- accept, reject or fail
+abbrev pub verdict_of : List ℕ → Option Verdict
+verdict_of word =
+    if bytes_eq word (codes "accept") then Some verdict.Accept
+    else if bytes_eq word (codes "reject") then Some verdict.Reject
+    else if bytes_eq word (codes "fail") then Some verdict.Fail
+    else None
+
+abbrev pub verdict_form : (Verdict → Setting) → Option Verdict → Form
+verdict_form says None = No_form
+verdict_form says (Some one) = Whole (line.Setting (says one))
+
+-- answer none, and a verdict
 abbrev pub none_form : List ℕ → Form
-none_form word =
-    if bytes_eq word (codes "accept") then Whole (line.Setting (setting.AnswerNone verdict.Accept))
-    else if bytes_eq word (codes "reject") then Whole (line.Setting (setting.AnswerNone verdict.Reject))
-    else if bytes_eq word (codes "fail") then Whole (line.Setting (setting.AnswerNone verdict.Fail))
-    else No_form
+none_form word = verdict_form setting.AnswerNone (verdict_of word)
+
+-- answer password, and a verdict
+abbrev pub password_form : List ℕ → Form
+password_form word = verdict_form setting.AnswerPassword (verdict_of word)
 
 -- answer banner fail
 abbrev pub banner_form : List ℕ → Form
@@ -61,6 +75,7 @@ abbrev pub answer_words : Option (List ℕ × List ℕ) → Form
 answer_words None = No_form
 answer_words (Some parts) =
     if bytes_eq parts.0 (codes "none") then none_form parts.1
+    else if bytes_eq parts.0 (codes "password") then password_form parts.1
     else if bytes_eq parts.0 (codes "banner") then banner_form parts.1
     else No_form
 
@@ -71,7 +86,8 @@ answer_form rest = answer_words (cut rest)
 abbrev pub config_words : Option (List ℕ × List ℕ) → Form
 config_words None = No_form
 config_words (Some parts) =
-    if bytes_eq parts.0 (codes "reject") then Of_number (λ time. line.Setting (setting.Reject time)) parts.1
+    if bytes_eq parts.0 (codes "attempts") then Of_number (λ count. line.Setting (setting.Attempts count)) parts.1
+    else if bytes_eq parts.0 (codes "reject") then Of_number (λ time. line.Setting (setting.Reject time)) parts.1
     else if bytes_eq parts.0 (codes "reject-initial") then Of_number (λ time. line.Setting (setting.RejectInitial time)) parts.1
     else No_form
 

@@ -1,14 +1,15 @@
 -- What the handler of a script answers.
 use Rattle.std.specs.Prelude.{◌≡◌, ℕ, ◌-◌, ◌==◌, List, [], ◌∷◌, ◌++◌, map, Bool, true, false, Option, Some, None, Result, Ok, Err, if◌then◌else◌}
-use Rattle.ssh_handler.specs.declared.auth.Auth.{Auth}
-use Rattle.ssh_handler.specs.declared.auth.Auth.TheVariants.{Reject, Accept}
-use Rattle.ssh_handler.specs.declared.call.Call.{Call}
-use Rattle.ssh_handler.specs.declared.call.Call.TheVariants.{AuthenticationBanner, AuthNone, AuthSucceeded}
+use Rattle.ssh_auth.specs.declared.auth.Auth.{Auth}
+use Rattle.ssh_auth.specs.declared.auth.Auth.TheVariants.{Reject, Accept}
+use Rattle.ssh_auth.specs.declared.call.Call.{Call}
+use Rattle.ssh_auth.specs.declared.call.Call.TheVariants.{AuthenticationBanner, AuthNone, AuthPassword, AuthSucceeded}
 use Rattle.ssh_handler.specs.declared.recorded.RecordError.{RecordError}
 use Rattle.ssh_handler.specs.declared.recorded.RecordError.TheVariants.{Inner}
 use Rattle.ssh_script.specs.Queue.{rest}
-use Rattle.ssh_script.specs.declared.lines.Verdict.{Verdict}
-use Rattle.ssh_script.specs.declared.lines.Verdict.TheVariants as verdict
+use Rattle.ssh_script.specs.declared.answers.Answers.{Answers}
+use Rattle.ssh_script.specs.declared.answers.Verdict.{Verdict}
+use Rattle.ssh_script.specs.declared.answers.Verdict.TheVariants as verdict
 use Rattle.ssh_script.specs.declared.asked.Asked.{Asked}
 use Rattle.ssh_script.specs.declared.asked.Asked.TheVariants as asked
 use Rattle.ssh_script.specs.declared.script_handler.ScriptError.{ScriptError}
@@ -23,12 +24,18 @@ fails = Err (Inner (record {}))
 -- the answers of a script that were not given yet
 pub record Queues : Type 0 where
   -- to requests of method none
-  pub verdicts : List Verdict
+  pub none : List Verdict
+  -- to requests of method password
+  pub password : List Verdict
   -- how many banner callbacks fail
   pub banners : ℕ
 
-abbrev pub queues_of : List Verdict → ℕ → Queues
-queues_of verdicts banners = record { verdicts = verdicts; banners = banners }
+abbrev pub queues_of : (none password : List Verdict) → ℕ → Queues
+queues_of none password banners = record { none = none; password = password; banners = banners }
+
+-- as the code holds them
+abbrev pub queues_in : Answers → Queues
+queues_in answers = queues_of answers.none.items answers.password.items answers.failing_banners
 
 -- the next verdict; requests are refused where there is none
 abbrev pub first_verdict : List Verdict → Verdict
@@ -46,13 +53,15 @@ banner_answer left = if left == 0 then Ok None else fails
 -- the callback, and what it is answered
 abbrev pub answered : Queues → Asked → Call Failure
 answered queues asked.AuthenticationBanner = AuthenticationBanner (banner_answer queues.banners)
-answered queues (asked.AuthNone user) = AuthNone user (verdict_answer (first_verdict queues.verdicts))
+answered queues (asked.AuthNone user) = AuthNone user (verdict_answer (first_verdict queues.none))
+answered queues (asked.AuthPassword user password) = AuthPassword user password (verdict_answer (first_verdict queues.password))
 answered queues asked.AuthSucceeded = AuthSucceeded (Ok tt)
 
 -- the answers that are left after it
 abbrev pub after : Queues → Asked → Queues
 after queues asked.AuthenticationBanner = record queues { banners = queues.banners - 1 }
-after queues (asked.AuthNone user) = record queues { verdicts = rest queues.verdicts }
+after queues (asked.AuthNone user) = record queues { none = rest queues.none }
+after queues (asked.AuthPassword user password) = record queues { password = rest queues.password }
 after queues asked.AuthSucceeded = queues
 
 -- the callbacks in order, each with its answer
@@ -68,6 +77,7 @@ left_after queues (one ∷ more) = left_after (after queues one) more
 abbrev pub asked_of : {E : Type 0} → Call E → Asked
 asked_of (AuthenticationBanner answer) = asked.AuthenticationBanner
 asked_of (AuthNone user answer) = asked.AuthNone user
+asked_of (AuthPassword user password answer) = asked.AuthPassword user password
 asked_of (AuthSucceeded answer) = asked.AuthSucceeded
 
 -- each of these calls was answered by the script, in order
@@ -77,14 +87,17 @@ IsAnswered queues (call ∷ calls) =
     (call ≡ answered queues (asked_of call)) × IsAnswered (after queues (asked_of call)) calls
 
 -- the answers as a handler tells them before its calls: a call for each verdict, and one for the number of banners that fail
-abbrev pub told_verdict : Verdict → Call Failure
-told_verdict one = AuthNone [] (verdict_answer one)
+abbrev pub told_none : Verdict → Call Failure
+told_none one = AuthNone [] (verdict_answer one)
+
+abbrev pub told_password : Verdict → Call Failure
+told_password one = AuthPassword [] [] (verdict_answer one)
 
 abbrev pub told_banners : ℕ → Call Failure
 told_banners count = AuthenticationBanner (Ok (Some (count ∷ [])))
 
 abbrev pub heading : Queues → List (Call Failure)
-heading queues = map told_verdict queues.verdicts ++ told_banners queues.banners ∷ []
+heading queues = map told_none queues.none ++ (map told_password queues.password ++ told_banners queues.banners ∷ [])
 
 -- what a handler tells that has these answers and was called so; one that lost a call tells nothing
 abbrev pub told_of : Bool → Queues → List Asked → Option (List (Call Failure))

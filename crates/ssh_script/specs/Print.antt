@@ -6,7 +6,7 @@ use Rattle.ssh_wire.specs.declared.channel_id.ChannelId.{ChannelId}
 use Rattle.ssh_link.specs.declared.frame.Frame.{Frame}
 use Rattle.ssh_link.specs.declared.link.TraceEntry.{TraceEntry}
 use Rattle.ssh_link.specs.declared.link.TraceEntry.TheVariants as entry
-use Rattle.ssh_handler.specs.declared.call.Call.{Call}
+use Rattle.ssh_auth.specs.declared.call.Call.{Call}
 use Rattle.ssh_session.specs.declared.error.RunError.{RunError}
 use Rattle.ssh_session.specs.declared.error.RunError.TheVariants as error
 use Rattle.ssh_script.specs.declared.asked.Asked.{Asked}
@@ -24,6 +24,7 @@ hex_text (byte ∷ bytes) = encode_lower (byte ∷ bytes)
 abbrev pub asked_line : Asked → List ℕ
 asked_line asked.AuthenticationBanner = codes "call authentication_banner\n"
 asked_line (asked.AuthNone user) = codes "call auth_none " ++ hex_text user ++ codes "\n"
+asked_line (asked.AuthPassword user password) = codes "call auth_password " ++ hex_text user ++ codes " " ++ hex_text password ++ codes "\n"
 asked_line asked.AuthSucceeded = codes "call auth_succeeded\n"
 
 -- a call prints without its answer

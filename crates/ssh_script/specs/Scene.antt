@@ -14,7 +14,7 @@ use Rattle.ssh_script.specs.declared.script.Stage.{Stage}
 use Rattle.ssh_script.specs.declared.script.Stage.TheVariants as stage
 use Rattle.ssh_script.specs.declared.script.Script.{Script}
 use Rattle.ssh_script.specs.Grammar.{Reads}
-use Rattle.ssh_script.specs.Played.{Queues}
+use Rattle.ssh_script.specs.Played.{Queues, queues_in}
 
 -- what a script says
 pub record Scene : Type 0 where
@@ -36,7 +36,7 @@ opening_scene = record {
   session_id = [];
   max_inputs = 1000000;
   config = standard_config;
-  queues = record { verdicts = []; banners = 0 };
+  queues = record { none = []; password = []; banners = 0 };
   inputs = [];
   moment = 0;
   stage = stage.Settings;
@@ -48,7 +48,9 @@ set (setting.Session id) s = if nat_lt (length id) (2 ^ 32) then Some (record s 
 set (setting.Inputs count) s = Some (record s { max_inputs = count })
 set (setting.Reject time) s = Some (record s { config = record s.config { auth_rejection_time = time } })
 set (setting.RejectInitial time) s = Some (record s { config = record s.config { auth_rejection_time_initial = Some time } })
-set (setting.AnswerNone verdict) s = Some (record s { queues = record s.queues { verdicts = s.queues.verdicts ++ verdict ∷ [] } })
+set (setting.Attempts count) s = Some (record s { config = record s.config { max_auth_attempts = count } })
+set (setting.AnswerNone verdict) s = Some (record s { queues = record s.queues { none = s.queues.none ++ verdict ∷ [] } })
+set (setting.AnswerPassword verdict) s = Some (record s { queues = record s.queues { password = s.queues.password ++ verdict ∷ [] } })
 set setting.FailBanner s = Some (record s { queues = record s.queues { banners = s.queues.banners + 1 } })
 
 -- settings come before the first input line
@@ -102,7 +104,7 @@ scene_of script = record {
   session_id = script.session_id;
   max_inputs = script.max_inputs;
   config = script.config;
-  queues = record { verdicts = script.verdicts.items; banners = script.failing_banners };
+  queues = queues_in script.answers;
   inputs = script.inputs.items;
   moment = script.moment;
   stage = script.stage;

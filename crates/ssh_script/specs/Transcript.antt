@@ -2,7 +2,7 @@
 use Rattle.std.specs.Prelude.{◌≡◌, ◌≢◌, ◌<◌, ◌≤◌, ◌⊎◌, ℕ, List, [], ◌∷◌, ◌++◌, codes, flat_map, length, Option, Some, None, option_to_list, IfSome, Result, Ok, Err}
 use Rattle.std.specs.Fmt.{decimal}
 use Rattle.ssh_link.specs.Told.{Adds}
-use Rattle.ssh_handler.specs.declared.call.Call.{Call}
+use Rattle.ssh_auth.specs.declared.call.Call.{Call}
 use Rattle.ssh_handler.specs.declared.recorded.RecordError.TheVariants as record_error
 use Rattle.ssh_session.specs.declared.error.RunError.{RunError}
 use Rattle.ssh_session.specs.declared.error.RunError.TheVariants as error
@@ -93,5 +93,5 @@ pub data Ends (owed : ℕ → List ℕ → Type 0) (source_rose sink_rose : Type
   -- the sink failed, and a front of the text was written
   Unwritten : status ≡ 4 → sink_rose → (text : List ℕ) → (((s : ℕ) × owed s text) ⊎ (source_rose × (text ≡ read_fault))) → AddsPart held held' text →
       Ends owed source_rose sink_rose held held' status
-  -- there was no memory
-  Starved : status ≡ 5 → Ends owed source_rose sink_rose held held' status
+  -- there was no memory, and nothing was written
+  Starved : status ≡ 5 → Adds held held' [] → Ends owed source_rose sink_rose held held' status

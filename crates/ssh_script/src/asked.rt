@@ -12,6 +12,13 @@ pub enum Asked {
         /// The user's name.
         user: Text,
     },
+    /// A user asked to be let in by a password.
+    AuthPassword {
+        /// The user's name.
+        user: Text,
+        /// The password.
+        password: Text,
+    },
     /// The user was authenticated.
     AuthSucceeded,
 }

@@ -1,8 +1,9 @@
 // How the lines of a script are written: words with one space between each two.
 ghost use Rattle.std.specs.Prelude.{◌≡◌, IfOk};
-ghost use Rattle.ssh_script.specs.Grammar.{IsNumberIn, IsHexIn, Fits, Reads, word_form, config_form, answer_form, lone_form, none_form, banner_form};
+ghost use Rattle.ssh_script.specs.Grammar.{IsNumberIn, IsHexIn, Fits, Reads, word_form, config_form, answer_form, lone_form, verdict_of, none_form, password_form, banner_form};
 
-use crate::lines::{InputLine, Line, Setting, Verdict};
+use crate::answers::Verdict;
+use crate::lines::{InputLine, Line, Setting};
 use bytes::Bytes;
 use hex::FromHexError;
 use std::alloc::{AllocError, Global};
@@ -48,16 +49,29 @@ fn lone_line(word: &str) -> Option<Line>
     }
 }
 
+fn verdict_in(word: &str) -> Option<Verdict>
+    ensures { result ≡ verdict_of word.now }
+{
+    match word {
+        "accept" => Some(Verdict::Accept),
+        "reject" => Some(Verdict::Reject),
+        "fail" => Some(Verdict::Fail),
+        _ => None,
+    }
+}
+
 fn none_line(word: &str) -> Option<Line>
     ensures { Fits (none_form word.now) result }
 {
-    let verdict = match word {
-        "accept" => Verdict::Accept,
-        "reject" => Verdict::Reject,
-        "fail" => Verdict::Fail,
-        _ => return None,
-    };
+    let verdict = verdict_in(word)?;
     Some(Line::Setting(Setting::AnswerNone(verdict)))
+}
+
+fn password_line(word: &str) -> Option<Line>
+    ensures { Fits (password_form word.now) result }
+{
+    let verdict = verdict_in(word)?;
+    Some(Line::Setting(Setting::AnswerPassword(verdict)))
 }
 
 fn banner_line(word: &str) -> Option<Line>
@@ -75,6 +89,7 @@ fn answer_line(rest: &str) -> Option<Line>
 {
     match rest.split_once(' ') {
         Some(("none", word)) => none_line(word),
+        Some(("password", word)) => password_line(word),
         Some(("banner", word)) => banner_line(word),
         _ => None,
     }
@@ -87,10 +102,11 @@ fn config_line(alloc: Global, rest: &str) -> Result<Option<Line>, AllocError>
     let Some((name, digits)) = rest.split_once(' ') else {
         return Ok(None);
     };
-    let time = number_in(alloc, digits)?;
+    let number = number_in(alloc, digits)?;
     match name {
-        "reject" => Ok(time.map(|time| Line::Setting(Setting::Reject(time)))),
-        "reject-initial" => Ok(time.map(|time| Line::Setting(Setting::RejectInitial(time)))),
+        "attempts" => Ok(number.map(|count| Line::Setting(Setting::Attempts(count)))),
+        "reject" => Ok(number.map(|time| Line::Setting(Setting::Reject(time)))),
+        "reject-initial" => Ok(number.map(|time| Line::Setting(Setting::RejectInitial(time)))),
         _ => Ok(None),
     }
 }

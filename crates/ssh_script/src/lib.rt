@@ -5,6 +5,7 @@
 //! are those that the script owes.
 #![tactic(auto)]
 
+mod answers;
 mod asked;
 mod grammar;
 mod lines;
@@ -17,8 +18,9 @@ mod script_handler;
 mod script_link;
 mod transfer;
 
+pub use answers::{Answers, Verdict};
 pub use asked::Asked;
-pub use lines::{InputLine, Line, Setting, Verdict};
+pub use lines::{InputLine, Line, Setting};
 pub use run::{one_transcript, run_script};
 pub use script::{Script, Stage};
 pub use script_handler::{ScriptError, ScriptHandler};

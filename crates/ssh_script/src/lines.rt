@@ -1,17 +1,7 @@
 // The lines of a script.
 
+use crate::answers::Verdict;
 use bytes::Bytes;
-
-/// What a script answers to a request of method none.
-#[derive(Clone, Copy, Debug, PartialEq, Eq)]
-pub enum Verdict {
-    /// The user is let in.
-    Accept,
-    /// The request is refused.
-    Reject,
-    /// The handler answers an error.
-    Fail,
-}
 
 /// How a session is set up, and what its handler answers.
 #[derive(Debug, Drop)]
@@ -24,8 +14,12 @@ pub enum Setting {
     Reject(u64),
     /// How long the rejection of a first request of method none is held, in milliseconds.
     RejectInitial(u64),
+    /// After how many rejected requests no more are read, and 0 for no such limit.
+    Attempts(u64),
     /// One more answer to the requests of method none.
     AnswerNone(Verdict),
+    /// One more answer to the requests of method password.
+    AnswerPassword(Verdict),
     /// One more banner callback fails.
     FailBanner,
 }

@@ -37,12 +37,33 @@ fn print_auth_none(alloc: Global, out: &mut String, user: &[u8]) -> Result<(), A
     out.push_str("\n")
 }
 
+fn print_auth_password(
+    alloc: Global,
+    out: &mut String,
+    user: &[u8],
+    password: &[u8],
+) -> Result<(), AllocError>
+    ensures { OnOk result (string_bytes out.new ≡ string_bytes out.old ++ codes "call auth_password " ++ hex_text user.now ++ codes " " ++ hex_text password.now ++ codes "\n") }
+{
+    out.push_str("call auth_password ")?;
+    print_hex(alloc, out, user)?;
+    out.push_str(" ")?;
+    print_hex(alloc, out, password)?;
+    out.push_str("\n")
+}
+
 fn print_asked(alloc: Global, out: &mut String, asked: &Asked) -> Result<(), AllocError>
     ensures { OnOk result (string_bytes out.new ≡ string_bytes out.old ++ asked_line asked.now) }
 {
     match asked {
         Asked::AuthenticationBanner => out.push_str("call authentication_banner\n"),
         Asked::AuthNone { user } => print_auth_none(alloc, out, user.as_str().as_bytes()),
+        Asked::AuthPassword { user, password } => print_auth_password(
+            alloc,
+            out,
+            user.as_str().as_bytes(),
+            password.as_str().as_bytes(),
+        ),
         Asked::AuthSucceeded => out.push_str("call auth_succeeded\n"),
     }
 }

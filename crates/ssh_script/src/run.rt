@@ -1,5 +1,5 @@
 // A script is read and run, and what comes of it is written.
-ghost use Rattle.std.specs.Prelude.{◌≡◌, ◌≢◌, ◌<◌, ◌≤◌, ◌++◌, ◌↔◌, ◌⊎◌, ℕ, List, map, codes, length, IfOk, IfErr, OnOk, IsErrOf, true, false};
+ghost use Rattle.std.specs.Prelude.{◌≡◌, ◌≢◌, ◌<◌, ◌≤◌, ◌++◌, ◌↔◌, ◌⊎◌, ℕ, List, map, codes, length, IfOk, OnOk, IsErrOf, true, false};
 ghost use Rattle.std.specs.Fmt.{decimal};
 ghost use Rattle.std.specs.String.{string_bytes};
 ghost use Rattle.ssh_link.specs.Io.{Rose};
@@ -84,7 +84,7 @@ fn status_of(run: &Result<(), RunError<RecordError<ScriptError>>>) -> Option<u8>
 fn run_scene(alloc: Global, script: Script) -> Result<Report, AllocError>
     ensures { IfOk result (λ report. IsRun (scene_of script) report.status (string_bytes report.text)) }
 {
-    let mut handler = ScriptHandler::new(alloc, script.verdicts, script.failing_banners);
+    let mut handler = ScriptHandler::new(alloc, script.answers);
     let mut link = ScriptLink::new(alloc, script.inputs, script.moment);
     let run = run_stream(
         alloc,

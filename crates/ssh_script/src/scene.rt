@@ -1,7 +1,8 @@
 // What the lines of a script say together.
-ghost use Rattle.std.specs.Prelude.{◌≡◌, ◌<◌, ◌∷◌, [], length, Some, None, if◌then◌else◌, IfOk, IfSome, MatchOption};
+ghost use Rattle.std.specs.Prelude.{◌≡◌, ◌<◌, ◌∷◌, [], length, Some, None, if◌then◌else◌, IfOk, OnOk, IfSome, MatchOption};
 ghost use Rattle.ssh_script.specs.Scene.{scene_of, seen, opening_scene, set, taken, with_line, lines_of, Gives};
 
+use crate::answers::Answers;
 use crate::grammar::read_line;
 use crate::lines::{InputLine, Line, Setting};
 use crate::script::{Script, Stage};
@@ -19,8 +20,11 @@ impl Script {
             session_id: Bytes::copy_from_slice(alloc, &[])?,
             max_inputs: 1_000_000,
             config: Config::standard(),
-            verdicts: Vec::new(alloc),
-            failing_banners: 0,
+            answers: Answers {
+                none: Vec::new(alloc),
+                password: Vec::new(alloc),
+                failing_banners: 0,
+            },
             inputs: Vec::new(alloc),
             moment: 0,
             stage: Stage::Settings,
@@ -41,9 +45,12 @@ impl Script {
             Setting::Inputs(count) => self.max_inputs = count,
             Setting::Reject(time) => self.config.auth_rejection_time = time,
             Setting::RejectInitial(time) => self.config.auth_rejection_time_initial = Some(time),
-            Setting::AnswerNone(verdict) => self.verdicts.push(verdict)?,
+            Setting::Attempts(count) => self.config.max_auth_attempts = count as usize,
+            Setting::AnswerNone(verdict) => self.answers.none.push(verdict)?,
+            Setting::AnswerPassword(verdict) => self.answers.password.push(verdict)?,
             Setting::FailBanner => {
-                self.failing_banners = self.failing_banners.checked_add(1).ok_or(AllocError)?;
+                let more = self.answers.failing_banners.checked_add(1);
+                self.answers.failing_banners = more.ok_or(AllocError)?;
             }
         }
         Ok(true)
@@ -51,7 +58,7 @@ impl Script {
 
     /// Takes in an input line.
     fn take(&mut self, line: InputLine) -> Result<(), AllocError>
-        ensures { IfOk result (λ _. taken self.old.stage line (scene_of self.old) ≡ scene_of self.new) }
+        ensures { OnOk result (taken self.old.stage line (scene_of self.old) ≡ scene_of self.new) }
     {
         if self.stage == Stage::Ended {
             return Ok(());

@@ -1,7 +1,7 @@
 // What a script says.
 ghost use Rattle.std.specs.Prelude.{◌<◌, ◌^◌, length};
 
-use crate::lines::Verdict;
+use crate::answers::Answers;
 use bytes::Bytes;
 use ssh_handler::Config;
 use ssh_link::Input;
@@ -26,10 +26,8 @@ pub struct Script {
     pub max_inputs: u64,
     /// How the server is set up.
     pub config: Config,
-    /// What the requests of method none are answered, in order.
-    pub verdicts: Vec<Verdict>,
-    /// How many banner callbacks fail.
-    pub failing_banners: u64,
+    /// What the callbacks are answered.
+    pub answers: Answers,
     /// The inputs, in order.
     pub inputs: Vec<Input>,
     /// The moment in force, in milliseconds.

@@ -1,12 +1,13 @@
 // A handler that answers by a script, and tells its calls.
-ghost use Rattle.std.specs.Prelude.{◌≡◌, ◌≢◌, ◌-◌, [], ◌∷◌, ◌++◌, None, Some, true, false, if◌then◌else◌, drop, OnOk, OnErr, IfErr};
+ghost use Rattle.std.specs.Prelude.{◌≡◌, ◌-◌, [], ◌∷◌, ◌++◌, None, Some, true, false, drop, OnOk, OnErr};
 ghost use Rattle.ssh_handler.specs.declared.recorded.RecordError.TheVariants.{NoMemory};
-ghost use Rattle.ssh_script.specs.Played.{Queues, queues_of, first_verdict, verdict_answer, banner_answer, left_after};
+ghost use Rattle.ssh_script.specs.Played.{queues_of, queues_in, first_verdict, verdict_answer, banner_answer, left_after};
 
+use crate::answers::{Answers, Verdict};
 use crate::asked::Asked;
-use crate::lines::Verdict;
 use crate::queue::place_after;
-use ssh_handler::{Auth, Commands, Handler, RecordError, Unwritten};
+use ssh_auth::{Auth, AuthHandler, Unwritten};
+use ssh_handler::{Commands, Handler, RecordError};
 use ssh_wire::Text;
 use std::alloc::Global;
 
@@ -14,35 +15,36 @@ use std::alloc::Global;
 #[derive(Clone, Copy, Debug, PartialEq, Eq)]
 pub struct ScriptError;
 
-/// Answers the k-th request of method none by the k-th verdict, and refuses the later ones. The
-/// first banner callbacks fail, as many as the script says, and the later ones give no banner.
+/// Answers the k-th request of a method by the k-th verdict on that method, and refuses the later
+/// ones. The first banner callbacks fail, as many as the script says, and the later ones give no
+/// banner.
 #[derive(Drop)]
 pub struct ScriptHandler {
     alloc: Global,
-    verdicts: Vec<Verdict>,
-    failing_banners: u64,
+    answers: Answers,
     asked: Vec<Asked>,
-    next_verdict: usize,
+    next_none: usize,
+    next_password: usize,
     banners_left: u64,
     lost: bool,
-    ghost left: { left_after (queues_of verdicts.items failing_banners) asked.items ≡ queues_of (drop next_verdict verdicts.items) banners_left },
+    ghost left: { left_after (queues_in answers) asked.items ≡ queues_of (drop next_none answers.none.items) (drop next_password answers.password.items) banners_left },
 }
 
 impl ScriptHandler {
     /// A handler that was not called yet.
-    pub fn new(alloc: Global, verdicts: Vec<Verdict>, failing_banners: u64) -> ScriptHandler
-        ensures verdicts { result.verdicts ≡ verdicts }
-        ensures failing_banners { result.failing_banners ≡ failing_banners }
+    pub fn new(alloc: Global, answers: Answers) -> ScriptHandler
+        ensures answers { result.answers ≡ answers }
         ensures asked { result.asked.items ≡ [] }
         ensures lost { result.lost ≡ false }
     {
+        let banners_left = answers.failing_banners;
         ScriptHandler {
             alloc,
-            verdicts,
-            failing_banners,
+            answers,
             asked: Vec::new(alloc),
-            next_verdict: 0,
-            banners_left: failing_banners,
+            next_none: 0,
+            next_password: 0,
+            banners_left,
             lost: false,
         }
     }
@@ -106,13 +108,13 @@ fn banner_of(banners_left: u64) -> Result<Option<Text>, RecordError<ScriptError>
     }
 }
 
-impl Handler for ScriptHandler {
+impl AuthHandler for ScriptHandler {
     type Error = RecordError<ScriptError>;
 
-    ghost use Rattle.ssh_script.specs.Played.{queues_of, told_of};
+    ghost use Rattle.ssh_script.specs.Played.{queues_in, told_of};
 
     // It tells first what it answers by, and then its calls.
-    ghost told = { λ h. told_of h.lost (queues_of h.verdicts.items h.failing_banners) h.asked.items };
+    ghost told = { λ h. told_of h.lost (queues_in h.answers) h.asked.items };
 
     fn untold(&mut self, _by: Unwritten) -> Result<(), RecordError<ScriptError>> {
         self.lost = true;
@@ -131,12 +133,37 @@ impl Handler for ScriptHandler {
             self.lost = true;
             return Err(RecordError::NoMemory);
         };
-        let verdict = verdict_at(&self.verdicts, self.next_verdict);
+        let verdict = verdict_at(&self.answers.none, self.next_none);
         keep(&mut self.asked, &mut self.lost, Asked::AuthNone { user })?;
-        self.next_verdict = place_after(&self.verdicts, self.next_verdict);
+        self.next_none = place_after(&self.answers.none, self.next_none);
         answer_of(verdict)
     }
 
+    fn auth_password(
+        &mut self,
+        user: &str,
+        password: &str,
+    ) -> Result<Auth, RecordError<ScriptError>> {
+        let Ok(user) = Text::new(self.alloc, user) else {
+            self.lost = true;
+            return Err(RecordError::NoMemory);
+        };
+        let Ok(password) = Text::new(self.alloc, password) else {
+            self.lost = true;
+            return Err(RecordError::NoMemory);
+        };
+        let verdict = verdict_at(&self.answers.password, self.next_password);
+        keep(
+            &mut self.asked,
+            &mut self.lost,
+            Asked::AuthPassword { user, password },
+        )?;
+        self.next_password = place_after(&self.answers.password, self.next_password);
+        answer_of(verdict)
+    }
+}
+
+impl Handler for ScriptHandler {
     fn auth_succeeded(
         &mut self,
         _session: &mut Commands<'_>,

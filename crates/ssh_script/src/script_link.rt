@@ -1,5 +1,5 @@
 // A link that gives the inputs of a script, and tells its calls.
-ghost use Rattle.std.specs.Prelude.{◌≡◌, ◌≢◌, [], ◌∷◌, ◌++◌, Some, drop, IfOk, IfErr, OnOk, OnErr};
+ghost use Rattle.std.specs.Prelude.{◌≡◌, [], ◌∷◌, ◌++◌, Some, drop, IfOk, IfErr, OnOk, OnErr};
 ghost use Rattle.ssh_script.specs.Given.{supply_of, input_at, left_after};
 ghost use Rattle.ssh_wire.specs.declared.error.WireError.TheVariants.{NoMemory};
 

@@ -1,29 +1,38 @@
 -- Nothing of the connection is served before an accepted authentication: by induction over a run.
 use Rattle.std.proofs.Common.{◌≡◌, ◌≤◌, ◌⊎◌, ℕ, List, [], ◌∷◌, ◌++◌, Option, Some, None, Result, Ok, Err, Bool, true, false, refl, sym, ◌∙◌, ap, subst, inl, inr, arith}
-use Rattle.std.specs.Prelude.{bytes_eq, codes, if◌then◌else◌, length, drop, option_to_list, unwrap_or}
+use Rattle.std.specs.Prelude.{bytes_eq, codes, if◌then◌else◌, length, drop, option_to_list}
+use Rattle.ssh_wire.specs.declared.method.MethodKind.{MethodKind}
 use Rattle.ssh_wire.specs.declared.method.MethodKind.TheVariants as method_kind
-use Rattle.ssh_wire.specs.Methods.{without, names_text}
-use Rattle.ssh_wire.specs.Field.{string}
+use Rattle.ssh_wire.specs.Methods.{names_text}
+use Rattle.ssh_wire.specs.Field.{number, string}
 use Rattle.ssh_link.specs.declared.frame.Frame.{Frame}
 use Rattle.ssh_link.specs.declared.frame.InputKind.{InputKind}
 use Rattle.ssh_link.specs.declared.frame.InputKind.TheVariants.{Payload, End}
 use Rattle.ssh_link.specs.declared.link.TraceEntry.{TraceEntry}
-use Rattle.ssh_handler.specs.declared.auth.Auth.{Auth}
-use Rattle.ssh_handler.specs.declared.auth.Auth.TheVariants.{Reject, Accept}
-use Rattle.ssh_handler.specs.declared.call.Call.{Call}
-use Rattle.ssh_handler.specs.Plan.{Plan, Finish, Ask, Question, Answer, Answered, Authentication_banner, Auth_none, Auth_succeeded, Follows, Begins, Breaks}
+use Rattle.ssh_auth.specs.declared.auth.Auth.{Auth}
+use Rattle.ssh_auth.specs.declared.auth.Auth.TheVariants.{Reject, Accept}
+use Rattle.ssh_auth.specs.declared.call.Call.{Call}
+use Rattle.ssh_auth.specs.Plan.{Plan, Finish, Ask, after, Question, Answer, Answered, Authentication_banner, Auth_none, Auth_password, Auth_succeeded, Follows, Begins, Breaks}
+use Rattle.ssh_auth.specs.declared.auth.Auth.TheVariants.{UnsupportedMethod}
+use Rattle.ssh_auth.specs.declared.auth_step.AuthVerdict.{AuthVerdict}
+use Rattle.ssh_auth.specs.declared.auth_step.AuthVerdict.TheVariants as verdict
+use Rattle.ssh_auth.specs.Layout.{failure, success, flag}
+use Rattle.ssh_auth.specs.Said.{Said as Asked, Other_service, Method, None_method, Password_method, Change_method, Other_method, Unbuilt_method, Unfit_method, Says as Asks}
+use Rattle.ssh_auth.specs.Said as asks
+use Rattle.ssh_auth.specs.Request.{begun, count_after}
+use Rattle.ssh_auth.specs.Verdict.{method_verdict, answered, rejected, Replies}
 use Rattle.ssh_session.specs.declared.phase.Phase.TheVariants.{Accepted}
 use Rattle.ssh_session.specs.declared.error.RunError.{RunError}
 use Rattle.ssh_session.specs.declared.error.RunError.TheVariants as error
 use Rattle.ssh_session.specs.declared.gate.Gate.{Gate}
 use Rattle.ssh_session.specs.declared.gate.Gate.TheVariants as gate
-use Rattle.ssh_session.specs.declared.auth_request.AuthRequest.{AuthRequest}
+use Rattle.ssh_auth.specs.declared.auth_request.AuthRequest.{AuthRequest}
 use Rattle.ssh_session.specs.World.{Settings, World, opening_world}
 use Rattle.ssh_session.specs.Gate.{gate_of}
-use Rattle.ssh_session.specs.Said.{Said, Nothing, Disconnect, Service, Request, Unfit, Unbuilt, Method, None_method, Unfit_method, Unbuilt_method, Fits}
-use Rattle.ssh_session.specs.Outcome.{Outcome, Goes, Ends, Fails, Inconsistent}
-use Rattle.ssh_session.specs.Rows.{row, accept_row, none_verdict, none_row, method_row, moment_after, none_hold}
-use Rattle.ssh_session.specs.Layout.{at_once, held, service_accept, failure, success, flag}
+use Rattle.ssh_session.specs.Said.{Said, Nothing, Disconnect, Over_cap, Service, Request, Unfit, Unbuilt, Fits}
+use Rattle.ssh_session.specs.Outcome.{Outcome, Goes, Ends, Fails}
+use Rattle.ssh_session.specs.Rows.{row, accept_row, reply_row, finished, moment_after, rejection_hold}
+use Rattle.ssh_session.specs.Layout.{at_once, held, service_accept, too_many_attempts}
 use Rattle.ssh_session.specs.Run.{OwesKind, Turn, Run}
 use Rattle.ssh_session.specs.Step.{SendsPart, Stops, Closes, Ran}
 use Rattle.ssh_session.specs.Authorised.{IsRequestOf, IsAccepting, IsOfConnection, IsOfChannel, SomeAccepting, AuthorisedCalls, AuthorisedFrames, Authorised}
@@ -35,6 +44,7 @@ use Rattle.ssh_session.proofs.Gates.{is_userauth}
 abbrev pub AsksConnection : Question → Type 0
 AsksConnection Authentication_banner = ⊥
 AsksConnection (Auth_none user) = ⊥
+AsksConnection (Auth_password user password) = ⊥
 AsksConnection Auth_succeeded = Unit {0}
 
 -- the answer accepts the user of this input's request
@@ -42,6 +52,10 @@ abbrev pub Accepts : InputKind → (question : Question) → Answer question →
 Accepts kind Authentication_banner answer = ⊥
 Accepts kind (Auth_none user) Accept = IsRequestOf user kind
 Accepts kind (Auth_none user) (Reject methods partial) = ⊥
+Accepts kind (Auth_none user) UnsupportedMethod = ⊥
+Accepts kind (Auth_password user password) Accept = IsRequestOf user kind
+Accepts kind (Auth_password user password) (Reject methods partial) = ⊥
+Accepts kind (Auth_password user password) UnsupportedMethod = ⊥
 Accepts kind Auth_succeeded answer = ⊥
 
 abbrev pub GuardedOutcome : Type 0 → Outcome → Type 0
@@ -89,6 +103,7 @@ calls_weak a b kind (call ∷ calls) f h = (
 connection_asked : {E : Type 0} (question : Question) (answer : Result (Answer question) E) (call : Call E) → Answered question answer call → IsOfConnection call → AsksConnection question
 connection_asked Authentication_banner answer call is h = let k = subst IsOfConnection is h in k
 connection_asked (Auth_none user) answer call is h = let k = subst IsOfConnection is h in k
+connection_asked (Auth_password user password) answer call is h = let k = subst IsOfConnection is h in k
 connection_asked Auth_succeeded answer call is h = tt
 
 -- an accepting answer makes an accepting call
@@ -96,6 +111,10 @@ accepting : {E : Type 0} (kind : InputKind) (question : Question) (answer : Answ
 accepting kind Authentication_banner answer call is h = absurd h
 accepting kind (Auth_none user) Accept call is h = subst (IsAccepting kind) (sym is) h
 accepting kind (Auth_none user) (Reject methods partial) call is h = absurd h
+accepting kind (Auth_none user) UnsupportedMethod call is h = absurd h
+accepting kind (Auth_password user password) Accept call is h = subst (IsAccepting kind) (sym is) h
+accepting kind (Auth_password user password) (Reject methods partial) call is h = absurd h
+accepting kind (Auth_password user password) UnsupportedMethod call is h = absurd h
 accepting kind Auth_succeeded answer call is h = absurd h
 
 -- what is guarded after an answer is guarded after its call
@@ -151,51 +170,74 @@ service_guarded : (a : Type 0) (kind : InputKind) (w : World) (b : Bool) → (w.
 service_guarded a kind w true p = (λ q. absurd q, λ banner. accept_guarded a kind w banner)
 service_guarded a kind w false p = (tt, p)
 
-verdict_guarded : (a : Type 0) (kind : InputKind) (settings : Settings) (moment : ℕ) (w : World) (user : List ℕ) (auth : Auth) → IsRequestOf user kind → (w.phase ≡ Accepted → a) →
-    Guarded (a ⊎ Accepts kind (Auth_none user) auth) kind (none_verdict settings moment w auth)
-verdict_guarded a kind settings moment w user Accept is p =
-    (λ q. inr is, λ done. ((low_frame ((a ⊎ Accepts kind (Auth_none user) Accept) ⊎ ⊥) (at_once success) 52 [] refl (λ h. omega (arith, h)), tt), λ e. inl (inr is)))
-verdict_guarded a at settings moment w user (Reject methods partial) is p =
-    let names = unwrap_or methods (without method_kind.None w.auth.methods) in
-    ((low_frame (a ⊎ ⊥) (held (failure names partial) (moment_after moment (none_hold settings.config w.requested))) 51 (string (names_text names) ++ flag partial ∷ []) refl (λ h. omega (arith, h)), tt), λ e. inl (p e))
+-- a reply that is no frame of a channel; one that accepts needs an accepting call before it
+reply_guarded : (a : Type 0) (kind : InputKind) (settings : Settings) (moment : ℕ) (w : World) (reply : List ℕ) (v : AuthVerdict) (n : ℕ) (rest : List ℕ) → reply ≡ n ∷ rest → (90 ≤ n → ⊥) →
+    (w.phase ≡ Accepted → a) → (v ≡ verdict.Accepted → a) → Guarded a kind (reply_row settings moment w reply v)
+reply_guarded a kind settings moment w reply verdict.Accepted n rest is low p q =
+    (λ c. q refl, λ done. ((low_frame (a ⊎ ⊥) (at_once reply) n rest is low, tt), λ e. inl (q refl)))
+reply_guarded a kind settings moment w reply (verdict.Rejected none_method) n rest is low p q =
+    ((low_frame a (held reply (moment_after moment (rejection_hold settings.config none_method w.requested))) n rest is low, tt), p)
+reply_guarded a kind settings moment w reply verdict.Continued n rest is low p q = ((low_frame a (at_once reply) n rest is low, tt), p)
 
-none_guarded : (a : Type 0) (kind : InputKind) (settings : Settings) (moment : ℕ) (w : World) (user : List ℕ) (auth : Option AuthRequest) → IsRequestOf user kind → (w.phase ≡ Accepted → a) →
-    Guarded a kind (none_row settings moment w user auth)
-none_guarded a kind settings moment w user None is p = tt
-none_guarded a kind settings moment w user (Some auth) is p =
-    (λ q. absurd q, λ answer. verdict_guarded a kind settings moment (record w { auth = auth }) user answer is p)
+rejected_guarded : (a : Type 0) (kind : InputKind) (settings : Settings) (moment : ℕ) (w : World) (state : AuthRequest) (none_method : Bool) (methods : List MethodKind) (partial : Bool) →
+    (w.phase ≡ Accepted → a) → Guarded a kind (finished settings moment w (rejected state none_method methods partial))
+rejected_guarded a kind settings moment w state none_method methods partial p =
+    let after_it : AuthRequest = record state { methods = methods; partial_success = partial; rejection_count = count_after partial state.rejection_count } in
+    reply_guarded a kind settings moment (record w { auth = after_it }) (failure methods partial) (verdict.Rejected none_method) 51 (string (names_text methods) ++ flag partial ∷ []) refl
+    (λ h. omega (arith, h)) p (λ e. cc)
 
-method_guarded : (a : Type 0) (kind : InputKind) (settings : Settings) (moment : ℕ) (w : World) (user service : List ℕ) (method : Method) → IsRequestOf user kind → (w.phase ≡ Accepted → a) →
-    Guarded a kind (method_row settings moment w user service method)
-method_guarded a kind settings moment w user service None_method is p = none_guarded a kind settings moment w user _ is p
-method_guarded a kind settings moment w user service (Unfit_method why) is p = tt
-method_guarded a kind settings moment w user service Unbuilt_method is p = tt
+accepted_guarded : (a : Type 0) (kind : InputKind) (settings : Settings) (moment : ℕ) (w : World) (state : AuthRequest) → (w.phase ≡ Accepted → a) → a →
+    Guarded a kind (finished settings moment w (Replies success verdict.Accepted state))
+accepted_guarded a kind settings moment w state p q =
+    reply_guarded a kind settings moment (record w { auth = state }) success verdict.Accepted 52 [] refl (λ h. omega (arith, h)) p (λ e. q)
 
-request_guarded : (a : Type 0) (kind : InputKind) (settings : Settings) (moment : ℕ) (w : World) (user service : List ℕ) (method : Method) (b : Bool) → IsRequestOf user kind → (w.phase ≡ Accepted → a) →
-    Guarded a kind (if b then method_row settings moment w user service method else Finish (Fails Inconsistent))
-request_guarded a kind settings moment w user service method true is p = method_guarded a kind settings moment w user service method is p
-request_guarded a kind settings moment w user service method false is p = tt
+none_guarded : (a : Type 0) (kind : InputKind) (settings : Settings) (moment : ℕ) (w : World) (state : AuthRequest) (user : List ℕ) (method : MethodKind) (none_method : Bool) (answer : Auth) →
+    IsRequestOf user kind → (w.phase ≡ Accepted → a) → Guarded (a ⊎ Accepts kind (Auth_none user) answer) kind (finished settings moment w (answered state method none_method answer))
+none_guarded a kind settings moment w state user method none_method Accept is p = accepted_guarded (a ⊎ IsRequestOf user kind) kind settings moment w state (λ e. inl (p e)) (inr is)
+none_guarded a kind settings moment w state user method none_method (Reject methods partial) is p = rejected_guarded (a ⊎ ⊥) kind settings moment w state none_method _ partial (λ e. inl (p e))
+none_guarded a kind settings moment w state user method none_method UnsupportedMethod is p = rejected_guarded (a ⊎ ⊥) kind settings moment w state none_method _ false (λ e. inl (p e))
 
--- what a payload says, says that it is a request of its user
-said_request : (settings : Settings) (w : World) (payload : List ℕ) (user service : List ℕ) (method : Method) →
-    Fits (gate_of settings w payload) (drop 1 payload) (Request user service method) → IsRequestOf user (Payload payload)
-said_request settings w payload user service method h = of_gate (gate_of settings w payload) refl h
-  where
-    of_gate : (at : Gate) → gate_of settings w payload ≡ at → Fits at (drop 1 payload) (Request user service method) → IsRequestOf user (Payload payload)
-    of_gate gate.UserauthRequest e h = (drop 1 payload, service, h.0, h.1, is_userauth settings w payload e, h.2)
-    of_gate gate.Nothing e h = absurd h
-    of_gate gate.Ends e h = absurd h
-    of_gate gate.OverCap e h = absurd h
-    of_gate gate.ServiceRequest e h = absurd h
-    of_gate gate.NotBuilt e h = absurd h
+password_guarded : (a : Type 0) (kind : InputKind) (settings : Settings) (moment : ℕ) (w : World) (state : AuthRequest) (user password : List ℕ) (method : MethodKind) (none_method : Bool) (answer : Auth) →
+    IsRequestOf user kind → (w.phase ≡ Accepted → a) → Guarded (a ⊎ Accepts kind (Auth_password user password) answer) kind (finished settings moment w (answered state method none_method answer))
+password_guarded a kind settings moment w state user password method none_method Accept is p = accepted_guarded (a ⊎ IsRequestOf user kind) kind settings moment w state (λ e. inl (p e)) (inr is)
+password_guarded a kind settings moment w state user password method none_method (Reject methods partial) is p = rejected_guarded (a ⊎ ⊥) kind settings moment w state none_method _ partial (λ e. inl (p e))
+password_guarded a kind settings moment w state user password method none_method UnsupportedMethod is p = rejected_guarded (a ⊎ ⊥) kind settings moment w state none_method _ false (λ e. inl (p e))
+
+method_guarded : (a : Type 0) (kind : InputKind) (settings : Settings) (moment : ℕ) (w : World) (state : AuthRequest) (user : List ℕ) (method : Method) → IsRequestOf user kind → (w.phase ≡ Accepted → a) →
+    Guarded a kind (after (method_verdict state user method) (finished settings moment w))
+method_guarded a kind settings moment w state user None_method is p = (λ q. absurd q, λ answer. none_guarded a kind settings moment w state user method_kind.None true answer is p)
+method_guarded a kind settings moment w state user (Password_method password) is p = (λ q. absurd q, λ answer. password_guarded a kind settings moment w state user password method_kind.Password false answer is p)
+method_guarded a kind settings moment w state user (Change_method password new_password) is p = rejected_guarded a kind settings moment w state false _ false p
+method_guarded a kind settings moment w state user Other_method is p = rejected_guarded a kind settings moment w state false _ false p
+method_guarded a kind settings moment w state user Unbuilt_method is p = tt
+method_guarded a kind settings moment w state user (Unfit_method why) is p = tt
+
+-- a payload that is read as a request is one of the user that it names
+asked_guarded : (a : Type 0) (settings : Settings) (moment : ℕ) (w : World) (payload : List ℕ) (asked : Asked) → gate_of settings w payload ≡ gate.UserauthRequest → Asks (drop 1 payload) asked →
+    (w.phase ≡ Accepted → a) → Guarded a (Payload payload) (row settings moment w (Request asked))
+asked_guarded a settings moment w payload (asks.Request user method) at h p =
+    method_guarded a (Payload payload) settings moment w (begun w.auth user (codes "ssh-connection")) user method
+    (drop 1 payload, codes "ssh-connection", h.0, h.1, is_userauth settings w payload at, h.2) p
+asked_guarded a settings moment w payload Other_service at h p = tt
+asked_guarded a settings moment w payload (asks.Unfit why) at h p = tt
+
+request_guarded : (a : Type 0) (settings : Settings) (moment : ℕ) (w : World) (payload : List ℕ) (asked : Asked) (at : Gate) → gate_of settings w payload ≡ at → Fits at (drop 1 payload) (Request asked) →
+    (w.phase ≡ Accepted → a) → Guarded a (Payload payload) (row settings moment w (Request asked))
+request_guarded a settings moment w payload asked gate.UserauthRequest e h p = asked_guarded a settings moment w payload asked e h p
+request_guarded a settings moment w payload asked gate.Nothing e h p = absurd h
+request_guarded a settings moment w payload asked gate.Ends e h p = absurd h
+request_guarded a settings moment w payload asked gate.OverCap e h p = absurd h
+request_guarded a settings moment w payload asked gate.ServiceRequest e h p = absurd h
+request_guarded a settings moment w payload asked gate.NotBuilt e h p = absurd h
 
 pub row_guarded : (a : Type 0) (settings : Settings) (moment : ℕ) (w : World) (payload : List ℕ) (said : Said) → Fits (gate_of settings w payload) (drop 1 payload) said →
     (w.phase ≡ Accepted → a) → Guarded a (Payload payload) (row settings moment w said)
 row_guarded a settings moment w payload Nothing h p = (tt, p)
 row_guarded a settings moment w payload Disconnect h p = tt
+row_guarded a settings moment w payload Over_cap h p =
+    (low_frame a (at_once too_many_attempts) 1 (number 14 ++ (string (codes "Too many authentication attempts") ++ string [])) refl (λ l. omega (arith, l)), tt)
 row_guarded a settings moment w payload (Service name) h p = service_guarded a (Payload payload) w (bytes_eq name (codes "ssh-userauth")) p
-row_guarded a settings moment w payload (Request user service method) h p =
-    request_guarded a (Payload payload) settings moment w user service method (bytes_eq service (codes "ssh-connection")) (said_request settings w payload user service method h) p
+row_guarded a settings moment w payload (Request asked) h p = request_guarded a settings moment w payload asked (gate_of settings w payload) refl h p
 row_guarded a settings moment w payload (Unfit why) h p = tt
 row_guarded a settings moment w payload Unbuilt h p = tt
 

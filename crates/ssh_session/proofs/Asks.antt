@@ -3,8 +3,8 @@ use Rattle.std.proofs.Common.{List, [], ◌∷◌, ◌++◌, Option, Result, Ok,
 use Rattle.ssh_link.specs.Told.{Adds}
 use Rattle.ssh_link.proofs.Tellings.{adds_both, adds_nil, adds_weak, adds_then}
 use Rattle.ssh_link.specs.declared.frame.Frame.{Frame}
-use Rattle.ssh_handler.specs.declared.call.Call.{Call}
-use Rattle.ssh_handler.specs.Plan.{Plan, Ask, Question, Answer, Answered, Breaks}
+use Rattle.ssh_auth.specs.declared.call.Call.{Call}
+use Rattle.ssh_auth.specs.Plan.{Plan, Ask, Question, Answer, Answered, Breaks}
 use Rattle.ssh_session.specs.declared.error.Flow.{Flow}
 use Rattle.ssh_session.specs.declared.error.Flow.TheVariants.{Continue, Ended}
 use Rattle.ssh_session.specs.declared.error.RunError.{RunError}

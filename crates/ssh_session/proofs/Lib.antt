@@ -1,8 +1,9 @@
-mod Asks
-mod Misfits
-mod Branches
-mod Gates
-mod Steps
-pub mod Runs
-mod Complete
 mod Accepting
+mod Asks
+mod Branches
+mod Complete
+mod Gates
+mod Misfits
+mod Requests
+pub mod Runs
+mod Steps

@@ -4,9 +4,9 @@ use Rattle.ssh_wire.specs.Field.{Text, SpellsAll}
 use Rattle.ssh_link.specs.declared.frame.Frame.{Frame}
 use Rattle.ssh_link.specs.declared.frame.InputKind.{InputKind}
 use Rattle.ssh_link.specs.declared.frame.InputKind.TheVariants.{Payload, End}
-use Rattle.ssh_handler.specs.declared.auth.Auth.TheVariants.{Accept}
-use Rattle.ssh_handler.specs.declared.call.Call.{Call}
-use Rattle.ssh_handler.specs.declared.call.Call.TheVariants.{AuthNone, AuthSucceeded}
+use Rattle.ssh_auth.specs.declared.auth.Auth.TheVariants.{Accept}
+use Rattle.ssh_auth.specs.declared.call.Call.{Call}
+use Rattle.ssh_auth.specs.declared.call.Call.TheVariants.{AuthNone, AuthPassword, AuthSucceeded}
 use Rattle.ssh_session.specs.Run.{Turn}
 
 -- the input is a USERAUTH_REQUEST of this user: byte 50, string user, string service, string method, and more
@@ -18,6 +18,7 @@ IsRequestOf user (Payload payload) = (fields : List ℕ) × (service : List ℕ)
 -- the call accepted the user of its input's request
 abbrev pub IsAccepting : {E : Type 0} → InputKind → Call E → Type 0
 IsAccepting kind (AuthNone user (Ok Accept)) = IsRequestOf user kind
+IsAccepting kind (AuthPassword user password (Ok Accept)) = IsRequestOf user kind
 IsAccepting kind _ = ⊥
 
 -- a callback of the connection: every one but those that authenticate

@@ -1,9 +1,18 @@
--- The error of a run that a field's error is.
+-- The error of a run that a field's error, or that of a request of authentication, is.
 use Rattle.ssh_wire.specs.declared.error.WireError.{WireError}
 use Rattle.ssh_wire.specs.declared.error.WireError.TheVariants as wire
+use Rattle.ssh_auth.specs.declared.error.AuthError.{AuthError}
+use Rattle.ssh_auth.specs.declared.error.AuthError.TheVariants as auth
 use Rattle.ssh_session.specs.declared.error.RunError.{RunError}
 use Rattle.ssh_session.specs.declared.error.RunError.TheVariants as error
 
 abbrev pub run_error_of : {E : Type 0} → WireError → RunError E
 run_error_of wire.NoMemory = error.NoMemory
 run_error_of why = error.Encoding why
+
+abbrev pub error_of_auth : {E : Type 0} → AuthError E → RunError E
+error_of_auth auth.NoMemory = error.NoMemory
+error_of_auth (auth.Encoding why) = error.Encoding why
+error_of_auth auth.Inconsistent = error.Inconsistent
+error_of_auth (auth.Handler e) = error.Handler e
+error_of_auth auth.NotBuilt = error.NotBuilt

@@ -1,25 +1,19 @@
--- The messages that a server writes while it authenticates (RFC 4253 section 10, RFC 4252 section 5.1).
-use Rattle.std.specs.Prelude.{ℕ, List, [], ◌∷◌, ◌++◌, codes, Bool, Some, None, if◌then◌else◌}
-use Rattle.ssh_wire.specs.declared.method.MethodKind.{MethodKind}
-use Rattle.ssh_wire.specs.Field.{string}
-use Rattle.ssh_wire.specs.Methods.{names_text}
+-- The messages that a session writes by itself, and the frames that carry messages.
+use Rattle.std.specs.Prelude.{ℕ, List, [], ◌∷◌, ◌++◌, codes, Some, None}
+use Rattle.ssh_wire.specs.Field.{number, string}
 use Rattle.ssh_link.specs.declared.frame.Frame.{Frame}
 
--- SERVICE_ACCEPT: byte 6, string service
+-- DISCONNECT: byte 1, uint32 reason, string description, string language (RFC 4253 section 11.1)
+abbrev pub disconnect : ℕ → List ℕ → List ℕ → List ℕ
+disconnect reason description language = 1 ∷ number reason ++ (string description ++ string language)
+
+-- no more methods are available: 14
+abbrev pub too_many_attempts : List ℕ
+too_many_attempts = disconnect 14 (codes "Too many authentication attempts") []
+
+-- SERVICE_ACCEPT: byte 6, string service (RFC 4253 section 10)
 abbrev pub service_accept : List ℕ
 service_accept = 6 ∷ string (codes "ssh-userauth")
-
--- a boolean as it is written
-abbrev pub flag : Bool → ℕ
-flag value = if value then 1 else 0
-
--- USERAUTH_FAILURE: byte 51, name-list of the methods that can continue, boolean partial success
-abbrev pub failure : List MethodKind → Bool → List ℕ
-failure methods partial = 51 ∷ string (names_text methods) ++ flag partial ∷ []
-
--- USERAUTH_SUCCESS: byte 52
-abbrev pub success : List ℕ
-success = 52 ∷ []
 
 -- a frame of no channel that may go out at once
 abbrev pub at_once : List ℕ → Frame

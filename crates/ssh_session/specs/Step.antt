@@ -5,8 +5,8 @@ use Rattle.ssh_link.specs.declared.frame.Frame.{Frame}
 use Rattle.ssh_link.specs.declared.frame.Input.{Input}
 use Rattle.ssh_link.specs.declared.link.TraceEntry.{TraceEntry}
 use Rattle.ssh_link.specs.declared.link.TraceEntry.TheVariants.{Sent}
-use Rattle.ssh_handler.specs.declared.call.Call.{Call}
-use Rattle.ssh_handler.specs.Plan.{Plan, Follows, Begins, Breaks}
+use Rattle.ssh_auth.specs.declared.call.Call.{Call}
+use Rattle.ssh_auth.specs.Plan.{Plan, Follows, Begins, Breaks}
 use Rattle.ssh_session.specs.declared.error.Flow.{Flow}
 use Rattle.ssh_session.specs.declared.error.Flow.TheVariants.{Continue, Ended}
 use Rattle.ssh_session.specs.declared.error.RunError.{RunError}

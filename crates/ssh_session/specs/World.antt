@@ -1,10 +1,11 @@
 -- The state of a session in the standard's terms. It is a record of the definitions alone: the code
 -- has what it needs of it, and the relation `Refines` ties the two.
-use Rattle.std.specs.Prelude.{ℕ, List, Bool, false, None}
+use Rattle.std.specs.Prelude.{ℕ, List, Bool, false}
 use Rattle.ssh_handler.specs.declared.config.Config.{Config}
 use Rattle.ssh_session.specs.declared.phase.Phase.{Phase}
 use Rattle.ssh_session.specs.declared.phase.Phase.TheVariants.{ServiceRequest}
-use Rattle.ssh_session.specs.declared.auth_request.AuthRequest.{AuthRequest}
+use Rattle.ssh_auth.specs.declared.auth_request.AuthRequest.{AuthRequest}
+use Rattle.ssh_auth.specs.Request.{server_request}
 
 -- what is fixed in a run
 pub record Settings : Type 0 where
@@ -26,6 +27,6 @@ pub record World : Type 0 where
 abbrev pub opening_world : Settings → World
 opening_world settings = record {
   phase = ServiceRequest;
-  auth = record { principal = None; methods = settings.config.methods; partial_success = false; rejection_count = 0 };
+  auth = server_request settings.config.methods;
   requested = false;
 }

@@ -1,20 +1,22 @@
 // Requests of authentication.
-ghost use Rattle.std.specs.Prelude.{◌≡◌, [], ℕ, unwrap_or};
-ghost use Rattle.ssh_wire.specs.Methods.{without};
+ghost use Rattle.std.specs.Prelude.{◌≡◌, [], ◌∷◌, ℕ, None, true};
+ghost use Rattle.ssh_auth.specs.Serve.{IsNumbered};
+ghost use Rattle.ssh_auth.specs.Plan.{Finish};
+ghost use Rattle.ssh_auth.specs.declared.auth_step.AuthVerdict.TheVariants as verdict;
 ghost use Rattle.ssh_session.specs.declared.gate.Gate.TheVariants as gate;
 ghost use Rattle.ssh_session.specs.World.{Settings, World};
-ghost use Rattle.ssh_session.specs.Said.{Said, Fits};
-ghost use Rattle.ssh_session.specs.Rows.{row, none_row, none_verdict, success_row, reject_row, none_hold, bound_to};
+ghost use Rattle.ssh_session.specs.Said.{Said, Says, Over_cap};
+ghost use Rattle.ssh_session.specs.Outcome.{Goes};
+ghost use Rattle.ssh_session.specs.Rows.{row, reply_row, rejection_hold};
 ghost use Rattle.ssh_session.specs.Serve.{Refines, Serves, Answers};
 
-use crate::auth_request::count_after_rejection;
-use crate::message::{read_none, read_request_head};
+use crate::frames::too_many_attempts_frame;
 use crate::phase::Phase;
-use crate::staged::{failure_frame, success_frame};
 use crate::{Flow, RunError, Session};
-use ssh_handler::{Auth, Handler};
+use bytes::Bytes;
+use ssh_auth::{AuthStep, AuthVerdict, serve_request};
+use ssh_handler::Handler;
 use ssh_link::Frame;
-use ssh_wire::{MethodKind, MethodSet};
 
 impl Session {
     /// USERAUTH_REQUEST (RFC 4252 section 5).
@@ -22,136 +24,100 @@ impl Session {
         &mut self,
         handler: &mut H,
         moment: u64,
-        fields: &[u8],
+        payload: &[u8],
         staged: &mut Vec<Frame>,
     ) -> Result<Flow, RunError<H::Error>>
+        requires { IsNumbered 50 payload.now }
         ensures { (settings : Settings) (w : World) → Refines settings self.old w →
-            (said : Said) × Fits gate.UserauthRequest fields.now said × Serves settings (row settings moment w said)
-            (H.told handler.old) (H.told handler.new) staged.old.items staged.new.items self.new result }
+            (said : Said) × Says gate.UserauthRequest payload.now said × Serves settings (row settings moment w said)
+            (H.AuthHandler.told handler.old) (H.AuthHandler.told handler.new) staged.old.items staged.new.items self.new result }
     {
-        let head = read_request_head(fields)?;
-        if head.service != "ssh-connection" {
-            return Err(RunError::Inconsistent);
-        }
-        if head.method != "none" {
-            return Err(RunError::NotBuilt);
-        }
-        read_none(head.rest)?;
-        self.serve_none(handler, moment, head.user, head.service, staged)
-    }
-
-    /// A request of method none (RFC 4252 section 5.2).
-    fn serve_none<H: Handler>(
-        &mut self,
-        handler: &mut H,
-        moment: u64,
-        user: &str,
-        service: &str,
-        staged: &mut Vec<Frame>,
-    ) -> Result<Flow, RunError<H::Error>>
-        ensures { (settings : Settings) (w : World) → Refines settings self.old w →
-            Serves settings (none_row settings moment w user.now (bound_to w.auth.principal settings.config.methods w.auth user.now service.now))
-            (H.told handler.old) (H.told handler.new) staged.old.items staged.new.items self.new result }
-    {
-        let methods = self.config.methods;
-        if !self
-            .auth
-            .bind_principal(self.alloc, methods, user, service)?
-        {
-            return Err(RunError::NotBuilt);
-        }
-        match handler.auth_none(user) {
-            Ok(auth) => self.serve_none_verdict(handler, moment, auth, staged),
-            Err(e) => Err(RunError::Handler(e)),
+        match serve_request(
+            self.alloc,
+            &mut self.auth,
+            handler,
+            self.session_id.as_slice(),
+            moment,
+            payload,
+        ) {
+            Ok(step) => self.finish_request(handler, moment, step, staged),
+            Err(e) => Err(RunError::from(e)),
         }
     }
 
-    /// What the answer to a request of method none means.
-    fn serve_none_verdict<H: Handler>(
+    /// A request is finished with its reply.
+    fn finish_request<H: Handler>(
         &mut self,
         handler: &mut H,
         moment: u64,
-        auth: Auth,
+        step: AuthStep,
         staged: &mut Vec<Frame>,
     ) -> Result<Flow, RunError<H::Error>>
         ensures { (settings : Settings) (w : World) → Refines settings self.old w →
-            Serves settings (none_verdict settings moment w auth)
-            (H.told handler.old) (H.told handler.new) staged.old.items staged.new.items self.new result }
+            Serves settings (reply_row settings moment w step.reply step.verdict)
+            (H.AuthHandler.told handler.old) (H.AuthHandler.told handler.new) staged.old.items staged.new.items self.new result }
     {
-        match auth {
-            Auth::Accept => self.accept(handler, staged),
-            Auth::Reject {
-                proceed_with_methods,
-                partial_success,
-            } => {
-                let methods = self.methods_after(proceed_with_methods, MethodKind::None);
-                let hold_until = moment.saturating_add(self.none_hold());
-                self.reject(methods, partial_success, hold_until, staged)
+        let AuthStep { reply, verdict } = step;
+        match verdict {
+            AuthVerdict::Accepted => self.accept(handler, reply, staged),
+            AuthVerdict::Rejected { none_method } => {
+                let hold_until = moment.saturating_add(self.rejection_hold(none_method));
+                self.reply(reply, Some(hold_until), staged)
             }
+            AuthVerdict::Continued => self.reply(reply, None, staged),
         }
     }
-}
 
-impl Session {
-    /// The methods that can continue: those that the handler names, or the ones so far without the
-    /// refused one.
-    fn methods_after(&self, named: Option<MethodSet>, refused: MethodKind) -> MethodSet
-        ensures { result ≡ unwrap_or named (without refused self.now.auth.methods) }
+    /// How long a rejection is held, in milliseconds.
+    fn rejection_hold(&self, none_method: bool) -> u64
+        ensures { (settings : Settings) (w : World) → Refines settings self.now w → result ≡ rejection_hold settings.config none_method w.requested }
     {
-        if let Some(methods) = named {
-            return methods;
+        if none_method && !self.requested {
+            return self
+                .config
+                .auth_rejection_time_initial
+                .unwrap_or(self.config.auth_rejection_time);
         }
-        let mut methods = self.auth.methods;
-        methods.remove(refused);
-        methods
+        self.config.auth_rejection_time
     }
 
-    /// How long a rejection of method none is held, in milliseconds.
-    fn none_hold(&self) -> u64
-        ensures { (settings : Settings) (w : World) → Refines settings self.now w → result ≡ none_hold settings.config w.requested }
-    {
-        if self.requested {
-            return self.config.auth_rejection_time;
-        }
-        self.config
-            .auth_rejection_time_initial
-            .unwrap_or(self.config.auth_rejection_time)
-    }
-
-    /// USERAUTH_FAILURE with these methods, held until a moment (RFC 4252 section 5.1).
-    fn reject<E>(
+    /// A reply to a request, held until a moment where one is given.
+    fn reply<E>(
         &mut self,
-        methods: MethodSet,
-        partial_success: bool,
-        hold_until: u64,
+        payload: Bytes,
+        hold_until: Option<u64>,
         staged: &mut Vec<Frame>,
     ) -> Result<Flow, RunError<E>>
         ensures { (settings : Settings) (w : World) → Refines settings self.old w →
-            Answers settings (reject_row w methods partial_success hold_until) [] staged.old.items staged.new.items self.new result }
+            Answers settings (Finish (Goes (record { payload = payload; hold_until = hold_until; channel = None } ∷ []) (record w { requested = true }))) []
+            staged.old.items staged.new.items self.new result }
     {
-        let failure = failure_frame(self.alloc, &methods, partial_success, hold_until)?;
-        staged.push(failure)?;
-        self.auth.methods = methods;
-        self.auth.partial_success = partial_success;
-        self.auth.rejection_count = count_after_rejection(
-            partial_success,
-            self.auth.rejection_count,
-        );
+        staged.push(Frame {
+            payload,
+            hold_until,
+            channel: None,
+        })?;
         self.requested = true;
         Ok(Flow::Continue)
     }
 
-    /// USERAUTH_SUCCESS, and the messages of the connection are read from now on.
+    /// An accepted user: the handler is told, and the messages of the connection are read from now
+    /// on.
     fn accept<H: Handler>(
         &mut self,
         handler: &mut H,
+        reply: Bytes,
         staged: &mut Vec<Frame>,
     ) -> Result<Flow, RunError<H::Error>>
-        ensures { (settings : Settings) (w : World) → Refines settings self.old w →
-            Serves settings (success_row w) (H.told handler.old) (H.told handler.new) staged.old.items staged.new.items self.new result }
+        ensures { (settings : Settings) (w : World) (moment : ℕ) → Refines settings self.old w →
+            Serves settings (reply_row settings moment w reply verdict.Accepted)
+            (H.AuthHandler.told handler.old) (H.AuthHandler.told handler.new) staged.old.items staged.new.items self.new result }
     {
-        let success = success_frame(self.alloc)?;
-        staged.push(success)?;
+        staged.push(Frame {
+            payload: reply,
+            hold_until: None,
+            channel: None,
+        })?;
         match self.ask_succeeded(handler) {
             Ok(()) => {
                 self.phase = Phase::Accepted;
@@ -160,5 +126,15 @@ impl Session {
             }
             Err(e) => Err(RunError::Handler(e)),
         }
+    }
+
+    /// A request after as many rejected ones as are allowed: it is not read, and ends the run.
+    pub(crate) fn serve_over_cap<E>(&mut self, staged: &mut Vec<Frame>) -> Result<Flow, RunError<E>>
+        ensures { (settings : Settings) (w : World) (moment : ℕ) →
+            Answers settings (row settings moment w Over_cap) [] staged.old.items staged.new.items self.new result }
+    {
+        let disconnect = too_many_attempts_frame(self.alloc)?;
+        staged.push(disconnect)?;
+        Ok(Flow::Ended)
     }
 }

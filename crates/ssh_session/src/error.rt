@@ -1,8 +1,9 @@
 // How a session goes on, and why it may not.
 ghost use Rattle.std.specs.Prelude.{◌≡◌};
 ghost use Rattle.ssh_session.specs.declared.error.RunError.TheVariants.{NoMemory};
-ghost use Rattle.ssh_session.specs.Failure.{run_error_of};
+ghost use Rattle.ssh_session.specs.Failure.{run_error_of, error_of_auth};
 
+use ssh_auth::AuthError;
 use ssh_wire::WireError;
 use std::alloc::{AllocError, AllocFailed};
 
@@ -30,8 +31,7 @@ pub enum RunError<HE> {
     /// The handler answered this error.
     Handler(HE),
     /// The payload asks for what is not built yet: a key exchange, a message of the connection, a
-    /// method other than none, another user than the bound one, a request over the cap on
-    /// attempts, a response to prompts, or a banner.
+    /// request by publickey or keyboard-interactive, a response to prompts, or a banner.
     NotBuilt,
 }
 
@@ -58,6 +58,20 @@ impl<HE> From<WireError> for RunError<HE> {
         match error {
             WireError::NoMemory => RunError::NoMemory,
             refused => RunError::Encoding(refused),
+        }
+    }
+}
+
+impl<HE> From<AuthError<HE>> for RunError<HE> {
+    ghost from_gives = { λ e r. r ≡ error_of_auth e };
+
+    fn from(error: AuthError<HE>) -> RunError<HE> {
+        match error {
+            AuthError::NoMemory => RunError::NoMemory,
+            AuthError::Encoding(refused) => RunError::Encoding(refused),
+            AuthError::Inconsistent => RunError::Inconsistent,
+            AuthError::Handler(e) => RunError::Handler(e),
+            AuthError::NotBuilt => RunError::NotBuilt,
         }
     }
 }

@@ -1,5 +1,6 @@
 // Which payloads a session reads, by their number.
 ghost use Rattle.std.specs.Prelude.{◌≡◌, ◌==◌, if◌then◌else◌};
+ghost use Rattle.ssh_auth.specs.Serve.{IsNumbered};
 ghost use Rattle.ssh_session.specs.World.{Settings, World};
 ghost use Rattle.ssh_session.specs.Serve.{Refines};
 ghost use Rattle.ssh_session.specs.Gate.{gate_of, phase_gate, authentication_gate, is_over_cap, is_connection_number};
@@ -37,7 +38,8 @@ const USERAUTH_INFO_RESPONSE: u8 = 61;
 impl Session {
     /// What this payload is to the session.
     pub(crate) fn gate(&self, payload: &[u8]) -> Gate
-        ensures { (settings : Settings) (w : World) → Refines settings self.now w → result ≡ gate_of settings w payload.now }
+        ensures gate { (settings : Settings) (w : World) → Refines settings self.now w → result ≡ gate_of settings w payload.now }
+        ensures numbered { result ≡ Gate.UserauthRequest → IsNumbered 50 payload.now }
     {
         let Some(number) = payload.first() else {
             return Gate::Nothing;
@@ -54,7 +56,8 @@ impl Session {
 
     /// What a message of this number is to the session's phase.
     fn phase_gate(&self, number: u8) -> Gate
-        ensures { (settings : Settings) (w : World) → Refines settings self.now w → result ≡ phase_gate settings w w.phase number }
+        ensures numbered { result ≡ Gate.UserauthRequest → number ≡ 50 }
+        ensures gate { (settings : Settings) (w : World) → Refines settings self.now w → result ≡ phase_gate settings w w.phase number }
     {
         match self.phase {
             Phase::ServiceRequest => service_gate(number),
@@ -64,7 +67,8 @@ impl Session {
     }
 
     fn authentication_gate(&self, number: u8) -> Gate
-        ensures { (settings : Settings) (w : World) → Refines settings self.now w → result ≡ authentication_gate settings w number }
+        ensures numbered { result ≡ Gate.UserauthRequest → number ≡ 50 }
+        ensures gate { (settings : Settings) (w : World) → Refines settings self.now w → result ≡ authentication_gate settings w number }
     {
         if number != USERAUTH_REQUEST && number != USERAUTH_INFO_RESPONSE {
             return Gate::Nothing;

@@ -5,16 +5,15 @@
 //! the answer are exactly those that the inputs owe by the reply table in `specs/Rows.antt`.
 #![tactic(auto)]
 
-mod auth_request;
 mod authentication;
 mod error;
+mod frames;
 mod gate;
 mod message;
 mod phase;
 mod run;
 mod service;
 mod session;
-mod staged;
 mod step;
 
 pub use error::{Flow, RunError};

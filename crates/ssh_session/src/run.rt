@@ -21,7 +21,7 @@ fn run_inputs<H: Handler, L: Link>(
     max_inputs: u64,
 ) -> Result<(), RunError<H::Error>>
     requires { length session_id.now < 2 ^ 32 }
-    ensures { Ran (settings_of config.now session_id.now) (H.told handler.old) (H.told handler.new)
+    ensures { Ran (settings_of config.now session_id.now) (H.AuthHandler.told handler.old) (H.AuthHandler.told handler.new)
         (L.trace link.old) (L.trace link.new) (L.faults link.old) (L.faults link.new) max_inputs result }
 {
     let mut session = Session::new(alloc, config, session_id, remote_sshid)?;
@@ -54,18 +54,18 @@ pub fn run_stream<H: Handler, L: Link>(
 ) -> Result<(), RunError<H::Error>>
     requires { length session_id.now < 2 ^ 32 }
     // The calls, the frames and the answer are those that the inputs owe, row by row.
-    ensures run { Ran (settings_of config.now session_id.now) (H.told handler.old) (H.told handler.new)
+    ensures run { Ran (settings_of config.now session_id.now) (H.AuthHandler.told handler.old) (H.AuthHandler.told handler.new)
         (L.trace link.old) (L.trace link.new) (L.faults link.old) (L.faults link.new) max_inputs result }
     // Ok comes only where the last input ended the run.
-    ensures ended { (account : Ran (settings_of config.now session_id.now) (H.told handler.old) (H.told handler.new)
+    ensures ended { (account : Ran (settings_of config.now session_id.now) (H.AuthHandler.told handler.old) (H.AuthHandler.told handler.new)
         (L.trace link.old) (L.trace link.new) (L.faults link.old) (L.faults link.new) max_inputs result) →
-        OnOk result (IsSomeAnd account.last (λ turn. IsEnding turn.input.kind)) }
+        OnOk result (IsSomeAnd account.last (λ turn. IsEnding (settings_of config.now session_id.now) account.world turn.input.kind)) }
     // Nothing of the connection is served before an accepted authentication.
-    ensures authorised { (account : Ran (settings_of config.now session_id.now) (H.told handler.old) (H.told handler.new)
+    ensures authorised { (account : Ran (settings_of config.now session_id.now) (H.AuthHandler.told handler.old) (H.AuthHandler.told handler.new)
         (L.trace link.old) (L.trace link.new) (L.faults link.old) (L.faults link.new) max_inputs result) →
         Authorised ⊥ (account.turns ++ option_to_list account.last) }
     // Where no fault rose and the last input was valid, it ends well, or memory or the limit of inputs ends it.
-    ensures complete { (account : Ran (settings_of config.now session_id.now) (H.told handler.old) (H.told handler.new)
+    ensures complete { (account : Ran (settings_of config.now session_id.now) (H.AuthHandler.told handler.old) (H.AuthHandler.told handler.new)
         (L.trace link.old) (L.trace link.new) (L.faults link.old) (L.faults link.new) max_inputs result) →
         L.faults link.new ≡ L.faults link.old →
         IfSome account.last (IsValid (settings_of config.now session_id.now) account.world) → IsComplete result }

@@ -6,9 +6,9 @@ ghost use Rattle.ssh_session.specs.Said.{Said, Fits};
 ghost use Rattle.ssh_session.specs.Rows.{row, service_row, accept_row};
 ghost use Rattle.ssh_session.specs.Serve.{Refines, Serves, Answers};
 
+use crate::frames::service_accept_frame;
 use crate::message::read_service;
 use crate::phase::Phase;
-use crate::staged::service_accept_frame;
 use crate::{Flow, RunError, Session};
 use ssh_handler::Handler;
 use ssh_link::Frame;
@@ -24,7 +24,7 @@ impl Session {
     ) -> Result<Flow, RunError<H::Error>>
         ensures { (settings : Settings) (w : World) (moment : ℕ) → Refines settings self.old w →
             (said : Said) × Fits gate.ServiceRequest fields.now said × Serves settings (row settings moment w said)
-            (H.told handler.old) (H.told handler.new) staged.old.items staged.new.items self.new result }
+            (H.AuthHandler.told handler.old) (H.AuthHandler.told handler.new) staged.old.items staged.new.items self.new result }
     {
         let name = read_service(fields)?;
         self.serve_service(handler, name, staged)
@@ -38,7 +38,7 @@ impl Session {
         staged: &mut Vec<Frame>,
     ) -> Result<Flow, RunError<H::Error>>
         ensures { (settings : Settings) (w : World) → Refines settings self.old w → Serves settings (service_row w name.now)
-            (H.told handler.old) (H.told handler.new) staged.old.items staged.new.items self.new result }
+            (H.AuthHandler.told handler.old) (H.AuthHandler.told handler.new) staged.old.items staged.new.items self.new result }
     {
         if name != "ssh-userauth" {
             return Ok(Flow::Continue);

@@ -1,14 +1,9 @@
 // A session and what it is made of.
-ghost use Rattle.std.specs.Prelude.{◌≡◌, ◌<◌, ◌^◌, length, IfOk, IfErr};
-ghost use Rattle.ssh_wire.specs.declared.error.WireError.TheVariants.{NoMemory};
-ghost use Rattle.ssh_link.specs.Told.{Tells};
-ghost use Rattle.ssh_handler.specs.declared.call.Call.TheVariants.{AuthSucceeded};
-ghost use Rattle.ssh_session.specs.World.{settings_of, opening_world};
-ghost use Rattle.ssh_session.specs.Serve.{Refines, is_spent};
+ghost use Rattle.std.specs.Prelude.{◌<◌, ◌^◌, length};
 
-use crate::auth_request::AuthRequest;
 use crate::phase::Phase;
 use bytes::Bytes;
+use ssh_auth::AuthRequest;
 use ssh_handler::{Commands, Config, Handler};
 use ssh_wire::WireError;
 use std::alloc::Global;
@@ -25,9 +20,17 @@ pub struct Session {
     /// Whether a USERAUTH_REQUEST was finished.
     pub(crate) requested: bool,
     pub(crate) spent: bool,
+    ghost session_id_fits: { length session_id < 2 ^ 32 },
 }
 
 impl Session {
+    ghost use Rattle.std.specs.Prelude.{◌≡◌, ◌<◌, ◌^◌, length, IfOk, IfErr};
+    ghost use Rattle.ssh_wire.specs.declared.error.WireError.TheVariants.{NoMemory};
+    ghost use Rattle.ssh_link.specs.Told.{Tells};
+    ghost use Rattle.ssh_auth.specs.declared.call.Call.TheVariants.{AuthSucceeded};
+    ghost use Rattle.ssh_session.specs.World.{settings_of, opening_world};
+    ghost use Rattle.ssh_session.specs.Serve.{Refines, is_spent};
+
     /// A session before its first input. `session_id` is that of the key exchange (RFC 4253 section
     /// 7.2), `remote_sshid` the peer's identification line.
     pub fn new(
@@ -62,7 +65,7 @@ impl Session {
 
     /// Tells the handler that authentication succeeded.
     pub(crate) fn ask_succeeded<H: Handler>(&self, handler: &mut H) -> Result<(), H::Error>
-        ensures { Tells (H.told handler.old) (H.told handler.new) result (AuthSucceeded result) }
+        ensures { Tells (H.AuthHandler.told handler.old) (H.AuthHandler.told handler.new) result (AuthSucceeded result) }
     {
         let mut commands = Commands::new(&self.config, self.remote_sshid.as_slice());
         handler.auth_succeeded(&mut commands)

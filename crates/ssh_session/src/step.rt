@@ -39,12 +39,12 @@ impl Session {
         link: &mut L,
         input: Input,
     ) -> Result<Flow, RunError<H::Error>>
-        ensures taken { (settings : Settings) (w : World) → Refines settings self.old w → Steps settings w input (H.told handler.old) (H.told handler.new)
+        ensures taken { (settings : Settings) (w : World) → Refines settings self.old w → Steps settings w input (H.AuthHandler.told handler.old) (H.AuthHandler.told handler.new)
             (L.trace link.old) (L.trace link.new) (L.faults link.old) (L.faults link.new) self.new result }
         ensures spends { is_spent self.old ≢ true → result ≢ Ok Flow.Continue → is_spent self.new ≡ true }
         ensures refused { is_spent self.old ≡ true → result ≡ Err RunError.Inconsistent }
         ensures unchanged { is_spent self.old ≡ true → self.new ≡ self.old }
-        ensures uncalled { is_spent self.old ≡ true → H.told handler.new ≡ H.told handler.old }
+        ensures uncalled { is_spent self.old ≡ true → H.AuthHandler.told handler.new ≡ H.AuthHandler.told handler.old }
         ensures unsent { is_spent self.old ≡ true → (L.trace link.new ≡ L.trace link.old) × (L.faults link.new ≡ L.faults link.old) }
     {
         if self.spent {
@@ -73,7 +73,7 @@ impl Session {
         link: &mut L,
         input: Input,
     ) -> Result<Flow, RunError<H::Error>>
-        ensures { (settings : Settings) (w : World) → Refines settings self.old w → Steps settings w input (H.told handler.old) (H.told handler.new)
+        ensures { (settings : Settings) (w : World) → Refines settings self.old w → Steps settings w input (H.AuthHandler.told handler.old) (H.AuthHandler.told handler.new)
             (L.trace link.old) (L.trace link.new) (L.faults link.old) (L.faults link.new) self.new result }
     {
         let Input { moment, kind } = input;
@@ -102,15 +102,16 @@ impl Session {
     ) -> Result<Flow, RunError<H::Error>>
         ensures { (settings : Settings) (w : World) → Refines settings self.old w →
             (said : Said) × Says (gate_of settings w payload.now) payload.now said
-            × Serves settings (row settings moment w said) (H.told handler.old) (H.told handler.new) staged.old.items staged.new.items self.new result }
+            × Serves settings (row settings moment w said) (H.AuthHandler.told handler.old) (H.AuthHandler.told handler.new) staged.old.items staged.new.items self.new result }
     {
         let fields = fields_of(payload);
         match self.gate(payload) {
             Gate::Nothing => Ok(Flow::Continue),
             Gate::Ends => Ok(Flow::Ended),
             Gate::ServiceRequest => self.serve_service_request(handler, fields, staged),
-            Gate::UserauthRequest => self.serve_userauth_request(handler, moment, fields, staged),
-            Gate::OverCap | Gate::NotBuilt => Err(RunError::NotBuilt),
+            Gate::UserauthRequest => self.serve_userauth_request(handler, moment, payload, staged),
+            Gate::OverCap => self.serve_over_cap(staged),
+            Gate::NotBuilt => Err(RunError::NotBuilt),
         }
     }
 }

@@ -1,6 +1,7 @@
 // Runs over links in memory, with handlers of the tests' own.
 use bytes::Bytes;
-use ssh_handler::{Auth, Commands, Config, Handler, RecordError, Recorded, Unwritten};
+use ssh_auth::{Auth, AuthHandler, Unwritten};
+use ssh_handler::{Commands, Config, Handler, RecordError, Recorded};
 use ssh_link::{Calls, Input, InputKind, Inputs, MemoryLink, TraceEntry};
 use ssh_session::{Flow, RunError, Session, run_stream};
 use ssh_wire::Text;
@@ -18,7 +19,7 @@ struct Tired;
 #[derive(Drop)]
 struct NoBanner;
 
-impl Handler for NoBanner {
+impl AuthHandler for NoBanner {
     type Error = Tired;
 
     fn untold(&mut self, _by: Unwritten) -> Result<(), Tired> {
@@ -30,11 +31,13 @@ impl Handler for NoBanner {
     }
 }
 
+impl Handler for NoBanner {}
+
 // A handler that lets everybody in.
 #[derive(Drop)]
 struct Open;
 
-impl Handler for Open {
+impl AuthHandler for Open {
     type Error = Tired;
 
     fn untold(&mut self, _by: Unwritten) -> Result<(), Tired> {
@@ -44,7 +47,9 @@ impl Handler for Open {
     fn auth_none(&mut self, _user: &str) -> Result<Auth, Tired> {
         Ok(Auth::Accept)
     }
+}
 
+impl Handler for Open {
     fn auth_succeeded(&mut self, _session: &mut Commands<'_>) -> Result<(), Tired> {
         Ok(())
     }

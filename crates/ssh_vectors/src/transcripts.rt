@@ -62,6 +62,48 @@ fn runs(rt: HostRuntime) -> Result<(), Fail> {
             status: 0,
             written: b"call authentication_banner\ncall auth_none 616c696365\ninput 1\nsend - 060000000c7373682d7573657261757468\ninput 2\nsend - 330000003170617373776f72642c7075626c69636b65792c686f737462617365642c6b6579626f6172642d696e74657261637469766500 hold 5010\ninput 3\nok\n",
         },
+        // None by alice, a wrong password of hers, and none by bob, who has all methods again.
+        Case {
+            script: b"recv 050000000c7373682d7573657261757468\nrecv 3200000005616c6963650000000e7373682d636f6e6e656374696f6e000000046e6f6e65\nrecv 3200000005616c6963650000000e7373682d636f6e6e656374696f6e0000000870617373776f7264000000000577726f6e67\nrecv 3200000003626f620000000e7373682d636f6e6e656374696f6e000000046e6f6e65\n",
+            status: 0,
+            written: b"call authentication_banner\ncall auth_none 616c696365\ncall auth_password 616c696365 77726f6e67\ncall auth_none 626f62\ninput 1\nsend - 060000000c7373682d7573657261757468\ninput 2\nsend - 330000003170617373776f72642c7075626c69636b65792c686f737462617365642c6b6579626f6172642d696e74657261637469766500 hold 1000\ninput 3\nsend - 33000000287075626c69636b65792c686f737462617365642c6b6579626f6172642d696e74657261637469766500 hold 1000\ninput 4\nsend - 330000003170617373776f72642c7075626c69636b65792c686f737462617365642c6b6579626f6172642d696e74657261637469766500 hold 1000\ninput 5\nok\n",
+        },
+        // Those are three rejections: a fourth request meets a cap of three.
+        Case {
+            script: b"config attempts 3\nrecv 050000000c7373682d7573657261757468\nrecv 3200000005616c6963650000000e7373682d636f6e6e656374696f6e000000046e6f6e65\nrecv 3200000005616c6963650000000e7373682d636f6e6e656374696f6e0000000870617373776f7264000000000577726f6e67\nrecv 3200000003626f620000000e7373682d636f6e6e656374696f6e000000046e6f6e65\nrecv 32\n",
+            status: 0,
+            written: b"call authentication_banner\ncall auth_none 616c696365\ncall auth_password 616c696365 77726f6e67\ncall auth_none 626f62\ninput 1\nsend - 060000000c7373682d7573657261757468\ninput 2\nsend - 330000003170617373776f72642c7075626c69636b65792c686f737462617365642c6b6579626f6172642d696e74657261637469766500 hold 1000\ninput 3\nsend - 33000000287075626c69636b65792c686f737462617365642c6b6579626f6172642d696e74657261637469766500 hold 1000\ninput 4\nsend - 330000003170617373776f72642c7075626c69636b65792c686f737462617365642c6b6579626f6172642d696e74657261637469766500 hold 1000\ninput 5\nsend - 010000000e00000020546f6f206d616e792061757468656e7469636174696f6e20617474656d70747300000000\nok\n",
+        },
+        // And a fourth request is read under a cap of four.
+        Case {
+            script: b"config attempts 4\nrecv 050000000c7373682d7573657261757468\nrecv 3200000005616c6963650000000e7373682d636f6e6e656374696f6e000000046e6f6e65\nrecv 3200000005616c6963650000000e7373682d636f6e6e656374696f6e0000000870617373776f7264000000000577726f6e67\nrecv 3200000003626f620000000e7373682d636f6e6e656374696f6e000000046e6f6e65\nrecv 32\n",
+            status: 1,
+            written: b"call authentication_banner\ncall auth_none 616c696365\ncall auth_password 616c696365 77726f6e67\ncall auth_none 626f62\ninput 1\nsend - 060000000c7373682d7573657261757468\ninput 2\nsend - 330000003170617373776f72642c7075626c69636b65792c686f737462617365642c6b6579626f6172642d696e74657261637469766500 hold 1000\ninput 3\nsend - 33000000287075626c69636b65792c686f737462617365642c6b6579626f6172642d696e74657261637469766500 hold 1000\ninput 4\nsend - 330000003170617373776f72642c7075626c69636b65792c686f737462617365642c6b6579626f6172642d696e74657261637469766500 hold 1000\ninput 5\nerror Encoding\n",
+        },
+        // A change of password is refused unheard, and the password that follows is served.
+        Case {
+            script: b"config reject 0\nanswer password accept\nrecv 050000000c7373682d7573657261757468\nrecv 3200000005616c6963650000000e7373682d636f6e6e656374696f6e0000000870617373776f726401000000036f6c64000000036e6577\nrecv 3200000005616c6963650000000e7373682d636f6e6e656374696f6e0000000870617373776f726400000000057269676874\n",
+            status: 0,
+            written: b"call authentication_banner\ncall auth_password 616c696365 7269676874\ncall auth_succeeded\ninput 1\nsend - 060000000c7373682d7573657261757468\ninput 2\nsend - 330000002d6e6f6e652c7075626c69636b65792c686f737462617365642c6b6579626f6172642d696e74657261637469766500 hold 0\ninput 3\nsend - 34\ninput 4\nok\n",
+        },
+        // A method that no server has takes none away.
+        Case {
+            script: b"config reject 5\nanswer password fail\nrecv 050000000c7373682d7573657261757468\nat 7\nrecv 3200000005616c6963650000000e7373682d636f6e6e656374696f6e00000003677373\nrecv 3200000005616c6963650000000e7373682d636f6e6e656374696f6e0000000870617373776f726400000000057269676874\n",
+            status: 1,
+            written: b"call authentication_banner\ncall auth_password 616c696365 7269676874\ninput 1\nsend - 060000000c7373682d7573657261757468\ninput 2\nsend - 33000000366e6f6e652c70617373776f72642c7075626c69636b65792c686f737462617365642c6b6579626f6172642d696e74657261637469766500 hold 12\ninput 3\nerror Handler\n",
+        },
+        // Another service than ssh-connection.
+        Case {
+            script: b"recv 050000000c7373682d7573657261757468\nrecv 3200000005616c6963650000000c7373682d7573657261757468000000046e6f6e65\n",
+            status: 1,
+            written: b"call authentication_banner\ninput 1\nsend - 060000000c7373682d7573657261757468\ninput 2\nerror Inconsistent\n",
+        },
+        // A byte after the password.
+        Case {
+            script: b"recv 050000000c7373682d7573657261757468\nrecv 3200000005616c6963650000000e7373682d636f6e6e656374696f6e0000000870617373776f72640000000005726967687400\n",
+            status: 1,
+            written: b"call authentication_banner\ninput 1\nsend - 060000000c7373682d7573657261757468\ninput 2\nerror Encoding\n",
+        },
         Case {
             script: b"inputs 1\nrecv 050000000c7373682d7573657261757468\n",
             status: 1,
@@ -92,6 +134,61 @@ fn runs(rt: HostRuntime) -> Result<(), Fail> {
         let (status, sink) = run(rt.alloc(), &["run"], case.script, &[], &[])?;
         assert_eq!(rt; status, case.status);
         assert_eq!(rt; sink.bytes(), case.written);
+    }
+    Ok(())
+}
+
+// A wrong password of alice.
+const WRONG_PASSWORD: &[u8] =
+    b"recv 3200000005616c6963650000000e7373682d636f6e6e656374696f6e0000000870617373776f7264000000000577726f6e67\n";
+
+const TOLD_WRONG: &[u8] = b"call auth_password 616c696365 77726f6e67\n";
+// The refusal that is written for it.
+const REFUSED: &[u8] =
+    b"\nsend - 330000002d6e6f6e652c7075626c69636b65792c686f737462617365642c6b6579626f6172642d696e74657261637469766500 hold 1000\n";
+
+const TOO_MANY: &[u8] =
+    b"\nsend - 010000000e00000020546f6f206d616e792061757468656e7469636174696f6e20617474656d70747300000000\nok\n";
+
+// What is written where a peer sends wrong passwords, of which so many are read, and the next ends
+// the run.
+fn refusals(alloc: Global, read: usize) -> Result<Vec<u8>, Fail> {
+    let mut written = Vec::new(alloc);
+    written.extend_from_slice(b"call authentication_banner\n")?;
+    for _ in 0..read {
+        written.extend_from_slice(TOLD_WRONG)?;
+    }
+    written.extend_from_slice(b"input 1\nsend - 060000000c7373682d7573657261757468\ninput ")?;
+    let mut number: u64 = 2;
+    for _ in 0..read {
+        written.extend_from_slice(number.to_string(alloc)?.as_bytes())?;
+        written.extend_from_slice(REFUSED)?;
+        written.extend_from_slice(b"input ")?;
+        number = number.saturating_add(1);
+    }
+    written.extend_from_slice(number.to_string(alloc)?.as_bytes())?;
+    written.extend_from_slice(TOO_MANY)?;
+    Ok(written)
+}
+
+#[test]
+fn too_many_attempts(rt: HostRuntime) -> Result<(), Fail> {
+    let alloc = rt.alloc();
+    let limits: [(&[u8], usize); 3] = [
+        (b"", 10),
+        (b"config attempts 1\n", 1),
+        (b"config attempts 3\n", 3),
+    ];
+    for (limit, read) in limits {
+        let mut script = Vec::new(alloc);
+        script.extend_from_slice(limit)?;
+        script.extend_from_slice(SERVICE)?;
+        for _ in 0..11 {
+            script.extend_from_slice(WRONG_PASSWORD)?;
+        }
+        let (status, sink) = run(alloc, &["run"], script.as_slice(), &[], &[])?;
+        assert_eq!(rt; status, 0);
+        assert_eq!(rt; sink.bytes(), refusals(alloc, read)?.as_slice());
     }
     Ok(())
 }

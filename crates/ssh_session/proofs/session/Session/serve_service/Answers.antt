@@ -2,8 +2,8 @@ use Rattle.std.proofs.Common.{rules, ◌≡◌, [], true, false, sym, refl}
 use Rattle.std.proofs.lemmas.List.{append-nil}
 use Rattle.std.specs.Prelude.{bytes_eq, codes, Ok}
 use Rattle.ssh_link.proofs.Tellings.{adds_nil}
-use Rattle.ssh_handler.specs.declared.call.Call.TheVariants.{AuthenticationBanner}
-use Rattle.ssh_handler.specs.Plan.{Authentication_banner}
+use Rattle.ssh_auth.specs.declared.call.Call.TheVariants.{AuthenticationBanner}
+use Rattle.ssh_auth.specs.Plan.{Authentication_banner}
 use Rattle.ssh_session.specs.Rows.{accept_row}
 use Rattle.ssh_session.proofs.Asks.{asked_last}
 use Rattle.ssh_session.proofs.Branches.{service_known, service_unknown}
@@ -12,7 +12,7 @@ use Rattle.ssh_session.proofs.session.Session.serve_service.Goals as goal
 pub returns-then-ne : goal.returns-then-ne
 returns-then-ne g c = λ settings w r.
     let e : bytes_eq c.args.name.now (codes "ssh-userauth") ≡ false = search rules in
-    ([], adds_nil (g.H.Handler.told c.args.handler.now), ([], w, rw (service_unknown w c.args.name.now e) refl, sym (append-nil c.args.staged.now.items), r))
+    ([], adds_nil (g.H.AuthHandler.told c.args.handler.now), ([], w, rw (service_unknown w c.args.name.now e) refl, sym (append-nil c.args.staged.now.items), r))
 
 pub returns-in-Ok : goal.returns-in-Ok
 returns-in-Ok g c = λ settings w r.
