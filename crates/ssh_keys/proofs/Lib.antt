@@ -1,0 +1,10 @@
+pub mod Agreement
+pub mod Blobs
+pub mod Exactness
+pub mod Layouts
+pub mod Offered
+pub mod Once
+pub mod Parts
+pub mod Refusals
+pub mod Signed
+pub mod Statements
