@@ -1,7 +1,9 @@
-//! Worked examples across the crates, as tests: whole scripts with the bytes that they print, and
-//! runs over links and handlers that fail.
+//! Worked examples across the crates, as tests: whole scripts with the bytes that they print, runs
+//! over links and handlers that fail, and single calls of the wire.
 #![tactic(auto)]
 
+#[cfg(test)]
+mod calls;
 #[cfg(test)]
 mod runs;
 #[cfg(test)]
