@@ -1,7 +1,7 @@
 -- How plans go on from one another, and that their calls determine what comes of them.
 use Rattle.std.proofs.Common.{◌≡◌, List, [], ◌∷◌, ◌++◌, Ok, refl, sym, ◌∙◌, subst}
 use Rattle.ssh_auth.specs.declared.call.Call.{Call}
-use Rattle.ssh_auth.specs.Plan.{Question, Authentication_banner, Auth_none, Auth_password, Auth_succeeded, Answer, Answered, Plan, Finish, Ask, after, Follows, Begins, Breaks}
+use Rattle.ssh_auth.specs.Plan.{Question, Authentication_banner, Auth_none, Auth_password, Auth_publickey_offered, Auth_publickey, Auth_openssh_certificate, Auth_succeeded, Answer, Answered, Plan, Finish, Ask, after, Follows, Begins, Breaks}
 
 -- all calls of a plan, and then all of the one that its outcome leads to
 pub follows_after : {E A B : Type 0} (plan : Plan A) (later : A → Plan B) (xs ys : List (Call E)) (a : A) (b : B) →
@@ -59,6 +59,9 @@ pub answered_once : {E : Type 0} (question : Question) (a b : Answer question) (
 answered_once Authentication_banner a b call h k = cc
 answered_once (Auth_none user) a b call h k = cc
 answered_once (Auth_password user password) a b call h k = cc
+answered_once (Auth_publickey_offered user public_key algorithm) a b call h k = cc
+answered_once (Auth_publickey user public_key algorithm) a b call h k = cc
+answered_once (Auth_openssh_certificate user certificate) a b call h k = cc
 answered_once Auth_succeeded a b call h k = refl
 
 -- the calls with their answers determine what comes of a plan

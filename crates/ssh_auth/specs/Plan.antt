@@ -1,9 +1,12 @@
 -- What is owed to a handler: questions one after another, each going on by its answer, and what
 -- comes of them.
 use Rattle.std.specs.Prelude.{◌≡◌, ℕ, List, [], ◌∷◌, Option, Result, Ok, Err}
+use Rattle.ssh_keys.specs.declared.algorithm.Algorithm.{Algorithm}
+use Rattle.ssh_keys.specs.declared.certificate.Certificate.{Certificate}
+use Rattle.ssh_keys.specs.declared.public_key.PublicKey.{PublicKey}
 use Rattle.ssh_auth.specs.declared.auth.Auth.{Auth}
 use Rattle.ssh_auth.specs.declared.call.Call.{Call}
-use Rattle.ssh_auth.specs.declared.call.Call.TheVariants.{AuthenticationBanner, AuthNone, AuthPassword, AuthSucceeded}
+use Rattle.ssh_auth.specs.declared.call.Call.TheVariants.{AuthenticationBanner, AuthNone, AuthPassword, AuthPublickeyOffered, AuthPublickey, AuthOpensshCertificate, AuthSucceeded}
 
 -- what a handler is asked, or is told
 pub data Question : Type 0 where
@@ -13,6 +16,12 @@ pub data Question : Type 0 where
   Auth_none : (user : List ℕ) → Question
   -- whether this user is let in by this password (RFC 4252 section 8)
   Auth_password : (user password : List ℕ) → Question
+  -- whether this user may sign with this key by this algorithm (RFC 4252 section 7)
+  Auth_publickey_offered : (user : List ℕ) → (public_key : PublicKey) → (algorithm : Algorithm) → Question
+  -- whether this user is let in by this key, which has signed by this algorithm
+  Auth_publickey : (user : List ℕ) → (public_key : PublicKey) → (algorithm : Algorithm) → Question
+  -- whether this user is let in by this certificate, whose key has signed (OpenSSH PROTOCOL.certkeys)
+  Auth_openssh_certificate : (user : List ℕ) → (certificate : Certificate) → Question
   -- that the user is authenticated (RFC 4252 section 5.1)
   Auth_succeeded : Question
 
@@ -21,6 +30,9 @@ abbrev pub Answer : Question → Type 0
 Answer Authentication_banner = Option (List ℕ)
 Answer (Auth_none user) = Auth
 Answer (Auth_password user password) = Auth
+Answer (Auth_publickey_offered user public_key algorithm) = Auth
+Answer (Auth_publickey user public_key algorithm) = Auth
+Answer (Auth_openssh_certificate user certificate) = Auth
 Answer Auth_succeeded = Unit {0}
 
 -- the call in which this was asked, and so answered
@@ -28,6 +40,9 @@ abbrev pub Answered : {E : Type 0} (question : Question) → Result (Answer ques
 Answered Authentication_banner answer call = call ≡ AuthenticationBanner answer
 Answered (Auth_none user) answer call = call ≡ AuthNone user answer
 Answered (Auth_password user password) answer call = call ≡ AuthPassword user password answer
+Answered (Auth_publickey_offered user public_key algorithm) answer call = call ≡ AuthPublickeyOffered user public_key algorithm answer
+Answered (Auth_publickey user public_key algorithm) answer call = call ≡ AuthPublickey user public_key algorithm answer
+Answered (Auth_openssh_certificate user certificate) answer call = call ≡ AuthOpensshCertificate user certificate answer
 Answered Auth_succeeded answer call = call ≡ AuthSucceeded answer
 
 pub data Plan (O : Type 0) : Type 0 where

@@ -2,24 +2,40 @@
 use Rattle.std.specs.Prelude.{ℕ, ◌+◌, ◌-◌, ◌^◌, ◌&&◌, min, List, Bool, false, Option, Some, None, option_map, bytes_eq, if◌then◌else◌}
 use Rattle.std.specs.Borrow.{Bor}
 use Rattle.ssh_wire.specs.declared.method.MethodKind.{MethodKind}
+use Rattle.ssh_wire.specs.Methods.{all_methods}
+use Rattle.ssh_auth.specs.declared.method.Method.{Method}
+use Rattle.ssh_auth.specs.declared.method.Method.TheVariants as asked
+use Rattle.ssh_auth.specs.declared.auth_request.CurrentRequest.{CurrentRequest}
+use Rattle.ssh_auth.specs.declared.auth_request.CurrentRequest.TheVariants as round
 use Rattle.ssh_auth.specs.declared.auth_request.Principal.{Principal}
 use Rattle.ssh_auth.specs.declared.auth_request.AuthRequest.{AuthRequest}
 
 -- before the first request of a server with these methods
 abbrev pub server_request : List MethodKind → AuthRequest
-server_request methods = record { methods = methods; partial_success = false; rejection_count = 0; bound = None; initial = methods }
+server_request methods = record { methods = methods; partial_success = false; current = None; rejection_count = 0; bound = None; initial = methods }
+
+-- what a client's method begins with: prompts, or GSS-API
+abbrev pub round_of : Method → Option CurrentRequest
+round_of (asked.KeyboardInteractive submethods) = Some (round.KeyboardInteractive submethods)
+round_of (asked.GssapiWithMic _) = Some round.GssapiWithMic
+round_of _ = None
+
+-- before the first request of a client that would go on with this method
+abbrev pub client_request : Method → AuthRequest
+client_request method = record (server_request all_methods) { current = round_of method }
 
 -- whether this user and service are the bound pair
 abbrev pub is_bound : Option Principal → List ℕ → List ℕ → Bool
 is_bound None user service = false
 is_bound (Some principal) user service = bytes_eq principal.user user && bytes_eq principal.service service
 
--- another user or service is bound in place of the old one: the initial methods come back, the partial flag is cleared, and the count of rejections stays
+-- another user or service is bound in place of the old one: the initial methods come back, the partial flag and the round are cleared, and the count of rejections stays
 abbrev pub bound_anew : AuthRequest → List ℕ → List ℕ → AuthRequest
 bound_anew auth user service = record auth {
   bound = Some (record { user = user; service = service });
   methods = auth.initial;
   partial_success = false;
+  current = None;
 }
 
 -- after a request named this user and service

@@ -1,13 +1,14 @@
 -- What serving a request of authentication does.
 use Rattle.std.specs.Prelude.{◌≡◌, ℕ, List, ◌∷◌, Option, Result, Ok, Err}
 use Rattle.ssh_link.specs.Told.{Adds, AddsOrStops}
+use Rattle.ssh_keys.specs.declared.error.KeyError.TheVariants.{Blob}
 use Rattle.ssh_auth.specs.declared.call.Call.{Call}
 use Rattle.ssh_auth.specs.declared.auth_request.AuthRequest.{AuthRequest}
 use Rattle.ssh_auth.specs.declared.auth_step.AuthStep.{AuthStep}
 use Rattle.ssh_auth.specs.declared.error.AuthError.{AuthError}
 use Rattle.ssh_auth.specs.declared.error.AuthError.TheVariants as error
 use Rattle.ssh_auth.specs.Plan.{Plan, Follows, Begins, Breaks}
-use Rattle.ssh_auth.specs.Verdict.{Outcome, Replies, Fails, Encoding, Inconsistent, Not_built}
+use Rattle.ssh_auth.specs.Verdict.{Outcome, Replies, Fails, Encoding, Inconsistent, Key, Not_built}
 
 -- the payload has this number
 abbrev pub IsNumbered : ℕ → List ℕ → Type 0
@@ -19,6 +20,7 @@ Answers plan calls auth (Ok step) = Follows plan calls (Replies step.reply step.
 Answers plan calls auth (Err error.NoMemory) = Begins plan calls
 Answers plan calls auth (Err (error.Encoding why)) = Follows plan calls (Fails (Encoding why))
 Answers plan calls auth (Err error.Inconsistent) = Follows plan calls (Fails Inconsistent)
+Answers plan calls auth (Err (error.Key why)) = (why ≡ Blob) × Follows plan calls (Fails Key)
 Answers plan calls auth (Err (error.Handler e)) = Breaks plan calls e
 Answers plan calls auth (Err error.NotBuilt) = Follows plan calls (Fails Not_built)
 

@@ -20,6 +20,8 @@ pub data Fault : Type 0 where
   Encoding : (why : WireError) → Fault
   -- another service than ssh-connection
   Inconsistent : Fault
+  -- the blob of a key or a certificate, or a signature, does not fit its layout
+  Key : Fault
   -- a method that is not built
   Not_built : Fault
 

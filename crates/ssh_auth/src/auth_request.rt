@@ -1,8 +1,10 @@
 // The state of authentication between requests.
-ghost use Rattle.std.specs.Prelude.{◌≡◌, true, false, not, IfOk, IfErr, OnOk, OnErr};
+ghost use Rattle.std.specs.Prelude.{◌≡◌, None, true, false, not, IfOk, IfErr, OnOk, OnErr};
 ghost use Rattle.ssh_wire.specs.declared.error.WireError.TheVariants.{NoMemory};
-ghost use Rattle.ssh_auth.specs.Request.{server_request, principal_of, pair_of, initial_of, is_bound, bound_to, count_after};
+ghost use Rattle.ssh_auth.specs.Request.{server_request, client_request, principal_of, pair_of, initial_of, is_bound, bound_to, count_after};
 
+use crate::Method;
+use bytes::Bytes;
 use ssh_wire::{MethodSet, Text, WireError};
 use std::alloc::Global;
 
@@ -13,6 +15,27 @@ pub struct Principal {
     pub service: Text,
 }
 
+/// What was begun and is gone on with by a later request.
+#[derive(Drop)]
+pub enum CurrentRequest {
+    /// A key that the client asked about (RFC 4252 section 7).
+    PublicKey {
+        /// The key's blob, as it was offered.
+        key: Bytes,
+        /// The name of the algorithm, as it was offered.
+        algo: Text,
+        /// Whether PK_OK was answered, so that the key may sign.
+        sent_pk_ok: bool,
+    },
+    /// Prompts that wait for responses (RFC 4256 section 3.2).
+    KeyboardInteractive {
+        /// The submethods that the client would like, joined by commas.
+        submethods: Text,
+    },
+    /// GSS-API (RFC 4462).
+    GssapiWithMic,
+}
+
 /// What is known of a client that asks to be authenticated.
 #[derive(Drop)]
 pub struct AuthRequest {
@@ -20,6 +43,8 @@ pub struct AuthRequest {
     pub methods: MethodSet,
     /// Whether the last rejection was a partial success (RFC 4252 section 5.1).
     pub partial_success: bool,
+    /// What was begun: the round that a request goes on with.
+    pub current: Option<CurrentRequest>,
     /// How many requests were rejected, partial successes left out.
     pub rejection_count: usize,
     bound: Option<Principal>,
@@ -34,10 +59,37 @@ impl AuthRequest {
         AuthRequest {
             methods,
             partial_success: false,
+            current: None,
             rejection_count: 0,
             bound: None,
             initial: methods,
         }
+    }
+
+    /// Before the first request, of a client that would go on with this method: prompts and GSS-API
+    /// are begun. `NoMemory` is the only error.
+    pub fn new(method: &Method) -> Result<AuthRequest, WireError>
+        ensures ok { IfOk result (λ auth. auth ≡ client_request method.now) }
+        ensures memory { IfErr result (λ e. e ≡ NoMemory) }
+    {
+        let current = match method {
+            Method::KeyboardInteractive { submethods } => {
+                Some(CurrentRequest::KeyboardInteractive {
+                    submethods: submethods.copy()?,
+                })
+            }
+            Method::GssapiWithMic { .. } => Some(CurrentRequest::GssapiWithMic),
+            _ => None,
+        };
+        let methods = MethodSet::client_supported();
+        Ok(AuthRequest {
+            methods,
+            partial_success: false,
+            current,
+            rejection_count: 0,
+            bound: None,
+            initial: methods,
+        })
     }
 
     /// The user and the service that the last request named.
@@ -58,8 +110,8 @@ impl AuthRequest {
     }
 
     /// Binds the user and the service that a request names. True where they differ from the bound
-    /// ones: then the initial methods come back and the partial flag is cleared, and the count of
-    /// rejections stays.
+    /// ones: then the initial methods come back, the partial flag and the round are cleared, and the
+    /// count of rejections stays.
     pub fn bind_or_reset_principal(
         &mut self,
         alloc: Global,
@@ -69,7 +121,7 @@ impl AuthRequest {
         ensures ok { OnOk result (self.new ≡ bound_to self.old user.now service.now) }
         ensures differed { IfOk result (λ differed. differed ≡ not (is_bound self.old.bound user.now service.now)) }
         ensures restored { result ≡ Ok true → (self.new.methods ≡ initial_of self.old) × (self.new.partial_success ≡ false)
-            × (self.new.rejection_count ≡ self.old.rejection_count) }
+            × (self.new.current ≡ None) × (self.new.rejection_count ≡ self.old.rejection_count) }
         ensures memory { IfErr result (λ e. e ≡ NoMemory) }
         ensures err { OnErr result (self.new ≡ self.old) }
     {
@@ -82,6 +134,7 @@ impl AuthRequest {
         });
         self.methods = self.initial;
         self.partial_success = false;
+        self.current = None;
         Ok(true)
     }
 

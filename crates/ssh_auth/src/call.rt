@@ -1,5 +1,6 @@
 // What a handler tells of a callback.
 use crate::Auth;
+use ssh_keys::{Algorithm, Certificate, PublicKey};
 use ssh_wire::Text;
 
 /// One call of a callback of a handler: its arguments, and what it answered.
@@ -23,6 +24,37 @@ pub enum Call<E> {
         user: Text,
         /// The password.
         password: Text,
+        /// The verdict.
+        answer: Result<Auth, E>,
+    },
+    /// A user offered a key.
+    AuthPublickeyOffered {
+        /// The user's name.
+        user: Text,
+        /// The key; for a certificate, the one that is certified.
+        public_key: PublicKey,
+        /// The algorithm by which it would sign.
+        algorithm: Algorithm,
+        /// Whether the key may sign.
+        answer: Result<Auth, E>,
+    },
+    /// A user asked to be let in by a key whose signature was accepted.
+    AuthPublickey {
+        /// The user's name.
+        user: Text,
+        /// The key.
+        public_key: PublicKey,
+        /// The algorithm by which it signed.
+        algorithm: Algorithm,
+        /// The verdict.
+        answer: Result<Auth, E>,
+    },
+    /// A user asked to be let in by a certificate whose key's signature was accepted.
+    AuthOpensshCertificate {
+        /// The user's name.
+        user: Text,
+        /// The certificate, which holds and is validly signed.
+        certificate: Certificate,
         /// The verdict.
         answer: Result<Auth, E>,
     },

@@ -2,6 +2,7 @@
 ghost use Rattle.std.specs.Prelude.{◌≡◌};
 ghost use Rattle.ssh_auth.specs.Failure.{auth_error_of};
 
+use ssh_keys::KeyError;
 use ssh_wire::WireError;
 
 /// Why a request of authentication gets no reply. `E` is the handler's error.
@@ -13,6 +14,9 @@ pub enum AuthError<E> {
     Encoding(WireError),
     /// The request names another service than `ssh-connection`.
     Inconsistent,
+    /// The blob of a key or a certificate does not fit its layout, or a signature does not: always
+    /// `KeyError::Blob`.
+    Key(KeyError),
     /// The handler answered this error.
     Handler(E),
     /// The request is by a method that is not built yet: publickey or keyboard-interactive.

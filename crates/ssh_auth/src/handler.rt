@@ -2,9 +2,10 @@
 ghost use Rattle.std.specs.Prelude.{◌≡◌, List, Option, None, Result};
 ghost use Rattle.ssh_link.specs.Told.{Tells, IsUntold};
 ghost use Rattle.ssh_auth.specs.declared.call.Call.{Call};
-ghost use Rattle.ssh_auth.specs.declared.call.Call.TheVariants.{AuthenticationBanner, AuthNone, AuthPassword};
+ghost use Rattle.ssh_auth.specs.declared.call.Call.TheVariants.{AuthenticationBanner, AuthNone, AuthPassword, AuthPublickeyOffered, AuthPublickey, AuthOpensshCertificate};
 
-use crate::Auth;
+use crate::{Auth, PublicKeyOffer, VerifiedPublicKey};
+use ssh_keys::Certificate;
 use ssh_wire::Text;
 
 /// Shows that a callback was not written by its handler. The bodies of the callbacks make one;
@@ -57,6 +58,46 @@ pub trait AuthHandler {
     /// written.
     fn auth_password(&mut self, user: &str, password: &str) -> Result<Auth, Self::Error>
         ensures { Tells (told self.old) (told self.new) result (AuthPassword user.now password.now result) }
+    {
+        self.untold(Unwritten::new())?;
+        Ok(Auth::reject())
+    }
+
+    /// A user offers a key and has not signed with it yet (RFC 4252 section 7): it may sign where
+    /// this is not written. Nobody is let in by the answer, whatever it is.
+    fn auth_publickey_offered(
+        &mut self,
+        user: &str,
+        offer: PublicKeyOffer<'_>,
+    ) -> Result<Auth, Self::Error>
+        ensures { Tells (told self.old) (told self.new) result (AuthPublickeyOffered user.now offer.entry.public_key.now offer.entry.algorithm result) }
+    {
+        self.untold(Unwritten::new())?;
+        Ok(Auth::Accept)
+    }
+
+    /// A user asks to be let in by a key, and the verifier accepted its signature of the request
+    /// (RFC 4252 section 7): refused where it is not written.
+    fn auth_publickey(
+        &mut self,
+        user: &str,
+        key: VerifiedPublicKey<'_>,
+    ) -> Result<Auth, Self::Error>
+        ensures { Tells (told self.old) (told self.new) result (AuthPublickey user.now key.entry.public_key.now key.entry.algorithm result) }
+    {
+        self.untold(Unwritten::new())?;
+        Ok(Auth::reject())
+    }
+
+    /// A user asks to be let in by a certificate (OpenSSH PROTOCOL.certkeys): it holds at this
+    /// moment, and the verifier accepted its own signature and the one of the request. Refused where
+    /// it is not written.
+    fn auth_openssh_certificate(
+        &mut self,
+        user: &str,
+        certificate: &Certificate,
+    ) -> Result<Auth, Self::Error>
+        ensures { Tells (told self.old) (told self.new) result (AuthOpensshCertificate user.now certificate.now result) }
     {
         self.untold(Unwritten::new())?;
         Ok(Auth::reject())

@@ -7,16 +7,18 @@ ghost use Rattle.ssh_auth.specs.Serve.{IsNumbered, Serves};
 use crate::message::{MethodRequest, fields_of, read_method, read_request_head};
 use crate::reply::{answer, methods_without, reject};
 use crate::{AuthError, AuthHandler, AuthRequest, AuthStep};
+use ssh_keys::Verifier;
 use ssh_wire::MethodKind;
 use std::alloc::Global;
 
 /// Serves a USERAUTH_REQUEST (RFC 4252 section 5): makes the calls that it owes, and gives its
 /// reply and its verdict. `session_id` is that of the key exchange (RFC 4253 section 7.2),
 /// `moment` the time in milliseconds since 1970. After an error the state is not used again.
-pub fn serve_request<H: AuthHandler>(
+pub fn serve_request<H: AuthHandler, V: Verifier>(
     alloc: Global,
     auth: &mut AuthRequest,
     handler: &mut H,
+    verifier: &V,
     session_id: &[u8],
     moment: u64,
     payload: &[u8],
