@@ -1,9 +1,10 @@
--- What is owed to a handler: questions one after another, each going on by its answer, and what
--- comes of them.
+-- What is owed to a handler and to a link: questions one after another, each going on by its answer,
+-- notices between them, and what comes of them.
 use Rattle.std.specs.Prelude.{◌≡◌, ℕ, List, [], ◌∷◌, Option, Result, Ok, Err}
 use Rattle.ssh_keys.specs.declared.algorithm.Algorithm.{Algorithm}
 use Rattle.ssh_keys.specs.declared.certificate.Certificate.{Certificate}
 use Rattle.ssh_keys.specs.declared.public_key.PublicKey.{PublicKey}
+use Rattle.ssh_link.specs.declared.link.TraceEntry.{TraceEntry}
 use Rattle.ssh_auth.specs.declared.auth.Auth.{Auth}
 use Rattle.ssh_auth.specs.declared.call.Call.{Call}
 use Rattle.ssh_auth.specs.declared.call.Call.TheVariants.{AuthenticationBanner, AuthNone, AuthPassword, AuthPublickeyOffered, AuthPublickey, AuthOpensshCertificate, AuthSucceeded}
@@ -48,33 +49,61 @@ Answered Auth_succeeded answer call = call ≡ AuthSucceeded answer
 pub data Plan (O : Type 0) : Type 0 where
   -- nothing more is asked, and this comes of it
   Finish : (outcome : O) → Plan O
-  -- this is asked, and its answer says how to go on
+  -- the handler is asked this, and its answer says how to go on
   Ask : (question : Question) → (next : Answer question → Plan O) → Plan O
+  -- the link is told this
+  Tell : (entry : TraceEntry) → (next : Plan O) → Plan O
 
 -- a plan, and then the one that its outcome leads to
 abbrev pub after : {A B : Type 0} → Plan A → (A → Plan B) → Plan B
 after (Finish outcome) later = later outcome
 after (Ask question next) later = Ask question (λ answer. after (next answer) later)
+after (Tell entry next) later = Tell entry (after next later)
 
--- these are all calls of the plan, none answered an error, and this comes of them
-abbrev pub Follows : {E O : Type 0} → Plan O → List (Call E) → O → Type 0
+-- a call of the handler, or what the link was told
+pub data Event (E : Type 0) : Type 0 where
+  Called : (call : Call E) → Event E
+  Told : (entry : TraceEntry) → Event E
+
+-- the calls among these, and what the link was told
+abbrev pub calls_in : {E : Type 0} → List (Event E) → List (Call E)
+calls_in [] = []
+calls_in (Called call ∷ events) = call ∷ calls_in events
+calls_in (Told entry ∷ events) = calls_in events
+
+abbrev pub told_in : {E : Type 0} → List (Event E) → List TraceEntry
+told_in [] = []
+told_in (Called call ∷ events) = told_in events
+told_in (Told entry ∷ events) = entry ∷ told_in events
+
+-- these are all events of the plan, no call answered an error, and this comes of them
+abbrev pub Follows : {E O : Type 0} → Plan O → List (Event E) → O → Type 0
 Follows (Finish planned) [] outcome = outcome ≡ planned
-Follows (Finish planned) (call ∷ calls) outcome = ⊥
-Follows (Ask question next) [] outcome = ⊥
-Follows (Ask question next) (call ∷ calls) outcome =
-    (answer : Answer question) × Answered question (Ok answer) call × Follows (next answer) calls outcome
+Follows (Ask question next) (Called call ∷ events) outcome =
+    (answer : Answer question) × Answered question (Ok answer) call × Follows (next answer) events outcome
+Follows (Tell entry next) (Told told ∷ events) outcome = (told ≡ entry) × Follows next events outcome
+Follows _ _ outcome = ⊥
 
--- these are the first calls of the plan, and none answered an error
-abbrev pub Begins : {E O : Type 0} → Plan O → List (Call E) → Type 0
+-- these are the first events of the plan, and no call answered an error
+abbrev pub Begins : {E O : Type 0} → Plan O → List (Event E) → Type 0
 Begins plan [] = Unit {0}
-Begins (Finish planned) (call ∷ calls) = ⊥
-Begins (Ask question next) (call ∷ calls) =
-    (answer : Answer question) × Answered question (Ok answer) call × Begins (next answer) calls
+Begins (Ask question next) (Called call ∷ events) =
+    (answer : Answer question) × Answered question (Ok answer) call × Begins (next answer) events
+Begins (Tell entry next) (Told told ∷ events) = (told ≡ entry) × Begins next events
+Begins _ (event ∷ events) = ⊥
 
--- these are the first calls of the plan, and the last of them alone answered an error, this one
-abbrev pub Breaks : {E O : Type 0} → Plan O → List (Call E) → E → Type 0
-Breaks plan [] error = ⊥
-Breaks (Finish planned) (call ∷ calls) error = ⊥
-Breaks (Ask question next) (call ∷ []) error = Answered question (Err error) call
-Breaks (Ask question next) (call ∷ later ∷ calls) error =
-    (answer : Answer question) × Answered question (Ok answer) call × Breaks (next answer) (later ∷ calls) error
+-- these are the first events of the plan, and the last of them alone is a call that answered an error, this one
+abbrev pub Breaks : {E O : Type 0} → Plan O → List (Event E) → E → Type 0
+Breaks (Ask question next) (Called call ∷ []) error = Answered question (Err error) call
+Breaks (Ask question next) (Called call ∷ later ∷ events) error =
+    (answer : Answer question) × Answered question (Ok answer) call × Breaks (next answer) (later ∷ events) error
+Breaks (Tell entry next) (Told told ∷ events) error = (told ≡ entry) × Breaks next events error
+Breaks _ _ error = ⊥
+
+-- after these events, in which no call answered an error, the plan has come to this rest
+abbrev pub Reaches : {E O : Type 0} → Plan O → List (Event E) → Plan O → Type 0
+Reaches plan [] rest = plan ≡ rest
+Reaches (Ask question next) (Called call ∷ events) rest =
+    (answer : Answer question) × Answered question (Ok answer) call × Reaches (next answer) events rest
+Reaches (Tell entry next) (Told told ∷ events) rest = (told ≡ entry) × Reaches next events rest
+Reaches _ (event ∷ events) rest = ⊥

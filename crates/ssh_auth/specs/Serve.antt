@@ -1,5 +1,5 @@
 -- What serving a request of authentication does.
-use Rattle.std.specs.Prelude.{◌≡◌, ℕ, List, ◌∷◌, Option, Result, Ok, Err}
+use Rattle.std.specs.Prelude.{◌≡◌, ℕ, List, ◌∷◌, map, Option, Result, Ok, Err}
 use Rattle.ssh_link.specs.Told.{Adds, AddsOrStops}
 use Rattle.ssh_keys.specs.declared.error.KeyError.TheVariants.{Blob}
 use Rattle.ssh_auth.specs.declared.call.Call.{Call}
@@ -7,28 +7,28 @@ use Rattle.ssh_auth.specs.declared.auth_request.AuthRequest.{AuthRequest}
 use Rattle.ssh_auth.specs.declared.auth_step.AuthStep.{AuthStep}
 use Rattle.ssh_auth.specs.declared.error.AuthError.{AuthError}
 use Rattle.ssh_auth.specs.declared.error.AuthError.TheVariants as error
-use Rattle.ssh_auth.specs.Plan.{Plan, Follows, Begins, Breaks}
+use Rattle.ssh_auth.specs.Plan.{Plan, Event, Called, Follows, Begins, Breaks}
 use Rattle.ssh_auth.specs.Verdict.{Outcome, Replies, Fails, Encoding, Inconsistent, Key, Not_built}
 
 -- the payload has this number
 abbrev pub IsNumbered : ℕ → List ℕ → Type 0
 IsNumbered number payload = (fields : List ℕ) × (payload ≡ number ∷ fields)
 
--- with these calls the plan gives this answer, and leaves this state
-abbrev pub Answers : {E : Type 0} → Plan Outcome → List (Call E) → AuthRequest → Result AuthStep (AuthError E) → Type 0
-Answers plan calls auth (Ok step) = Follows plan calls (Replies step.reply step.verdict auth)
-Answers plan calls auth (Err error.NoMemory) = Begins plan calls
-Answers plan calls auth (Err (error.Encoding why)) = Follows plan calls (Fails (Encoding why))
-Answers plan calls auth (Err error.Inconsistent) = Follows plan calls (Fails Inconsistent)
-Answers plan calls auth (Err (error.Key why)) = (why ≡ Blob) × Follows plan calls (Fails Key)
-Answers plan calls auth (Err (error.Handler e)) = Breaks plan calls e
-Answers plan calls auth (Err error.NotBuilt) = Follows plan calls (Fails Not_built)
+-- with these events the plan gives this answer, and leaves this state
+abbrev pub Answers : {E : Type 0} → Plan Outcome → List (Event E) → AuthRequest → Result AuthStep (AuthError E) → Type 0
+Answers plan events auth (Ok step) = Follows plan events (Replies step.reply step.verdict auth)
+Answers plan events auth (Err error.NoMemory) = Begins plan events
+Answers plan events auth (Err (error.Encoding why)) = Follows plan events (Fails (Encoding why))
+Answers plan events auth (Err error.Inconsistent) = Follows plan events (Fails Inconsistent)
+Answers plan events auth (Err (error.Key why)) = (why ≡ Blob) × Follows plan events (Fails Key)
+Answers plan events auth (Err (error.Handler e)) = Breaks plan events e
+Answers plan events auth (Err error.NotBuilt) = Follows plan events (Fails Not_built)
 
 -- the handler was told these calls; after one that answered an error it may tell nothing
 abbrev pub ToldBy : {T E : Type 0} → Result T (AuthError E) → Option (List (Call E)) → Option (List (Call E)) → List (Call E) → Type 0
 ToldBy (Err (error.Handler e)) told told' calls = AddsOrStops told told' calls
 ToldBy _ told told' calls = Adds told told' calls
 
--- the same, and the handler was told these calls
+-- the same, and the handler was told these calls; a link is told nothing
 abbrev pub Serves : {E : Type 0} → Plan Outcome → Option (List (Call E)) → Option (List (Call E)) → AuthRequest → Result AuthStep (AuthError E) → Type 0
-Serves {E} plan told told' auth result = (calls : List (Call E)) × ToldBy result told told' calls × Answers plan calls auth result
+Serves {E} plan told told' auth result = (calls : List (Call E)) × ToldBy result told told' calls × Answers plan (map Called calls) auth result
