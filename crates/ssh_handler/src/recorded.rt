@@ -3,10 +3,11 @@ ghost use Rattle.std.specs.Prelude.{◌≡◌, [], ◌∷◌, ◌++◌, Some, No
 ghost use Rattle.ssh_link.specs.Told.{AddsOne, Tells};
 ghost use Rattle.ssh_handler.specs.declared.recorded.RecordError.TheVariants.{NoMemory};
 ghost use Rattle.ssh_handler.specs.Recording.{Passes, Records, passed_on};
-ghost use Rattle.ssh_auth.specs.declared.call.Call.TheVariants.{AuthenticationBanner, AuthNone, AuthPassword, AuthSucceeded};
+ghost use Rattle.ssh_auth.specs.declared.call.Call.TheVariants.{AuthenticationBanner, AuthNone, AuthPassword, AuthPublickeyOffered, AuthPublickey, AuthOpensshCertificate, AuthSucceeded};
 
 use crate::{Commands, Handler};
-use ssh_auth::{Auth, AuthHandler, Call, Unwritten};
+use ssh_auth::{Auth, AuthHandler, Call, PublicKeyOffer, Unwritten, VerifiedPublicKey};
+use ssh_keys::{Algorithm, Certificate, PublicKey};
 use ssh_wire::{Text, WireError};
 use std::alloc::Global;
 use std::marker::Model;
@@ -159,6 +160,55 @@ fn made_auth_password<E: Copy>(
     })
 }
 
+fn made_auth_publickey_offered<E: Copy>(
+    alloc: Global,
+    user: &str,
+    public_key: &PublicKey,
+    algorithm: Algorithm,
+    answer: &Result<Auth, E>,
+) -> Result<Call<E>, WireError>
+    ensures { IfOk result (λ call. call ≡ AuthPublickeyOffered user.now public_key.now algorithm answer.now) }
+{
+    Ok(Call::AuthPublickeyOffered {
+        user: Text::new(alloc, user)?,
+        public_key: public_key.copy()?,
+        algorithm,
+        answer: copied_auth(answer),
+    })
+}
+
+fn made_auth_publickey<E: Copy>(
+    alloc: Global,
+    user: &str,
+    public_key: &PublicKey,
+    algorithm: Algorithm,
+    answer: &Result<Auth, E>,
+) -> Result<Call<E>, WireError>
+    ensures { IfOk result (λ call. call ≡ AuthPublickey user.now public_key.now algorithm answer.now) }
+{
+    Ok(Call::AuthPublickey {
+        user: Text::new(alloc, user)?,
+        public_key: public_key.copy()?,
+        algorithm,
+        answer: copied_auth(answer),
+    })
+}
+
+fn made_auth_openssh_certificate<E: Copy>(
+    alloc: Global,
+    user: &str,
+    certificate: &Certificate,
+    answer: &Result<Auth, E>,
+) -> Result<Call<E>, WireError>
+    ensures { IfOk result (λ call. call ≡ AuthOpensshCertificate user.now certificate.now answer.now) }
+{
+    Ok(Call::AuthOpensshCertificate {
+        user: Text::new(alloc, user)?,
+        certificate: certificate.copy()?,
+        answer: copied_auth(answer),
+    })
+}
+
 impl<H: AuthHandler> AuthHandler for Recorded<H>
 where
     H::Error: Copy,
@@ -199,6 +249,58 @@ where
     {
         let answer = passed(self.inner.auth_password(user, password));
         self.keep(made_auth_password(self.alloc, user, password, &answer))?;
+        answer
+    }
+
+    fn auth_publickey_offered(
+        &mut self,
+        user: &str,
+        offer: PublicKeyOffer<'_>,
+    ) -> Result<Auth, RecordError<H::Error>>
+        ensures tells { Tells self.old.told self.new.told result (AuthPublickeyOffered user.now offer.entry.public_key.now offer.entry.algorithm result) }
+        ensures records { Records self.old.told self.new.told result (AuthPublickeyOffered user.now offer.entry.public_key.now offer.entry.algorithm result) }
+        ensures passes { Passes (H.told self.old.inner) (H.told self.new.inner) result (AuthPublickeyOffered user.now offer.entry.public_key.now offer.entry.algorithm) }
+    {
+        let PublicKeyOffer {
+            public_key,
+            algorithm,
+        } = offer;
+        let answer = passed(self.inner.auth_publickey_offered(user, offer));
+        let call = made_auth_publickey_offered(self.alloc, user, public_key, algorithm, &answer);
+        self.keep(call)?;
+        answer
+    }
+
+    fn auth_publickey(
+        &mut self,
+        user: &str,
+        key: VerifiedPublicKey<'_>,
+    ) -> Result<Auth, RecordError<H::Error>>
+        ensures tells { Tells self.old.told self.new.told result (AuthPublickey user.now key.entry.public_key.now key.entry.algorithm result) }
+        ensures records { Records self.old.told self.new.told result (AuthPublickey user.now key.entry.public_key.now key.entry.algorithm result) }
+        ensures passes { Passes (H.told self.old.inner) (H.told self.new.inner) result (AuthPublickey user.now key.entry.public_key.now key.entry.algorithm) }
+    {
+        let VerifiedPublicKey {
+            public_key,
+            algorithm,
+        } = key;
+        let answer = passed(self.inner.auth_publickey(user, key));
+        let call = made_auth_publickey(self.alloc, user, public_key, algorithm, &answer);
+        self.keep(call)?;
+        answer
+    }
+
+    fn auth_openssh_certificate(
+        &mut self,
+        user: &str,
+        certificate: &Certificate,
+    ) -> Result<Auth, RecordError<H::Error>>
+        ensures tells { Tells self.old.told self.new.told result (AuthOpensshCertificate user.now certificate.now result) }
+        ensures records { Records self.old.told self.new.told result (AuthOpensshCertificate user.now certificate.now result) }
+        ensures passes { Passes (H.told self.old.inner) (H.told self.new.inner) result (AuthOpensshCertificate user.now certificate.now) }
+    {
+        let answer = passed(self.inner.auth_openssh_certificate(user, certificate));
+        self.keep(made_auth_openssh_certificate(self.alloc, user, certificate, &answer))?;
         answer
     }
 }
