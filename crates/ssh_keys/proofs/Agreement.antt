@@ -90,7 +90,7 @@ certified_once p q bytes a b is s t =
       options.1,
     )
 
-signature_once : (v w : Signature) (bytes : List ℕ) → EndsInSignature v bytes → EndsInSignature w bytes → v ≡ w
+pub signature_once : (v w : Signature) (bytes : List ℕ) → EndsInSignature v bytes → EndsInSignature w bytes → v ≡ w
 signature_once v w bytes s t =
     let inners = spells_all_once (Bytes ∷ []) (s.0, tt) (t.0, tt) bytes [] [] s.1 t.1 in
     let once = spells_all_once signature_fields (v.name, (v.blob, tt)) (w.name, (w.blob, tt)) s.0 [] [] s.2

@@ -47,20 +47,46 @@ certificate_unnamed (algorithm.Rsa None) = refl
 certificate_unnamed (algorithm.Rsa (Some Sha256)) = refl
 certificate_unnamed (algorithm.Rsa (Some Sha512)) = refl
 
-algorithm_once : (a b : Algorithm) (name : List ℕ) → algorithm_name a ≡ name → algorithm_name b ≡ name → a ≡ b
+pub algorithm_once : (a b : Algorithm) (name : List ℕ) → algorithm_name a ≡ name → algorithm_name b ≡ name → a ≡ b
 algorithm_once a b name m n =
     let both : Some a ≡ Some b = sym (named_back a) ∙ ap named (m ∙ sym n) ∙ named_back b in
     cc
 
+abbrev certificate_named : List ℕ → Option Algorithm
+certificate_named name =
+    find (λ a. bytes_eq (certificate_name a) name)
+    (algorithm.Ed25519
+    ∷ algorithm.Ecdsa NistP256
+    ∷ algorithm.Ecdsa NistP384
+    ∷ algorithm.Ecdsa NistP521
+    ∷ algorithm.Rsa None
+    ∷ algorithm.Rsa (Some Sha256)
+    ∷ algorithm.Rsa (Some Sha512)
+    ∷ [])
+
+certificate_named_back : (a : Algorithm) → certificate_named (certificate_name a) ≡ Some a
+certificate_named_back algorithm.Ed25519 = refl
+certificate_named_back (algorithm.Ecdsa NistP256) = refl
+certificate_named_back (algorithm.Ecdsa NistP384) = refl
+certificate_named_back (algorithm.Ecdsa NistP521) = refl
+certificate_named_back (algorithm.Rsa None) = refl
+certificate_named_back (algorithm.Rsa (Some Sha256)) = refl
+certificate_named_back (algorithm.Rsa (Some Sha512)) = refl
+
+pub certified_algorithm_once : (a b : Algorithm) (name : List ℕ) → certificate_name a ≡ name → certificate_name b ≡ name → a ≡ b
+certified_algorithm_once a b name m n =
+    let both : Some a ≡ Some b = sym (certificate_named_back a) ∙ ap certificate_named (m ∙ sym n) ∙ certificate_named_back b in
+    cc
+
 -- a name of keys is none of certificates
-apart : (a b : Algorithm) (name : List ℕ) → algorithm_name a ≡ name → certificate_name b ≡ name → ⊥
+pub apart : (a b : Algorithm) (name : List ℕ) → algorithm_name a ≡ name → certificate_name b ≡ name → ⊥
 apart a b name m n =
     let bad : Some a ≡ None = sym (named_back a) ∙ ap named (m ∙ sym n) ∙ certificate_unnamed b in
     cc
 
 -- ---- the answers
 
-offers_agree : (p q : PublicKeyOrCertificate) (name blob : List ℕ) → IsOffer p name blob → IsOffer q name blob → p ≡ q
+pub offers_agree : (p q : PublicKeyOrCertificate) (name blob : List ℕ) → IsOffer p name blob → IsOffer q name blob → p ≡ q
 offers_agree (offer.PublicKey k g) (offer.PublicKey l h) name blob s t =
     let keys = keys_agree l k blob t.3 s.3 in
     let hashes : g ≡ h = s.2 ∙ ap hash_of (algorithm_once s.0 t.0 name s.1 t.1) ∙ sym t.2 in
@@ -69,7 +95,7 @@ offers_agree (offer.Certificate c) (offer.Certificate d) name blob s t = ap offe
 offers_agree (offer.PublicKey k g) (offer.Certificate d) name blob s t = absurd (apart s.0 t.0 name s.1 t.1)
 offers_agree (offer.Certificate c) (offer.PublicKey l h) name blob s t = absurd (apart t.0 s.0 name t.1 s.1)
 
-offer_never_fails : (p : PublicKeyOrCertificate) (name blob : List ℕ) (why : KeyError) → IsOffer p name blob → FailsOffer name blob why → ⊥
+pub offer_never_fails : (p : PublicKeyOrCertificate) (name blob : List ℕ) (why : KeyError) → IsOffer p name blob → FailsOffer name blob why → ⊥
 offer_never_fails (offer.PublicKey k g) name blob why s fails =
     elim fails [
       | inl none ↦ none.0 s.0 s.1
@@ -87,7 +113,7 @@ offer_never_fails (offer.Certificate c) name blob why s fails =
       ]
     ]
 
-offer_fails_once : (name blob : List ℕ) (d e : KeyError) → FailsOffer name blob d → FailsOffer name blob e → d ≡ e
+pub offer_fails_once : (name blob : List ℕ) (d e : KeyError) → FailsOffer name blob d → FailsOffer name blob e → d ≡ e
 offer_fails_once name blob d e m n =
     elim m [
       | inl a ↦ elim n [
@@ -115,7 +141,7 @@ offer_fails_once name blob d e m n =
       ]
     ]
 
-offer_answers_once : (name blob : List ℕ) (a b : Result PublicKeyOrCertificate KeyError) → DecodesOffer name blob a → DecodesOffer name blob b → a ≡ b
+pub offer_answers_once : (name blob : List ℕ) (a b : Result PublicKeyOrCertificate KeyError) → DecodesOffer name blob a → DecodesOffer name blob b → a ≡ b
 offer_answers_once name blob (Ok p) (Ok q) s t = ap Ok (offers_agree p q name blob s t)
 offer_answers_once name blob (Ok p) (Err e) s t = absurd (offer_never_fails p name blob e s t)
 offer_answers_once name blob (Err d) (Ok p) s t = absurd (offer_never_fails p name blob d t s)

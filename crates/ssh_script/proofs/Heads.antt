@@ -1,4 +1,5 @@
 -- What a script's handler and link tell first says what they answer and give.
+use Rattle.std.specs.Prelude.{◌==◌, if◌then◌else◌}
 use Rattle.std.proofs.Common.{◌≡◌, ℕ, List, [], ◌∷◌, ◌++◌, map, Option, Some, None, refl, sym, ◌∙◌, ap, append_assoc}
 use Rattle.ssh_link.specs.declared.frame.Input.{Input}
 use Rattle.ssh_link.specs.declared.link.TraceEntry.{TraceEntry}
@@ -6,72 +7,44 @@ use Rattle.ssh_link.specs.declared.link.TraceEntry.TheVariants as entry
 use Rattle.ssh_auth.specs.declared.call.Call.{Call}
 use Rattle.ssh_script.specs.declared.answers.Verdict.{Verdict}
 use Rattle.ssh_script.specs.declared.answers.Verdict.TheVariants.{Accept, Reject, Fail}
-use Rattle.ssh_script.specs.Played.{Failure, Queues, queues_of, verdict_answer, told_none, told_password, told_banners, heading}
+use Rattle.ssh_script.specs.Played.{Failure, Queues, verdict_number, told_queue, told_banners, heading}
 use Rattle.ssh_script.specs.Given.{Supply, supply_of, told_input, told_moment}
 use Rattle.ssh_script.specs.Given.{heading as input_heading}
 
-verdict_once : (v w : Verdict) → verdict_answer v ≡ verdict_answer w → v ≡ w
-verdict_once Accept Accept e = refl
-verdict_once Accept Reject e = cc
-verdict_once Accept Fail e = cc
-verdict_once Reject Accept e = cc
-verdict_once Reject Reject e = refl
-verdict_once Reject Fail e = cc
-verdict_once Fail Accept e = cc
-verdict_once Fail Reject e = cc
-verdict_once Fail Fail e = refl
+verdict_in : ℕ → Verdict
+verdict_in n = if n == 0 then Accept else if n == 1 then Reject else Fail
 
-told_none_once : (v w : Verdict) (xs ys : List (Call Failure)) → told_none v ∷ xs ≡ told_none w ∷ ys → (v ≡ w) × (xs ≡ ys)
-told_none_once v w xs ys e = let a : verdict_answer v ≡ verdict_answer w = cc in (verdict_once v w a, cc)
+verdicts_back : (queue : List Verdict) → map verdict_in (map verdict_number queue) ≡ queue
+unfolding verdict_in
+verdicts_back [] = refl
+verdicts_back (Accept ∷ queue) = ap (λ q. Accept ∷ q) (verdicts_back queue)
+verdicts_back (Reject ∷ queue) = ap (λ q. Reject ∷ q) (verdicts_back queue)
+verdicts_back (Fail ∷ queue) = ap (λ q. Fail ∷ q) (verdicts_back queue)
 
-told_password_once : (v w : Verdict) (xs ys : List (Call Failure)) → told_password v ∷ xs ≡ told_password w ∷ ys → (v ≡ w) × (xs ≡ ys)
-told_password_once v w xs ys e = let a : verdict_answer v ≡ verdict_answer w = cc in (verdict_once v w a, cc)
+-- a queue is told once
+queue_once : (q p : List Verdict) (xs ys : List (Call Failure)) → told_queue q ∷ xs ≡ told_queue p ∷ ys → (q ≡ p) × (xs ≡ ys)
+queue_once q p xs ys e =
+    let n : map verdict_number q ≡ map verdict_number p = cc in
+    (sym (verdicts_back q) ∙ (ap (map verdict_in) n ∙ verdicts_back p), cc)
 
-told_banners_once : (m n : ℕ) (xs ys : List (Call Failure)) → told_banners m ∷ xs ≡ told_banners n ∷ ys → (m ≡ n) × (xs ≡ ys)
-told_banners_once m n xs ys e = (cc, cc)
+banners_once : (m n : ℕ) (xs ys : List (Call Failure)) → told_banners m ∷ xs ≡ told_banners n ∷ ys → (m ≡ n) × (xs ≡ ys)
+banners_once m n xs ys e = (cc, cc)
 
--- the list does not begin with what tells a verdict
-abbrev BeginsOtherwise : (Verdict → Call Failure) → List (Call Failure) → Type 0
-BeginsOtherwise tells xs = (v : Verdict) (more : List (Call Failure)) → xs ≡ tells v ∷ more → ⊥
-
--- verdicts that are told in front are told once
-in_front : (tells : Verdict → Call Failure) → ((v w : Verdict) (xs ys : List (Call Failure)) → tells v ∷ xs ≡ tells w ∷ ys → (v ≡ w) × (xs ≡ ys)) →
-    (vs ws : List Verdict) (xs ys : List (Call Failure)) → BeginsOtherwise tells xs → BeginsOtherwise tells ys → map tells vs ++ xs ≡ map tells ws ++ ys → (vs ≡ ws) × (xs ≡ ys)
-in_front tells once [] [] xs ys o p e = (refl, e)
-in_front tells once [] (w ∷ ws) xs ys o p e = absurd (o w (map tells ws ++ ys) e)
-in_front tells once (v ∷ vs) [] xs ys o p e = absurd (p v (map tells vs ++ xs) (sym e))
-in_front tells once (v ∷ vs) (w ∷ ws) xs ys o p e =
-    let t = once v w (map tells vs ++ xs) (map tells ws ++ ys) e in
-    let u = in_front tells once vs ws xs ys o p t.1 in
-    let a = t.0 in
-    let b = u.0 in
-    (cc, u.1)
-
-banners_otherwise : (n : ℕ) (xs : List (Call Failure)) → BeginsOtherwise told_password (told_banners n ∷ xs)
-banners_otherwise n xs = λ v more e. cc
-
-passwords_otherwise : (ps : List Verdict) (n : ℕ) (xs : List (Call Failure)) → BeginsOtherwise told_none (map told_password ps ++ told_banners n ∷ xs)
-passwords_otherwise [] n xs = λ v more e. cc
-passwords_otherwise (p ∷ ps) n xs = λ v more e. cc
-
-flat : (q : Queues) (xs : List (Call Failure)) → heading q ++ xs ≡ map told_none q.none ++ (map told_password q.password ++ told_banners q.banners ∷ xs)
-flat q xs =
-    append_assoc (map told_none q.none) (map told_password q.password ++ told_banners q.banners ∷ []) xs
-    ∙ ap (λ t. map told_none q.none ++ t) (append_assoc (map told_password q.password) (told_banners q.banners ∷ []) xs)
-
-queues_same : (q p : Queues) → q.none ≡ p.none → q.password ≡ p.password → q.banners ≡ p.banners → q ≡ p
-queues_same q p e f g =
-    ap (λ none. queues_of none q.password q.banners) e ∙ (ap (λ password. queues_of p.none password q.banners) f ∙ ap (queues_of p.none p.password) g)
+queues_same : (q p : Queues) → q.none ≡ p.none → q.password ≡ p.password → q.offered ≡ p.offered → q.publickey ≡ p.publickey → q.certificate ≡ p.certificate →
+    q.banners ≡ p.banners → q ≡ p
+queues_same q p a b c d e f =
+    λ i. record { none = a i; password = b i; offered = c i; publickey = d i; certificate = e i; banners = f i }
 
 -- the answers are told once
 pub heads : (q p : Queues) (xs ys : List (Call Failure)) → heading q ++ xs ≡ heading p ++ ys → (q ≡ p) × (xs ≡ ys)
 heads q p xs ys e =
-    let t = in_front told_none told_none_once q.none p.none (map told_password q.password ++ told_banners q.banners ∷ xs) (map told_password p.password ++ told_banners p.banners ∷ ys)
-    (passwords_otherwise q.password q.banners xs) (passwords_otherwise p.password p.banners ys) (sym (flat q xs) ∙ (e ∙ flat p ys)) in
-    let u = in_front told_password told_password_once q.password p.password (told_banners q.banners ∷ xs) (told_banners p.banners ∷ ys)
-    (banners_otherwise q.banners xs) (banners_otherwise p.banners ys) t.1 in
-    let v = told_banners_once q.banners p.banners xs ys u.1 in
-    (queues_same q p t.0 u.0 v.0, v.1)
+    let a = queue_once q.none p.none _ _ e in
+    let b = queue_once q.password p.password _ _ a.1 in
+    let c = queue_once q.offered p.offered _ _ b.1 in
+    let d = queue_once q.publickey p.publickey _ _ c.1 in
+    let f = queue_once q.certificate p.certificate _ _ d.1 in
+    let g = banners_once q.banners p.banners xs ys f.1 in
+    (queues_same q p a.0 b.0 c.0 d.0 f.0 g.0, g.1)
 
 -- an entry's input, and the moment until which its frame is held
 input_in : Input → List TraceEntry → Input

@@ -5,6 +5,7 @@ use Rattle.std.proofs.lemmas.List.{append-nil}
 use Rattle.ssh_link.specs.declared.frame.Input.{Input}
 use Rattle.ssh_link.specs.declared.link.TraceEntry.{TraceEntry}
 use Rattle.ssh_auth.specs.declared.call.Call.{Call}
+use Rattle.ssh_auth.specs.Publickey.{Acceptance}
 use Rattle.ssh_session.specs.declared.error.RunError.{RunError}
 use Rattle.ssh_session.specs.declared.error.RunError.TheVariants as error
 use Rattle.ssh_session.specs.World.{Settings, settings_of, World}
@@ -20,7 +21,7 @@ use Rattle.ssh_script.specs.Played.{Failure, Queues, after, played, IsAnswered, 
 use Rattle.ssh_script.specs.Given.{Supply, supply_of, traced, IsGiven, trace_of}
 use Rattle.ssh_script.specs.Given.{after as after_event, heading as input_heading}
 use Rattle.ssh_script.specs.Print.{asked_line, call_line, entry_lines, event_lines, frame_line, input_line, last_line}
-use Rattle.ssh_script.specs.Transcript.{status_of, scene_settings, calls_of, IsRun}
+use Rattle.ssh_script.specs.Transcript.{status_of, scene_settings, scene_accepts, calls_of, IsRun}
 use Rattle.ssh_script.proofs.Heads.{heads, input_heads}
 
 -- what was played was answered by the script
@@ -29,6 +30,9 @@ is_answered queues [] = tt
 is_answered queues (asked.AuthenticationBanner ∷ all) = (refl, is_answered (after queues asked.AuthenticationBanner) all)
 is_answered queues (asked.AuthNone user ∷ all) = (refl, is_answered (after queues (asked.AuthNone user)) all)
 is_answered queues (asked.AuthPassword user password ∷ all) = (refl, is_answered (after queues (asked.AuthPassword user password)) all)
+is_answered queues (asked.AuthPublickeyOffered user key algorithm ∷ all) = (refl, is_answered (after queues (asked.AuthPublickeyOffered user key algorithm)) all)
+is_answered queues (asked.AuthPublickey user key algorithm ∷ all) = (refl, is_answered (after queues (asked.AuthPublickey user key algorithm)) all)
+is_answered queues (asked.AuthOpensshCertificate user certificate ∷ all) = (refl, is_answered (after queues (asked.AuthOpensshCertificate user certificate)) all)
 is_answered queues (asked.AuthSucceeded ∷ all) = (refl, is_answered queues all)
 
 -- it prints as it was kept
@@ -38,6 +42,12 @@ calls_print queues (asked.AuthenticationBanner ∷ all) = ap (λ t. asked_line a
 calls_print queues (asked.AuthNone user ∷ all) = ap (λ t. asked_line (asked.AuthNone user) ++ t) (calls_print (after queues (asked.AuthNone user)) all)
 calls_print queues (asked.AuthPassword user password ∷ all) =
     ap (λ t. asked_line (asked.AuthPassword user password) ++ t) (calls_print (after queues (asked.AuthPassword user password)) all)
+calls_print queues (asked.AuthPublickeyOffered user key algorithm ∷ all) =
+    ap (λ t. asked_line (asked.AuthPublickeyOffered user key algorithm) ++ t) (calls_print (after queues (asked.AuthPublickeyOffered user key algorithm)) all)
+calls_print queues (asked.AuthPublickey user key algorithm ∷ all) =
+    ap (λ t. asked_line (asked.AuthPublickey user key algorithm) ++ t) (calls_print (after queues (asked.AuthPublickey user key algorithm)) all)
+calls_print queues (asked.AuthOpensshCertificate user certificate ∷ all) =
+    ap (λ t. asked_line (asked.AuthOpensshCertificate user certificate) ++ t) (calls_print (after queues (asked.AuthOpensshCertificate user certificate)) all)
 calls_print queues (asked.AuthSucceeded ∷ all) = ap (λ t. asked_line asked.AuthSucceeded ++ t) (calls_print queues all)
 
 is_given : (supply : Supply) (all : List Event) → IsGiven supply (traced supply all)
@@ -59,6 +69,7 @@ told_some (Err error.LinkFault) old new calls h = let z : Some new ≡ Some (old
 told_some (Err error.InputLimit) old new calls h = let z : Some new ≡ Some (old ++ calls) = h in cc
 told_some (Err (error.Encoding why)) old new calls h = let z : Some new ≡ Some (old ++ calls) = h in cc
 told_some (Err error.Inconsistent) old new calls h = let z : Some new ≡ Some (old ++ calls) = h in cc
+told_some (Err (error.Key why)) old new calls h = let z : Some new ≡ Some (old ++ calls) = h in cc
 told_some (Err (error.Handler e)) old new calls h = h
 told_some (Err error.NotBuilt) old new calls h = let z : Some new ≡ Some (old ++ calls) = h in cc
 
@@ -81,24 +92,26 @@ traced_is supply supply' old all entries o h =
     input_heads supply' supply (traced supply' all) entries (e ∙ ap (λ x. x ++ entries) f)
 
 -- where no fault rose, a run ends as one of a link without faults
-without_faults : {E : Type 0} (settings : Settings) (w : World) (count max : ℕ) (last : Option (Turn E)) (rose : Type 0) (result : Result (Unit {0}) (RunError E)) →
-    (rose → ⊥) → Closes settings w count max last rose result → Closes settings w count max last ⊥ result
-without_faults settings w count max (Some turn) rose (Ok done) n c = c
-without_faults settings w count max None rose (Ok done) n c = c
-without_faults settings w count max (Some turn) rose (Err error.NoMemory) n c = c
-without_faults settings w count max (Some turn) rose (Err error.LinkFault) n c = absurd (n c.2.0)
-without_faults settings w count max (Some turn) rose (Err error.InputLimit) n c = c
-without_faults settings w count max (Some turn) rose (Err (error.Encoding why)) n c = c
-without_faults settings w count max (Some turn) rose (Err error.Inconsistent) n c = c
-without_faults settings w count max (Some turn) rose (Err (error.Handler e)) n c = c
-without_faults settings w count max (Some turn) rose (Err error.NotBuilt) n c = c
-without_faults settings w count max None rose (Err error.NoMemory) n c = c
-without_faults settings w count max None rose (Err error.LinkFault) n c = n c
-without_faults settings w count max None rose (Err error.InputLimit) n c = c
-without_faults settings w count max None rose (Err (error.Encoding why)) n c = c
-without_faults settings w count max None rose (Err error.Inconsistent) n c = c
-without_faults settings w count max None rose (Err (error.Handler e)) n c = c
-without_faults settings w count max None rose (Err error.NotBuilt) n c = c
+without_faults : {E : Type 0} (accepts : Acceptance) (settings : Settings) (w : World) (count max : ℕ) (last : Option (Turn E)) (rose : Type 0) (result : Result (Unit {0}) (RunError E)) →
+    (rose → ⊥) → Closes accepts settings w count max last rose result → Closes accepts settings w count max last ⊥ result
+without_faults accepts settings w count max (Some turn) rose (Ok done) n c = c
+without_faults accepts settings w count max None rose (Ok done) n c = c
+without_faults accepts settings w count max (Some turn) rose (Err error.NoMemory) n c = c
+without_faults accepts settings w count max (Some turn) rose (Err error.LinkFault) n c = absurd (n c.2.0)
+without_faults accepts settings w count max (Some turn) rose (Err error.InputLimit) n c = c
+without_faults accepts settings w count max (Some turn) rose (Err (error.Encoding why)) n c = c
+without_faults accepts settings w count max (Some turn) rose (Err error.Inconsistent) n c = c
+without_faults accepts settings w count max (Some turn) rose (Err (error.Key why)) n c = c
+without_faults accepts settings w count max (Some turn) rose (Err (error.Handler e)) n c = c
+without_faults accepts settings w count max (Some turn) rose (Err error.NotBuilt) n c = c
+without_faults accepts settings w count max None rose (Err error.NoMemory) n c = c
+without_faults accepts settings w count max None rose (Err error.LinkFault) n c = n c
+without_faults accepts settings w count max None rose (Err error.InputLimit) n c = c
+without_faults accepts settings w count max None rose (Err (error.Encoding why)) n c = c
+without_faults accepts settings w count max None rose (Err error.Inconsistent) n c = c
+without_faults accepts settings w count max None rose (Err (error.Key why)) n c = c
+without_faults accepts settings w count max None rose (Err (error.Handler e)) n c = c
+without_faults accepts settings w count max None rose (Err error.NotBuilt) n c = c
 
 not_below : 0 < 0 → ⊥
 not_below h = absurd (omega (arith, h))
@@ -106,11 +119,11 @@ not_below h = absurd (omega (arith, h))
 pub kept : (scene : Scene) (status : ℕ) (result : Result (Unit {0}) (RunError Failure)) (lost lost' : Bool) (queues queues' : Queues) (old all : List Asked)
     (supply supply' : Supply) (events events' : List Event) (id text : List ℕ) → lost ≡ false → lost' ≡ false → queues ≡ scene.queues → old ≡ [] →
     supply ≡ supply_of scene.inputs scene.moment → events ≡ [] → status_of result ≡ Some status → id ≡ scene.session_id →
-    Ran (settings_of scene.config id) (told_of lost queues old) (told_of lost' queues' all) (trace_of supply events) (trace_of supply' events') 0 0 scene.max_inputs result →
+    Ran (scene_accepts scene) (settings_of scene.config id) (told_of lost queues old) (told_of lost' queues' all) (trace_of supply events) (trace_of supply' events') 0 0 scene.max_inputs result →
     text ≡ flat_map asked_line all ++ event_lines 0 events' ++ last_line result → IsRun scene status text
 kept scene status result lost lost' queues queues' old all supply supply' events events' id text l m qe oe se ee h ie given_ran te =
-    let ran : Ran (scene_settings scene) (told_of lost queues old) (told_of lost' queues' all) (trace_of supply events) (trace_of supply' events') 0 0 scene.max_inputs result =
-    subst (λ x. Ran (settings_of scene.config x) (told_of lost queues old) (told_of lost' queues' all) (trace_of supply events) (trace_of supply' events') 0 0 scene.max_inputs result) ie given_ran in
+    let ran : Ran (scene_accepts scene) (scene_settings scene) (told_of lost queues old) (told_of lost' queues' all) (trace_of supply events) (trace_of supply' events') 0 0 scene.max_inputs result =
+    subst (λ x. Ran (scene_accepts scene) (settings_of scene.config x) (told_of lost queues old) (told_of lost' queues' all) (trace_of supply events) (trace_of supply' events') 0 0 scene.max_inputs result) ie given_ran in
     let calls = flat_map (calls_of {E = Failure}) (ran.turns ++ option_to_list ran.last) in
     let trace = flat_map (entries {E = Failure}) (ran.turns ++ option_to_list ran.last) in
     let t = told_is result lost lost' queues queues' old all calls l m oe ran.told in
@@ -126,7 +139,7 @@ kept scene status result lost lost' queues queues' old all supply supply' events
       run = ran.run;
       last = ran.last;
       result = result;
-      closes = without_faults (scene_settings scene) ran.world (length ran.turns) scene.max_inputs ran.last (0 < 0) result not_below ran.closes;
+      closes = without_faults (scene_accepts scene) (scene_settings scene) ran.world (length ran.turns) scene.max_inputs ran.last (0 < 0) result not_below ran.closes;
       room = ran.room;
       answered = subst (IsAnswered scene.queues) c (is_answered scene.queues all);
       given = subst (IsGiven given) d (is_given given events');

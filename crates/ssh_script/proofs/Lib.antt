@@ -4,6 +4,7 @@ pub mod Queues
 pub mod Telling
 pub mod Cutting
 pub mod LinesOnce
+pub mod Signatures
 pub mod Heads
 pub mod Kept
 pub mod Endings

@@ -4,8 +4,15 @@ use Rattle.std.specs.Prelude.{codes, MatchOption}
 use Rattle.std.proofs.lemmas.Fmt.{decimal_injective}
 use Rattle.hex.specs.Hex.{decode_of}
 use Rattle.hex.proofs.HexLemmas.{decode_of-same}
+use Rattle.ssh_keys.specs.Keys.{IsKey}
+use Rattle.ssh_keys.specs.declared.public_key.PublicKey.{PublicKey}
+use Rattle.ssh_keys.specs.declared.table_verifier.AcceptedSignature.{AcceptedSignature}
+use Rattle.ssh_keys.proofs.Blobs.{keys_agree}
+use Rattle.ssh_keys.proofs.Offered.{algorithm_once}
 use Rattle.ssh_script.specs.declared.lines.Line.{Line}
-use Rattle.ssh_script.specs.Grammar.{IsNumber, IsHex, Form, No_form, Whole, Of_number, Of_bytes, Fits, is_passed, ReadsWords, form_of, Reads}
+use Rattle.ssh_script.specs.declared.lines.Line.TheVariants as line
+use Rattle.ssh_script.specs.declared.lines.Setting.TheVariants as setting
+use Rattle.ssh_script.specs.Grammar.{IsNumber, IsHex, IsKeyHex, IsSignature, Form, No_form, Whole, Of_number, Of_bytes, Of_signature, Fits, is_passed, ReadsWords, form_of, Reads}
 use Rattle.ssh_script.specs.Scene.{Scene, with_line, Gives}
 
 number_once : (digits : List ℕ) (m n : ℕ) → IsNumber digits m → IsNumber digits n → m ≡ n
@@ -14,11 +21,24 @@ number_once digits m n h k = decimal_injective m n h.0 k.0 (sym h.1 ∙ k.1)
 no_dash : (bytes : List ℕ) → decode_of (codes "-") ≡ Ok bytes → ⊥
 no_dash bytes e = cc
 
-hex_once : (digits a b : List ℕ) → IsHex digits a → IsHex digits b → a ≡ b
+pub hex_once : (digits a b : List ℕ) → IsHex digits a → IsHex digits b → a ≡ b
 hex_once digits a b (inl h) (inl k) = h.1 ∙ sym k.1
 hex_once digits a b (inl h) (inr k) = absurd (no_dash b (ap decode_of (sym h.0) ∙ k.1))
 hex_once digits a b (inr h) (inl k) = absurd (no_dash a (ap decode_of (sym k.0) ∙ h.1))
 hex_once digits a b (inr h) (inr k) = decode_of-same digits a b h.1 k.1
+
+key_once : (digits : List ℕ) (k l : PublicKey) → IsKeyHex digits k → IsKeyHex digits l → k ≡ l
+key_once digits k l h i =
+    let e : h.0 ≡ i.0 = hex_once digits h.0 i.0 h.1 i.1 in
+    keys_agree l k h.0 (subst (IsKey l) (sym e) i.2) h.2
+
+signature_once : (key algorithm message signature : List ℕ) (a b : AcceptedSignature) → IsSignature key algorithm message signature a → IsSignature key algorithm message signature b → a ≡ b
+signature_once key algorithm message signature a b h k =
+    let e = key_once key a.key b.key h.0 k.0 in
+    let f = algorithm_once a.algorithm b.algorithm algorithm h.1 k.1 in
+    let g = hex_once message a.message b.message h.2 k.2 in
+    let i = hex_once signature a.signature b.signature h.3 k.3 in
+    λ n. record { key = e n; algorithm = f n; message = g n; signature = i n }
 
 fits_once : (form : Form) (a b : Option Line) → Fits form a → Fits form b → a ≡ b
 fits_once No_form a b h k = h ∙ sym k
@@ -31,6 +51,11 @@ fits_once (Of_bytes says digits) None None h k = refl
 fits_once (Of_bytes says digits) None (Some b) h k = absurd (h k.0 k.1)
 fits_once (Of_bytes says digits) (Some a) None h k = absurd (k h.0 h.1)
 fits_once (Of_bytes says digits) (Some a) (Some b) h k = ap Some (h.2 ∙ (ap says (hex_once digits h.0 k.0 h.1 k.1) ∙ sym k.2))
+fits_once (Of_signature key algorithm message signature) None None h k = refl
+fits_once (Of_signature key algorithm message signature) None (Some b) h k = absurd (h k.0 k.1)
+fits_once (Of_signature key algorithm message signature) (Some a) None h k = absurd (k h.0 h.1)
+fits_once (Of_signature key algorithm message signature) (Some a) (Some b) h k =
+    ap Some (h.2 ∙ (ap (λ one. line.Setting (setting.Sign one)) (signature_once key algorithm message signature h.0 k.0 h.1 k.1) ∙ sym k.2))
 
 words_once : (passed : Bool) (text : List ℕ) (a b : Option Line) → ReadsWords passed text a → ReadsWords passed text b → a ≡ b
 words_once true text a b h k = h ∙ sym k

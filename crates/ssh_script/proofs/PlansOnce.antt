@@ -1,28 +1,36 @@
 -- A plan whose calls are answered by a script has one list of calls, and one end.
-use Rattle.std.proofs.Common.{◌≡◌, ◌⊎◌, List, [], ◌∷◌, ◌++◌, Result, Ok, Err, refl, sym, ◌∙◌, ap, subst, inl, inr}
+use Rattle.std.proofs.Common.{◌≡◌, ◌⊎◌, List, [], ◌∷◌, ◌++◌, map, Result, Ok, Err, refl, sym, ◌∙◌, ap, subst, inl, inr}
+use Rattle.ssh_link.specs.declared.link.TraceEntry.{TraceEntry}
 use Rattle.ssh_auth.specs.declared.call.Call.{Call}
-use Rattle.ssh_auth.specs.Plan.{Question, Authentication_banner, Auth_none, Auth_password, Auth_succeeded, Answer, Answered, Plan, Finish, Ask, Follows, Breaks}
+use Rattle.ssh_auth.specs.Plan.{Question, Authentication_banner, Auth_none, Auth_password, Auth_publickey_offered, Auth_publickey, Auth_openssh_certificate, Auth_succeeded, Answer, Answered, Plan, Finish, Ask, Tell, Called, Follows, Breaks}
 use Rattle.ssh_session.specs.Outcome.{Outcome}
 use Rattle.ssh_script.specs.declared.asked.Asked.{Asked}
 use Rattle.ssh_script.specs.declared.asked.Asked.TheVariants as asked
+use Rattle.ssh_script.specs.declared.answers.Verdict.TheVariants as verdict
 use Rattle.ssh_script.specs.Played.{Failure, Queues, first_verdict, verdict_answer, banner_answer, answered, after, asked_of, IsAnswered}
 
 -- these are all calls of the plan, and this comes of them: its outcome, or the error of the last call
 abbrev pub Comes : Plan Outcome → List (Call Failure) → Result Outcome Failure → Type 0
-Comes plan calls (Ok outcome) = Follows plan calls outcome
-Comes plan calls (Err error) = Breaks plan calls error
+Comes plan calls (Ok outcome) = Follows plan (map Called calls) outcome
+Comes plan calls (Err error) = Breaks plan (map Called calls) error
 
 -- what a question is answered by a script
 abbrev answer_to : Queues → (question : Question) → Result (Answer question) Failure
 answer_to queues Authentication_banner = banner_answer queues.banners
-answer_to queues (Auth_none user) = verdict_answer (first_verdict queues.none)
-answer_to queues (Auth_password user password) = verdict_answer (first_verdict queues.password)
+answer_to queues (Auth_none user) = verdict_answer (first_verdict verdict.Reject queues.none)
+answer_to queues (Auth_password user password) = verdict_answer (first_verdict verdict.Reject queues.password)
+answer_to queues (Auth_publickey_offered user key algorithm) = verdict_answer (first_verdict verdict.Accept queues.offered)
+answer_to queues (Auth_publickey user key algorithm) = verdict_answer (first_verdict verdict.Reject queues.publickey)
+answer_to queues (Auth_openssh_certificate user certificate) = verdict_answer (first_verdict verdict.Reject queues.certificate)
 answer_to queues Auth_succeeded = Ok tt
 
 abbrev asked_by : Question → Asked
 asked_by Authentication_banner = asked.AuthenticationBanner
 asked_by (Auth_none user) = asked.AuthNone user
 asked_by (Auth_password user password) = asked.AuthPassword user password
+asked_by (Auth_publickey_offered user key algorithm) = asked.AuthPublickeyOffered user key algorithm
+asked_by (Auth_publickey user key algorithm) = asked.AuthPublickey user key algorithm
+asked_by (Auth_openssh_certificate user certificate) = asked.AuthOpensshCertificate user certificate
 asked_by Auth_succeeded = asked.AuthSucceeded
 
 -- the call is the question, with its answer by the script
@@ -40,6 +48,18 @@ call_is (Auth_password user password) queues answer call h k =
     let a : asked_of call ≡ asked.AuthPassword user password = ap asked_of h in
     let e : call ≡ answered queues (asked.AuthPassword user password) = k ∙ ap (answered queues) a in
     (let z = sym h ∙ e in cc, a, e)
+call_is (Auth_publickey_offered user key algorithm) queues answer call h k =
+    let a : asked_of call ≡ asked.AuthPublickeyOffered user key algorithm = ap asked_of h in
+    let e : call ≡ answered queues (asked.AuthPublickeyOffered user key algorithm) = k ∙ ap (answered queues) a in
+    (let z = sym h ∙ e in cc, a, e)
+call_is (Auth_publickey user key algorithm) queues answer call h k =
+    let a : asked_of call ≡ asked.AuthPublickey user key algorithm = ap asked_of h in
+    let e : call ≡ answered queues (asked.AuthPublickey user key algorithm) = k ∙ ap (answered queues) a in
+    (let z = sym h ∙ e in cc, a, e)
+call_is (Auth_openssh_certificate user certificate) queues answer call h k =
+    let a : asked_of call ≡ asked.AuthOpensshCertificate user certificate = ap asked_of h in
+    let e : call ≡ answered queues (asked.AuthOpensshCertificate user certificate) = k ∙ ap (answered queues) a in
+    (let z = sym h ∙ e in cc, a, e)
 call_is Auth_succeeded queues answer call h k =
     let a : asked_of call ≡ asked.AuthSucceeded = ap asked_of h in
     let e : call ≡ answered queues asked.AuthSucceeded = k ∙ ap (answered queues) a in
@@ -56,6 +76,13 @@ goes_on : (question : Question) (next : Answer question → Plan Outcome) (call 
 goes_on question next call calls (Ok outcome) h = inl h
 goes_on question next call [] (Err error) h = inr (error, h, refl, refl)
 goes_on question next call (later ∷ calls) (Err error) h = inl h
+
+-- the link is told nothing by a plan that only calls follow
+nothing_told : (entry : TraceEntry) (next : Plan Outcome) (calls : List (Call Failure)) (end : Result Outcome Failure) → Comes (Tell entry next) calls end → ⊥
+nothing_told entry next [] (Ok outcome) h = h
+nothing_told entry next [] (Err error) h = h
+nothing_told entry next (call ∷ calls) (Ok outcome) h = h
+nothing_told entry next (call ∷ calls) (Err error) h = h
 
 no_calls : (question : Question) (next : Answer question → Plan Outcome) (end : Result Outcome Failure) → Comes (Ask question next) [] end → ⊥
 no_calls question next (Ok outcome) h = h
@@ -85,6 +112,7 @@ plan_once (Finish planned) queues xs ys o p h k a b =
     let u = finished planned xs o h in
     let v = finished planned ys p k in
     (u.0 ∙ sym v.0, u.1 ∙ sym v.1)
+plan_once (Tell entry next) queues xs ys o p h k a b = absurd (nothing_told entry next xs o h)
 plan_once (Ask question next) queues [] ys o p h k a b = absurd (no_calls question next o h)
 plan_once (Ask question next) queues (x ∷ xs) [] o p h k a b = absurd (no_calls question next p k)
 plan_once (Ask question next) queues (x ∷ xs) (y ∷ ys) o p h k a b =

@@ -1,20 +1,22 @@
 -- A scene has one run.
 use Rattle.std.proofs.Common.{◌≡◌, ◌<◌, ◌≤◌, ◌+◌, ℕ, List, [], ◌∷◌, ◌++◌, length, map, Option, Some, None, Result, Ok, Err, arith, refl, sym, ◌∙◌, ap, subst}
-use Rattle.std.specs.Prelude.{flat_map, option_to_list, IfSome, drop}
+use Rattle.std.specs.Prelude.{flat_map, option_to_list, IfSome}
 use Rattle.ssh_link.specs.declared.frame.Frame.{Frame}
 use Rattle.ssh_link.specs.declared.frame.Input.{Input}
 use Rattle.ssh_link.specs.declared.frame.InputKind.{InputKind}
 use Rattle.ssh_link.specs.declared.frame.InputKind.TheVariants.{Payload, End}
 use Rattle.ssh_link.specs.declared.link.TraceEntry.{TraceEntry}
 use Rattle.ssh_link.specs.declared.link.TraceEntry.TheVariants.{Sent}
+use Rattle.ssh_keys.specs.declared.error.KeyError.TheVariants.{Blob}
 use Rattle.ssh_auth.specs.declared.call.Call.{Call}
+use Rattle.ssh_auth.specs.Publickey.{Acceptance}
 use Rattle.ssh_auth.specs.Plan.{Plan}
 use Rattle.ssh_session.specs.declared.error.RunError.{RunError}
 use Rattle.ssh_session.specs.declared.error.RunError.TheVariants as error
-use Rattle.ssh_session.specs.World.{Settings, World}
+use Rattle.ssh_session.specs.World.{Settings, World, circumstances}
 use Rattle.ssh_session.specs.Gate.{gate_of}
 use Rattle.ssh_session.specs.Rows.{row}
-use Rattle.ssh_session.specs.Outcome.{Outcome, Goes, Ends, Fails, Encoding, Inconsistent, Not_built}
+use Rattle.ssh_session.specs.Outcome.{Outcome, Goes, Ends, Fails, Encoding, Inconsistent, Key, Not_built}
 use Rattle.ssh_session.specs.Run.{OwesKind, Owes, Turn, Turns, Run, entries}
 use Rattle.ssh_session.specs.Step.{Closes}
 use Rattle.ssh_script.specs.Queue.{rest}
@@ -31,13 +33,13 @@ given_later supply (f ∷ frames) es h = given_later supply frames es h
 abbrev less : Supply → Supply
 less supply = record supply { inputs = rest supply.inputs }
 
-kind_once : (settings : Settings) (w : World) (moment : ℕ) (kind : InputKind) (p q : Plan Outcome) → OwesKind settings w moment kind p → OwesKind settings w moment kind q → p ≡ q
-kind_once settings w moment End p q h k = h ∙ sym k
-kind_once settings w moment (Payload payload) p q h k =
-    h.2 ∙ (ap (row settings moment w) (said_once (gate_of settings w payload) (drop 1 payload) h.0 k.0 h.1 k.1) ∙ sym k.2)
+kind_once : (accepts : Acceptance) (settings : Settings) (w : World) (moment : ℕ) (kind : InputKind) (p q : Plan Outcome) → OwesKind accepts settings w moment kind p → OwesKind accepts settings w moment kind q → p ≡ q
+kind_once accepts settings w moment End p q h k = h ∙ sym k
+kind_once accepts settings w moment (Payload payload) p q h k =
+    h.2 ∙ (ap (row settings moment w) (said_once (circumstances accepts settings moment) (gate_of settings w payload) payload h.0 k.0 h.1 k.1) ∙ sym k.2)
 
-owes_once : (settings : Settings) (w : World) (input : Input) (p q : Plan Outcome) → Owes settings w input p → Owes settings w input q → p ≡ q
-owes_once settings w input p q h k = kind_once settings w input.moment input.kind p q h k
+owes_once : (accepts : Acceptance) (settings : Settings) (w : World) (input : Input) (p q : Plan Outcome) → Owes accepts settings w input p → Owes accepts settings w input q → p ≡ q
+owes_once accepts settings w input p q h k = kind_once accepts settings w input.moment input.kind p q h k
 
 -- how a turn ends a run, by what its plan comes to
 abbrev Matches : Result Outcome Failure → List Frame → Result (Unit {0}) (RunError Failure) → Type 0
@@ -45,6 +47,7 @@ Matches (Ok (Goes fs w)) frames result = ⊥
 Matches (Ok (Ends fs)) frames result = (frames ≡ fs) × (result ≡ Ok tt)
 Matches (Ok (Fails (Encoding why))) frames result = (frames ≡ []) × (result ≡ Err (error.Encoding why))
 Matches (Ok (Fails Inconsistent)) frames result = (frames ≡ []) × (result ≡ Err error.Inconsistent)
+Matches (Ok (Fails Key)) frames result = (frames ≡ []) × (result ≡ Err (error.Key Blob))
 Matches (Ok (Fails Not_built)) frames result = (frames ≡ []) × (result ≡ Err error.NotBuilt)
 Matches (Err e) frames result = (frames ≡ []) × (result ≡ Err (error.Handler e))
 
@@ -53,37 +56,40 @@ matches_once (Ok (Goes fs w)) f g r s h k = absurd h
 matches_once (Ok (Ends fs)) f g r s h k = (h.0 ∙ sym k.0, h.1 ∙ sym k.1)
 matches_once (Ok (Fails (Encoding why))) f g r s h k = (h.0 ∙ sym k.0, h.1 ∙ sym k.1)
 matches_once (Ok (Fails Inconsistent)) f g r s h k = (h.0 ∙ sym k.0, h.1 ∙ sym k.1)
+matches_once (Ok (Fails Key)) f g r s h k = (h.0 ∙ sym k.0, h.1 ∙ sym k.1)
 matches_once (Ok (Fails Not_built)) f g r s h k = (h.0 ∙ sym k.0, h.1 ∙ sym k.1)
 matches_once (Err e) f g r s h k = (h.0 ∙ sym k.0, h.1 ∙ sym k.1)
 
-abbrev Ended : Settings → World → Turn Failure → Result (Unit {0}) (RunError Failure) → Type 0
-Ended settings w turn result =
-    (plan : Plan Outcome) × Owes settings w turn.input plan × (o : Result Outcome Failure) × Comes plan turn.calls o × Matches o turn.frames result
+abbrev Ended : Acceptance → Settings → World → Turn Failure → Result (Unit {0}) (RunError Failure) → Type 0
+Ended accepts settings w turn result =
+    (plan : Plan Outcome) × Owes accepts settings w turn.input plan × (o : Result Outcome Failure) × Comes plan turn.calls o × Matches o turn.frames result
 
 no_status : (status : ℕ) → None ≡ Some status → ⊥
 no_status status e = cc
 
-closes_some : (settings : Settings) (w : World) (n max : ℕ) (turn : Turn Failure) (result : Result (Unit {0}) (RunError Failure)) (status : ℕ) →
-    Closes settings w n max (Some turn) ⊥ result → status_of result ≡ Some status → Ended settings w turn result
-closes_some settings w n max turn (Ok done) status c h = (c.0, c.1, Ok (Ends turn.frames), c.2, (refl, refl))
-closes_some settings w n max turn (Err error.NoMemory) status c h = absurd (no_status status h)
-closes_some settings w n max turn (Err error.LinkFault) status c h = absurd c.2.0
-closes_some settings w n max turn (Err error.InputLimit) status c h = absurd c.2
-closes_some settings w n max turn (Err (error.Encoding why)) status c h = (c.0, c.1, Ok (Fails (Encoding why)), c.2.1, (c.2.0, refl))
-closes_some settings w n max turn (Err error.Inconsistent) status c h = (c.0, c.1, Ok (Fails Inconsistent), c.2.1, (c.2.0, refl))
-closes_some settings w n max turn (Err (error.Handler e)) status c h = (c.0, c.1, Err e, c.2.1, (c.2.0, refl))
-closes_some settings w n max turn (Err error.NotBuilt) status c h = (c.0, c.1, Ok (Fails Not_built), c.2.1, (c.2.0, refl))
+closes_some : (accepts : Acceptance) (settings : Settings) (w : World) (n max : ℕ) (turn : Turn Failure) (result : Result (Unit {0}) (RunError Failure)) (status : ℕ) →
+    Closes accepts settings w n max (Some turn) ⊥ result → status_of result ≡ Some status → Ended accepts settings w turn result
+closes_some accepts settings w n max turn (Ok done) status c h = (c.0, c.1, Ok (Ends turn.frames), c.2, (refl, refl))
+closes_some accepts settings w n max turn (Err error.NoMemory) status c h = absurd (no_status status h)
+closes_some accepts settings w n max turn (Err error.LinkFault) status c h = absurd c.2.0
+closes_some accepts settings w n max turn (Err error.InputLimit) status c h = absurd c.2
+closes_some accepts settings w n max turn (Err (error.Encoding why)) status c h = (c.0, c.1, Ok (Fails (Encoding why)), c.2.1, (c.2.0, refl))
+closes_some accepts settings w n max turn (Err error.Inconsistent) status c h = (c.0, c.1, Ok (Fails Inconsistent), c.2.1, (c.2.0, refl))
+closes_some accepts settings w n max turn (Err (error.Key why)) status c h = (c.0, c.1, Ok (Fails Key), c.2.2, (c.2.0, ap (λ x. Err (error.Key x)) c.2.1))
+closes_some accepts settings w n max turn (Err (error.Handler e)) status c h = (c.0, c.1, Err e, c.2.1, (c.2.0, refl))
+closes_some accepts settings w n max turn (Err error.NotBuilt) status c h = (c.0, c.1, Ok (Fails Not_built), c.2.1, (c.2.0, refl))
 
-closes_none : (settings : Settings) (w : World) (n max : ℕ) (result : Result (Unit {0}) (RunError Failure)) (status : ℕ) →
-    Closes settings w n max None ⊥ result → status_of result ≡ Some status → (n ≡ max) × (result ≡ Err error.InputLimit)
-closes_none settings w n max (Ok done) status c h = absurd c
-closes_none settings w n max (Err error.NoMemory) status c h = absurd (no_status status h)
-closes_none settings w n max (Err error.LinkFault) status c h = absurd c
-closes_none settings w n max (Err error.InputLimit) status c h = (c, refl)
-closes_none settings w n max (Err (error.Encoding why)) status c h = absurd c
-closes_none settings w n max (Err error.Inconsistent) status c h = absurd c
-closes_none settings w n max (Err (error.Handler e)) status c h = absurd c
-closes_none settings w n max (Err error.NotBuilt) status c h = absurd c
+closes_none : (accepts : Acceptance) (settings : Settings) (w : World) (n max : ℕ) (result : Result (Unit {0}) (RunError Failure)) (status : ℕ) →
+    Closes accepts settings w n max None ⊥ result → status_of result ≡ Some status → (n ≡ max) × (result ≡ Err error.InputLimit)
+closes_none accepts settings w n max (Ok done) status c h = absurd c
+closes_none accepts settings w n max (Err error.NoMemory) status c h = absurd (no_status status h)
+closes_none accepts settings w n max (Err error.LinkFault) status c h = absurd c
+closes_none accepts settings w n max (Err error.InputLimit) status c h = (c, refl)
+closes_none accepts settings w n max (Err (error.Encoding why)) status c h = absurd c
+closes_none accepts settings w n max (Err error.Inconsistent) status c h = absurd c
+closes_none accepts settings w n max (Err (error.Key why)) status c h = absurd c
+closes_none accepts settings w n max (Err (error.Handler e)) status c h = absurd c
+closes_none accepts settings w n max (Err error.NotBuilt) status c h = absurd c
 
 turn_same : {E : Type 0} (t u : Turn E) → t.input ≡ u.input → t.calls ≡ u.calls → t.frames ≡ u.frames → t ≡ u
 turn_same t u e f g =
@@ -91,42 +97,42 @@ turn_same t u e f g =
     ∙ (ap (λ c. record { input = u.input; calls = c; frames = t.frames }) f ∙ ap (λ s. record { input = u.input; calls = u.calls; frames = s }) g)
 
 -- the rest of a run, from this world on, after so many inputs
-pub record Tail (settings : Settings) (w : World) (queues : Queues) (supply : Supply) (n max : ℕ) (turns : List (Turn Failure)) (last : Option (Turn Failure))
+pub record Tail (accepts : Acceptance) (settings : Settings) (w : World) (queues : Queues) (supply : Supply) (n max : ℕ) (turns : List (Turn Failure)) (last : Option (Turn Failure))
     (result : Result (Unit {0}) (RunError Failure)) : Type 0 where
   pub world : World
-  pub run : Run settings w turns world
-  pub closes : Closes settings world (n + length turns) max last ⊥ result
+  pub run : Run accepts settings w turns world
+  pub closes : Closes accepts settings world (n + length turns) max last ⊥ result
   pub room : IfSome last (λ turn. n + length turns < max)
   pub status : ℕ
   pub status_is : status_of result ≡ Some status
   pub answered : IsAnswered queues (flat_map calls_of (turns ++ option_to_list last))
   pub given : IsGiven supply (flat_map entries (turns ++ option_to_list last))
 
-within : (settings : Settings) (w : World) (queues : Queues) (supply : Supply) (n max : ℕ) (turns : List (Turn Failure)) (last : Option (Turn Failure))
-    (result : Result (Unit {0}) (RunError Failure)) → Tail settings w queues supply n max turns last result → n + length turns ≤ max
-within settings w queues supply n max turns (Some turn) result t = let r = t.room in omega arith
-within settings w queues supply n max turns None result t =
-    let r = (closes_none settings t.world (n + length turns) max result t.status t.closes t.status_is).0 in omega arith
+within : (accepts : Acceptance) (settings : Settings) (w : World) (queues : Queues) (supply : Supply) (n max : ℕ) (turns : List (Turn Failure)) (last : Option (Turn Failure))
+    (result : Result (Unit {0}) (RunError Failure)) → Tail accepts settings w queues supply n max turns last result → n + length turns ≤ max
+within accepts settings w queues supply n max turns (Some turn) result t = let r = t.room in omega arith
+within accepts settings w queues supply n max turns None result t =
+    let r = (closes_none accepts settings t.world (n + length turns) max result t.status t.closes t.status_is).0 in omega arith
 
 -- two turns at one place, whatever they come to
-same_turn : (settings : Settings) (w : World) (queues : Queues) (supply : Supply) (t u : Turn Failure) (plan plan' : Plan Outcome) (o o' : Result Outcome Failure) →
-    t.input ≡ input_at supply → u.input ≡ input_at supply → Owes settings w t.input plan → Owes settings w u.input plan' → Comes plan t.calls o → Comes plan' u.calls o' →
+same_turn : (accepts : Acceptance) (settings : Settings) (w : World) (queues : Queues) (supply : Supply) (t u : Turn Failure) (plan plan' : Plan Outcome) (o o' : Result Outcome Failure) →
+    t.input ≡ input_at supply → u.input ≡ input_at supply → Owes accepts settings w t.input plan → Owes accepts settings w u.input plan' → Comes plan t.calls o → Comes plan' u.calls o' →
     IsAnswered queues t.calls → IsAnswered queues u.calls → (t.calls ≡ u.calls) × (o ≡ o')
-same_turn settings w queues supply t u plan plan' o o' i j a b f g x y =
+same_turn accepts settings w queues supply t u plan plan' o o' i j a b f g x y =
     let k : u.input ≡ t.input = j ∙ sym i in
-    let e : plan' ≡ plan = owes_once settings w t.input plan' plan (subst (λ i. Owes settings w i plan') k b) a in
+    let e : plan' ≡ plan = owes_once accepts settings w t.input plan' plan (subst (λ i. Owes accepts settings w i plan') k b) a in
     plan_once plan queues t.calls u.calls o o' f (subst (λ z. Comes z u.calls o') e g) x y
 
-tail_next : (settings : Settings) (w : World) (queues : Queues) (supply : Supply) (n max : ℕ) (t : Turn Failure) (turns : List (Turn Failure)) (last : Option (Turn Failure))
-    (result : Result (Unit {0}) (RunError Failure)) → (h : Tail settings w queues supply n max (t ∷ turns) last result) →
-    Tail settings h.run.0 (left queues t.calls) (less supply) (n + 1) max turns last result
-tail_next settings w queues supply n max t turns last result h =
+tail_next : (accepts : Acceptance) (settings : Settings) (w : World) (queues : Queues) (supply : Supply) (n max : ℕ) (t : Turn Failure) (turns : List (Turn Failure)) (last : Option (Turn Failure))
+    (result : Result (Unit {0}) (RunError Failure)) → (h : Tail accepts settings w queues supply n max (t ∷ turns) last result) →
+    Tail accepts settings h.run.0 (left queues t.calls) (less supply) (n + 1) max turns last result
+tail_next accepts settings w queues supply n max t turns last result h =
     let e : n + length (t ∷ turns) ≡ (n + 1) + length turns = omega arith in
     let a = answered_both queues t.calls (flat_map (calls_of {E = Failure}) (turns ++ option_to_list last)) h.answered in
     record {
       world = h.world;
       run = h.run.2;
-      closes = subst (λ m. Closes settings h.world m max last ⊥ result) e h.closes;
+      closes = subst (λ m. Closes accepts settings h.world m max last ⊥ result) e h.closes;
       room = subst (λ m. IfSome last (λ turn. m < max)) e h.room;
       status = h.status;
       status_is = h.status_is;
@@ -146,61 +152,61 @@ Same xs ys r s = (xs ≡ ys) × (r ≡ s)
 same_cons : {A : Type 0} (x y : A) (xs ys : List A) → x ≡ y → xs ≡ ys → x ∷ xs ≡ y ∷ ys
 same_cons x y xs ys e f = cc
 
-both_last : (settings : Settings) (w : World) (queues : Queues) (supply : Supply) (t u : Turn Failure) (r s : Result (Unit {0}) (RunError Failure)) →
-    Ended settings w t r → Ended settings w u s → t.input ≡ input_at supply → u.input ≡ input_at supply → IsAnswered queues t.calls → IsAnswered queues u.calls →
+both_last : (accepts : Acceptance) (settings : Settings) (w : World) (queues : Queues) (supply : Supply) (t u : Turn Failure) (r s : Result (Unit {0}) (RunError Failure)) →
+    Ended accepts settings w t r → Ended accepts settings w u s → t.input ≡ input_at supply → u.input ≡ input_at supply → IsAnswered queues t.calls → IsAnswered queues u.calls →
     Same (t ∷ []) (u ∷ []) r s
-both_last settings w queues supply t u r s a b i j x y =
-    let m = same_turn settings w queues supply t u a.0 b.0 a.2 b.2 i j a.1 b.1 a.3 b.3 x y in
+both_last accepts settings w queues supply t u r s a b i j x y =
+    let m = same_turn accepts settings w queues supply t u a.0 b.0 a.2 b.2 i j a.1 b.1 a.3 b.3 x y in
     let k = matches_once a.2 t.frames u.frames r s a.4 (subst (λ o. Matches o u.frames s) (sym m.1) b.4) in
     (same_cons t u [] [] (turn_same t u (i ∙ sym j) m.0 k.0) refl, k.1)
 
-gone_not_last : (settings : Settings) (w mid : World) (queues : Queues) (supply : Supply) (t u : Turn Failure) (s : Result (Unit {0}) (RunError Failure)) →
-    Turns settings w t mid → Ended settings w u s → t.input ≡ input_at supply → u.input ≡ input_at supply → IsAnswered queues t.calls → IsAnswered queues u.calls → ⊥
-gone_not_last settings w mid queues supply t u s a b i j x y =
-    let m = same_turn settings w queues supply t u a.0 b.0 (Ok (Goes t.frames mid)) b.2 i j a.1 b.1 a.2 b.3 x y in
+gone_not_last : (accepts : Acceptance) (settings : Settings) (w mid : World) (queues : Queues) (supply : Supply) (t u : Turn Failure) (s : Result (Unit {0}) (RunError Failure)) →
+    Turns accepts settings w t mid → Ended accepts settings w u s → t.input ≡ input_at supply → u.input ≡ input_at supply → IsAnswered queues t.calls → IsAnswered queues u.calls → ⊥
+gone_not_last accepts settings w mid queues supply t u s a b i j x y =
+    let m = same_turn accepts settings w queues supply t u a.0 b.0 (Ok (Goes t.frames mid)) b.2 i j a.1 b.1 a.2 b.3 x y in
     subst (λ o. Matches o u.frames s) (sym m.1) b.4
 
-ended_at : (settings : Settings) (w v : World) (n max : ℕ) (t : Turn Failure) (r : Result (Unit {0}) (RunError Failure)) (status : ℕ) → v ≡ w →
-    Closes settings v n max (Some t) ⊥ r → status_of r ≡ Some status → Ended settings w t r
-ended_at settings w v n max t r status e c h = subst (λ x. Ended settings x t r) e (closes_some settings v n max t r status c h)
+ended_at : (accepts : Acceptance) (settings : Settings) (w v : World) (n max : ℕ) (t : Turn Failure) (r : Result (Unit {0}) (RunError Failure)) (status : ℕ) → v ≡ w →
+    Closes accepts settings v n max (Some t) ⊥ r → status_of r ≡ Some status → Ended accepts settings w t r
+ended_at accepts settings w v n max t r status e c h = subst (λ x. Ended accepts settings x t r) e (closes_some accepts settings v n max t r status c h)
 
 abbrev later : List (Turn Failure) → Option (Turn Failure) → List (Call Failure)
 later turns last = flat_map (calls_of {E = Failure}) (turns ++ option_to_list last)
 
 -- the rest of a run is one
-pub once : (settings : Settings) (w : World) (queues : Queues) (supply : Supply) (n max : ℕ) (ts us : List (Turn Failure)) (last mast : Option (Turn Failure))
-    (r s : Result (Unit {0}) (RunError Failure)) → Tail settings w queues supply n max ts last r → Tail settings w queues supply n max us mast s →
+pub once : (accepts : Acceptance) (settings : Settings) (w : World) (queues : Queues) (supply : Supply) (n max : ℕ) (ts us : List (Turn Failure)) (last mast : Option (Turn Failure))
+    (r s : Result (Unit {0}) (RunError Failure)) → Tail accepts settings w queues supply n max ts last r → Tail accepts settings w queues supply n max us mast s →
     Same (ts ++ option_to_list last) (us ++ option_to_list mast) r s
-once settings w queues supply n max [] [] None None r s h k =
-    (refl, (closes_none settings h.world (n + 0) max r h.status h.closes h.status_is).1 ∙ sym (closes_none settings k.world (n + 0) max s k.status k.closes k.status_is).1)
-once settings w queues supply n max [] [] None (Some u) r s h k =
-    let a = (closes_none settings h.world (n + 0) max r h.status h.closes h.status_is).0 in let b = k.room in absurd (omega arith)
-once settings w queues supply n max [] [] (Some t) None r s h k =
-    let a = (closes_none settings k.world (n + 0) max s k.status k.closes k.status_is).0 in let b = h.room in absurd (omega arith)
-once settings w queues supply n max [] [] (Some t) (Some u) r s h k =
-    both_last settings w queues supply t u r s (ended_at settings w h.world (n + 0) max t r h.status h.run h.closes h.status_is)
-    (ended_at settings w k.world (n + 0) max u s k.status k.run k.closes k.status_is)
+once accepts settings w queues supply n max [] [] None None r s h k =
+    (refl, (closes_none accepts settings h.world (n + 0) max r h.status h.closes h.status_is).1 ∙ sym (closes_none accepts settings k.world (n + 0) max s k.status k.closes k.status_is).1)
+once accepts settings w queues supply n max [] [] None (Some u) r s h k =
+    let a = (closes_none accepts settings h.world (n + 0) max r h.status h.closes h.status_is).0 in let b = k.room in absurd (omega arith)
+once accepts settings w queues supply n max [] [] (Some t) None r s h k =
+    let a = (closes_none accepts settings k.world (n + 0) max s k.status k.closes k.status_is).0 in let b = h.room in absurd (omega arith)
+once accepts settings w queues supply n max [] [] (Some t) (Some u) r s h k =
+    both_last accepts settings w queues supply t u r s (ended_at accepts settings w h.world (n + 0) max t r h.status h.run h.closes h.status_is)
+    (ended_at accepts settings w k.world (n + 0) max u s k.status k.run k.closes k.status_is)
     h.given.0 k.given.0 (answered_both queues t.calls [] h.answered).0 (answered_both queues u.calls [] k.answered).0
-once settings w queues supply n max (t ∷ ts) [] last None r s h k =
-    let a = (closes_none settings k.world (n + 0) max s k.status k.closes k.status_is).0 in
-    let b : n + length (t ∷ ts) ≤ max = within settings w queues supply n max (t ∷ ts) last r h in absurd (omega arith)
-once settings w queues supply n max (t ∷ ts) [] last (Some u) r s h k =
-    absurd (gone_not_last settings w h.run.0 queues supply t u s h.run.1 (ended_at settings w k.world (n + 0) max u s k.status k.run k.closes k.status_is) h.given.0 k.given.0
+once accepts settings w queues supply n max (t ∷ ts) [] last None r s h k =
+    let a = (closes_none accepts settings k.world (n + 0) max s k.status k.closes k.status_is).0 in
+    let b : n + length (t ∷ ts) ≤ max = within accepts settings w queues supply n max (t ∷ ts) last r h in absurd (omega arith)
+once accepts settings w queues supply n max (t ∷ ts) [] last (Some u) r s h k =
+    absurd (gone_not_last accepts settings w h.run.0 queues supply t u s h.run.1 (ended_at accepts settings w k.world (n + 0) max u s k.status k.run k.closes k.status_is) h.given.0 k.given.0
     (answered_both queues t.calls (later ts last) h.answered).0 (answered_both queues u.calls [] k.answered).0)
-once settings w queues supply n max [] (u ∷ us) None mast r s h k =
-    let a = (closes_none settings h.world (n + 0) max r h.status h.closes h.status_is).0 in
-    let b : n + length (u ∷ us) ≤ max = within settings w queues supply n max (u ∷ us) mast s k in absurd (omega arith)
-once settings w queues supply n max [] (u ∷ us) (Some t) mast r s h k =
-    absurd (gone_not_last settings w k.run.0 queues supply u t r k.run.1 (ended_at settings w h.world (n + 0) max t r h.status h.run h.closes h.status_is) k.given.0 h.given.0
+once accepts settings w queues supply n max [] (u ∷ us) None mast r s h k =
+    let a = (closes_none accepts settings h.world (n + 0) max r h.status h.closes h.status_is).0 in
+    let b : n + length (u ∷ us) ≤ max = within accepts settings w queues supply n max (u ∷ us) mast s k in absurd (omega arith)
+once accepts settings w queues supply n max [] (u ∷ us) (Some t) mast r s h k =
+    absurd (gone_not_last accepts settings w k.run.0 queues supply u t r k.run.1 (ended_at accepts settings w h.world (n + 0) max t r h.status h.run h.closes h.status_is) k.given.0 h.given.0
     (answered_both queues u.calls (later us mast) k.answered).0 (answered_both queues t.calls [] h.answered).0)
-once settings w queues supply n max (t ∷ ts) (u ∷ us) last mast r s h k =
-    let m = same_turn settings w queues supply t u h.run.1.0 k.run.1.0 (Ok (Goes t.frames h.run.0)) (Ok (Goes u.frames k.run.0)) h.given.0 k.given.0 h.run.1.1 k.run.1.1
+once accepts settings w queues supply n max (t ∷ ts) (u ∷ us) last mast r s h k =
+    let m = same_turn accepts settings w queues supply t u h.run.1.0 k.run.1.0 (Ok (Goes t.frames h.run.0)) (Ok (Goes u.frames k.run.0)) h.given.0 k.given.0 h.run.1.1 k.run.1.1
     h.run.1.2 k.run.1.2 (answered_both queues t.calls (later ts last) h.answered).0 (answered_both queues u.calls (later us mast) k.answered).0 in
     let g = goes_once t.frames u.frames h.run.0 k.run.0 m.1 in
-    let k1 : Tail settings k.run.0 (left queues u.calls) (less supply) (n + 1) max us mast s = tail_next settings w queues supply n max u us mast s k in
-    let k2 : Tail settings h.run.0 (left queues u.calls) (less supply) (n + 1) max us mast s =
-    subst (λ v. Tail settings v (left queues u.calls) (less supply) (n + 1) max us mast s) (sym g.1) k1 in
-    let k3 : Tail settings h.run.0 (left queues t.calls) (less supply) (n + 1) max us mast s =
-    subst (λ c. Tail settings h.run.0 (left queues c) (less supply) (n + 1) max us mast s) (sym m.0) k2 in
-    let i = once settings h.run.0 (left queues t.calls) (less supply) (n + 1) max ts us last mast r s (tail_next settings w queues supply n max t ts last r h) k3 in
+    let k1 : Tail accepts settings k.run.0 (left queues u.calls) (less supply) (n + 1) max us mast s = tail_next accepts settings w queues supply n max u us mast s k in
+    let k2 : Tail accepts settings h.run.0 (left queues u.calls) (less supply) (n + 1) max us mast s =
+    subst (λ v. Tail accepts settings v (left queues u.calls) (less supply) (n + 1) max us mast s) (sym g.1) k1 in
+    let k3 : Tail accepts settings h.run.0 (left queues t.calls) (less supply) (n + 1) max us mast s =
+    subst (λ c. Tail accepts settings h.run.0 (left queues c) (less supply) (n + 1) max us mast s) (sym m.0) k2 in
+    let i = once accepts settings h.run.0 (left queues t.calls) (less supply) (n + 1) max ts us last mast r s (tail_next accepts settings w queues supply n max t ts last r h) k3 in
     (same_cons t u _ _ (turn_same t u (h.given.0 ∙ sym k.given.0) m.0 g.0) i.0, i.1)

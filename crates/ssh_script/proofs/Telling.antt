@@ -1,14 +1,21 @@
 -- What a script's handler and link tell.
-use Rattle.std.proofs.Common.{◌≡◌, ℕ, List, [], ◌∷◌, ◌++◌, Option, Some, None, Result, Ok, Err, Bool, true, false, refl, sym, ◌∙◌, ap, append_assoc, subst, OnOk, OnErr}
+use Rattle.std.proofs.Common.{◌≡◌, ℕ, List, [], ◌∷◌, ◌++◌, Option, Some, None, Result, Ok, Err, Bool, true, false, refl, sym, ◌∙◌, ap, append_assoc, subst, OnOk, OnErr, IfOk, IsOk, drop}
+use Rattle.ssh_wire.specs.declared.error.WireError.{WireError}
 use Rattle.ssh_link.specs.Told.{Adds, AddsOrStops, Tells}
 use Rattle.ssh_link.specs.declared.link.TraceEntry.{TraceEntry}
 use Rattle.ssh_auth.specs.declared.auth.Auth.{Auth}
 use Rattle.ssh_auth.specs.declared.call.Call.{Call}
-use Rattle.ssh_auth.specs.declared.call.Call.TheVariants.{AuthNone, AuthPassword}
+use Rattle.ssh_keys.specs.declared.algorithm.Algorithm.{Algorithm}
+use Rattle.ssh_keys.specs.declared.certificate.Certificate.{Certificate}
+use Rattle.ssh_keys.specs.declared.public_key.PublicKey.{PublicKey}
+use Rattle.ssh_script.specs.declared.answers.Answers.{Answers}
+use Rattle.ssh_script.specs.declared.answers.Places.{Places}
+use Rattle.ssh_script.specs.declared.answers.Verdict.{Verdict}
+use Rattle.ssh_script.specs.Queue.{rest}
 use Rattle.ssh_script.specs.declared.asked.Asked.{Asked}
 use Rattle.ssh_script.specs.declared.asked.Asked.TheVariants as asked
 use Rattle.ssh_script.specs.declared.script_link.Event.{Event}
-use Rattle.ssh_script.specs.Played.{Failure, Queues, first_verdict, verdict_answer, answered, after, played, left_after, heading, told_of}
+use Rattle.ssh_script.specs.Played.{Failure, Queues, queues_from, first_verdict, verdict_answer, answered, after, played, left_after, heading, told_of}
 use Rattle.ssh_script.specs.Given.{Supply, told_as, traced, trace_of}
 use Rattle.ssh_script.specs.Given.{after as after_event, left_after as left_after_events, heading as input_heading}
 
@@ -81,15 +88,40 @@ adds_entry supply left all new one entry l n e =
     ∙ (ap (λ x. Some (input_heading supply ++ (traced supply all ++ x ∷ []))) c
     ∙ ap Some (sym (append_assoc (input_heading supply) (traced supply all) (entry ∷ [])))))
 
-pub told_none_answer : (user name : List ℕ) (queues : Queues) (answer : Result Auth Failure) → user ≡ name → answer ≡ verdict_answer (first_verdict queues.none) →
-    answered queues (asked.AuthNone user) ≡ AuthNone name answer
-told_none_answer user name queues answer u a = ap (λ x. AuthNone x (verdict_answer (first_verdict queues.none))) u ∙ ap (AuthNone name) (sym a)
+-- a callback that was made and kept
+pub kept_one : (made : Result Asked WireError) (one : Asked) (all new : List Asked) → IsOk made → IfOk made (λ x. x ≡ one) → IfOk made (λ x. new ≡ all ++ x ∷ []) → new ≡ all ++ one ∷ []
+kept_one (Ok x) one all new m e k = k ∙ ap (λ y. all ++ y ∷ []) e
+kept_one (Err why) one all new m e k = absurd (let z : false ≡ true = m in cc)
 
-pub told_password_answer : (user name password word : List ℕ) (queues : Queues) (answer : Result Auth Failure) → user ≡ name → password ≡ word →
-    answer ≡ verdict_answer (first_verdict queues.password) → answered queues (asked.AuthPassword user password) ≡ AuthPassword name word answer
-told_password_answer user name password word queues answer u w a =
-    ap (λ x. AuthPassword x password (verdict_answer (first_verdict queues.password))) u
-    ∙ (ap (λ x. AuthPassword name x (verdict_answer (first_verdict queues.password))) w ∙ ap (AuthPassword name word) (sym a))
+-- the next answer of a queue is given
+pub after_none : (answers : Answers) (next : Places) (banners place : ℕ) (user : List ℕ) → drop place answers.none.items ≡ rest (drop next.none answers.none.items) →
+    after (queues_from answers next banners) (asked.AuthNone user) ≡ queues_from answers (record next { none = place }) banners
+after_none answers next banners place user h = ap (λ q. record (queues_from answers next banners) { none = q }) (sym h)
+
+pub after_password : (answers : Answers) (next : Places) (banners place : ℕ) (user password : List ℕ) →
+    drop place answers.password.items ≡ rest (drop next.password answers.password.items) →
+    after (queues_from answers next banners) (asked.AuthPassword user password) ≡ queues_from answers (record next { password = place }) banners
+after_password answers next banners place user password h = ap (λ q. record (queues_from answers next banners) { password = q }) (sym h)
+
+pub after_offered : (answers : Answers) (next : Places) (banners place : ℕ) (user : List ℕ) (key : PublicKey) (algorithm : Algorithm) →
+    drop place answers.offered.items ≡ rest (drop next.offered answers.offered.items) →
+    after (queues_from answers next banners) (asked.AuthPublickeyOffered user key algorithm) ≡ queues_from answers (record next { offered = place }) banners
+after_offered answers next banners place user key algorithm h = ap (λ q. record (queues_from answers next banners) { offered = q }) (sym h)
+
+pub after_publickey : (answers : Answers) (next : Places) (banners place : ℕ) (user : List ℕ) (key : PublicKey) (algorithm : Algorithm) →
+    drop place answers.publickey.items ≡ rest (drop next.publickey answers.publickey.items) →
+    after (queues_from answers next banners) (asked.AuthPublickey user key algorithm) ≡ queues_from answers (record next { publickey = place }) banners
+after_publickey answers next banners place user key algorithm h = ap (λ q. record (queues_from answers next banners) { publickey = q }) (sym h)
+
+pub after_certificate : (answers : Answers) (next : Places) (banners place : ℕ) (user : List ℕ) (certificate : Certificate) →
+    drop place answers.certificate.items ≡ rest (drop next.certificate answers.certificate.items) →
+    after (queues_from answers next banners) (asked.AuthOpensshCertificate user certificate) ≡ queues_from answers (record next { certificate = place }) banners
+after_certificate answers next banners place user certificate h = ap (λ q. record (queues_from answers next banners) { certificate = q }) (sym h)
+
+-- a verdict that was found makes the answer
+pub verdict_answers : (default verdict : Verdict) (queue : List Verdict) (answer : Result Auth Failure) → answer ≡ verdict_answer verdict → verdict ≡ first_verdict default queue →
+    verdict_answer (first_verdict default queue) ≡ answer
+verdict_answers default verdict queue answer a v = sym (a ∙ ap verdict_answer v)
 
 -- a callback that leaves the answers as they are leaves them so whether it is kept or not
 pub left_same : {T E : Type 0} (result : Result T E) (queues left : Queues) (all new : List Asked) (one : Asked) → left_after queues all ≡ left →

@@ -11,7 +11,7 @@ use Rattle.ssh_script.specs.Scene.{Scene, opening_scene, lines_of, Gives}
 use Rattle.ssh_script.specs.Played.{Failure}
 use Rattle.ssh_script.specs.Given.{supply_of}
 use Rattle.ssh_script.specs.Print.{printed}
-use Rattle.ssh_script.specs.Transcript.{status_of, scene_settings, calls_of, IsRun, Shows, Scripted, Transcript, IsBadScript, run_words}
+use Rattle.ssh_script.specs.Transcript.{status_of, scene_settings, scene_accepts, calls_of, IsRun, Shows, Scripted, Transcript, IsBadScript, run_words}
 use Rattle.ssh_script.proofs.LinesOnce.{gives_once}
 use Rattle.ssh_script.proofs.RunsOnce.{Tail, once}
 
@@ -19,11 +19,11 @@ some_once : (m n : ℕ) → Some m ≡ Some n → m ≡ n
 some_once m n e = cc
 
 tail_of : (scene : Scene) (status : ℕ) (text : List ℕ) → (h : IsRun scene status text) →
-    Tail (scene_settings scene) (opening_world (scene_settings scene)) scene.queues (supply_of scene.inputs scene.moment) 0 scene.max_inputs h.turns h.last h.result
+    Tail (scene_accepts scene) (scene_settings scene) (opening_world (scene_settings scene)) scene.queues (supply_of scene.inputs scene.moment) 0 scene.max_inputs h.turns h.last h.result
 tail_of scene status text h = record {
   world = h.world;
   run = h.run;
-  closes = subst (λ n. Closes (scene_settings scene) h.world n scene.max_inputs h.last ⊥ h.result) (let z : length h.turns ≡ 0 + length h.turns = omega arith in z) h.closes;
+  closes = subst (λ n. Closes (scene_accepts scene) (scene_settings scene) h.world n scene.max_inputs h.last ⊥ h.result) (let z : length h.turns ≡ 0 + length h.turns = omega arith in z) h.closes;
   room = subst (λ n. IfSome h.last (λ turn. n < scene.max_inputs)) (let z : length h.turns ≡ 0 + length h.turns = omega arith in z) h.room;
   status = status;
   status_is = h.status_is;
@@ -33,7 +33,7 @@ tail_of scene status text h = record {
 
 run_once : (scene : Scene) (m n : ℕ) (s t : List ℕ) → IsRun scene m s → IsRun scene n t → (m ≡ n) × (s ≡ t)
 run_once scene m n s t h k =
-    let o = once (scene_settings scene) (opening_world (scene_settings scene)) scene.queues (supply_of scene.inputs scene.moment) 0 scene.max_inputs h.turns k.turns h.last k.last
+    let o = once (scene_accepts scene) (scene_settings scene) (opening_world (scene_settings scene)) scene.queues (supply_of scene.inputs scene.moment) 0 scene.max_inputs h.turns k.turns h.last k.last
     h.result k.result (tail_of scene m s h) (tail_of scene n t k) in
     let P = λ (l : List (Turn Failure)) (r : Result (Unit {0}) (RunError Failure)). printed (flat_map (calls_of {E = Failure}) l) (flat_map (entries {E = Failure}) l) r in (
       some_once m n (sym h.status_is ∙ (ap status_of o.1 ∙ k.status_is)),
@@ -68,6 +68,7 @@ run_not_two (Err error.LinkFault) h = not_two 1 (omega arith) h
 run_not_two (Err error.InputLimit) h = not_two 1 (omega arith) h
 run_not_two (Err (error.Encoding why)) h = not_two 1 (omega arith) h
 run_not_two (Err error.Inconsistent) h = not_two 1 (omega arith) h
+run_not_two (Err (error.Key why)) h = not_two 1 (omega arith) h
 run_not_two (Err (error.Handler record_error.NoMemory)) h = let z : None ≡ Some 2 = h in cc
 run_not_two (Err (error.Handler (record_error.Inner e))) h = not_two 1 (omega arith) h
 run_not_two (Err error.NotBuilt) h = not_two 1 (omega arith) h

@@ -3,6 +3,10 @@ use Rattle.std.specs.Prelude.{◌≡◌, ◌≢◌, ◌<◌, ◌^◌, ◌⊎◌,
 use Rattle.std.specs.List.{position_or_len, before_first, after_first}
 use Rattle.std.specs.Fmt.{decimal}
 use Rattle.hex.specs.Hex.{decode_of}
+use Rattle.ssh_keys.specs.Algorithms.{algorithm_name}
+use Rattle.ssh_keys.specs.Keys.{IsKey}
+use Rattle.ssh_keys.specs.declared.public_key.PublicKey.{PublicKey}
+use Rattle.ssh_keys.specs.declared.table_verifier.AcceptedSignature.{AcceptedSignature}
 use Rattle.ssh_script.specs.declared.answers.Verdict.{Verdict}
 use Rattle.ssh_script.specs.declared.answers.Verdict.TheVariants as verdict
 use Rattle.ssh_script.specs.declared.lines.Setting.{Setting}
@@ -27,6 +31,26 @@ abbrev pub IsHexIn : List ℕ → Option (List ℕ) → Type 0
 IsHexIn digits (Some bytes) = IsHex digits bytes
 IsHexIn digits None = (bytes : List ℕ) → IsHex digits bytes → ⊥
 
+-- a key is written by its blob
+abbrev pub IsKeyHex : List ℕ → PublicKey → Type 0
+IsKeyHex digits public = (blob : List ℕ) × IsHex digits blob × IsKey public blob
+
+abbrev pub IsKeyIn : List ℕ → Option PublicKey → Type 0
+IsKeyIn digits (Some public) = IsKeyHex digits public
+IsKeyIn digits None = (public : PublicKey) → IsKeyHex digits public → ⊥
+
+-- a signature that is accepted is written in four words: the key, the name of an algorithm of keys, the message, the signature
+abbrev pub IsSignature : (key algorithm message signature : List ℕ) → AcceptedSignature → Type 0
+IsSignature key algorithm message signature accepted =
+    IsKeyHex key accepted.key
+    × (algorithm_name accepted.algorithm ≡ algorithm)
+    × IsHex message accepted.message
+    × IsHex signature accepted.signature
+
+abbrev pub IsSignatureIn : (key algorithm message signature : List ℕ) → Option AcceptedSignature → Type 0
+IsSignatureIn key algorithm message signature (Some accepted) = IsSignature key algorithm message signature accepted
+IsSignatureIn key algorithm message signature None = (accepted : AcceptedSignature) → IsSignature key algorithm message signature accepted → ⊥
+
 -- what a line is by its words
 pub data Form : Type 0 where
   -- no line has these words
@@ -37,6 +61,8 @@ pub data Form : Type 0 where
   Of_number : (says : ℕ → Line) → (digits : List ℕ) → Form
   -- these digits write the bytes of which it speaks
   Of_bytes : (says : List ℕ → Line) → (digits : List ℕ) → Form
+  -- these words write the signature that it accepts
+  Of_signature : (key algorithm message signature : List ℕ) → Form
 
 -- the first word, and what follows the space after it; None where there is no space
 abbrev pub is_space : ℕ → Bool
@@ -54,17 +80,24 @@ verdict_of word =
     else if bytes_eq word (codes "fail") then Some verdict.Fail
     else None
 
-abbrev pub verdict_form : (Verdict → Setting) → Option Verdict → Form
-verdict_form says None = No_form
-verdict_form says (Some one) = Whole (line.Setting (says one))
+-- the requests that a verdict answers
+abbrev pub answer_to : List ℕ → Verdict → Option Setting
+answer_to name one =
+    if bytes_eq name (codes "none") then Some (setting.AnswerNone one)
+    else if bytes_eq name (codes "password") then Some (setting.AnswerPassword one)
+    else if bytes_eq name (codes "offered") then Some (setting.AnswerOffered one)
+    else if bytes_eq name (codes "publickey") then Some (setting.AnswerPublickey one)
+    else if bytes_eq name (codes "certificate") then Some (setting.AnswerCertificate one)
+    else None
 
--- answer none, and a verdict
-abbrev pub none_form : List ℕ → Form
-none_form word = verdict_form setting.AnswerNone (verdict_of word)
+abbrev pub setting_form : Option Setting → Form
+setting_form None = No_form
+setting_form (Some one) = Whole (line.Setting one)
 
--- answer password, and a verdict
-abbrev pub password_form : List ℕ → Form
-password_form word = verdict_form setting.AnswerPassword (verdict_of word)
+-- answer, the name of a request, and a verdict
+abbrev pub verdict_form : List ℕ → Option Verdict → Form
+verdict_form name None = No_form
+verdict_form name (Some one) = setting_form (answer_to name one)
 
 -- answer banner fail
 abbrev pub banner_form : List ℕ → Form
@@ -74,10 +107,7 @@ banner_form word = if bytes_eq word (codes "fail") then Whole (line.Setting sett
 abbrev pub answer_words : Option (List ℕ × List ℕ) → Form
 answer_words None = No_form
 answer_words (Some parts) =
-    if bytes_eq parts.0 (codes "none") then none_form parts.1
-    else if bytes_eq parts.0 (codes "password") then password_form parts.1
-    else if bytes_eq parts.0 (codes "banner") then banner_form parts.1
-    else No_form
+    if bytes_eq parts.0 (codes "banner") then banner_form parts.1 else verdict_form parts.0 (verdict_of parts.1)
 
 abbrev pub answer_form : List ℕ → Form
 answer_form rest = answer_words (cut rest)
@@ -94,6 +124,22 @@ config_words (Some parts) =
 abbrev pub config_form : List ℕ → Form
 config_form rest = config_words (cut rest)
 
+-- sign, a key, an algorithm, a message and a signature
+abbrev pub sign_message : (key algorithm : List ℕ) → Option (List ℕ × List ℕ) → Form
+sign_message key algorithm None = No_form
+sign_message key algorithm (Some parts) = Of_signature key algorithm parts.0 parts.1
+
+abbrev pub sign_algorithm : (key : List ℕ) → Option (List ℕ × List ℕ) → Form
+sign_algorithm key None = No_form
+sign_algorithm key (Some parts) = sign_message key parts.0 (cut parts.1)
+
+abbrev pub sign_words : Option (List ℕ × List ℕ) → Form
+sign_words None = No_form
+sign_words (Some parts) = sign_algorithm parts.0 (cut parts.1)
+
+abbrev pub sign_form : List ℕ → Form
+sign_form rest = sign_words (cut rest)
+
 -- a word, and what follows it
 abbrev pub word_form : List ℕ → List ℕ → Form
 word_form word rest =
@@ -101,6 +147,7 @@ word_form word rest =
     else if bytes_eq word (codes "inputs") then Of_number (λ n. line.Setting (setting.Inputs n)) rest
     else if bytes_eq word (codes "config") then config_form rest
     else if bytes_eq word (codes "answer") then answer_form rest
+    else if bytes_eq word (codes "sign") then sign_form rest
     else if bytes_eq word (codes "at") then Of_number (λ moment. line.Input (input.At moment)) rest
     else if bytes_eq word (codes "recv") then Of_bytes (λ bytes. line.Input (input.Recv bytes)) rest
     else No_form
@@ -124,6 +171,9 @@ Fits (Of_number says digits) (Some said) = (n : ℕ) × IsNumber digits n × (sa
 Fits (Of_number says digits) None = (n : ℕ) → IsNumber digits n → ⊥
 Fits (Of_bytes says digits) (Some said) = (bytes : List ℕ) × IsHex digits bytes × (said ≡ says bytes)
 Fits (Of_bytes says digits) None = (bytes : List ℕ) → IsHex digits bytes → ⊥
+Fits (Of_signature key algorithm message signature) (Some said) =
+    (accepted : AcceptedSignature) × IsSignature key algorithm message signature accepted × (said ≡ line.Setting (setting.Sign accepted))
+Fits (Of_signature key algorithm message signature) None = (accepted : AcceptedSignature) → IsSignature key algorithm message signature accepted → ⊥
 
 -- an empty line, or a comment, which begins with #
 abbrev pub is_passed : List ℕ → Bool

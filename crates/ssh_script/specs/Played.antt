@@ -1,13 +1,14 @@
 -- What the handler of a script answers.
-use Rattle.std.specs.Prelude.{◌≡◌, ℕ, ◌-◌, ◌==◌, List, [], ◌∷◌, ◌++◌, map, Bool, true, false, Option, Some, None, Result, Ok, Err, if◌then◌else◌}
+use Rattle.std.specs.Prelude.{◌≡◌, ℕ, ◌-◌, ◌==◌, List, [], ◌∷◌, ◌++◌, map, drop, Bool, true, false, Option, Some, None, Result, Ok, Err, if◌then◌else◌}
 use Rattle.ssh_auth.specs.declared.auth.Auth.{Auth}
 use Rattle.ssh_auth.specs.declared.auth.Auth.TheVariants.{Reject, Accept}
 use Rattle.ssh_auth.specs.declared.call.Call.{Call}
-use Rattle.ssh_auth.specs.declared.call.Call.TheVariants.{AuthenticationBanner, AuthNone, AuthPassword, AuthSucceeded}
+use Rattle.ssh_auth.specs.declared.call.Call.TheVariants.{AuthenticationBanner, AuthNone, AuthPassword, AuthPublickeyOffered, AuthPublickey, AuthOpensshCertificate, AuthSucceeded}
 use Rattle.ssh_handler.specs.declared.recorded.RecordError.{RecordError}
 use Rattle.ssh_handler.specs.declared.recorded.RecordError.TheVariants.{Inner}
 use Rattle.ssh_script.specs.Queue.{rest}
 use Rattle.ssh_script.specs.declared.answers.Answers.{Answers}
+use Rattle.ssh_script.specs.declared.answers.Places.{Places}
 use Rattle.ssh_script.specs.declared.answers.Verdict.{Verdict}
 use Rattle.ssh_script.specs.declared.answers.Verdict.TheVariants as verdict
 use Rattle.ssh_script.specs.declared.asked.Asked.{Asked}
@@ -27,20 +28,41 @@ pub record Queues : Type 0 where
   pub none : List Verdict
   -- to requests of method password
   pub password : List Verdict
+  -- to offers of keys
+  pub offered : List Verdict
+  -- to requests that are signed by a key
+  pub publickey : List Verdict
+  -- to requests that are signed by the key of a certificate
+  pub certificate : List Verdict
   -- how many banner callbacks fail
   pub banners : ℕ
 
-abbrev pub queues_of : (none password : List Verdict) → ℕ → Queues
-queues_of none password banners = record { none = none; password = password; banners = banners }
-
 -- as the code holds them
 abbrev pub queues_in : Answers → Queues
-queues_in answers = queues_of answers.none.items answers.password.items answers.failing_banners
+queues_in answers = record {
+  none = answers.none.items;
+  password = answers.password.items;
+  offered = answers.offered.items;
+  publickey = answers.publickey.items;
+  certificate = answers.certificate.items;
+  banners = answers.failing_banners;
+}
 
--- the next verdict; requests are refused where there is none
-abbrev pub first_verdict : List Verdict → Verdict
-first_verdict [] = verdict.Reject
-first_verdict (one ∷ more) = one
+-- those after as many as were given
+abbrev pub queues_from : Answers → Places → ℕ → Queues
+queues_from answers next banners = record {
+  none = drop next.none answers.none.items;
+  password = drop next.password answers.password.items;
+  offered = drop next.offered answers.offered.items;
+  publickey = drop next.publickey answers.publickey.items;
+  certificate = drop next.certificate answers.certificate.items;
+  banners = banners;
+}
+
+-- the next verdict, and this one where there is none
+abbrev pub first_verdict : Verdict → List Verdict → Verdict
+first_verdict default [] = default
+first_verdict default (one ∷ more) = one
 
 abbrev pub verdict_answer : Verdict → Result Auth Failure
 verdict_answer verdict.Accept = Ok Accept
@@ -50,11 +72,15 @@ verdict_answer verdict.Fail = fails
 abbrev pub banner_answer : ℕ → Result (Option (List ℕ)) Failure
 banner_answer left = if left == 0 then Ok None else fails
 
--- the callback, and what it is answered
+-- the callback, and what it is answered: without a verdict an offer of a key is accepted, and all else is refused
 abbrev pub answered : Queues → Asked → Call Failure
 answered queues asked.AuthenticationBanner = AuthenticationBanner (banner_answer queues.banners)
-answered queues (asked.AuthNone user) = AuthNone user (verdict_answer (first_verdict queues.none))
-answered queues (asked.AuthPassword user password) = AuthPassword user password (verdict_answer (first_verdict queues.password))
+answered queues (asked.AuthNone user) = AuthNone user (verdict_answer (first_verdict verdict.Reject queues.none))
+answered queues (asked.AuthPassword user password) = AuthPassword user password (verdict_answer (first_verdict verdict.Reject queues.password))
+answered queues (asked.AuthPublickeyOffered user key algorithm) = AuthPublickeyOffered user key algorithm (verdict_answer (first_verdict verdict.Accept queues.offered))
+answered queues (asked.AuthPublickey user key algorithm) = AuthPublickey user key algorithm (verdict_answer (first_verdict verdict.Reject queues.publickey))
+answered queues (asked.AuthOpensshCertificate user certificate) =
+    AuthOpensshCertificate user certificate (verdict_answer (first_verdict verdict.Reject queues.certificate))
 answered queues asked.AuthSucceeded = AuthSucceeded (Ok tt)
 
 -- the answers that are left after it
@@ -62,6 +88,9 @@ abbrev pub after : Queues → Asked → Queues
 after queues asked.AuthenticationBanner = record queues { banners = queues.banners - 1 }
 after queues (asked.AuthNone user) = record queues { none = rest queues.none }
 after queues (asked.AuthPassword user password) = record queues { password = rest queues.password }
+after queues (asked.AuthPublickeyOffered user key algorithm) = record queues { offered = rest queues.offered }
+after queues (asked.AuthPublickey user key algorithm) = record queues { publickey = rest queues.publickey }
+after queues (asked.AuthOpensshCertificate user certificate) = record queues { certificate = rest queues.certificate }
 after queues asked.AuthSucceeded = queues
 
 -- the callbacks in order, each with its answer
@@ -78,6 +107,9 @@ abbrev pub asked_of : {E : Type 0} → Call E → Asked
 asked_of (AuthenticationBanner answer) = asked.AuthenticationBanner
 asked_of (AuthNone user answer) = asked.AuthNone user
 asked_of (AuthPassword user password answer) = asked.AuthPassword user password
+asked_of (AuthPublickeyOffered user key algorithm answer) = asked.AuthPublickeyOffered user key algorithm
+asked_of (AuthPublickey user key algorithm answer) = asked.AuthPublickey user key algorithm
+asked_of (AuthOpensshCertificate user certificate answer) = asked.AuthOpensshCertificate user certificate
 asked_of (AuthSucceeded answer) = asked.AuthSucceeded
 
 -- each of these calls was answered by the script, in order
@@ -86,18 +118,27 @@ IsAnswered queues [] = Unit {0}
 IsAnswered queues (call ∷ calls) =
     (call ≡ answered queues (asked_of call)) × IsAnswered (after queues (asked_of call)) calls
 
--- the answers as a handler tells them before its calls: a call for each verdict, and one for the number of banners that fail
-abbrev pub told_none : Verdict → Call Failure
-told_none one = AuthNone [] (verdict_answer one)
+-- the answers as a handler tells them before its calls: a call for each queue, which names its verdicts by their numbers, and one for the number of banners that fail
+abbrev pub verdict_number : Verdict → ℕ
+verdict_number verdict.Accept = 0
+verdict_number verdict.Reject = 1
+verdict_number verdict.Fail = 2
 
-abbrev pub told_password : Verdict → Call Failure
-told_password one = AuthPassword [] [] (verdict_answer one)
+abbrev pub told_queue : List Verdict → Call Failure
+told_queue queue = AuthNone (map verdict_number queue) (Ok Accept)
 
 abbrev pub told_banners : ℕ → Call Failure
 told_banners count = AuthenticationBanner (Ok (Some (count ∷ [])))
 
 abbrev pub heading : Queues → List (Call Failure)
-heading queues = map told_none queues.none ++ (map told_password queues.password ++ told_banners queues.banners ∷ [])
+heading queues =
+    told_queue queues.none
+    ∷ told_queue queues.password
+    ∷ told_queue queues.offered
+    ∷ told_queue queues.publickey
+    ∷ told_queue queues.certificate
+    ∷ told_banners queues.banners
+    ∷ []
 
 -- what a handler tells that has these answers and was called so; one that lost a call tells nothing
 abbrev pub told_of : Bool → Queues → List Asked → Option (List (Call Failure))

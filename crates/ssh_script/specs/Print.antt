@@ -3,6 +3,10 @@ use Rattle.std.specs.Prelude.{ℕ, ◌+◌, List, [], ◌∷◌, ◌++◌, codes
 use Rattle.std.specs.Fmt.{decimal}
 use Rattle.hex.specs.Hex.{encode_lower}
 use Rattle.ssh_wire.specs.declared.channel_id.ChannelId.{ChannelId}
+use Rattle.ssh_keys.specs.Algorithms.{algorithm_name}
+use Rattle.ssh_keys.specs.Keys.{key_blob}
+use Rattle.ssh_keys.specs.declared.algorithm.Algorithm.{Algorithm}
+use Rattle.ssh_keys.specs.declared.public_key.PublicKey.{PublicKey}
 use Rattle.ssh_link.specs.declared.frame.Frame.{Frame}
 use Rattle.ssh_link.specs.declared.link.TraceEntry.{TraceEntry}
 use Rattle.ssh_link.specs.declared.link.TraceEntry.TheVariants as entry
@@ -20,11 +24,21 @@ abbrev pub hex_text : List ℕ → List ℕ
 hex_text [] = codes "-"
 hex_text (byte ∷ bytes) = encode_lower (byte ∷ bytes)
 
+-- a key: its blob, and the name of the algorithm by which it signs
+abbrev pub key_text : PublicKey → Algorithm → List ℕ
+key_text key algorithm = hex_text (key_blob key) ++ codes " " ++ algorithm_name algorithm
+
 -- a callback and its arguments
 abbrev pub asked_line : Asked → List ℕ
 asked_line asked.AuthenticationBanner = codes "call authentication_banner\n"
 asked_line (asked.AuthNone user) = codes "call auth_none " ++ hex_text user ++ codes "\n"
 asked_line (asked.AuthPassword user password) = codes "call auth_password " ++ hex_text user ++ codes " " ++ hex_text password ++ codes "\n"
+asked_line (asked.AuthPublickeyOffered user key algorithm) =
+    codes "call auth_publickey_offered " ++ hex_text user ++ codes " " ++ key_text key algorithm ++ codes "\n"
+asked_line (asked.AuthPublickey user key algorithm) = codes "call auth_publickey " ++ hex_text user ++ codes " " ++ key_text key algorithm ++ codes "\n"
+-- a certificate: its key id
+asked_line (asked.AuthOpensshCertificate user certificate) =
+    codes "call auth_openssh_certificate " ++ hex_text user ++ codes " " ++ hex_text certificate.key_id ++ codes "\n"
 asked_line asked.AuthSucceeded = codes "call auth_succeeded\n"
 
 -- a call prints without its answer
@@ -67,6 +81,7 @@ variant_name error.LinkFault = codes "LinkFault"
 variant_name error.InputLimit = codes "InputLimit"
 variant_name (error.Encoding why) = codes "Encoding"
 variant_name error.Inconsistent = codes "Inconsistent"
+variant_name (error.Key why) = codes "Key"
 variant_name (error.Handler e) = codes "Handler"
 variant_name error.NotBuilt = codes "NotBuilt"
 

@@ -4,6 +4,7 @@ use Rattle.ssh_link.specs.declared.frame.Input.{Input}
 use Rattle.ssh_link.specs.declared.frame.InputKind.TheVariants.{Payload}
 use Rattle.ssh_handler.specs.declared.config.Config.{Config}
 use Rattle.ssh_handler.specs.Settings.{standard_config}
+use Rattle.ssh_keys.specs.declared.table_verifier.AcceptedSignature.{AcceptedSignature}
 use Rattle.ssh_script.specs.declared.lines.Setting.{Setting}
 use Rattle.ssh_script.specs.declared.lines.Setting.TheVariants as setting
 use Rattle.ssh_script.specs.declared.lines.InputLine.{InputLine}
@@ -22,6 +23,8 @@ pub record Scene : Type 0 where
   -- after how many inputs the run stops
   pub max_inputs : ℕ
   pub config : Config
+  -- the signatures that are accepted
+  pub accepted : List AcceptedSignature
   -- what the callbacks answer
   pub queues : Queues
   pub inputs : List Input
@@ -36,7 +39,8 @@ opening_scene = record {
   session_id = [];
   max_inputs = 1000000;
   config = standard_config;
-  queues = record { none = []; password = []; banners = 0 };
+  accepted = [];
+  queues = record { none = []; password = []; offered = []; publickey = []; certificate = []; banners = 0 };
   inputs = [];
   moment = 0;
   stage = stage.Settings;
@@ -49,8 +53,12 @@ set (setting.Inputs count) s = Some (record s { max_inputs = count })
 set (setting.Reject time) s = Some (record s { config = record s.config { auth_rejection_time = time } })
 set (setting.RejectInitial time) s = Some (record s { config = record s.config { auth_rejection_time_initial = Some time } })
 set (setting.Attempts count) s = Some (record s { config = record s.config { max_auth_attempts = count } })
+set (setting.Sign signature) s = Some (record s { accepted = s.accepted ++ signature ∷ [] })
 set (setting.AnswerNone verdict) s = Some (record s { queues = record s.queues { none = s.queues.none ++ verdict ∷ [] } })
 set (setting.AnswerPassword verdict) s = Some (record s { queues = record s.queues { password = s.queues.password ++ verdict ∷ [] } })
+set (setting.AnswerOffered verdict) s = Some (record s { queues = record s.queues { offered = s.queues.offered ++ verdict ∷ [] } })
+set (setting.AnswerPublickey verdict) s = Some (record s { queues = record s.queues { publickey = s.queues.publickey ++ verdict ∷ [] } })
+set (setting.AnswerCertificate verdict) s = Some (record s { queues = record s.queues { certificate = s.queues.certificate ++ verdict ∷ [] } })
 set setting.FailBanner s = Some (record s { queues = record s.queues { banners = s.queues.banners + 1 } })
 
 -- settings come before the first input line
@@ -104,6 +112,7 @@ scene_of script = record {
   session_id = script.session_id;
   max_inputs = script.max_inputs;
   config = script.config;
+  accepted = script.verifier;
   queues = queues_in script.answers;
   inputs = script.inputs.items;
   moment = script.moment;

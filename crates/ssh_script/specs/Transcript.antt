@@ -3,6 +3,8 @@ use Rattle.std.specs.Prelude.{◌≡◌, ◌≢◌, ◌<◌, ◌≤◌, ◌⊎�
 use Rattle.std.specs.Fmt.{decimal}
 use Rattle.ssh_link.specs.Told.{Adds}
 use Rattle.ssh_auth.specs.declared.call.Call.{Call}
+use Rattle.ssh_keys.specs.Tables.{IsListed}
+use Rattle.ssh_auth.specs.Publickey.{Acceptance}
 use Rattle.ssh_handler.specs.declared.recorded.RecordError.TheVariants as record_error
 use Rattle.ssh_session.specs.declared.error.RunError.{RunError}
 use Rattle.ssh_session.specs.declared.error.RunError.TheVariants as error
@@ -25,6 +27,10 @@ status_of (Err e) = Some 1
 abbrev pub scene_settings : Scene → Settings
 scene_settings scene = settings_of scene.config scene.session_id
 
+-- the signatures that are accepted are those of the scene
+abbrev pub scene_accepts : Scene → Acceptance
+scene_accepts scene = IsListed scene.accepted
+
 abbrev pub calls_of : {E : Type 0} → Turn E → List (Call E)
 calls_of turn = turn.calls
 
@@ -32,11 +38,11 @@ calls_of turn = turn.calls
 pub record IsRun (scene : Scene) (status : ℕ) (text : List ℕ) : Type 0 where
   pub turns : List (Turn Failure)
   pub world : World
-  pub run : Run (scene_settings scene) (opening_world (scene_settings scene)) turns world
+  pub run : Run (scene_accepts scene) (scene_settings scene) (opening_world (scene_settings scene)) turns world
   pub last : Option (Turn Failure)
   pub result : Result (Unit {0}) (RunError Failure)
   -- a script's link has no faults
-  pub closes : Closes (scene_settings scene) world (length turns) scene.max_inputs last ⊥ result
+  pub closes : Closes (scene_accepts scene) (scene_settings scene) world (length turns) scene.max_inputs last ⊥ result
   pub room : IfSome last (λ turn. length turns < scene.max_inputs)
   pub answered : IsAnswered scene.queues (flat_map calls_of (turns ++ option_to_list last))
   pub given : IsGiven (supply_of scene.inputs scene.moment) (flat_map entries (turns ++ option_to_list last))

@@ -18,6 +18,27 @@ pub struct Answers {
     pub none: Vec<Verdict>,
     /// To requests of method password.
     pub password: Vec<Verdict>,
+    /// To offers of keys.
+    pub offered: Vec<Verdict>,
+    /// To requests that are signed by a key.
+    pub publickey: Vec<Verdict>,
+    /// To requests that are signed by the key of a certificate.
+    pub certificate: Vec<Verdict>,
     /// How many banner callbacks fail.
     pub failing_banners: u64,
+}
+
+/// How many answers of each list were given.
+#[derive(Clone, Copy)]
+pub struct Places {
+    /// To requests of method none.
+    pub none: usize,
+    /// To requests of method password.
+    pub password: usize,
+    /// To offers of keys.
+    pub offered: usize,
+    /// To requests that are signed by a key.
+    pub publickey: usize,
+    /// To requests that are signed by the key of a certificate.
+    pub certificate: usize,
 }

@@ -1,6 +1,11 @@
 // What the handler of a script was asked.
+ghost use Rattle.std.specs.Prelude.{◌≡◌, IfOk};
+ghost use Rattle.ssh_script.specs.declared.asked.Asked.TheVariants as asked;
 
-use ssh_wire::Text;
+use ssh_auth::{PublicKeyOffer, VerifiedPublicKey};
+use ssh_keys::{Algorithm, Certificate, PublicKey};
+use ssh_wire::{Text, WireError};
+use std::alloc::Global;
 
 /// A callback that was made, without its answer.
 #[derive(Debug, Drop)]
@@ -19,6 +24,96 @@ pub enum Asked {
         /// The password.
         password: Text,
     },
+    /// A user offered a key.
+    AuthPublickeyOffered {
+        /// The user's name.
+        user: Text,
+        /// The key.
+        public_key: PublicKey,
+        /// The algorithm by which it would sign.
+        algorithm: Algorithm,
+    },
+    /// A user asked to be let in by a key that has signed.
+    AuthPublickey {
+        /// The user's name.
+        user: Text,
+        /// The key.
+        public_key: PublicKey,
+        /// The algorithm by which it signed.
+        algorithm: Algorithm,
+    },
+    /// A user asked to be let in by a certificate whose key has signed.
+    AuthOpensshCertificate {
+        /// The user's name.
+        user: Text,
+        /// The certificate.
+        certificate: Certificate,
+    },
     /// The user was authenticated.
     AuthSucceeded,
+}
+
+impl Asked {
+    /// A request of method none.
+    pub(crate) fn none(alloc: Global, user: &str) -> Result<Asked, WireError>
+        ensures { IfOk result (λ one. one ≡ asked.AuthNone user.now) }
+    {
+        Ok(Asked::AuthNone {
+            user: Text::new(alloc, user)?,
+        })
+    }
+
+    /// A request of method password.
+    pub(crate) fn password(alloc: Global, user: &str, password: &str) -> Result<Asked, WireError>
+        ensures { IfOk result (λ one. one ≡ asked.AuthPassword user.now password.now) }
+    {
+        Ok(Asked::AuthPassword {
+            user: Text::new(alloc, user)?,
+            password: Text::new(alloc, password)?,
+        })
+    }
+
+    /// The offer of a key.
+    pub(crate) fn offered(
+        alloc: Global,
+        user: &str,
+        offer: PublicKeyOffer<'_>,
+    ) -> Result<Asked, WireError>
+        ensures { IfOk result (λ one. one ≡ asked.AuthPublickeyOffered user.now offer.entry.public_key.now offer.entry.algorithm) }
+    {
+        Ok(Asked::AuthPublickeyOffered {
+            user: Text::new(alloc, user)?,
+            public_key: offer.public_key.copy()?,
+            algorithm: offer.algorithm,
+        })
+    }
+
+    /// A request that a key has signed.
+    pub(crate) fn publickey(
+        alloc: Global,
+        user: &str,
+        key: VerifiedPublicKey<'_>,
+    ) -> Result<Asked, WireError>
+        ensures { IfOk result (λ one. one ≡ asked.AuthPublickey user.now key.entry.public_key.now key.entry.algorithm) }
+    {
+        Ok(Asked::AuthPublickey {
+            user: Text::new(alloc, user)?,
+            public_key: key.public_key.copy()?,
+            algorithm: key.algorithm,
+        })
+    }
+
+    /// A request that the key of a certificate has signed.
+    pub(crate) fn certificate(
+        alloc: Global,
+        user: &str,
+        certificate: &Certificate,
+    ) -> Result<Asked, WireError>
+        ensures { IfOk result (λ one. one ≡ asked.AuthOpensshCertificate user.now certificate.now) }
+    {
+        Ok(Asked::AuthOpensshCertificate {
+            user: Text::new(alloc, user)?,
+            certificate: certificate.copy()?,
+        })
+    }
 }

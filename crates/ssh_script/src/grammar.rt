@@ -1,11 +1,12 @@
 // How the lines of a script are written: words with one space between each two.
 ghost use Rattle.std.specs.Prelude.{◌≡◌, IfOk};
-ghost use Rattle.ssh_script.specs.Grammar.{IsNumberIn, IsHexIn, Fits, Reads, word_form, config_form, answer_form, lone_form, verdict_of, none_form, password_form, banner_form};
+ghost use Rattle.ssh_script.specs.Grammar.{IsNumberIn, IsHexIn, IsKeyIn, IsSignatureIn, Fits, Reads, word_form, config_form, answer_form, sign_form, lone_form, verdict_of, answer_to, verdict_form, banner_form};
 
 use crate::answers::Verdict;
 use crate::lines::{InputLine, Line, Setting};
 use bytes::Bytes;
 use hex::FromHexError;
+use ssh_keys::{AcceptedSignature, Algorithm, KeyError, PublicKey};
 use std::alloc::{AllocError, Global};
 
 /// The number that the digits write: decimal, without sign or leading zero, below 2^64.
@@ -39,6 +40,53 @@ fn bytes_in(alloc: Global, digits: &str) -> Result<Option<Bytes>, AllocError>
     }
 }
 
+/// The key whose blob the digits write in hex.
+fn key_in(alloc: Global, digits: &str) -> Result<Option<PublicKey>, AllocError>
+    ensures { IfOk result (IsKeyIn digits.now) }
+{
+    let Some(blob) = bytes_in(alloc, digits)? else {
+        return Ok(None);
+    };
+    match PublicKey::decode(alloc, blob.as_slice()) {
+        Ok(key) => Ok(Some(key)),
+        Err(why) => match why {
+            KeyError::NoMemory => Err(AllocError),
+            _ => Ok(None),
+        },
+    }
+}
+
+/// The signature that the words write: a key, the name of an algorithm of keys, a message and
+/// the signature's own bytes.
+fn signature_in(
+    alloc: Global,
+    key: &str,
+    algorithm: &str,
+    message: &str,
+    signature: &str,
+) -> Result<Option<AcceptedSignature>, AllocError>
+    ensures { IfOk result (IsSignatureIn key.now algorithm.now message.now signature.now) }
+{
+    let Some(key) = key_in(alloc, key)? else {
+        return Ok(None);
+    };
+    let Some(algorithm) = Algorithm::new(algorithm) else {
+        return Ok(None);
+    };
+    let Some(message) = bytes_in(alloc, message)? else {
+        return Ok(None);
+    };
+    let Some(signature) = bytes_in(alloc, signature)? else {
+        return Ok(None);
+    };
+    Ok(Some(AcceptedSignature {
+        key,
+        algorithm,
+        message,
+        signature,
+    }))
+}
+
 /// A line of one word.
 fn lone_line(word: &str) -> Option<Line>
     ensures { Fits (lone_form word.now) result }
@@ -60,18 +108,26 @@ fn verdict_in(word: &str) -> Option<Verdict>
     }
 }
 
-fn none_line(word: &str) -> Option<Line>
-    ensures { Fits (none_form word.now) result }
+/// The answer to the requests of this name.
+fn answer_to(name: &str, verdict: Verdict) -> Option<Setting>
+    ensures { result ≡ answer_to name.now verdict }
 {
-    let verdict = verdict_in(word)?;
-    Some(Line::Setting(Setting::AnswerNone(verdict)))
+    match name {
+        "none" => Some(Setting::AnswerNone(verdict)),
+        "password" => Some(Setting::AnswerPassword(verdict)),
+        "offered" => Some(Setting::AnswerOffered(verdict)),
+        "publickey" => Some(Setting::AnswerPublickey(verdict)),
+        "certificate" => Some(Setting::AnswerCertificate(verdict)),
+        _ => None,
+    }
 }
 
-fn password_line(word: &str) -> Option<Line>
-    ensures { Fits (password_form word.now) result }
+fn verdict_line(name: &str, word: &str) -> Option<Line>
+    ensures { Fits (verdict_form name.now (verdict_of word.now)) result }
 {
     let verdict = verdict_in(word)?;
-    Some(Line::Setting(Setting::AnswerPassword(verdict)))
+    let setting = answer_to(name, verdict)?;
+    Some(Line::Setting(setting))
 }
 
 fn banner_line(word: &str) -> Option<Line>
@@ -88,10 +144,9 @@ fn answer_line(rest: &str) -> Option<Line>
     ensures { Fits (answer_form rest.now) result }
 {
     match rest.split_once(' ') {
-        Some(("none", word)) => none_line(word),
-        Some(("password", word)) => password_line(word),
         Some(("banner", word)) => banner_line(word),
-        _ => None,
+        Some((name, word)) => verdict_line(name, word),
+        None => None,
     }
 }
 
@@ -111,6 +166,23 @@ fn config_line(alloc: Global, rest: &str) -> Result<Option<Line>, AllocError>
     }
 }
 
+/// The rest of a line `sign`.
+fn sign_line(alloc: Global, rest: &str) -> Result<Option<Line>, AllocError>
+    ensures { IfOk result (Fits (sign_form rest.now)) }
+{
+    let Some((key, rest)) = rest.split_once(' ') else {
+        return Ok(None);
+    };
+    let Some((algorithm, rest)) = rest.split_once(' ') else {
+        return Ok(None);
+    };
+    let Some((message, signature)) = rest.split_once(' ') else {
+        return Ok(None);
+    };
+    let accepted = signature_in(alloc, key, algorithm, message, signature)?;
+    Ok(accepted.map(|accepted| Line::Setting(Setting::Sign(accepted))))
+}
+
 /// A line of more than one word.
 fn word_line(alloc: Global, word: &str, rest: &str) -> Result<Option<Line>, AllocError>
     ensures { IfOk result (Fits (word_form word.now rest.now)) }
@@ -120,6 +192,7 @@ fn word_line(alloc: Global, word: &str, rest: &str) -> Result<Option<Line>, Allo
         "inputs" => Ok(number_in(alloc, rest)?.map(|n| Line::Setting(Setting::Inputs(n)))),
         "config" => config_line(alloc, rest),
         "answer" => Ok(answer_line(rest)),
+        "sign" => sign_line(alloc, rest),
         "at" => Ok(number_in(alloc, rest)?.map(|ms| Line::Input(InputLine::At(ms)))),
         "recv" => Ok(bytes_in(alloc, rest)?.map(|bytes| Line::Input(InputLine::Recv(bytes)))),
         _ => Ok(None),

@@ -2,6 +2,7 @@
 
 use crate::answers::Verdict;
 use bytes::Bytes;
+use ssh_keys::AcceptedSignature;
 
 /// How a session is set up, and what its handler answers.
 #[derive(Debug, Drop)]
@@ -16,10 +17,18 @@ pub enum Setting {
     RejectInitial(u64),
     /// After how many rejected requests no more are read, and 0 for no such limit.
     Attempts(u64),
+    /// One more signature that the verifier accepts.
+    Sign(AcceptedSignature),
     /// One more answer to the requests of method none.
     AnswerNone(Verdict),
     /// One more answer to the requests of method password.
     AnswerPassword(Verdict),
+    /// One more answer to the offers of keys.
+    AnswerOffered(Verdict),
+    /// One more answer to the requests that are signed by a key.
+    AnswerPublickey(Verdict),
+    /// One more answer to the requests that are signed by the key of a certificate.
+    AnswerCertificate(Verdict),
     /// One more banner callback fails.
     FailBanner,
 }

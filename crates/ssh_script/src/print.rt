@@ -1,11 +1,14 @@
 // How a run is printed.
-ghost use Rattle.std.specs.Prelude.{◌≡◌, ◌++◌, ◌+◌, codes, flat_map, OnOk};
+ghost use Rattle.std.specs.Prelude.{◌≡◌, ◌++◌, ◌+◌, codes, flat_map, IfOk, OnOk};
 ghost use Rattle.std.specs.Fmt.{decimal};
 ghost use Rattle.std.specs.String.{string_bytes};
-ghost use Rattle.ssh_script.specs.Print.{hex_text, channel_text, hold_text, frame_line, asked_line, event_lines};
+ghost use Rattle.ssh_keys.specs.Keys.{key_blob};
+ghost use Rattle.ssh_script.specs.Print.{hex_text, key_text, channel_text, hold_text, frame_line, asked_line, event_lines};
 
 use crate::asked::Asked;
 use crate::script_link::Event;
+use bytes::Bytes;
+use ssh_keys::{Algorithm, PublicKey};
 use ssh_link::Frame;
 use ssh_wire::ChannelId;
 use std::alloc::{AllocError, Global};
@@ -52,18 +55,118 @@ fn print_auth_password(
     out.push_str("\n")
 }
 
+/// The blob of a key. One that was read from a payload has no field that is too long for it.
+fn blob_of(alloc: Global, key: &PublicKey) -> Result<Bytes, AllocError>
+    ensures { IfOk result (λ blob. blob ≡ key_blob key.now) }
+{
+    let Ok(blob) = key.blob(alloc) else {
+        return Err(AllocError);
+    };
+    Ok(blob)
+}
+
+/// A key: its blob, and the name of the algorithm by which it signs.
+fn print_key(
+    alloc: Global,
+    out: &mut String,
+    key: &PublicKey,
+    algorithm: Algorithm,
+) -> Result<(), AllocError>
+    ensures { OnOk result (string_bytes out.new ≡ string_bytes out.old ++ key_text key.now algorithm) }
+{
+    let blob = blob_of(alloc, key)?;
+    print_hex(alloc, out, blob.as_slice())?;
+    out.push_str(" ")?;
+    out.push_str(algorithm.as_str())
+}
+
+/// A user and a key, to the end of the line.
+fn print_user_key(
+    alloc: Global,
+    out: &mut String,
+    user: &[u8],
+    key: &PublicKey,
+    algorithm: Algorithm,
+) -> Result<(), AllocError>
+    ensures { OnOk result (string_bytes out.new ≡ string_bytes out.old ++ hex_text user.now ++ codes " " ++ key_text key.now algorithm ++ codes "\n") }
+{
+    print_hex(alloc, out, user)?;
+    out.push_str(" ")?;
+    print_key(alloc, out, key, algorithm)?;
+    out.push_str("\n")
+}
+
+fn print_auth_publickey_offered(
+    alloc: Global,
+    out: &mut String,
+    user: &[u8],
+    key: &PublicKey,
+    algorithm: Algorithm,
+) -> Result<(), AllocError>
+    ensures { OnOk result (string_bytes out.new ≡ string_bytes out.old ++ codes "call auth_publickey_offered " ++ hex_text user.now ++ codes " " ++ key_text key.now algorithm ++ codes "\n") }
+{
+    out.push_str("call auth_publickey_offered ")?;
+    print_user_key(alloc, out, user, key, algorithm)
+}
+
+fn print_auth_publickey(
+    alloc: Global,
+    out: &mut String,
+    user: &[u8],
+    key: &PublicKey,
+    algorithm: Algorithm,
+) -> Result<(), AllocError>
+    ensures { OnOk result (string_bytes out.new ≡ string_bytes out.old ++ codes "call auth_publickey " ++ hex_text user.now ++ codes " " ++ key_text key.now algorithm ++ codes "\n") }
+{
+    out.push_str("call auth_publickey ")?;
+    print_user_key(alloc, out, user, key, algorithm)
+}
+
+fn print_auth_openssh_certificate(
+    alloc: Global,
+    out: &mut String,
+    user: &[u8],
+    key_id: &[u8],
+) -> Result<(), AllocError>
+    ensures { OnOk result (string_bytes out.new ≡ string_bytes out.old ++ codes "call auth_openssh_certificate " ++ hex_text user.now ++ codes " " ++ hex_text key_id.now ++ codes "\n") }
+{
+    out.push_str("call auth_openssh_certificate ")?;
+    print_hex(alloc, out, user)?;
+    out.push_str(" ")?;
+    print_hex(alloc, out, key_id)?;
+    out.push_str("\n")
+}
+
 fn print_asked(alloc: Global, out: &mut String, asked: &Asked) -> Result<(), AllocError>
     ensures { OnOk result (string_bytes out.new ≡ string_bytes out.old ++ asked_line asked.now) }
 {
     match asked {
         Asked::AuthenticationBanner => out.push_str("call authentication_banner\n"),
         Asked::AuthNone { user } => print_auth_none(alloc, out, user.as_str().as_bytes()),
-        Asked::AuthPassword { user, password } => print_auth_password(
-            alloc,
-            out,
-            user.as_str().as_bytes(),
-            password.as_str().as_bytes(),
-        ),
+        Asked::AuthPassword { user, password } => {
+            let password = password.as_str().as_bytes();
+            print_auth_password(alloc, out, user.as_str().as_bytes(), password)
+        }
+        Asked::AuthPublickeyOffered {
+            user,
+            public_key,
+            algorithm,
+        } => {
+            let user = user.as_str().as_bytes();
+            print_auth_publickey_offered(alloc, out, user, public_key, *algorithm)
+        }
+        Asked::AuthPublickey {
+            user,
+            public_key,
+            algorithm,
+        } => {
+            let user = user.as_str().as_bytes();
+            print_auth_publickey(alloc, out, user, public_key, *algorithm)
+        }
+        Asked::AuthOpensshCertificate { user, certificate } => {
+            let key_id = certificate.key_id.as_str().as_bytes();
+            print_auth_openssh_certificate(alloc, out, user.as_str().as_bytes(), key_id)
+        }
         Asked::AuthSucceeded => out.push_str("call auth_succeeded\n"),
     }
 }

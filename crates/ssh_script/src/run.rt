@@ -48,6 +48,7 @@ fn variant_name(error: &RunError<RecordError<ScriptError>>) -> &'static str
         RunError::InputLimit => "InputLimit",
         RunError::Encoding(_) => "Encoding",
         RunError::Inconsistent => "Inconsistent",
+        RunError::Key(_) => "Key",
         RunError::Handler(_) => "Handler",
         RunError::NotBuilt => "NotBuilt",
     }
@@ -92,6 +93,7 @@ fn run_scene(alloc: Global, script: Script) -> Result<Report, AllocError>
         script.session_id.as_slice(),
         &[],
         &mut handler,
+        &script.verifier,
         &mut link,
         script.max_inputs,
     );

@@ -1,5 +1,6 @@
 // What the lines of a script say together.
 ghost use Rattle.std.specs.Prelude.{◌≡◌, ◌<◌, ◌∷◌, [], length, Some, None, if◌then◌else◌, IfOk, OnOk, IfSome, MatchOption};
+ghost use Rattle.ssh_script.specs.declared.lines.Setting.TheVariants as setting;
 ghost use Rattle.ssh_script.specs.Scene.{scene_of, seen, opening_scene, set, taken, with_line, lines_of, Gives};
 
 use crate::answers::Answers;
@@ -8,6 +9,7 @@ use crate::lines::{InputLine, Line, Setting};
 use crate::script::{Script, Stage};
 use bytes::Bytes;
 use ssh_handler::Config;
+use ssh_keys::{AcceptedSignature, TableVerifier};
 use ssh_link::{Input, InputKind};
 use std::alloc::{AllocError, Global};
 
@@ -20,9 +22,13 @@ impl Script {
             session_id: Bytes::copy_from_slice(alloc, &[])?,
             max_inputs: 1_000_000,
             config: Config::standard(),
+            verifier: TableVerifier::new(alloc),
             answers: Answers {
                 none: Vec::new(alloc),
                 password: Vec::new(alloc),
+                offered: Vec::new(alloc),
+                publickey: Vec::new(alloc),
+                certificate: Vec::new(alloc),
                 failing_banners: 0,
             },
             inputs: Vec::new(alloc),
@@ -46,14 +52,34 @@ impl Script {
             Setting::Reject(time) => self.config.auth_rejection_time = time,
             Setting::RejectInitial(time) => self.config.auth_rejection_time_initial = Some(time),
             Setting::Attempts(count) => self.config.max_auth_attempts = count as usize,
+            Setting::Sign(accepted) => self.accept(accepted)?,
             Setting::AnswerNone(verdict) => self.answers.none.push(verdict)?,
             Setting::AnswerPassword(verdict) => self.answers.password.push(verdict)?,
+            Setting::AnswerOffered(verdict) => self.answers.offered.push(verdict)?,
+            Setting::AnswerPublickey(verdict) => self.answers.publickey.push(verdict)?,
+            Setting::AnswerCertificate(verdict) => self.answers.certificate.push(verdict)?,
             Setting::FailBanner => {
                 let more = self.answers.failing_banners.checked_add(1);
                 self.answers.failing_banners = more.ok_or(AllocError)?;
             }
         }
         Ok(true)
+    }
+
+    /// The verifier accepts one more signature.
+    fn accept(&mut self, accepted: AcceptedSignature) -> Result<(), AllocError>
+        ensures { OnOk result (set (setting.Sign accepted) (scene_of self.old) ≡ Some (scene_of self.new)) }
+    {
+        let AcceptedSignature {
+            key,
+            algorithm,
+            message,
+            signature,
+        } = accepted;
+        match self.verifier.add(key, algorithm, message, signature) {
+            Ok(()) => Ok(()),
+            Err(_) => Err(AllocError),
+        }
     }
 
     /// Takes in an input line.

@@ -4,6 +4,7 @@ ghost use Rattle.std.specs.Prelude.{◌<◌, ◌^◌, length};
 use crate::answers::Answers;
 use bytes::Bytes;
 use ssh_handler::Config;
+use ssh_keys::TableVerifier;
 use ssh_link::Input;
 
 /// Which lines may follow.
@@ -26,6 +27,8 @@ pub struct Script {
     pub max_inputs: u64,
     /// How the server is set up.
     pub config: Config,
+    /// The signatures that are accepted.
+    pub verifier: TableVerifier,
     /// What the callbacks are answered.
     pub answers: Answers,
     /// The inputs, in order.

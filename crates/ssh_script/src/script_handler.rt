@@ -1,33 +1,33 @@
 // A handler that answers by a script, and tells its calls.
-ghost use Rattle.std.specs.Prelude.{◌≡◌, ◌-◌, [], ◌∷◌, ◌++◌, None, Some, true, false, drop, OnOk, OnErr};
+ghost use Rattle.std.specs.Prelude.{◌≡◌, ◌-◌, [], ◌∷◌, ◌++◌, None, Some, true, false, drop, OnOk, OnErr, IfOk, IsOk};
 ghost use Rattle.ssh_handler.specs.declared.recorded.RecordError.TheVariants.{NoMemory};
-ghost use Rattle.ssh_script.specs.Played.{queues_of, queues_in, first_verdict, verdict_answer, banner_answer, left_after};
+ghost use Rattle.ssh_script.specs.Played.{queues_in, queues_from, first_verdict, verdict_answer, banner_answer, left_after};
 
-use crate::answers::{Answers, Verdict};
+use crate::answers::{Answers, Places, Verdict};
 use crate::asked::Asked;
 use crate::queue::place_after;
-use ssh_auth::{Auth, AuthHandler, Unwritten};
+use ssh_auth::{Auth, AuthHandler, PublicKeyOffer, Unwritten, VerifiedPublicKey};
 use ssh_handler::{Commands, Handler, RecordError};
-use ssh_wire::Text;
+use ssh_keys::Certificate;
+use ssh_wire::{Text, WireError};
 use std::alloc::Global;
 
 /// The error that a script's handler answers where the script says `fail`.
 #[derive(Clone, Copy, Debug, PartialEq, Eq)]
 pub struct ScriptError;
 
-/// Answers the k-th request of a method by the k-th verdict on that method, and refuses the later
-/// ones. The first banner callbacks fail, as many as the script says, and the later ones give no
-/// banner.
+/// Answers the k-th request of a kind by the k-th verdict on that kind. Later offers of keys are
+/// accepted, and all other later requests are refused. The first banner callbacks fail, as many as
+/// the script says, and the later ones give no banner.
 #[derive(Drop)]
 pub struct ScriptHandler {
     alloc: Global,
     answers: Answers,
     asked: Vec<Asked>,
-    next_none: usize,
-    next_password: usize,
+    next: Places,
     banners_left: u64,
     lost: bool,
-    ghost left: { left_after (queues_in answers) asked.items ≡ queues_of (drop next_none answers.none.items) (drop next_password answers.password.items) banners_left },
+    ghost left: { left_after (queues_in answers) asked.items ≡ queues_from answers next banners_left },
 }
 
 impl ScriptHandler {
@@ -42,8 +42,13 @@ impl ScriptHandler {
             alloc,
             answers,
             asked: Vec::new(alloc),
-            next_none: 0,
-            next_password: 0,
+            next: Places {
+                none: 0,
+                password: 0,
+                offered: 0,
+                publickey: 0,
+                certificate: 0,
+            },
             banners_left,
             lost: false,
         }
@@ -65,12 +70,21 @@ impl ScriptHandler {
 }
 
 // Keeps a callback.
-fn keep(all: &mut Vec<Asked>, lost: &mut bool, asked: Asked) -> Result<(), RecordError<ScriptError>>
-    ensures ok { OnOk result (all.new.items ≡ all.old.items ++ asked ∷ []) }
+fn keep(
+    all: &mut Vec<Asked>,
+    lost: &mut bool,
+    asked: Result<Asked, WireError>,
+) -> Result<(), RecordError<ScriptError>>
+    ensures made { OnOk result (IsOk asked) }
+    ensures ok { OnOk result (IfOk asked (λ one. all.new.items ≡ all.old.items ++ one ∷ [])) }
     ensures same { OnOk result (lost.new ≡ lost.old) }
     ensures err { OnErr result (all.new.items ≡ all.old.items) }
     ensures lost { OnErr result (lost.new ≡ true) }
 {
+    let Ok(asked) = asked else {
+        *lost = true;
+        return Err(RecordError::NoMemory);
+    };
     if all.push(asked).is_err() {
         *lost = true;
         return Err(RecordError::NoMemory);
@@ -78,13 +92,13 @@ fn keep(all: &mut Vec<Asked>, lost: &mut bool, asked: Asked) -> Result<(), Recor
     Ok(())
 }
 
-// The verdict of this number.
-fn verdict_at(verdicts: &Vec<Verdict>, next: usize) -> Verdict
-    ensures { result ≡ first_verdict (drop next verdicts.now.items) }
+// The verdict of this number, and this one after the last.
+fn verdict_at(verdicts: &Vec<Verdict>, next: usize, default: Verdict) -> Verdict
+    ensures { result ≡ first_verdict default (drop next verdicts.now.items) }
 {
     match verdicts.get(next) {
         Some(verdict) => *verdict,
-        None => Verdict::Reject,
+        None => default,
     }
 }
 
@@ -122,20 +136,21 @@ impl AuthHandler for ScriptHandler {
     }
 
     fn authentication_banner(&mut self) -> Result<Option<Text>, RecordError<ScriptError>> {
-        keep(&mut self.asked, &mut self.lost, Asked::AuthenticationBanner)?;
+        keep(
+            &mut self.asked,
+            &mut self.lost,
+            Ok(Asked::AuthenticationBanner),
+        )?;
         let answer = banner_of(self.banners_left);
         self.banners_left = self.banners_left.saturating_sub(1);
         answer
     }
 
     fn auth_none(&mut self, user: &str) -> Result<Auth, RecordError<ScriptError>> {
-        let Ok(user) = Text::new(self.alloc, user) else {
-            self.lost = true;
-            return Err(RecordError::NoMemory);
-        };
-        let verdict = verdict_at(&self.answers.none, self.next_none);
-        keep(&mut self.asked, &mut self.lost, Asked::AuthNone { user })?;
-        self.next_none = place_after(&self.answers.none, self.next_none);
+        let verdict = verdict_at(&self.answers.none, self.next.none, Verdict::Reject);
+        let asked = Asked::none(self.alloc, user);
+        keep(&mut self.asked, &mut self.lost, asked)?;
+        self.next.none = place_after(&self.answers.none, self.next.none);
         answer_of(verdict)
     }
 
@@ -144,21 +159,50 @@ impl AuthHandler for ScriptHandler {
         user: &str,
         password: &str,
     ) -> Result<Auth, RecordError<ScriptError>> {
-        let Ok(user) = Text::new(self.alloc, user) else {
-            self.lost = true;
-            return Err(RecordError::NoMemory);
-        };
-        let Ok(password) = Text::new(self.alloc, password) else {
-            self.lost = true;
-            return Err(RecordError::NoMemory);
-        };
-        let verdict = verdict_at(&self.answers.password, self.next_password);
-        keep(
-            &mut self.asked,
-            &mut self.lost,
-            Asked::AuthPassword { user, password },
-        )?;
-        self.next_password = place_after(&self.answers.password, self.next_password);
+        let verdict = verdict_at(&self.answers.password, self.next.password, Verdict::Reject);
+        let asked = Asked::password(self.alloc, user, password);
+        keep(&mut self.asked, &mut self.lost, asked)?;
+        self.next.password = place_after(&self.answers.password, self.next.password);
+        answer_of(verdict)
+    }
+
+    fn auth_publickey_offered(
+        &mut self,
+        user: &str,
+        offer: PublicKeyOffer<'_>,
+    ) -> Result<Auth, RecordError<ScriptError>> {
+        let verdict = verdict_at(&self.answers.offered, self.next.offered, Verdict::Accept);
+        let asked = Asked::offered(self.alloc, user, offer);
+        keep(&mut self.asked, &mut self.lost, asked)?;
+        self.next.offered = place_after(&self.answers.offered, self.next.offered);
+        answer_of(verdict)
+    }
+
+    fn auth_publickey(
+        &mut self,
+        user: &str,
+        key: VerifiedPublicKey<'_>,
+    ) -> Result<Auth, RecordError<ScriptError>> {
+        let verdict = verdict_at(&self.answers.publickey, self.next.publickey, Verdict::Reject);
+        let asked = Asked::publickey(self.alloc, user, key);
+        keep(&mut self.asked, &mut self.lost, asked)?;
+        self.next.publickey = place_after(&self.answers.publickey, self.next.publickey);
+        answer_of(verdict)
+    }
+
+    fn auth_openssh_certificate(
+        &mut self,
+        user: &str,
+        certificate: &Certificate,
+    ) -> Result<Auth, RecordError<ScriptError>> {
+        let verdict = verdict_at(
+            &self.answers.certificate,
+            self.next.certificate,
+            Verdict::Reject,
+        );
+        let asked = Asked::certificate(self.alloc, user, certificate);
+        keep(&mut self.asked, &mut self.lost, asked)?;
+        self.next.certificate = place_after(&self.answers.certificate, self.next.certificate);
         answer_of(verdict)
     }
 }
@@ -168,7 +212,7 @@ impl Handler for ScriptHandler {
         &mut self,
         _session: &mut Commands<'_>,
     ) -> Result<(), RecordError<ScriptError>> {
-        keep(&mut self.asked, &mut self.lost, Asked::AuthSucceeded)?;
+        keep(&mut self.asked, &mut self.lost, Ok(Asked::AuthSucceeded))?;
         Ok(())
     }
 }

@@ -1,10 +1,11 @@
 -- How a row is served: a call, and what its answer goes on to.
-use Rattle.std.proofs.Common.{List, [], ◌∷◌, ◌++◌, Option, Result, Ok, Err}
+use Rattle.std.proofs.Common.{List, [], ◌∷◌, ◌++◌, map, Option, Result, Ok, Err}
 use Rattle.ssh_link.specs.Told.{Adds}
 use Rattle.ssh_link.proofs.Tellings.{adds_both, adds_nil, adds_weak, adds_then}
 use Rattle.ssh_link.specs.declared.frame.Frame.{Frame}
 use Rattle.ssh_auth.specs.declared.call.Call.{Call}
-use Rattle.ssh_auth.specs.Plan.{Plan, Ask, Question, Answer, Answered, Breaks}
+use Rattle.ssh_auth.specs.Plan.{Plan, Ask, Question, Answer, Answered, Called, Breaks}
+use Rattle.ssh_auth.proofs.Plans.{breaks_more}
 use Rattle.ssh_session.specs.declared.error.Flow.{Flow}
 use Rattle.ssh_session.specs.declared.error.Flow.TheVariants.{Continue, Ended}
 use Rattle.ssh_session.specs.declared.error.RunError.{RunError}
@@ -15,9 +16,8 @@ use Rattle.ssh_session.specs.Outcome.{Outcome}
 use Rattle.ssh_session.specs.Serve.{Answers, Serves, ToldBy}
 
 breaks_then : {E : Type 0} (question : Question) (next : Answer question → Plan Outcome) (answer : Answer question) (call : Call E) (calls : List (Call E)) (e : E) →
-    Answered question (Ok answer) call → Breaks (next answer) calls e → Breaks (Ask question next) (call ∷ calls) e
-breaks_then question next answer call [] e a h = absurd h
-breaks_then question next answer call (c ∷ cs) e a h = (answer, a, h)
+    Answered question (Ok answer) call → Breaks (next answer) (map Called calls) e → Breaks (Ask question next) (map Called (call ∷ calls)) e
+breaks_then question next answer call calls e a h = breaks_more question next answer call (map Called calls) e a h
 
 -- the calls after a first one
 answers_then : {E : Type 0} (settings : Settings) (question : Question) (next : Answer question → Plan Outcome) (answer : Answer question) (call : Call E) (calls : List (Call E))
@@ -31,6 +31,7 @@ answers_then settings question next answer call calls staged staged' session (Er
 answers_then settings question next answer call calls staged staged' session (Err error.InputLimit) a h = h
 answers_then settings question next answer call calls staged staged' session (Err (error.Encoding why)) a h = (answer, a, h)
 answers_then settings question next answer call calls staged staged' session (Err error.Inconsistent) a h = (answer, a, h)
+answers_then settings question next answer call calls staged staged' session (Err (error.Key why)) a h = (h.0, (answer, a, h.1))
 answers_then settings question next answer call calls staged staged' session (Err (error.Handler e)) a h = breaks_then question next answer call calls e a h
 answers_then settings question next answer call calls staged staged' session (Err error.NotBuilt) a h = (answer, a, h)
 
@@ -42,6 +43,7 @@ told_then (Err error.LinkFault) a b c xs ys h k = adds_both a b c xs ys h k
 told_then (Err error.InputLimit) a b c xs ys h k = adds_both a b c xs ys h k
 told_then (Err (error.Encoding why)) a b c xs ys h k = adds_both a b c xs ys h k
 told_then (Err error.Inconsistent) a b c xs ys h k = adds_both a b c xs ys h k
+told_then (Err (error.Key why)) a b c xs ys h k = adds_both a b c xs ys h k
 told_then (Err (error.Handler e)) a b c xs ys h k = adds_then a b c xs ys (adds_weak a b xs h) k
 told_then (Err error.NotBuilt) a b c xs ys h k = adds_both a b c xs ys h k
 
@@ -52,6 +54,7 @@ told_all (Err error.LinkFault) a b xs h = h
 told_all (Err error.InputLimit) a b xs h = h
 told_all (Err (error.Encoding why)) a b xs h = h
 told_all (Err error.Inconsistent) a b xs h = h
+told_all (Err (error.Key why)) a b xs h = h
 told_all (Err (error.Handler e)) a b xs h = adds_weak a b xs h
 told_all (Err error.NotBuilt) a b xs h = h
 

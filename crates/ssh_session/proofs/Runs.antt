@@ -11,6 +11,7 @@ use Rattle.ssh_link.specs.declared.link.TraceEntry.{TraceEntry}
 use Rattle.ssh_link.specs.declared.link.TraceEntry.TheVariants.{Took, Sent}
 use Rattle.ssh_auth.specs.declared.call.Call.{Call}
 use Rattle.ssh_auth.specs.Plan.{Plan}
+use Rattle.ssh_auth.specs.Publickey.{Acceptance}
 use Rattle.ssh_session.specs.declared.error.Flow.TheVariants.{Continue, Ended}
 use Rattle.ssh_session.specs.declared.error.RunError.{RunError}
 use Rattle.ssh_session.specs.declared.error.RunError.TheVariants as error
@@ -29,20 +30,20 @@ abbrev pub trace_of : {E : Type 0} → List (Turn E) → List TraceEntry
 trace_of turns = flat_map entries turns
 
 -- a run that goes on: this many inputs were finished
-pub record Going {E : Type 0} (settings : Settings) (before after : Option (List (Call E))) (trace trace' : Option (List TraceEntry))
+pub record Going {E : Type 0} (accepts : Acceptance) (settings : Settings) (before after : Option (List (Call E))) (trace trace' : Option (List TraceEntry))
     (faults faults' count : ℕ) (session : Session) : Type 0 where
   pub turns : List (Turn E)
   pub world : World
-  pub run : Run settings (opening_world settings) turns world
+  pub run : Run accepts settings (opening_world settings) turns world
   pub told : Adds before after (calls_of turns)
   pub traced : Adds trace trace' (trace_of turns)
   pub later : faults ≤ faults'
   pub counted : length turns ≡ count
   pub refines : Refines settings session world
 
-pub starts : (E : Type 0) (settings : Settings) (before : Option (List (Call E))) (trace : Option (List TraceEntry)) (faults : ℕ) (session : Session) →
-    Refines settings session (opening_world settings) → Going settings before before trace trace faults faults 0 session
-starts E settings before trace faults session r = record {
+pub starts : (E : Type 0) (accepts : Acceptance) (settings : Settings) (before : Option (List (Call E))) (trace : Option (List TraceEntry)) (faults : ℕ) (session : Session) →
+    Refines settings session (opening_world settings) → Going accepts settings before before trace trace faults faults 0 session
+starts E accepts settings before trace faults session r = record {
   turns = [];
   world = opening_world settings;
   run = refl;
@@ -53,10 +54,10 @@ starts E settings before trace faults session r = record {
   refines = r;
 }
 
-run_more : {E : Type 0} (settings : Settings) (w : World) (turns : List (Turn E)) (mid : World) (turn : Turn E) (world : World) →
-    Run settings w turns mid → Turns settings mid turn world → Run settings w (turns ++ turn ∷ []) world
-run_more settings w [] mid turn world h t = (world, subst (λ v. Turns settings v turn world) h t, refl)
-run_more settings w (first ∷ turns) mid turn world h t = (h.0, h.1, run_more settings h.0 turns mid turn world h.2 t)
+run_more : {E : Type 0} (accepts : Acceptance) (settings : Settings) (w : World) (turns : List (Turn E)) (mid : World) (turn : Turn E) (world : World) →
+    Run accepts settings w turns mid → Turns accepts settings mid turn world → Run accepts settings w (turns ++ turn ∷ []) world
+run_more accepts settings w [] mid turn world h t = (world, subst (λ v. Turns accepts settings v turn world) h t, refl)
+run_more accepts settings w (first ∷ turns) mid turn world h t = (h.0, h.1, run_more accepts settings h.0 turns mid turn world h.2 t)
 
 -- one more turn, in what is told and in the trace
 told_more : {T E : Type 0} (result : Result T (RunError E)) (a b c : Option (List (Call E))) (turns : List (Turn E)) (turn : Turn E) →
@@ -72,19 +73,19 @@ traced_more a b c d turns turn h k l =
     subst (Adds a d) (sym e) (adds_both a b d (trace_of turns) (entries turn) h (adds_both b c d (Took true true turn.input ∷ []) (map Sent turn.frames) k l))
 
 -- an input was finished, and the run goes on
-pub goes_on : {E : Type 0} (settings : Settings) (a b c : Option (List (Call E))) (t u v s : Option (List TraceEntry)) (f g h i count : ℕ) (session session' : Session) (input : Input) →
-    Going settings a b t u f g count session →
+pub goes_on : {E : Type 0} (accepts : Acceptance) (settings : Settings) (a b c : Option (List (Call E))) (t u v s : Option (List TraceEntry)) (f g h i count : ℕ) (session session' : Session) (input : Input) →
+    Going accepts settings a b t u f g count session →
     Adds u v (Took true true input ∷ []) → g ≤ h →
-    ((w : World) → Refines settings session w → Steps settings w input b c v s h i session' (Ok Continue)) →
-    Going settings a c t s f i (count + 1) session'
-goes_on settings a b c t u v s f g h i count session session' input going took later step =
+    ((w : World) → Refines settings session w → Steps accepts settings w input b c v s h i session' (Ok Continue)) →
+    Going accepts settings a c t s f i (count + 1) session'
+goes_on accepts settings a b c t u v s f g h i count session session' input going took later step =
     let w = going.world in
     let done = step w going.refines in
     let turn : Turn _ = record { input = input; calls = done.calls; frames = done.sent } in
     record {
       turns = going.turns ++ turn ∷ [];
       world = done.finishes.0;
-      run = run_more settings (opening_world settings) going.turns w turn done.finishes.0 going.run (done.plan, done.owes, done.finishes.1);
+      run = run_more accepts settings (opening_world settings) going.turns w turn done.finishes.0 going.run (done.plan, done.owes, done.finishes.1);
       told = told_more (Ok Continue) a b c going.turns turn going.told done.told;
       traced = traced_more t u v s going.turns turn going.traced took done.traced;
       later = let e = going.later in let k = done.later in omega arith;
@@ -93,12 +94,12 @@ goes_on settings a b c t u v s f g h i count session session' input going took l
     }
 
 -- an input ended the run
-pub ends : {E : Type 0} (settings : Settings) (a b c : Option (List (Call E))) (t u v s : Option (List TraceEntry)) (f g h i count max : ℕ) (session session' : Session) (input : Input) →
-    Going settings a b t u f g count session →
+pub ends : {E : Type 0} (accepts : Acceptance) (settings : Settings) (a b c : Option (List (Call E))) (t u v s : Option (List TraceEntry)) (f g h i count max : ℕ) (session session' : Session) (input : Input) →
+    Going accepts settings a b t u f g count session →
     Adds u v (Took true true input ∷ []) → g ≤ h →
-    ((w : World) → Refines settings session w → Steps settings w input b c v s h i session' (Ok Ended)) → count < max →
-    Ran settings a c t s f i max (Ok tt)
-ends settings a b c t u v s f g h i count max session session' input going took later step room =
+    ((w : World) → Refines settings session w → Steps accepts settings w input b c v s h i session' (Ok Ended)) → count < max →
+    Ran accepts settings a c t s f i max (Ok tt)
+ends accepts settings a b c t u v s f g h i count max session session' input going took later step room =
     let w = going.world in
     let done = step w going.refines in
     let turn : Turn _ = record { input = input; calls = done.calls; frames = done.sent } in
@@ -122,16 +123,17 @@ stops_later plan calls sent rose rose' error.LinkFault r h = (r h.0, h.1)
 stops_later plan calls sent rose rose' error.InputLimit r h = h
 stops_later plan calls sent rose rose' (error.Encoding why) r h = h
 stops_later plan calls sent rose rose' error.Inconsistent r h = h
+stops_later plan calls sent rose rose' (error.Key why) r h = h
 stops_later plan calls sent rose rose' (error.Handler e) r h = h
 stops_later plan calls sent rose rose' error.NotBuilt r h = h
 
 -- an input was not finished
-pub stopped : {E : Type 0} (settings : Settings) (a b c : Option (List (Call E))) (t u v s : Option (List TraceEntry)) (f g h i count max : ℕ) (session session' : Session) (input : Input) (e : RunError E) →
-    Going settings a b t u f g count session →
+pub stopped : {E : Type 0} (accepts : Acceptance) (settings : Settings) (a b c : Option (List (Call E))) (t u v s : Option (List TraceEntry)) (f g h i count max : ℕ) (session session' : Session) (input : Input) (e : RunError E) →
+    Going accepts settings a b t u f g count session →
     Adds u v (Took true true input ∷ []) → g ≤ h →
-    ((w : World) → Refines settings session w → Steps settings w input b c v s h i session' (Err e)) → count < max →
-    Ran settings a c t s f i max (Err e)
-stopped settings a b c t u v s f g h i count max session session' input e going took later step room =
+    ((w : World) → Refines settings session w → Steps accepts settings w input b c v s h i session' (Err e)) → count < max →
+    Ran accepts settings a c t s f i max (Err e)
+stopped accepts settings a b c t u v s f g h i count max session session' input e going took later step room =
     let w = going.world in
     let done = step w going.refines in
     let turn : Turn _ = record { input = input; calls = done.calls; frames = done.sent } in
@@ -148,17 +150,17 @@ stopped settings a b c t u v s f g h i count max session session' input e going 
     }
 
 -- no further input was taken
-pub no_input : {E : Type 0} (settings : Settings) (a b : Option (List (Call E))) (t u v : Option (List TraceEntry)) (f g h count max : ℕ) (session : Session) (e : RunError E) →
-    Going settings a b t u f g count session → Adds u v [] → g ≤ h →
-    ((w : World) → Closes settings w count max None (f < h) (Err e)) →
-    Ran settings a b t v f h max (Err e)
-no_input settings a b t u v f g h count max session e going took later closes =
+pub no_input : {E : Type 0} (accepts : Acceptance) (settings : Settings) (a b : Option (List (Call E))) (t u v : Option (List TraceEntry)) (f g h count max : ℕ) (session : Session) (e : RunError E) →
+    Going accepts settings a b t u f g count session → Adds u v [] → g ≤ h →
+    ((w : World) → Closes accepts settings w count max None (f < h) (Err e)) →
+    Ran accepts settings a b t v f h max (Err e)
+no_input accepts settings a b t u v f g h count max session e going took later closes =
     record {
       turns = going.turns;
       world = going.world;
       run = going.run;
       last = None;
-      closes = subst (λ n. Closes settings going.world n max None (f < h) (Err e)) (sym going.counted) (closes going.world);
+      closes = subst (λ n. Closes accepts settings going.world n max None (f < h) (Err e)) (sym going.counted) (closes going.world);
       room = tt;
       told = subst (λ l. ToldBy {T = Unit {0}} (Err e) a b (calls_of l)) (sym (append-nil going.turns)) (told_all {T = Unit {0}} (Err e) a b (calls_of going.turns) going.told);
       traced = subst (λ l. Adds t v (trace_of l)) (sym (append-nil going.turns)) (subst (Adds t v) (append-nil (trace_of going.turns)) (adds_both t u v (trace_of going.turns) [] going.traced took));
@@ -166,9 +168,9 @@ no_input settings a b t u v f g h count max session e going took later closes =
     }
 
 -- a run that could not begin
-pub not_begun : (E : Type 0) (settings : Settings) (a : Option (List (Call E))) (t : Option (List TraceEntry)) (f max : ℕ) →
-    Ran settings a a t t f f max (Err error.NoMemory)
-not_begun E settings a t f max = record {
+pub not_begun : (E : Type 0) (accepts : Acceptance) (settings : Settings) (a : Option (List (Call E))) (t : Option (List TraceEntry)) (f max : ℕ) →
+    Ran accepts settings a a t t f f max (Err error.NoMemory)
+not_begun E accepts settings a t f max = record {
   turns = [];
   world = opening_world settings;
   run = refl;

@@ -14,5 +14,6 @@ abbrev pub error_of_auth : {E : Type 0} → AuthError E → RunError E
 error_of_auth auth.NoMemory = error.NoMemory
 error_of_auth (auth.Encoding why) = error.Encoding why
 error_of_auth auth.Inconsistent = error.Inconsistent
+error_of_auth (auth.Key why) = error.Key why
 error_of_auth (auth.Handler e) = error.Handler e
 error_of_auth auth.NotBuilt = error.NotBuilt

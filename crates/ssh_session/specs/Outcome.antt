@@ -10,6 +10,8 @@ pub data Fault : Type 0 where
   Encoding : (why : WireError) → Fault
   -- the payload contradicts the protocol
   Inconsistent : Fault
+  -- the blob of a key or a certificate, or a signature, does not fit its layout
+  Key : Fault
   -- what it asks for is not built
   Not_built : Fault
 

@@ -7,21 +7,22 @@ use Rattle.ssh_link.specs.declared.frame.InputKind.TheVariants.{Payload, End}
 use Rattle.ssh_link.specs.declared.link.TraceEntry.{TraceEntry}
 use Rattle.ssh_link.specs.declared.link.TraceEntry.TheVariants.{Took, Sent}
 use Rattle.ssh_auth.specs.declared.call.Call.{Call}
-use Rattle.ssh_auth.specs.Plan.{Plan, Finish, Follows}
-use Rattle.ssh_session.specs.World.{Settings, World}
+use Rattle.ssh_auth.specs.Publickey.{Acceptance}
+use Rattle.ssh_auth.specs.Plan.{Plan, Finish, Called, Follows}
+use Rattle.ssh_session.specs.World.{Settings, World, circumstances}
 use Rattle.ssh_session.specs.Gate.{gate_of}
 use Rattle.ssh_session.specs.Said.{Said, Says}
 use Rattle.ssh_session.specs.Outcome.{Outcome, Goes, Ends}
 use Rattle.ssh_session.specs.Rows.{row}
 
--- an input of this kind, taken in this world at this moment, owes this plan
-abbrev pub OwesKind : Settings → World → ℕ → InputKind → Plan Outcome → Type 0
-OwesKind settings w moment End plan = plan ≡ Finish (Ends [])
-OwesKind settings w moment (Payload payload) plan =
-    (said : Said) × Says (gate_of settings w payload) payload said × (plan ≡ row settings moment w said)
+-- an input of this kind, taken in this world at this moment, owes this plan, where the verifier accepts these signatures
+abbrev pub OwesKind : Acceptance → Settings → World → ℕ → InputKind → Plan Outcome → Type 0
+OwesKind accepts settings w moment End plan = plan ≡ Finish (Ends [])
+OwesKind accepts settings w moment (Payload payload) plan =
+    (said : Said) × Says (circumstances accepts settings moment) (gate_of settings w payload) payload said × (plan ≡ row settings moment w said)
 
-abbrev pub Owes : Settings → World → Input → Plan Outcome → Type 0
-Owes settings w input plan = OwesKind settings w input.moment input.kind plan
+abbrev pub Owes : Acceptance → Settings → World → Input → Plan Outcome → Type 0
+Owes accepts settings w input plan = OwesKind accepts settings w input.moment input.kind plan
 
 -- an input, the calls that it made and the frames that were handed on
 pub record Turn (E : Type 0) : Type 0 where
@@ -30,14 +31,14 @@ pub record Turn (E : Type 0) : Type 0 where
   pub frames : List Frame
 
 -- the turn is the row of its input, and leads from world to world
-abbrev pub Turns : {E : Type 0} → Settings → World → Turn E → World → Type 0
-Turns settings w turn world =
-    (plan : Plan Outcome) × Owes settings w turn.input plan × Follows plan turn.calls (Goes turn.frames world)
+abbrev pub Turns : {E : Type 0} → Acceptance → Settings → World → Turn E → World → Type 0
+Turns accepts settings w turn world =
+    (plan : Plan Outcome) × Owes accepts settings w turn.input plan × Follows plan (map Called turn.calls) (Goes turn.frames world)
 
 -- these turns one after another
-abbrev pub Run : {E : Type 0} → Settings → World → List (Turn E) → World → Type 0
-Run settings w [] world = world ≡ w
-Run settings w (turn ∷ turns) world = (mid : World) × Turns settings w turn mid × Run settings mid turns world
+abbrev pub Run : {E : Type 0} → Acceptance → Settings → World → List (Turn E) → World → Type 0
+Run accepts settings w [] world = world ≡ w
+Run accepts settings w (turn ∷ turns) world = (mid : World) × Turns accepts settings w turn mid × Run accepts settings mid turns world
 
 -- what the link tells of a turn: commands and replies are asked for in every world so far
 abbrev pub entries : {E : Type 0} → Turn E → List TraceEntry

@@ -5,43 +5,46 @@ use Rattle.ssh_link.specs.declared.frame.Frame.{Frame}
 use Rattle.ssh_link.specs.declared.frame.Input.{Input}
 use Rattle.ssh_link.specs.declared.link.TraceEntry.{TraceEntry}
 use Rattle.ssh_link.specs.declared.link.TraceEntry.TheVariants.{Sent}
+use Rattle.ssh_keys.specs.declared.error.KeyError.TheVariants.{Blob}
 use Rattle.ssh_auth.specs.declared.call.Call.{Call}
-use Rattle.ssh_auth.specs.Plan.{Plan, Follows, Begins, Breaks}
+use Rattle.ssh_auth.specs.Publickey.{Acceptance}
+use Rattle.ssh_auth.specs.Plan.{Plan, Called, Follows, Begins, Breaks}
 use Rattle.ssh_session.specs.declared.error.Flow.{Flow}
 use Rattle.ssh_session.specs.declared.error.Flow.TheVariants.{Continue, Ended}
 use Rattle.ssh_session.specs.declared.error.RunError.{RunError}
 use Rattle.ssh_session.specs.declared.error.RunError.TheVariants as error
 use Rattle.ssh_session.specs.declared.session.Session.{Session}
 use Rattle.ssh_session.specs.World.{Settings, World, opening_world}
-use Rattle.ssh_session.specs.Outcome.{Outcome, Goes, Ends, Fails, Encoding, Inconsistent, Not_built}
+use Rattle.ssh_session.specs.Outcome.{Outcome, Goes, Ends, Fails, Encoding, Inconsistent, Key, Not_built}
 use Rattle.ssh_session.specs.Serve.{Refines, ToldBy}
 use Rattle.ssh_session.specs.Run.{Owes, Turn, Run, entries}
 
 -- the plan comes to frames that begin with those that were handed on
 abbrev pub SendsPart : {E : Type 0} → Plan Outcome → List (Call E) → List Frame → Type 0
 SendsPart plan calls sent = (rest : List Frame) ×
-    (((world : World) × Follows plan calls (Goes (sent ++ rest) world)) ⊎ Follows plan calls (Ends (sent ++ rest)))
+    (((world : World) × Follows plan (map Called calls) (Goes (sent ++ rest) world)) ⊎ Follows plan (map Called calls) (Ends (sent ++ rest)))
 
 -- an input was not finished, by this error; rose says that the link's faults rose
 abbrev pub Stops : {E : Type 0} → Plan Outcome → List (Call E) → List Frame → Type 0 → RunError E → Type 0
-Stops plan calls sent rose error.NoMemory = ((sent ≡ []) × Begins plan calls) ⊎ SendsPart plan calls sent
+Stops plan calls sent rose error.NoMemory = ((sent ≡ []) × Begins plan (map Called calls)) ⊎ SendsPart plan calls sent
 Stops plan calls sent rose error.LinkFault = rose × SendsPart plan calls sent
 Stops plan calls sent rose error.InputLimit = ⊥
-Stops plan calls sent rose (error.Encoding why) = (sent ≡ []) × Follows plan calls (Fails (Encoding why))
-Stops plan calls sent rose error.Inconsistent = (sent ≡ []) × Follows plan calls (Fails Inconsistent)
-Stops plan calls sent rose (error.Handler e) = (sent ≡ []) × Breaks plan calls e
-Stops plan calls sent rose error.NotBuilt = (sent ≡ []) × Follows plan calls (Fails Not_built)
+Stops plan calls sent rose (error.Encoding why) = (sent ≡ []) × Follows plan (map Called calls) (Fails (Encoding why))
+Stops plan calls sent rose error.Inconsistent = (sent ≡ []) × Follows plan (map Called calls) (Fails Inconsistent)
+Stops plan calls sent rose (error.Key why) = (sent ≡ []) × (why ≡ Blob) × Follows plan (map Called calls) (Fails Key)
+Stops plan calls sent rose (error.Handler e) = (sent ≡ []) × Breaks plan (map Called calls) e
+Stops plan calls sent rose error.NotBuilt = (sent ≡ []) × Follows plan (map Called calls) (Fails Not_built)
 
 abbrev pub Finishes : {E : Type 0} → Settings → Plan Outcome → List (Call E) → List Frame → Type 0 → Session → Result Flow (RunError E) → Type 0
-Finishes settings plan calls sent rose session (Ok Continue) = (world : World) × Follows plan calls (Goes sent world) × Refines settings session world
-Finishes settings plan calls sent rose session (Ok Ended) = Follows plan calls (Ends sent)
+Finishes settings plan calls sent rose session (Ok Continue) = (world : World) × Follows plan (map Called calls) (Goes sent world) × Refines settings session world
+Finishes settings plan calls sent rose session (Ok Ended) = Follows plan (map Called calls) (Ends sent)
 Finishes settings plan calls sent rose session (Err e) = Stops plan calls sent rose e
 
 -- an input was taken by a session in this world
-pub record Steps {E : Type 0} (settings : Settings) (w : World) (input : Input) (before after : Option (List (Call E))) (trace trace' : Option (List TraceEntry))
+pub record Steps {E : Type 0} (accepts : Acceptance) (settings : Settings) (w : World) (input : Input) (before after : Option (List (Call E))) (trace trace' : Option (List TraceEntry))
     (faults faults' : ℕ) (session : Session) (result : Result Flow (RunError E)) : Type 0 where
   pub plan : Plan Outcome
-  pub owes : Owes settings w input plan
+  pub owes : Owes accepts settings w input plan
   pub calls : List (Call E)
   pub told : ToldBy result before after calls
   pub sent : List Frame
@@ -50,25 +53,25 @@ pub record Steps {E : Type 0} (settings : Settings) (w : World) (input : Input) 
   pub finishes : Finishes settings plan calls sent (faults < faults') session result
 
 -- how a run ends: in this world, after so many finished inputs, with one more that ended it or was not finished
-abbrev pub Closes : {E : Type 0} → Settings → World → ℕ → ℕ → Option (Turn E) → Type 0 → Result (Unit {0}) (RunError E) → Type 0
-Closes settings w count max (Some turn) rose (Ok _) = (plan : Plan Outcome) × Owes settings w turn.input plan × Follows plan turn.calls (Ends turn.frames)
-Closes settings w count max None rose (Ok _) = ⊥
-Closes settings w count max (Some turn) rose (Err e) = (plan : Plan Outcome) × Owes settings w turn.input plan × Stops plan turn.calls turn.frames rose e
-Closes settings w count max None rose (Err error.InputLimit) = count ≡ max
-Closes settings w count max None rose (Err error.LinkFault) = rose
-Closes settings w count max None rose (Err error.NoMemory) = Unit {0}
-Closes settings w count max None rose (Err e) = ⊥
+abbrev pub Closes : {E : Type 0} → Acceptance → Settings → World → ℕ → ℕ → Option (Turn E) → Type 0 → Result (Unit {0}) (RunError E) → Type 0
+Closes accepts settings w count max (Some turn) rose (Ok _) = (plan : Plan Outcome) × Owes accepts settings w turn.input plan × Follows plan (map Called turn.calls) (Ends turn.frames)
+Closes accepts settings w count max None rose (Ok _) = ⊥
+Closes accepts settings w count max (Some turn) rose (Err e) = (plan : Plan Outcome) × Owes accepts settings w turn.input plan × Stops plan turn.calls turn.frames rose e
+Closes accepts settings w count max None rose (Err error.InputLimit) = count ≡ max
+Closes accepts settings w count max None rose (Err error.LinkFault) = rose
+Closes accepts settings w count max None rose (Err error.NoMemory) = Unit {0}
+Closes accepts settings w count max None rose (Err e) = ⊥
 
 -- the inputs, calls and frames of a run, from before it to after it
-pub record Ran {E : Type 0} (settings : Settings) (before after : Option (List (Call E))) (trace trace' : Option (List TraceEntry))
+pub record Ran {E : Type 0} (accepts : Acceptance) (settings : Settings) (before after : Option (List (Call E))) (trace trace' : Option (List TraceEntry))
     (faults faults' max : ℕ) (result : Result (Unit {0}) (RunError E)) : Type 0 where
   -- the inputs that were finished, each by its row
   pub turns : List (Turn E)
   pub world : World
-  pub run : Run settings (opening_world settings) turns world
+  pub run : Run accepts settings (opening_world settings) turns world
   -- and one more, which ended the run or was not finished
   pub last : Option (Turn E)
-  pub closes : Closes settings world (length turns) max last (faults < faults') result
+  pub closes : Closes accepts settings world (length turns) max last (faults < faults') result
   -- no input is taken beyond the limit
   pub room : IfSome last (λ turn. length turns < max)
   -- the handler was called for these and for nothing else

@@ -1,63 +1,93 @@
 -- Which inputs a session can finish, said positively.
-use Rattle.std.specs.Prelude.{◌≡◌, ◌⊎◌, ℕ, List, [], ◌∷◌, Some, None, true, false, Result, Ok, Err, codes, drop}
+use Rattle.std.specs.Prelude.{◌≡◌, ◌<◌, ◌^◌, ◌⊎◌, ℕ, List, [], ◌∷◌, length, Some, None, Bool, true, false, Result, Ok, Err, codes, drop}
 use Rattle.ssh_wire.specs.Field.{Flag, Text, SpellsAll, SpellsWhole}
-use Rattle.ssh_auth.specs.Said.{Named, Is_none, Is_password, Is_unbuilt, Is_other, named_by, head_fields}
+use Rattle.ssh_auth.specs.Said.{Named, Is_none, Is_password, Is_publickey, Is_unbuilt, Is_other, named_by, head_fields}
 use Rattle.ssh_link.specs.declared.frame.InputKind.{InputKind}
 use Rattle.ssh_link.specs.declared.frame.InputKind.TheVariants.{Payload, End}
+use Rattle.ssh_keys.specs.declared.signature.Signature.{Signature}
+use Rattle.ssh_keys.specs.Signatures.{EndsInSignature}
+use Rattle.ssh_auth.specs.Layout.{pk_ok}
+use Rattle.ssh_auth.specs.Publickey.{Acceptance, Circumstances, Offer, OffersNothing, offer_fields, Offers}
+use Rattle.ssh_auth.specs.declared.auth.Auth.TheVariants.{Accept}
 use Rattle.ssh_auth.specs.declared.call.Call.{Call}
-use Rattle.ssh_auth.specs.declared.call.Call.TheVariants.{AuthenticationBanner, AuthNone, AuthPassword, AuthSucceeded}
+use Rattle.ssh_auth.specs.declared.call.Call.TheVariants.{AuthenticationBanner, AuthNone, AuthPassword, AuthPublickeyOffered, AuthPublickey, AuthOpensshCertificate, AuthSucceeded}
 use Rattle.ssh_session.specs.declared.error.RunError.{RunError}
 use Rattle.ssh_session.specs.declared.error.RunError.TheVariants as error
 use Rattle.ssh_session.specs.declared.gate.Gate.{Gate}
 use Rattle.ssh_session.specs.declared.gate.Gate.TheVariants as gate
-use Rattle.ssh_session.specs.World.{Settings, World}
+use Rattle.ssh_session.specs.World.{Settings, World, circumstances}
 use Rattle.ssh_session.specs.Gate.{gate_of}
 use Rattle.ssh_session.specs.Run.{Turn}
 
+-- boolean signed, string algorithm name, string blob: nothing that can be used is offered, and the rest is not read;
+-- or a usable offer is asked about; or it is signed, and string signature ends the request, which holds a signature
+abbrev pub AreValidKeyFields : Circumstances → List ℕ → Type 0
+AreValidKeyFields given fields =
+    ((signed : Bool) × (name blob rest : List ℕ) × SpellsAll offer_fields (signed, (name, (blob, tt))) fields rest
+    × OffersNothing given.accepts given.moment name blob)
+    ⊎ ((offer : Offer) × Offers given false offer fields [])
+    ⊎ ((offer : Offer) × (rest : List ℕ) × (signature : Signature) × Offers given true offer fields rest × EndsInSignature signature rest)
+
 -- the fields of a request's method fit their layout, and the method is built
-abbrev pub AreValidMethodFields : Named → List ℕ → Type 0
-AreValidMethodFields Is_none fields = fields ≡ []
-AreValidMethodFields Is_password fields =
+abbrev pub AreValidMethodFields : Circumstances → Named → List ℕ → Type 0
+AreValidMethodFields given Is_none fields = fields ≡ []
+AreValidMethodFields given Is_password fields =
     ((password : List ℕ) × SpellsWhole (Flag ∷ Text ∷ []) (false, (password, tt)) fields)
     ⊎ ((password new_password : List ℕ) × SpellsWhole (Flag ∷ Text ∷ Text ∷ []) (true, (password, (new_password, tt))) fields)
-AreValidMethodFields Is_unbuilt fields = ⊥
+AreValidMethodFields given Is_publickey fields = AreValidKeyFields given fields
+AreValidMethodFields given Is_unbuilt fields = ⊥
 -- of a method that the server does not have nothing is read
-AreValidMethodFields Is_other fields = Unit {0}
+AreValidMethodFields given Is_other fields = Unit {0}
 
 -- the fields fit their layout, and ask for what is built
-abbrev pub AreValidFields : Gate → List ℕ → Type 0
-AreValidFields gate.Nothing fields = Unit {0}
-AreValidFields gate.Ends fields = Unit {0}
-AreValidFields gate.OverCap fields = Unit {0}
-AreValidFields gate.ServiceRequest fields = (name : List ℕ) × SpellsWhole (Text ∷ []) (name, tt) fields
+abbrev pub AreValidFields : Circumstances → Gate → List ℕ → Type 0
+AreValidFields given gate.Nothing fields = Unit {0}
+AreValidFields given gate.Ends fields = Unit {0}
+AreValidFields given gate.OverCap fields = Unit {0}
+AreValidFields given gate.ServiceRequest fields = (name : List ℕ) × SpellsWhole (Text ∷ []) (name, tt) fields
 -- a request for the service ssh-connection
-AreValidFields gate.UserauthRequest fields = (user name rest : List ℕ)
-    × SpellsAll head_fields (user, (codes "ssh-connection", (name, tt))) fields rest × AreValidMethodFields (named_by name) rest
-AreValidFields gate.NotBuilt fields = ⊥
+AreValidFields given gate.UserauthRequest fields = (user name rest : List ℕ)
+    × SpellsAll head_fields (user, (codes "ssh-connection", (name, tt))) fields rest × AreValidMethodFields given (named_by name) rest
+AreValidFields given gate.NotBuilt fields = ⊥
 
-abbrev pub IsValidKind : Settings → World → InputKind → Type 0
-IsValidKind settings w End = Unit {0}
-IsValidKind settings w (Payload payload) = AreValidFields (gate_of settings w payload) (drop 1 payload)
+abbrev pub IsValidKind : Circumstances → Settings → World → InputKind → Type 0
+IsValidKind given settings w End = Unit {0}
+IsValidKind given settings w (Payload payload) = AreValidFields given (gate_of settings w payload) (drop 1 payload)
 
--- the call answered no error, and no banner
-abbrev pub IsFine : {E : Type 0} → Call E → Type 0
-IsFine (AuthenticationBanner (Ok None)) = Unit {0}
-IsFine (AuthenticationBanner (Ok (Some text))) = ⊥
-IsFine (AuthenticationBanner (Err e)) = ⊥
-IsFine (AuthNone user (Ok auth)) = Unit {0}
-IsFine (AuthNone user (Err e)) = ⊥
-IsFine (AuthPassword user password (Ok auth)) = Unit {0}
-IsFine (AuthPassword user password (Err e)) = ⊥
-IsFine (AuthSucceeded (Ok done)) = Unit {0}
-IsFine (AuthSucceeded (Err e)) = ⊥
+-- PK_OK, the reply to a probe whose key may sign, is no longer than a payload can be (RFC 4252 section 7)
+abbrev pub HasShortReply : InputKind → Type 0
+HasShortReply End = Unit {0}
+HasShortReply (Payload payload) = (user name blob rest : List ℕ) →
+    SpellsAll head_fields (user, (codes "ssh-connection", (codes "publickey", tt))) (drop 1 payload) rest →
+    SpellsAll offer_fields (false, (name, (blob, tt))) rest [] → length (pk_ok name blob) < 2 ^ 32
 
-abbrev pub AreFine : {E : Type 0} → List (Call E) → Type 0
-AreFine [] = Unit {0}
-AreFine (call ∷ calls) = IsFine call × AreFine calls
+-- the call answered no error, no banner, and no acceptance of a probe whose reply is too long
+abbrev pub IsFine : {E : Type 0} → InputKind → Call E → Type 0
+IsFine kind (AuthenticationBanner (Ok None)) = Unit {0}
+IsFine kind (AuthenticationBanner (Ok (Some text))) = ⊥
+IsFine kind (AuthenticationBanner (Err e)) = ⊥
+IsFine kind (AuthNone user (Ok auth)) = Unit {0}
+IsFine kind (AuthNone user (Err e)) = ⊥
+IsFine kind (AuthPassword user password (Ok auth)) = Unit {0}
+IsFine kind (AuthPassword user password (Err e)) = ⊥
+IsFine kind (AuthPublickeyOffered user key algorithm (Ok Accept)) = HasShortReply kind
+IsFine kind (AuthPublickeyOffered user key algorithm (Ok auth)) = Unit {0}
+IsFine kind (AuthPublickeyOffered user key algorithm (Err e)) = ⊥
+IsFine kind (AuthPublickey user key algorithm (Ok auth)) = Unit {0}
+IsFine kind (AuthPublickey user key algorithm (Err e)) = ⊥
+IsFine kind (AuthOpensshCertificate user certificate (Ok auth)) = Unit {0}
+IsFine kind (AuthOpensshCertificate user certificate (Err e)) = ⊥
+IsFine kind (AuthSucceeded (Ok done)) = Unit {0}
+IsFine kind (AuthSucceeded (Err e)) = ⊥
 
--- in this world the input is valid, and so are the answers that it got
-abbrev pub IsValid : {E : Type 0} → Settings → World → Turn E → Type 0
-IsValid settings w turn = IsValidKind settings w turn.input.kind × AreFine turn.calls
+abbrev pub AreFine : {E : Type 0} → InputKind → List (Call E) → Type 0
+AreFine kind [] = Unit {0}
+AreFine kind (call ∷ calls) = IsFine kind call × AreFine kind calls
+
+-- in this world the input is valid, and so are the answers that it got, where the verifier accepts these signatures
+abbrev pub IsValid : {E : Type 0} → Acceptance → Settings → World → Turn E → Type 0
+IsValid accepts settings w turn =
+    IsValidKind (circumstances accepts settings turn.input.moment) settings w turn.input.kind × AreFine turn.input.kind turn.calls
 
 -- no answer but these three
 abbrev pub IsComplete : {E : Type 0} → Result (Unit {0}) (RunError E) → Type 0

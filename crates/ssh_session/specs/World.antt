@@ -5,6 +5,7 @@ use Rattle.ssh_handler.specs.declared.config.Config.{Config}
 use Rattle.ssh_session.specs.declared.phase.Phase.{Phase}
 use Rattle.ssh_session.specs.declared.phase.Phase.TheVariants.{ServiceRequest}
 use Rattle.ssh_auth.specs.declared.auth_request.AuthRequest.{AuthRequest}
+use Rattle.ssh_auth.specs.Publickey.{Acceptance, Circumstances}
 use Rattle.ssh_auth.specs.Request.{server_request}
 
 -- what is fixed in a run
@@ -15,6 +16,10 @@ pub record Settings : Type 0 where
 -- a run of a server that is set up so, over a key exchange with this session id
 abbrev pub settings_of : Config → List ℕ → Settings
 settings_of config session_id = record { config = config; session_id = session_id }
+
+-- what a request at this moment is judged by, where the verifier accepts these signatures
+abbrev pub circumstances : Acceptance → Settings → (moment : ℕ) → Circumstances
+circumstances accepts settings moment = record { accepts = accepts; session_id = settings.session_id; moment = moment }
 
 pub record World : Type 0 where
   pub phase : Phase

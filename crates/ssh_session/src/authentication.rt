@@ -4,7 +4,7 @@ ghost use Rattle.ssh_auth.specs.Serve.{IsNumbered};
 ghost use Rattle.ssh_auth.specs.Plan.{Finish};
 ghost use Rattle.ssh_auth.specs.declared.auth_step.AuthVerdict.TheVariants as verdict;
 ghost use Rattle.ssh_session.specs.declared.gate.Gate.TheVariants as gate;
-ghost use Rattle.ssh_session.specs.World.{Settings, World};
+ghost use Rattle.ssh_session.specs.World.{Settings, World, circumstances};
 ghost use Rattle.ssh_session.specs.Said.{Said, Says, Over_cap};
 ghost use Rattle.ssh_session.specs.Outcome.{Goes};
 ghost use Rattle.ssh_session.specs.Rows.{row, reply_row, rejection_hold};
@@ -16,26 +16,29 @@ use crate::{Flow, RunError, Session};
 use bytes::Bytes;
 use ssh_auth::{AuthStep, AuthVerdict, serve_request};
 use ssh_handler::Handler;
+use ssh_keys::Verifier;
 use ssh_link::Frame;
 
 impl Session {
     /// USERAUTH_REQUEST (RFC 4252 section 5).
-    pub(crate) fn serve_userauth_request<H: Handler>(
+    pub(crate) fn serve_userauth_request<H: Handler, V: Verifier>(
         &mut self,
         handler: &mut H,
+        verifier: &V,
         moment: u64,
         payload: &[u8],
         staged: &mut Vec<Frame>,
     ) -> Result<Flow, RunError<H::Error>>
         requires { IsNumbered 50 payload.now }
         ensures { (settings : Settings) (w : World) → Refines settings self.old w →
-            (said : Said) × Says gate.UserauthRequest payload.now said × Serves settings (row settings moment w said)
+            (said : Said) × Says (circumstances (V.accepts verifier.now) settings moment) gate.UserauthRequest payload.now said × Serves settings (row settings moment w said)
             (H.AuthHandler.told handler.old) (H.AuthHandler.told handler.new) staged.old.items staged.new.items self.new result }
     {
         match serve_request(
             self.alloc,
             &mut self.auth,
             handler,
+            verifier,
             self.session_id.as_slice(),
             moment,
             payload,

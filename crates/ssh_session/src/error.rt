@@ -4,6 +4,7 @@ ghost use Rattle.ssh_session.specs.declared.error.RunError.TheVariants.{NoMemory
 ghost use Rattle.ssh_session.specs.Failure.{run_error_of, error_of_auth};
 
 use ssh_auth::AuthError;
+use ssh_keys::KeyError;
 use ssh_wire::WireError;
 use std::alloc::{AllocError, AllocFailed};
 
@@ -28,10 +29,13 @@ pub enum RunError<HE> {
     /// A request of authentication names another service than `ssh-connection`, or the session is
     /// spent.
     Inconsistent,
+    /// The blob of a key or a certificate in a request does not fit its layout, or a signature
+    /// does not: always `KeyError::Blob`.
+    Key(KeyError),
     /// The handler answered this error.
     Handler(HE),
     /// The payload asks for what is not built yet: a key exchange, a message of the connection, a
-    /// request by publickey or keyboard-interactive, a response to prompts, or a banner.
+    /// request by keyboard-interactive, a response to prompts, or a banner.
     NotBuilt,
 }
 
@@ -70,6 +74,7 @@ impl<HE> From<AuthError<HE>> for RunError<HE> {
             AuthError::NoMemory => RunError::NoMemory,
             AuthError::Encoding(refused) => RunError::Encoding(refused),
             AuthError::Inconsistent => RunError::Inconsistent,
+            AuthError::Key(why) => RunError::Key(why),
             AuthError::Handler(e) => RunError::Handler(e),
             AuthError::NotBuilt => RunError::NotBuilt,
         }

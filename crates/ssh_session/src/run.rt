@@ -7,21 +7,23 @@ ghost use Rattle.ssh_session.specs.Valid.{IsValid, IsComplete, IsEnding};
 
 use crate::{Flow, RunError, Session};
 use ssh_handler::{Config, Handler};
+use ssh_keys::Verifier;
 use ssh_link::{Link, LinkFault};
 use std::alloc::Global;
 
 // The loop of a run.
-fn run_inputs<H: Handler, L: Link>(
+fn run_inputs<H: Handler, V: Verifier, L: Link>(
     alloc: Global,
     config: &Config,
     session_id: &[u8],
     remote_sshid: &[u8],
     handler: &mut H,
+    verifier: &V,
     link: &mut L,
     max_inputs: u64,
 ) -> Result<(), RunError<H::Error>>
     requires { length session_id.now < 2 ^ 32 }
-    ensures { Ran (settings_of config.now session_id.now) (H.AuthHandler.told handler.old) (H.AuthHandler.told handler.new)
+    ensures { Ran (V.accepts verifier.now) (settings_of config.now session_id.now) (H.AuthHandler.told handler.old) (H.AuthHandler.told handler.new)
         (L.trace link.old) (L.trace link.new) (L.faults link.old) (L.faults link.new) max_inputs result }
 {
     let mut session = Session::new(alloc, config, session_id, remote_sshid)?;
@@ -31,7 +33,7 @@ fn run_inputs<H: Handler, L: Link>(
             Err(LinkFault::Failed) => return Err(RunError::LinkFault),
             Err(LinkFault::NoMemory) => return Err(RunError::NoMemory),
         };
-        match session.step(handler, link, input) {
+        match session.step(handler, verifier, link, input) {
             Ok(Flow::Continue) => {}
             Ok(Flow::Ended) => return Ok(()),
             Err(e) => return Err(e),
@@ -43,32 +45,33 @@ fn run_inputs<H: Handler, L: Link>(
 /// Serves one connection: takes inputs from the link until one ends the run (`Ok`), an error comes,
 /// or `max_inputs` of them were finished (`InputLimit`). `session_id` is that of the key exchange
 /// (RFC 4253 section 7.2), at most 2^32 - 1 bytes; `remote_sshid` is the peer's identification line.
-pub fn run_stream<H: Handler, L: Link>(
+pub fn run_stream<H: Handler, V: Verifier, L: Link>(
     alloc: Global,
     config: &Config,
     session_id: &[u8],
     remote_sshid: &[u8],
     handler: &mut H,
+    verifier: &V,
     link: &mut L,
     max_inputs: u64,
 ) -> Result<(), RunError<H::Error>>
     requires { length session_id.now < 2 ^ 32 }
     // The calls, the frames and the answer are those that the inputs owe, row by row.
-    ensures run { Ran (settings_of config.now session_id.now) (H.AuthHandler.told handler.old) (H.AuthHandler.told handler.new)
+    ensures run { Ran (V.accepts verifier.now) (settings_of config.now session_id.now) (H.AuthHandler.told handler.old) (H.AuthHandler.told handler.new)
         (L.trace link.old) (L.trace link.new) (L.faults link.old) (L.faults link.new) max_inputs result }
     // Ok comes only where the last input ended the run.
-    ensures ended { (account : Ran (settings_of config.now session_id.now) (H.AuthHandler.told handler.old) (H.AuthHandler.told handler.new)
+    ensures ended { (account : Ran (V.accepts verifier.now) (settings_of config.now session_id.now) (H.AuthHandler.told handler.old) (H.AuthHandler.told handler.new)
         (L.trace link.old) (L.trace link.new) (L.faults link.old) (L.faults link.new) max_inputs result) →
         OnOk result (IsSomeAnd account.last (λ turn. IsEnding (settings_of config.now session_id.now) account.world turn.input.kind)) }
     // Nothing of the connection is served before an accepted authentication.
-    ensures authorised { (account : Ran (settings_of config.now session_id.now) (H.AuthHandler.told handler.old) (H.AuthHandler.told handler.new)
+    ensures authorised { (account : Ran (V.accepts verifier.now) (settings_of config.now session_id.now) (H.AuthHandler.told handler.old) (H.AuthHandler.told handler.new)
         (L.trace link.old) (L.trace link.new) (L.faults link.old) (L.faults link.new) max_inputs result) →
-        Authorised ⊥ (account.turns ++ option_to_list account.last) }
+        Authorised (V.accepts verifier.now) (settings_of config.now session_id.now) ⊥ (account.turns ++ option_to_list account.last) }
     // Where no fault rose and the last input was valid, it ends well, or memory or the limit of inputs ends it.
-    ensures complete { (account : Ran (settings_of config.now session_id.now) (H.AuthHandler.told handler.old) (H.AuthHandler.told handler.new)
+    ensures complete { (account : Ran (V.accepts verifier.now) (settings_of config.now session_id.now) (H.AuthHandler.told handler.old) (H.AuthHandler.told handler.new)
         (L.trace link.old) (L.trace link.new) (L.faults link.old) (L.faults link.new) max_inputs result) →
         L.faults link.new ≡ L.faults link.old →
-        IfSome account.last (IsValid (settings_of config.now session_id.now) account.world) → IsComplete result }
+        IfSome account.last (IsValid (V.accepts verifier.now) (settings_of config.now session_id.now) account.world) → IsComplete result }
     ensures link_fault { IsErrOf result RunError.LinkFault → L.faults link.old < L.faults link.new }
 {
     run_inputs(
@@ -77,6 +80,7 @@ pub fn run_stream<H: Handler, L: Link>(
         session_id,
         remote_sshid,
         handler,
+        verifier,
         link,
         max_inputs,
     )

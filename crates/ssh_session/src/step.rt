@@ -3,7 +3,7 @@ ghost use Rattle.std.specs.Prelude.{◌≡◌, ◌≢◌, ◌≤◌, ◌<◌, �
 ghost use Rattle.ssh_link.specs.declared.frame.Frame.{Frame as FrameOf};
 ghost use Rattle.ssh_link.specs.declared.link.TraceEntry.TheVariants.{Sent};
 ghost use Rattle.ssh_link.specs.Told.{Adds};
-ghost use Rattle.ssh_session.specs.World.{Settings, World};
+ghost use Rattle.ssh_session.specs.World.{Settings, World, circumstances};
 ghost use Rattle.ssh_session.specs.Gate.{gate_of};
 ghost use Rattle.ssh_session.specs.Said.{Said, Says};
 ghost use Rattle.ssh_session.specs.Rows.{row};
@@ -14,6 +14,7 @@ use crate::gate::Gate;
 use crate::message::fields_of;
 use crate::{Flow, RunError, Session};
 use ssh_handler::Handler;
+use ssh_keys::Verifier;
 use ssh_link::{Frame, Input, InputKind, Link, LinkFault};
 
 /// Hands the staged frames on, in order.
@@ -33,13 +34,14 @@ impl Session {
     /// Takes one input and finishes it: makes the callbacks that it owes, and then hands its frames
     /// on. After an error or `Ended` the session is spent, and each later call answers
     /// `Inconsistent`, calls nothing and hands nothing on.
-    pub fn step<H: Handler, L: Link>(
+    pub fn step<H: Handler, V: Verifier, L: Link>(
         &mut self,
         handler: &mut H,
+        verifier: &V,
         link: &mut L,
         input: Input,
     ) -> Result<Flow, RunError<H::Error>>
-        ensures taken { (settings : Settings) (w : World) → Refines settings self.old w → Steps settings w input (H.AuthHandler.told handler.old) (H.AuthHandler.told handler.new)
+        ensures taken { (settings : Settings) (w : World) → Refines settings self.old w → Steps (V.accepts verifier.now) settings w input (H.AuthHandler.told handler.old) (H.AuthHandler.told handler.new)
             (L.trace link.old) (L.trace link.new) (L.faults link.old) (L.faults link.new) self.new result }
         ensures spends { is_spent self.old ≢ true → result ≢ Ok Flow.Continue → is_spent self.new ≡ true }
         ensures refused { is_spent self.old ≡ true → result ≡ Err RunError.Inconsistent }
@@ -50,7 +52,7 @@ impl Session {
         if self.spent {
             return Err(RunError::Inconsistent);
         }
-        let outcome = self.take(handler, link, input);
+        let outcome = self.take(handler, verifier, link, input);
         self.note(&outcome);
         outcome
     }
@@ -67,13 +69,14 @@ impl Session {
     }
 
     /// An input of a session that is not spent.
-    fn take<H: Handler, L: Link>(
+    fn take<H: Handler, V: Verifier, L: Link>(
         &mut self,
         handler: &mut H,
+        verifier: &V,
         link: &mut L,
         input: Input,
     ) -> Result<Flow, RunError<H::Error>>
-        ensures { (settings : Settings) (w : World) → Refines settings self.old w → Steps settings w input (H.AuthHandler.told handler.old) (H.AuthHandler.told handler.new)
+        ensures { (settings : Settings) (w : World) → Refines settings self.old w → Steps (V.accepts verifier.now) settings w input (H.AuthHandler.told handler.old) (H.AuthHandler.told handler.new)
             (L.trace link.old) (L.trace link.new) (L.faults link.old) (L.faults link.new) self.new result }
     {
         let Input { moment, kind } = input;
@@ -81,7 +84,7 @@ impl Session {
             return Ok(Flow::Ended);
         };
         let mut staged = Vec::new(self.alloc);
-        let flow = match self.serve(handler, moment, payload.as_slice(), &mut staged) {
+        let flow = match self.serve(handler, verifier, moment, payload.as_slice(), &mut staged) {
             Ok(flow) => flow,
             Err(e) => return Err(e),
         };
@@ -93,15 +96,16 @@ impl Session {
     }
 
     /// A payload: makes the calls that its row owes, and stages its frames.
-    fn serve<H: Handler>(
+    fn serve<H: Handler, V: Verifier>(
         &mut self,
         handler: &mut H,
+        verifier: &V,
         moment: u64,
         payload: &[u8],
         staged: &mut Vec<Frame>,
     ) -> Result<Flow, RunError<H::Error>>
         ensures { (settings : Settings) (w : World) → Refines settings self.old w →
-            (said : Said) × Says (gate_of settings w payload.now) payload.now said
+            (said : Said) × Says (circumstances (V.accepts verifier.now) settings moment) (gate_of settings w payload.now) payload.now said
             × Serves settings (row settings moment w said) (H.AuthHandler.told handler.old) (H.AuthHandler.told handler.new) staged.old.items staged.new.items self.new result }
     {
         let fields = fields_of(payload);
@@ -109,7 +113,9 @@ impl Session {
             Gate::Nothing => Ok(Flow::Continue),
             Gate::Ends => Ok(Flow::Ended),
             Gate::ServiceRequest => self.serve_service_request(handler, fields, staged),
-            Gate::UserauthRequest => self.serve_userauth_request(handler, moment, payload, staged),
+            Gate::UserauthRequest => {
+                self.serve_userauth_request(handler, verifier, moment, payload, staged)
+            }
             Gate::OverCap => self.serve_over_cap(staged),
             Gate::NotBuilt => Err(RunError::NotBuilt),
         }

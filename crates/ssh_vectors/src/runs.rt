@@ -2,6 +2,7 @@
 use bytes::Bytes;
 use ssh_auth::{Auth, AuthHandler, Unwritten};
 use ssh_handler::{Commands, Config, Handler, RecordError, Recorded};
+use ssh_keys::TableVerifier;
 use ssh_link::{Calls, Input, InputKind, Inputs, MemoryLink, TraceEntry};
 use ssh_session::{Flow, RunError, Session, run_stream};
 use ssh_wire::Text;
@@ -87,11 +88,12 @@ fn sent(link: &MemoryLink) -> usize {
 fn a_link_that_fails(rt: HostRuntime) -> Result<(), Fail> {
     let alloc = rt.alloc();
     let config = Config::standard();
+    let verifier = TableVerifier::new(alloc);
     // Call 1 takes the input, call 2 hands the frame on, call 3 takes the end.
     for (number, frames) in [(1u64, 0usize), (2, 0), (3, 1)] {
         let mut link = service_link(alloc, &[number])?;
         let mut handler = Recorded::new(alloc, Open);
-        let run = run_stream(alloc, &config, b"", b"", &mut handler, &mut link, 10);
+        let run = run_stream(alloc, &config, b"", b"", &mut handler, &verifier, &mut link, 10);
         assert!(rt; matches!(run, Err(RunError::LinkFault)));
         assert_eq!(rt; sent(&link), frames);
     }
@@ -102,9 +104,10 @@ fn a_link_that_fails(rt: HostRuntime) -> Result<(), Fail> {
 fn a_handler_that_fails(rt: HostRuntime) -> Result<(), Fail> {
     let alloc = rt.alloc();
     let config = Config::standard();
+    let verifier = TableVerifier::new(alloc);
     let mut link = service_link(alloc, &[])?;
     let mut handler = Recorded::new(alloc, NoBanner);
-    let run = run_stream(alloc, &config, b"", b"", &mut handler, &mut link, 10);
+    let run = run_stream(alloc, &config, b"", b"", &mut handler, &verifier, &mut link, 10);
     assert!(rt; matches!(run, Err(RunError::Handler(RecordError::Inner(Tired)))));
     assert_eq!(rt; sent(&link), 0);
     assert_eq!(rt; handler.calls().len(), 1);
@@ -115,15 +118,16 @@ fn a_handler_that_fails(rt: HostRuntime) -> Result<(), Fail> {
 fn a_session_that_is_spent(rt: HostRuntime) -> Result<(), Fail> {
     let alloc = rt.alloc();
     let config = Config::standard();
+    let verifier = TableVerifier::new(alloc);
     let mut link = service_link(alloc, &[])?;
     let mut handler = Recorded::new(alloc, Open);
     let mut session = Session::new(alloc, &config, b"", b"SSH-2.0-test")?;
-    let first = session.step(&mut handler, &mut link, input(alloc, SERVICE)?);
+    let first = session.step(&mut handler, &verifier, &mut link, input(alloc, SERVICE)?);
     assert!(rt; matches!(first, Ok(Flow::Continue)));
-    let disconnect = session.step(&mut handler, &mut link, input(alloc, b"\x01")?);
+    let disconnect = session.step(&mut handler, &verifier, &mut link, input(alloc, b"\x01")?);
     assert!(rt; matches!(disconnect, Ok(Flow::Ended)));
     assert!(rt; session.spent());
-    let later = session.step(&mut handler, &mut link, input(alloc, SERVICE)?);
+    let later = session.step(&mut handler, &verifier, &mut link, input(alloc, SERVICE)?);
     assert!(rt; matches!(later, Err(RunError::Inconsistent)));
     assert_eq!(rt; handler.calls().len(), 1);
     assert_eq!(rt; sent(&link), 1);

@@ -5,16 +5,18 @@ use bytes::Bytes;
 use ssh_link::{Calls, IoFailed, MemorySink, MemorySource, Sink};
 use ssh_script::run_script;
 use std::alloc::Global;
+use std::process::Abort;
 use std::test::Fail;
 
 // The request for the service ssh-userauth.
 const SERVICE: &[u8] = b"recv 050000000c7373682d7573657261757468\n";
 
+/// A script, and what comes of it.
 #[derive(Drop)]
-struct Case {
-    script: &'static [u8],
-    status: u8,
-    written: &'static [u8],
+pub(crate) struct Case {
+    pub script: &'static [u8],
+    pub status: u8,
+    pub written: &'static [u8],
 }
 
 fn calls(alloc: Global, numbers: &[u64]) -> Result<Calls, Fail> {
@@ -25,7 +27,8 @@ fn calls(alloc: Global, numbers: &[u64]) -> Result<Calls, Fail> {
     Ok(calls)
 }
 
-fn run(
+/// Runs a script; the reads and writes of these numbers fail.
+pub(crate) fn run(
     alloc: Global,
     words: &[&str],
     script: &[u8],
@@ -37,6 +40,16 @@ fn run(
     let mut sink = MemorySink::new(alloc, calls(alloc, failing_writes)?);
     let status = run_script(alloc, words, &mut source, &mut sink);
     Ok((status, sink))
+}
+
+/// Whether each script comes to what its case says.
+pub(crate) fn passes(rt: &impl Abort, alloc: Global, cases: &[Case]) -> Result<(), Fail> {
+    for case in cases {
+        let (status, sink) = run(alloc, &["run"], case.script, &[], &[])?;
+        assert_eq!(rt; status, case.status);
+        assert_eq!(rt; sink.bytes(), case.written);
+    }
+    Ok(())
 }
 
 #[test]
@@ -130,12 +143,7 @@ fn runs(rt: HostRuntime) -> Result<(), Fail> {
             written: b"input 1\ninput 2\nok\n",
         },
     ];
-    for case in &cases {
-        let (status, sink) = run(rt.alloc(), &["run"], case.script, &[], &[])?;
-        assert_eq!(rt; status, case.status);
-        assert_eq!(rt; sink.bytes(), case.written);
-    }
-    Ok(())
+    passes(&rt, rt.alloc(), &cases)
 }
 
 // A wrong password of alice.

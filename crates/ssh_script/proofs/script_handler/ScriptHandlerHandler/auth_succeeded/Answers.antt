@@ -1,7 +1,7 @@
-use Rattle.std.proofs.Common.{refl, Ok, drop}
+use Rattle.std.proofs.Common.{refl, Ok}
 use Rattle.ssh_auth.specs.declared.call.Call.TheVariants.{AuthSucceeded}
 use Rattle.ssh_script.specs.declared.asked.Asked.TheVariants as asked
-use Rattle.ssh_script.specs.Played.{queues_in, queues_of}
+use Rattle.ssh_script.specs.Played.{queues_in, queues_from}
 use Rattle.ssh_script.proofs.Telling.{tells_call, left_same}
 use Rattle.ssh_script.proofs.script_handler.ScriptHandlerHandler.auth_succeeded.Goals as goal
 
@@ -9,14 +9,16 @@ abbrev done : Unit {0}
 done = tt
 
 pub invariant_of-self : goal.invariant_of-self
-invariant_of-self c = record {
-  left = left_same c.keep.result (queues_in c.args.self.now.answers)
-      (queues_of (drop c.args.self.now.next_none c.args.self.now.answers.none.items) (drop c.args.self.now.next_password c.args.self.now.answers.password.items) c.args.self.now.banners_left)
-      c.args.self.now.asked.items c.keep.new.all.items asked.AuthSucceeded c.args.self.now.left c.keep.ensures.ok c.keep.ensures.err refl;
-}
+invariant_of-self c =
+    let self = c.args.self.now in
+    record {
+      left = left_same c.keep.result (queues_in self.answers) (queues_from self.answers self.next self.banners_left)
+          self.asked.items c.keep.new.all.items asked.AuthSucceeded self.left c.keep.ensures.ok c.keep.ensures.err refl;
+    }
 
 pub returns : goal.returns
-returns c = tells_call c.args.self.now.lost c.keep.new.lost (queues_in c.args.self.now.answers)
-    (queues_of (drop c.args.self.now.next_none c.args.self.now.answers.none.items) (drop c.args.self.now.next_password c.args.self.now.answers.password.items) c.args.self.now.banners_left)
-    c.args.self.now.asked.items c.keep.new.all.items asked.AuthSucceeded (Ok done) (AuthSucceeded (Ok done)) c.args.self.now.left c.in_ok-keep.ensures.ok
+returns c =
+    let self = c.args.self.now in
+    tells_call self.lost c.keep.new.lost (queues_in self.answers) (queues_from self.answers self.next self.banners_left)
+    self.asked.items c.keep.new.all.items asked.AuthSucceeded (Ok done) (AuthSucceeded (Ok done)) self.left c.in_ok-keep.ensures.ok
     c.in_ok-keep.ensures.same refl
