@@ -1,3 +1,5 @@
 pub mod Asks
+pub mod Keys
 pub mod Misfits
 pub mod Plans
+pub mod Signatures

@@ -15,3 +15,7 @@ failure methods partial = 51 ∷ string (names_text methods) ++ flag partial ∷
 -- USERAUTH_SUCCESS: byte 52
 abbrev pub success : List ℕ
 success = 52 ∷ []
+
+-- PK_OK: byte 60, string algorithm name, string blob (RFC 4252 section 7)
+abbrev pub pk_ok : (name blob : List ℕ) → List ℕ
+pk_ok name blob = 60 ∷ string name ++ string blob

@@ -1,6 +1,9 @@
 pub mod Failure
 pub mod Layout
 pub mod Plan
+pub mod Proven
+pub mod Publickey
+pub mod Read
 pub mod Request
 pub mod Said
 pub mod Serve

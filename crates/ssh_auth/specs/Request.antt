@@ -46,6 +46,11 @@ bound_to auth user service = if is_bound auth.bound user service then auth else 
 abbrev pub begun : AuthRequest → List ℕ → List ℕ → AuthRequest
 begun auth user service = record (bound_to auth user service) { partial_success = false }
 
+-- whether the round is the accepted probe of this blob under this name of an algorithm
+abbrev pub is_probed : Option CurrentRequest → (name blob : List ℕ) → Bool
+is_probed (Some (round.PublicKey key algo sent_pk_ok)) name blob = sent_pk_ok && (bytes_eq key blob && bytes_eq algo name)
+is_probed _ name blob = false
+
 -- the count of rejections after one more: a partial success is none
 abbrev pub count_after : Bool → ℕ → ℕ
 count_after partial count = if partial then count else min (count + 1) (2 ^ 64 - 1)

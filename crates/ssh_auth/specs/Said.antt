@@ -1,9 +1,13 @@
 -- What a USERAUTH_REQUEST says, after its number (RFC 4252 section 5).
-use Rattle.std.specs.Prelude.{◌≡◌, ◌≢◌, ◌⊎◌, ℕ, List, [], ◌∷◌, true, false, bytes_eq, codes, if◌then◌else◌}
+use Rattle.std.specs.Prelude.{◌≡◌, ◌≢◌, ◌⊎◌, ℕ, List, [], ◌∷◌, ◌++◌, Bool, true, false, Option, bytes_eq, codes, if◌then◌else◌}
 use Rattle.ssh_wire.specs.declared.error.WireError.{WireError}
-use Rattle.ssh_auth.specs.declared.message.MethodRequest.{MethodRequest}
-use Rattle.ssh_auth.specs.declared.message.MethodRequest.TheVariants as read
 use Rattle.ssh_wire.specs.Field.{Field, Flag, Text, SpellsAll, SpellsWhole, MisfitsAll, MisfitsWhole}
+use Rattle.ssh_keys.specs.declared.error.KeyError.TheVariants.{Blob}
+use Rattle.ssh_keys.specs.declared.signature.Signature.{Signature}
+use Rattle.ssh_keys.specs.Algorithms.{algorithm_name}
+use Rattle.ssh_keys.specs.Offers.{FailsOffer, offered_key}
+use Rattle.ssh_keys.specs.Signatures.{EndsInSignature}
+use Rattle.ssh_auth.specs.Publickey.{Circumstances, Offer, OffersNothing, offer_fields, Offers, question, IsAnswer, MisfitsSignature, HoldsNoSignature}
 
 -- string user name, string service name, string method name
 abbrev pub head_fields : List Field
@@ -15,6 +19,16 @@ pub data Method : Type 0 where
   Password_method : (password : List ℕ) → Method
   -- a password and a new one
   Change_method : (password new_password : List ℕ) → Method
+  -- a key or a certificate that cannot be used, whose request is read no further
+  Unusable_method : Method
+  -- the blob of a key or a certificate, or a signature, that does not fit its layout
+  Broken_method : Method
+  -- a question whether a key may sign
+  Probe_method : (offer : Offer) → Method
+  -- a signature by another algorithm than the one that the request names
+  Misnamed_method : Method
+  -- a signature by that algorithm, and whether the verifier accepts it, where it was asked
+  Signed_method : (offer : Offer) → (accepted : Option Bool) → Method
   -- a method that the server does not have
   Other_method : Method
   -- a method that is not built
@@ -29,6 +43,8 @@ pub data Said : Type 0 where
   Other_service : Said
   -- the head does not fit
   Unfit : (why : WireError) → Said
+  -- memory was wanting to read it: whatever it says
+  Unread : Said
 
 -- the method none has no fields (RFC 4252 section 5.2)
 abbrev pub SaysNone : List ℕ → Method → Type 0
@@ -46,10 +62,33 @@ SaysPassword fields (Unfit_method why) =
     ⊎ ((rest : List ℕ) × SpellsAll (Flag ∷ []) (true, tt) fields rest × MisfitsWhole (Text ∷ Text ∷ []) rest why)
 SaysPassword fields _ = ⊥
 
+-- boolean signed, string algorithm name, string blob, and where it is signed, string signature, which holds string
+-- algorithm name and string signature (RFC 4252 section 7): these fields end all fields of the request
+abbrev pub SaysPublickey : Circumstances → (all fields : List ℕ) → Method → Type 0
+SaysPublickey given all fields Unusable_method =
+    (signed : Bool) × (name blob rest : List ℕ) × SpellsAll offer_fields (signed, (name, (blob, tt))) fields rest × OffersNothing given.accepts given.moment name blob
+SaysPublickey given all fields Broken_method =
+    ((signed : Bool) × (name blob rest : List ℕ) × SpellsAll offer_fields (signed, (name, (blob, tt))) fields rest × FailsOffer name blob Blob)
+    ⊎ ((offer : Offer) × (rest : List ℕ) × Offers given true offer fields rest × HoldsNoSignature rest)
+SaysPublickey given all fields (Probe_method offer) = Offers given false offer fields []
+SaysPublickey given all fields Misnamed_method =
+    (offer : Offer) × (rest : List ℕ) × (signature : Signature) × Offers given true offer fields rest × EndsInSignature signature rest
+    × (signature.name ≢ algorithm_name offer.algorithm)
+SaysPublickey given all fields (Signed_method offer accepted) =
+    (rest unsigned : List ℕ) × (signature : Signature) × Offers given true offer fields rest × EndsInSignature signature rest
+    × (signature.name ≡ algorithm_name offer.algorithm) × (all ≡ unsigned ++ rest)
+    × IsAnswer given.accepts (offered_key offer.key) offer.algorithm (question given.session_id unsigned) signature.blob accepted
+SaysPublickey given all fields (Unfit_method why) =
+    MisfitsAll offer_fields fields why
+    ⊎ ((offer : Offer) × (rest : List ℕ) × Offers given false offer fields rest × MisfitsWhole [] rest why)
+    ⊎ ((offer : Offer) × (rest : List ℕ) × Offers given true offer fields rest × MisfitsSignature rest why)
+SaysPublickey given all fields _ = ⊥
+
 -- the methods whose fields are read, those that are not built, and the others, whose fields stay unread
 pub data Named : Type 0 where
   Is_none : Named
   Is_password : Named
+  Is_publickey : Named
   Is_unbuilt : Named
   Is_other : Named
 
@@ -57,27 +96,22 @@ abbrev pub named_by : List ℕ → Named
 named_by name =
     if bytes_eq name (codes "none") then Is_none
     else (if bytes_eq name (codes "password") then Is_password
-    else (if bytes_eq name (codes "publickey") then Is_unbuilt
+    else (if bytes_eq name (codes "publickey") then Is_publickey
     else (if bytes_eq name (codes "keyboard-interactive") then Is_unbuilt else Is_other)))
 
-abbrev pub SaysMethod : Named → List ℕ → Method → Type 0
-SaysMethod Is_none fields method = SaysNone fields method
-SaysMethod Is_password fields method = SaysPassword fields method
-SaysMethod Is_unbuilt fields method = method ≡ Unbuilt_method
-SaysMethod Is_other fields method = method ≡ Other_method
+abbrev pub SaysMethod : Circumstances → (all : List ℕ) → Named → (fields : List ℕ) → Method → Type 0
+SaysMethod given all Is_none fields method = SaysNone fields method
+SaysMethod given all Is_password fields method = SaysPassword fields method
+SaysMethod given all Is_publickey fields method = SaysPublickey given all fields method
+SaysMethod given all Is_unbuilt fields method = method ≡ Unbuilt_method
+SaysMethod given all Is_other fields method = method ≡ Other_method
 
--- the fields after the number say this
-abbrev pub Says : List ℕ → Said → Type 0
-Says fields (Request user method) =
-    (name rest : List ℕ) × SpellsAll head_fields (user, (codes "ssh-connection", (name, tt))) fields rest × SaysMethod (named_by name) rest method
-Says fields Other_service =
+-- under these circumstances the fields after the number say this
+abbrev pub Says : Circumstances → List ℕ → Said → Type 0
+Says given fields (Request user method) =
+    (name rest : List ℕ) × SpellsAll head_fields (user, (codes "ssh-connection", (name, tt))) fields rest
+    × SaysMethod given fields (named_by name) rest method
+Says given fields Other_service =
     (user service name rest : List ℕ) × SpellsAll head_fields (user, (service, (name, tt))) fields rest × (service ≢ codes "ssh-connection")
-Says fields (Unfit why) = MisfitsAll head_fields fields why
-
--- the method as the code reads it, without its borrows
-abbrev pub method_of : MethodRequest → Method
-method_of read.None = None_method
-method_of (read.Password password) = Password_method password.now
-method_of (read.PasswordChange password new_password) = Change_method password.now new_password.now
-method_of read.Other = Other_method
-method_of read.NotBuilt = Unbuilt_method
+Says given fields (Unfit why) = MisfitsAll head_fields fields why
+Says given fields Unread = Unit {0}

@@ -1,7 +1,7 @@
 // The state of authentication between requests.
 ghost use Rattle.std.specs.Prelude.{◌≡◌, None, true, false, not, IfOk, IfErr, OnOk, OnErr};
 ghost use Rattle.ssh_wire.specs.declared.error.WireError.TheVariants.{NoMemory};
-ghost use Rattle.ssh_auth.specs.Request.{server_request, client_request, principal_of, pair_of, initial_of, is_bound, bound_to, count_after};
+ghost use Rattle.ssh_auth.specs.Request.{server_request, client_request, principal_of, pair_of, initial_of, is_bound, bound_to, is_probed, count_after};
 
 use crate::Method;
 use bytes::Bytes;
@@ -136,6 +136,22 @@ impl AuthRequest {
         self.partial_success = false;
         self.current = None;
         Ok(true)
+    }
+
+    /// Whether the round is the accepted probe of this blob under this name of an algorithm.
+    pub(crate) fn is_probed(&self, name: &str, blob: &[u8]) -> bool
+        ensures { result ≡ is_probed self.now.current name.now blob.now }
+    {
+        match &self.current {
+            Some(
+                CurrentRequest::PublicKey {
+                    key,
+                    algo,
+                    sent_pk_ok,
+                },
+            ) => *sent_pk_ok && key.as_slice() == blob && algo.as_str() == name,
+            _ => false,
+        }
     }
 
     /// Whether these are the bound user and service.

@@ -1,6 +1,6 @@
 // Why a request of authentication gets no reply.
 ghost use Rattle.std.specs.Prelude.{◌≡◌};
-ghost use Rattle.ssh_auth.specs.Failure.{auth_error_of};
+ghost use Rattle.ssh_auth.specs.Failure.{auth_error_of, auth_error_of_key};
 
 use ssh_keys::KeyError;
 use ssh_wire::WireError;
@@ -30,6 +30,17 @@ impl<E> From<WireError> for AuthError<E> {
         match error {
             WireError::NoMemory => AuthError::NoMemory,
             refused => AuthError::Encoding(refused),
+        }
+    }
+}
+
+impl<E> From<KeyError> for AuthError<E> {
+    ghost from_gives = { λ e r. r ≡ auth_error_of_key e };
+
+    fn from(error: KeyError) -> AuthError<E> {
+        match error {
+            KeyError::NoMemory => AuthError::NoMemory,
+            refused => AuthError::Key(refused),
         }
     }
 }

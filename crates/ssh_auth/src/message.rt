@@ -1,8 +1,9 @@
 // The fields of a USERAUTH_REQUEST, one after another.
-ghost use Rattle.std.specs.Prelude.{◌≡◌, [], ◌∷◌, List, ℕ, MatchResult, IfOk, IfErr, OnErr, drop, false, true};
+ghost use Rattle.std.specs.Prelude.{◌≡◌, [], ◌∷◌, List, ℕ, MatchResult, IfOk, IfErr, drop};
 ghost use Rattle.ssh_wire.specs.Field.{Flag, Text, SpellsAll, SpellsWhole, Misfits, MisfitsAll, MisfitsWhole};
 ghost use Rattle.ssh_wire.specs.Reading.{Reads};
-ghost use Rattle.ssh_auth.specs.Said.{head_fields, SaysNone, SaysPassword, SaysMethod, named_by, method_of, None_method, Password_method, Change_method, Unfit_method};
+ghost use Rattle.ssh_auth.specs.Said.{head_fields, SaysPassword, Change_method, Unfit_method};
+ghost use Rattle.ssh_auth.specs.Read.{password_method};
 
 use ssh_wire::{Reader, WireError};
 
@@ -16,26 +17,22 @@ pub(crate) struct RequestHead<'a> {
     pub rest: &'a [u8],
 }
 
-/// What a request asks for, by its method's name and fields.
+/// What a request of method password asks for (RFC 4252 section 8).
 #[derive(Clone, Copy)]
-pub(crate) enum MethodRequest<'a> {
-    None,
+pub(crate) enum PasswordRequest<'a> {
+    /// To be let in by this password.
     Password {
         password: &'a str,
     },
-    /// A password and a new one.
-    PasswordChange {
+    /// To have it changed to a new one.
+    Change {
         password: &'a str,
         new_password: &'a str,
     },
-    /// A method that the server does not have, whose fields stay unread.
-    Other,
-    /// A method that is not built.
-    NotBuilt,
 }
 
 /// What follows a payload's number.
-pub(crate) fn fields_of(payload: &[u8]) -> &[u8]
+pub fn fields_of(payload: &[u8]) -> &[u8]
     ensures { result.now ≡ drop 1 payload.now }
 {
     if payload.is_empty() {
@@ -64,14 +61,14 @@ pub(crate) fn read_request_head(fields: &[u8]) -> Result<RequestHead<'_>, WireEr
 }
 
 /// The fields of the method none, of which there are none (RFC 4252 section 5.2).
-fn read_none(fields: &[u8]) -> Result<(), WireError>
+pub(crate) fn read_none(fields: &[u8]) -> Result<(), WireError>
     ensures { MatchResult result (λ _. fields.now ≡ []) (λ why. MisfitsWhole [] fields.now why) }
 {
     Reader::new(fields).end()
 }
 
 /// A boolean, which is false exactly at 0 (RFC 4251 section 5).
-fn read_flag(reader: &mut Reader<'_>) -> Result<bool, WireError>
+pub(crate) fn read_flag(reader: &mut Reader<'_>) -> Result<bool, WireError>
     ensures ok { IfOk result (Reads Flag reader.old reader.new) }
     ensures misfit { IfErr result (Misfits Flag reader.old.left) }
 {
@@ -91,25 +88,25 @@ fn read_plain<'a>(mut reader: Reader<'a>) -> Result<&'a str, WireError>
 }
 
 /// A password and a new one, and nothing after them (RFC 4252 section 8).
-fn read_change<'a>(mut reader: Reader<'a>) -> Result<MethodRequest<'a>, WireError>
+fn read_change<'a>(mut reader: Reader<'a>) -> Result<PasswordRequest<'a>, WireError>
     ensures { MatchResult result
-        (λ method. (password new_password : List ℕ) × (method_of method ≡ Change_method password new_password)
+        (λ asked. (password new_password : List ℕ) × (password_method asked ≡ Change_method password new_password)
         × SpellsWhole (Text ∷ Text ∷ []) (password, (new_password, tt)) reader.entry.left)
         (λ why. MisfitsWhole (Text ∷ Text ∷ []) reader.entry.left why) }
 {
     let password = reader.text()?;
     let new_password = reader.text()?;
     reader.end()?;
-    Ok(MethodRequest::PasswordChange {
+    Ok(PasswordRequest::Change {
         password,
         new_password,
     })
 }
 
 /// The fields of the method password (RFC 4252 section 8).
-fn read_password(fields: &[u8]) -> Result<MethodRequest<'_>, WireError>
+pub(crate) fn read_password(fields: &[u8]) -> Result<PasswordRequest<'_>, WireError>
     ensures { MatchResult result
-        (λ method. SaysPassword fields.now (method_of method))
+        (λ asked. SaysPassword fields.now (password_method asked))
         (λ why. SaysPassword fields.now (Unfit_method why)) }
 {
     let mut reader = Reader::new(fields);
@@ -118,27 +115,5 @@ fn read_password(fields: &[u8]) -> Result<MethodRequest<'_>, WireError>
         return read_change(reader);
     }
     let password = read_plain(reader)?;
-    Ok(MethodRequest::Password { password })
-}
-
-/// What the method of this name asks for by these fields.
-pub(crate) fn read_method<'a>(name: &str, fields: &'a [u8]) -> Result<MethodRequest<'a>, WireError>
-    ensures { MatchResult result
-        (λ method. SaysMethod (named_by name.now) fields.now (method_of method))
-        (λ why. SaysMethod (named_by name.now) fields.now (Unfit_method why)) }
-{
-    if name == "none" {
-        read_none(fields)?;
-        return Ok(MethodRequest::None);
-    }
-    if name == "password" {
-        return read_password(fields);
-    }
-    if name == "publickey" {
-        return Ok(MethodRequest::NotBuilt);
-    }
-    if name == "keyboard-interactive" {
-        return Ok(MethodRequest::NotBuilt);
-    }
-    Ok(MethodRequest::Other)
+    Ok(PasswordRequest::Password { password })
 }

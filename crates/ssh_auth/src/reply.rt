@@ -1,19 +1,23 @@
 // The replies that are written, and the state after them.
-ghost use Rattle.std.specs.Prelude.{◌≡◌, IfOk, IfErr};
-ghost use Rattle.ssh_wire.specs.declared.error.WireError.TheVariants.{NoMemory};
+ghost use Rattle.std.specs.Prelude.{◌≡◌, ◌≤◌, ◌<◌, ◌^◌, ◌⊎◌, length, IfOk, IfErr};
+ghost use Rattle.ssh_wire.specs.declared.error.WireError.TheVariants.{NoMemory, TooLong};
 ghost use Rattle.ssh_wire.specs.Methods.{without};
-ghost use Rattle.ssh_auth.specs.Layout.{failure, success};
-ghost use Rattle.ssh_auth.specs.Verdict.{Replies, rejected, answered};
+ghost use Rattle.ssh_auth.specs.Layout.{failure, success, pk_ok};
+ghost use Rattle.ssh_auth.specs.Verdict.{Replies, Fails, Encoding, rejected, refused, answered, probed, proven};
+ghost use Rattle.ssh_auth.specs.declared.auth.Auth.TheVariants.{Accept, Reject};
 
 use crate::auth_request::count_after_rejection;
-use crate::{Auth, AuthRequest, AuthStep, AuthVerdict};
+use crate::key_request::Offer;
+use crate::{Auth, AuthRequest, AuthStep, AuthVerdict, CurrentRequest};
 use bytes::Bytes;
-use ssh_wire::{MethodKind, MethodSet, WireError, put_text, put_u8};
+use ssh_wire::{MethodKind, MethodSet, Text, WireError, put_bytes, put_text, put_u8};
 use std::alloc::Global;
 
 const USERAUTH_FAILURE: u8 = 51;
 
 const USERAUTH_SUCCESS: u8 = 52;
+
+const USERAUTH_PK_OK: u8 = 60;
 
 /// USERAUTH_FAILURE with the methods that can continue (RFC 4252 section 5.1).
 fn failure_payload(
@@ -42,7 +46,23 @@ fn success_payload(alloc: Global) -> Result<Bytes, WireError>
     Ok(Bytes::from_vec(payload)?)
 }
 
-/// A rejection: these methods can continue from now on.
+/// USERAUTH_PK_OK (RFC 4252 section 7). `TooLong` exactly where it has more than 2^32 - 1 bytes,
+/// and no other error but `NoMemory`.
+fn pk_ok_payload(alloc: Global, name: &str, blob: &[u8]) -> Result<Bytes, WireError>
+    ensures ok { IfOk result (λ payload. (payload ≡ pk_ok name.now blob.now) × (length payload < 2 ^ 32)) }
+    ensures refused { IfErr result (λ e. (e ≡ NoMemory) ⊎ ((e ≡ TooLong) × (2 ^ 32 ≤ length (pk_ok name.now blob.now)))) }
+{
+    let mut payload = Vec::new(alloc);
+    put_u8(&mut payload, USERAUTH_PK_OK)?;
+    put_text(&mut payload, name)?;
+    put_bytes(&mut payload, blob)?;
+    if u32::try_from(payload.len()).is_err() {
+        return Err(WireError::TooLong);
+    }
+    Ok(Bytes::from_vec(payload)?)
+}
+
+/// A rejection: these methods can continue from now on, and the round is over.
 pub(crate) fn reject(
     alloc: Global,
     auth: &mut AuthRequest,
@@ -56,11 +76,95 @@ pub(crate) fn reject(
     let reply = failure_payload(alloc, &methods, partial_success)?;
     auth.methods = methods;
     auth.partial_success = partial_success;
+    auth.current = None;
     auth.rejection_count = count_after_rejection(partial_success, auth.rejection_count);
     Ok(AuthStep {
         reply,
         verdict: AuthVerdict::Rejected { none_method },
     })
+}
+
+/// A rejection that leaves the methods as they are.
+pub(crate) fn refuse(alloc: Global, auth: &mut AuthRequest) -> Result<AuthStep, WireError>
+    ensures ok { IfOk result (λ step. refused auth.old ≡ Replies step.reply step.verdict auth.new) }
+    ensures memory { IfErr result (λ e. e ≡ NoMemory) }
+{
+    let methods = auth.methods;
+    reject(alloc, auth, false, methods, false)
+}
+
+/// A rejection of a key: the methods that are named replace the others, and none is taken away.
+fn refuse_naming(
+    alloc: Global,
+    auth: &mut AuthRequest,
+    named: Option<MethodSet>,
+    partial_success: bool,
+) -> Result<AuthStep, WireError>
+    ensures ok { IfOk result (λ step. proven auth.old (Reject named partial_success) ≡ Replies step.reply step.verdict auth.new) }
+    ensures memory { IfErr result (λ e. e ≡ NoMemory) }
+{
+    let methods = named.unwrap_or(auth.methods);
+    reject(alloc, auth, false, methods, partial_success)
+}
+
+/// PK_OK: the key may sign, and the round is its probe.
+fn permit(alloc: Global, auth: &mut AuthRequest, offer: &Offer<'_>) -> Result<AuthStep, WireError>
+    ensures ok { IfOk result (λ step. probed auth.old offer.now Accept ≡ Replies step.reply step.verdict auth.new) }
+    ensures refused { IfErr result (λ e. (e ≡ NoMemory) ⊎ ((e ≡ TooLong) × (probed auth.old offer.now Accept ≡ Fails (Encoding TooLong)))) }
+{
+    let reply = pk_ok_payload(alloc, offer.name, offer.blob)?;
+    auth.current = Some(CurrentRequest::PublicKey {
+        key: Bytes::copy_from_slice(alloc, offer.blob)?,
+        algo: Text::new(alloc, offer.name)?,
+        sent_pk_ok: true,
+    });
+    Ok(AuthStep {
+        reply,
+        verdict: AuthVerdict::Continued,
+    })
+}
+
+/// What the answer on a key that may sign means. Where PK_OK has more than 2^32 - 1 bytes, it is
+/// `TooLong`; no other error but `NoMemory`.
+pub(crate) fn answer_offer(
+    alloc: Global,
+    auth: &mut AuthRequest,
+    offer: &Offer<'_>,
+    answer: Auth,
+) -> Result<AuthStep, WireError>
+    ensures ok { IfOk result (λ step. probed auth.old offer.now answer ≡ Replies step.reply step.verdict auth.new) }
+    ensures refused { IfErr result (λ e. (e ≡ NoMemory) ⊎ ((e ≡ TooLong) × (probed auth.old offer.now answer ≡ Fails (Encoding TooLong)))) }
+{
+    match answer {
+        Auth::Accept => permit(alloc, auth, offer),
+        Auth::Reject {
+            proceed_with_methods,
+            partial_success,
+        } => refuse_naming(alloc, auth, proceed_with_methods, partial_success),
+        Auth::UnsupportedMethod => refuse(alloc, auth),
+    }
+}
+
+/// What the answer on a key or a certificate that has signed means.
+pub(crate) fn answer_proof(
+    alloc: Global,
+    auth: &mut AuthRequest,
+    answer: Auth,
+) -> Result<AuthStep, WireError>
+    ensures ok { IfOk result (λ step. proven auth.old answer ≡ Replies step.reply step.verdict auth.new) }
+    ensures memory { IfErr result (λ e. e ≡ NoMemory) }
+{
+    match answer {
+        Auth::Accept => Ok(AuthStep {
+            reply: success_payload(alloc)?,
+            verdict: AuthVerdict::Accepted,
+        }),
+        Auth::Reject {
+            proceed_with_methods,
+            partial_success,
+        } => refuse_naming(alloc, auth, proceed_with_methods, partial_success),
+        Auth::UnsupportedMethod => refuse(alloc, auth),
+    }
 }
 
 /// The methods that can continue without the refused one.

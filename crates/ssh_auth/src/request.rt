@@ -1,15 +1,29 @@
 // One request of authentication, from its payload to its verdict.
 ghost use Rattle.std.specs.Prelude.{◌≡◌, ◌<◌, ◌^◌, length, drop};
-ghost use Rattle.ssh_auth.specs.Said.{Said, Says, method_of, None_method, Password_method};
-ghost use Rattle.ssh_auth.specs.Verdict.{verdict, method_verdict, answered};
-ghost use Rattle.ssh_auth.specs.Serve.{IsNumbered, Serves};
+ghost use Rattle.ssh_auth.specs.Said.{Said, Says, None_method, Password_method, SaysMethod, SaysNone, SaysPassword, named_by};
+ghost use Rattle.ssh_auth.specs.Verdict.{verdict, method_verdict};
+ghost use Rattle.ssh_auth.specs.Serve.{IsNumbered, Serves, ServesMethod};
+ghost use Rattle.ssh_auth.specs.Read.{password_method, circumstances, all_fields, IsWhole};
 
-use crate::message::{MethodRequest, fields_of, read_method, read_request_head};
-use crate::reply::{answer, methods_without, reject};
+use crate::message::{PasswordRequest, fields_of, read_none, read_password, read_request_head};
+use crate::publickey::serve_publickey;
+use crate::reply::{answer, methods_without, refuse, reject};
 use crate::{AuthError, AuthHandler, AuthRequest, AuthStep};
 use ssh_keys::Verifier;
 use ssh_wire::MethodKind;
 use std::alloc::Global;
+
+/// A request, once its user is known.
+#[derive(Clone, Copy)]
+pub(crate) struct Request<'a> {
+    pub session_id: &'a [u8],
+    /// The time in milliseconds since 1970.
+    pub moment: u64,
+    pub payload: &'a [u8],
+    pub user: &'a str,
+    /// The fields of the method, which end the payload.
+    pub fields: &'a [u8],
+}
 
 /// Serves a USERAUTH_REQUEST (RFC 4252 section 5): makes the calls that it owes, and gives its
 /// reply and its verdict. `session_id` is that of the key exchange (RFC 4253 section 7.2),
@@ -25,47 +39,69 @@ pub fn serve_request<H: AuthHandler, V: Verifier>(
 ) -> Result<AuthStep, AuthError<H::Error>>
     requires session_id { length session_id.now < 2 ^ 32 }
     requires numbered { IsNumbered 50 payload.now }
-    ensures { (said : Said) × Says (drop 1 payload.now) said × Serves (verdict auth.old said) (H.told handler.old) (H.told handler.new) auth.new result }
+    ensures { (said : Said) × Says (record { accepts = V.accepts verifier.now; session_id = session_id.now; moment = moment }) (drop 1 payload.now) said
+        × Serves (verdict auth.old said) (H.told handler.old) (H.told handler.new) auth.new result }
 {
     let head = read_request_head(fields_of(payload))?;
     if head.service != "ssh-connection" {
         return Err(AuthError::Inconsistent);
     }
-    let method = read_method(head.method, head.rest)?;
     auth.bind_or_reset_principal(alloc, head.user, head.service)?;
     auth.partial_success = false;
-    serve_method(alloc, auth, handler, head.user, method)
+    let request = Request {
+        session_id,
+        moment,
+        payload,
+        user: head.user,
+        fields: head.rest,
+    };
+    serve_method(alloc, auth, handler, verifier, head.method, &request)
 }
 
-/// A request by the method that it names, once its principal is bound.
-fn serve_method<H: AuthHandler>(
+/// A request by the method of this name, once its principal is bound.
+fn serve_method<H: AuthHandler, V: Verifier>(
     alloc: Global,
     auth: &mut AuthRequest,
     handler: &mut H,
-    user: &str,
-    method: MethodRequest<'_>,
+    verifier: &V,
+    name: &str,
+    request: &Request<'_>,
 ) -> Result<AuthStep, AuthError<H::Error>>
-    ensures { Serves (method_verdict auth.old user.now (method_of method.entry)) (H.told handler.old) (H.told handler.new) auth.new result }
+    requires { IsWhole request.now }
+    ensures { ServesMethod (SaysMethod (circumstances (V.accepts verifier.now) request.now) (all_fields request.now) (named_by name.now) request.now.fields.now)
+        auth.old request.now.user.now (H.told handler.old) (H.told handler.new) auth.new result }
 {
-    match method {
-        MethodRequest::None => serve_none(alloc, auth, handler, user),
-        MethodRequest::Password { password } => {
-            serve_password(alloc, auth, handler, user, password)
-        }
-        MethodRequest::PasswordChange { .. } => {
-            let methods = methods_without(auth.methods, MethodKind::Password);
-            Ok(reject(alloc, auth, false, methods, false)?)
-        }
-        MethodRequest::Other => {
-            let methods = auth.methods;
-            Ok(reject(alloc, auth, false, methods, false)?)
-        }
-        MethodRequest::NotBuilt => Err(AuthError::NotBuilt),
+    if name == "none" {
+        return serve_none(alloc, auth, handler, request.user, request.fields);
     }
+    if name == "password" {
+        return serve_password(alloc, auth, handler, request.user, request.fields);
+    }
+    if name == "publickey" {
+        return serve_publickey(alloc, auth, handler, verifier, request);
+    }
+    if name == "keyboard-interactive" {
+        return Err(AuthError::NotBuilt);
+    }
+    Ok(refuse(alloc, auth)?)
 }
 
 /// A request of method none (RFC 4252 section 5.2).
 fn serve_none<H: AuthHandler>(
+    alloc: Global,
+    auth: &mut AuthRequest,
+    handler: &mut H,
+    user: &str,
+    fields: &[u8],
+) -> Result<AuthStep, AuthError<H::Error>>
+    ensures { ServesMethod (SaysNone fields.now) auth.old user.now (H.told handler.old) (H.told handler.new) auth.new result }
+{
+    read_none(fields)?;
+    ask_none(alloc, auth, handler, user)
+}
+
+/// Asks whether the user is let in without a proof.
+fn ask_none<H: AuthHandler>(
     alloc: Global,
     auth: &mut AuthRequest,
     handler: &mut H,
@@ -81,6 +117,41 @@ fn serve_none<H: AuthHandler>(
 
 /// A request of method password (RFC 4252 section 8).
 fn serve_password<H: AuthHandler>(
+    alloc: Global,
+    auth: &mut AuthRequest,
+    handler: &mut H,
+    user: &str,
+    fields: &[u8],
+) -> Result<AuthStep, AuthError<H::Error>>
+    ensures { ServesMethod (SaysPassword fields.now) auth.old user.now (H.told handler.old) (H.told handler.new) auth.new result }
+{
+    let asked = read_password(fields)?;
+    serve_password_request(alloc, auth, handler, user, asked)
+}
+
+/// A password, or a change of it, which is not served: the method is taken away.
+fn serve_password_request<H: AuthHandler>(
+    alloc: Global,
+    auth: &mut AuthRequest,
+    handler: &mut H,
+    user: &str,
+    asked: PasswordRequest<'_>,
+) -> Result<AuthStep, AuthError<H::Error>>
+    ensures { Serves (method_verdict auth.old user.now (password_method asked.entry)) (H.told handler.old) (H.told handler.new) auth.new result }
+{
+    match asked {
+        PasswordRequest::Password { password } => {
+            ask_password(alloc, auth, handler, user, password)
+        }
+        PasswordRequest::Change { .. } => {
+            let methods = methods_without(auth.methods, MethodKind::Password);
+            Ok(reject(alloc, auth, false, methods, false)?)
+        }
+    }
+}
+
+/// Asks whether the user is let in by the password.
+fn ask_password<H: AuthHandler>(
     alloc: Global,
     auth: &mut AuthRequest,
     handler: &mut H,

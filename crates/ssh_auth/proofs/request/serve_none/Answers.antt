@@ -1,16 +1,15 @@
-use Rattle.std.proofs.Common.{◌≡◌, true, ◌∙◌, ap, refl, Ok, Err}
-use Rattle.std.proofs.lemmas.Result.{err_from_is_err_and}
-use Rattle.ssh_wire.specs.declared.method.MethodKind.TheVariants as kind
-use Rattle.ssh_auth.specs.declared.call.Call.TheVariants.{AuthNone}
-use Rattle.ssh_auth.specs.declared.error.AuthError.TheVariants as error
-use Rattle.ssh_auth.specs.Failure.{auth_error_of}
-use Rattle.ssh_auth.specs.Plan.{Finish, Auth_none}
-use Rattle.ssh_auth.specs.Verdict.{answered}
-use Rattle.ssh_auth.proofs.Asks.{starved_after}
+use Rattle.std.proofs.Common.{[], inl}
+use Rattle.ssh_auth.specs.Said.{SaysNone, None_method}
+use Rattle.ssh_auth.proofs.Asks.{unfit_method}
+use Rattle.ssh_auth.proofs.Misfits.{whole_error}
 use Rattle.ssh_auth.proofs.request.serve_none.Goals as goal
 
-pub returns-in_err-answer-in-Ok : goal.returns-in_err-answer-in-Ok
-returns-in_err-answer-in-Ok g c =
-    let p = err_from_is_err_and c.from_residual.result c.from_residual.ensures.1 in
-    let is : c.from_residual.result ≡ Err error.NoMemory = p.1 ∙ ap Err (p.2 ∙ ap auth_error_of c.in_err-answer-in-Ok.ensures.memory) in
-    starved_after (Auth_none c.args.user.now) (λ answer. Finish (answered c.args.auth.now kind.None true answer)) c.in-Ok.verdict (AuthNone c.args.user.now (Ok c.in-Ok.verdict)) _ _ _ _ is refl c.in-Ok.ensures
+pub returns-in_err-read_none : goal.returns-in_err-read_none
+returns-in_err-read_none g c =
+    let fields = c.args.fields.now in
+    let why = c.in_err-read_none.field-0.0 in
+    unfit_method (SaysNone fields) c.args.auth.now c.args.user.now (g.H.AuthHandler.told c.args.handler.now) c.args.auth.now why c.from_residual.result c.from_residual.ensures.1
+    (whole_error g.row.H-Error.Denot [] fields why c.in_err-read_none.ensures) c.in_err-read_none.ensures
+
+pub returns : goal.returns
+returns g c = inl (None_method, c.in_ok-read_none.ensures, c.ask_none.ensures)

@@ -1,0 +1,38 @@
+-- What stands behind the calls that let a user in by a key or a certificate.
+use Rattle.std.specs.Prelude.{◌≡◌, ℕ, List, ◌++◌, true, codes, Option}
+use Rattle.ssh_wire.specs.Field.{SpellsAll}
+use Rattle.ssh_keys.specs.declared.algorithm.HashAlg.{HashAlg}
+use Rattle.ssh_keys.specs.declared.key_or_certificate.PublicKeyOrCertificate.TheVariants.{PublicKey as Plain, Certificate}
+use Rattle.ssh_keys.specs.declared.signature.Signature.{Signature}
+use Rattle.ssh_keys.specs.Algorithms.{algorithm_name}
+use Rattle.ssh_keys.specs.Offers.{offered_key}
+use Rattle.ssh_keys.specs.Signatures.{EndsInSignature}
+use Rattle.ssh_auth.specs.Plan.{Question, Auth_publickey, Auth_openssh_certificate, Answer, Plan, Finish, Ask, Tell}
+use Rattle.ssh_auth.specs.Publickey.{Circumstances, Offer, Offers, question}
+use Rattle.ssh_auth.specs.Said.{head_fields}
+
+-- the request is this user's, by this offer, which can be used, and it ends in a signature that the verifier accepts:
+-- of the offered key, by the algorithm that the request names, of the session id and all of the request before it
+abbrev pub IsSignedBy : Circumstances → (fields user : List ℕ) → Offer → Type 0
+IsSignedBy given fields user offer =
+    (method rest unsigned : List ℕ) × (signature : Signature)
+    × SpellsAll head_fields (user, (codes "ssh-connection", (codes "publickey", tt))) fields method
+    × Offers given true offer method rest
+    × EndsInSignature signature rest
+    × (signature.name ≡ algorithm_name offer.algorithm)
+    × (fields ≡ unsigned ++ rest)
+    × given.accepts (offered_key offer.key) offer.algorithm (question given.session_id unsigned) signature.blob
+
+-- a question by which a key or a certificate may let a user in is about one that has signed the request so
+abbrev pub IsProven : Circumstances → List ℕ → Question → Type 0
+IsProven given fields (Auth_publickey user key algorithm) =
+    (offer : Offer) × (hash : Option HashAlg) × (offer.key ≡ Plain key hash) × (offer.algorithm ≡ algorithm) × IsSignedBy given fields user offer
+IsProven given fields (Auth_openssh_certificate user certificate) =
+    (offer : Offer) × (offer.key ≡ Certificate certificate) × IsSignedBy given fields user offer
+IsProven given fields question = Unit {0}
+
+-- whatever is answered, a plan asks only such questions
+abbrev pub AsksOnly : {O : Type 0} → (Question → Type 0) → Plan O → Type 0
+AsksOnly P (Finish outcome) = Unit {0}
+AsksOnly P (Ask question next) = P question × ((answer : Answer question) → AsksOnly P (next answer))
+AsksOnly P (Tell entry next) = AsksOnly P next
