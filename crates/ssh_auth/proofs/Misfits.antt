@@ -20,7 +20,7 @@ memory_is_not_all [] bytes h = h
 memory_is_not_all (field ∷ fields) bytes (inl h) = memory_is_no_misfit field bytes h
 memory_is_not_all (field ∷ fields) bytes (inr h) = memory_is_not_all fields h.2 h.5
 
-memory_is_not_whole : (fields : List Field) (bytes : List ℕ) → MisfitsWhole fields bytes wire.NoMemory → ⊥
+pub memory_is_not_whole : (fields : List Field) (bytes : List ℕ) → MisfitsWhole fields bytes wire.NoMemory → ⊥
 memory_is_not_whole [] bytes h = cc
 memory_is_not_whole (field ∷ fields) bytes (inl h) = memory_is_no_misfit field bytes h
 memory_is_not_whole (field ∷ fields) bytes (inr h) = memory_is_not_whole fields h.2 h.5

@@ -266,21 +266,22 @@ proof_guarded given a kind settings moment w state user (Plain key hash) algorit
 proof_guarded given a kind settings moment w state user (Certificate certificate) algorithm h p =
     (λ q. absurd q, λ answer. proven_guarded given a (Accepts given kind (Auth_openssh_certificate user certificate) answer) kind settings moment w state answer p (certificate_accepts given kind user certificate answer h))
 
-signed_guarded : (given : Circumstances) (a : Type 0) (kind : InputKind) (settings : Settings) (moment : ℕ) (w : World) (state : AuthRequest) (user : List ℕ) (offer : Offer) (accepted : Bool) →
+signed_guarded : (given : Circumstances) (a : Type 0) (kind : InputKind) (settings : Settings) (moment : ℕ) (w : World) (state : AuthRequest) (user : List ℕ) (offer : Offer) (accepted : Option Bool) →
     Proves given kind user (Signed_method offer accepted) → (w.phase ≡ Accepted → a) → Guarded given a kind (after (signed state user offer accepted) (finished settings moment w))
-signed_guarded given a kind settings moment w state user offer false h p = rejected_guarded given a kind settings moment w state false _ false p
-signed_guarded given a kind settings moment w state user offer true h p = proof_guarded given a kind settings moment w state user offer.key offer.algorithm h p
+signed_guarded given a kind settings moment w state user offer None h p = tt
+signed_guarded given a kind settings moment w state user offer (Some false) h p = rejected_guarded given a kind settings moment w state false _ false p
+signed_guarded given a kind settings moment w state user offer (Some true) h p = proof_guarded given a kind settings moment w state user offer.key offer.algorithm h p
 
-permitted_guarded : (given : Circumstances) (a : Type 0) (kind : InputKind) (settings : Settings) (moment : ℕ) (w : World) (state : AuthRequest) (user : List ℕ) (offer : Offer) (accepted : Bool) (answer : Auth) →
+permitted_guarded : (given : Circumstances) (a : Type 0) (kind : InputKind) (settings : Settings) (moment : ℕ) (w : World) (state : AuthRequest) (user : List ℕ) (offer : Offer) (accepted : Option Bool) (answer : Auth) →
     Proves given kind user (Signed_method offer accepted) → (w.phase ≡ Accepted → a) →
     Guarded given a kind (after (permitted state answer (signed state user offer accepted)) (finished settings moment w))
 permitted_guarded given a kind settings moment w state user offer accepted Accept h p = signed_guarded given a kind settings moment w state user offer accepted h p
 permitted_guarded given a kind settings moment w state user offer accepted (Reject methods partial) h p = rejected_guarded given a kind settings moment w state false _ false p
 permitted_guarded given a kind settings moment w state user offer accepted UnsupportedMethod h p = rejected_guarded given a kind settings moment w state false _ false p
 
-asked_first_guarded : (given : Circumstances) (a : Type 0) (kind : InputKind) (settings : Settings) (moment : ℕ) (w : World) (state : AuthRequest) (user : List ℕ) (offer : Offer) (accepted probed : Bool) →
+asked_first_guarded : (given : Circumstances) (a : Type 0) (kind : InputKind) (settings : Settings) (moment : ℕ) (w : World) (state : AuthRequest) (user : List ℕ) (offer : Offer) (accepted : Option Bool) (is_asked : Bool) →
     Proves given kind user (Signed_method offer accepted) → (w.phase ≡ Accepted → a) →
-    Guarded given a kind (after (if probed then signed state user offer accepted
+    Guarded given a kind (after (if is_asked then signed state user offer accepted
     else Ask (Auth_publickey_offered user (offered_key offer.key) offer.algorithm) (λ answer. permitted state answer (signed state user offer accepted))) (finished settings moment w))
 asked_first_guarded given a kind settings moment w state user offer accepted true h p = signed_guarded given a kind settings moment w state user offer accepted h p
 asked_first_guarded given a kind settings moment w state user offer accepted false h p =
@@ -325,6 +326,7 @@ asked_guarded given a settings moment w payload (asks.Request user method) at h 
     method_guarded given a (Payload payload) settings moment w (begun w.auth user (codes "ssh-connection")) user method (drop 1 payload, codes "ssh-connection", h.0, h.1, is, h.2)
     (proves given payload user h.0 h.1 method (named_by h.0) refl is h.2 h.3) p
 asked_guarded given a settings moment w payload Other_service at h p = tt
+asked_guarded given a settings moment w payload asks.Unread at h p = tt
 asked_guarded given a settings moment w payload (asks.Unfit why) at h p = tt
 
 request_guarded : (given : Circumstances) (a : Type 0) (settings : Settings) (moment : ℕ) (w : World) (payload : List ℕ) (asked : Asked) (at : Gate) → gate_of settings w payload ≡ at →

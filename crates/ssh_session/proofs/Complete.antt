@@ -45,7 +45,7 @@ use Rattle.ssh_auth.specs.declared.auth_request.AuthRequest.{AuthRequest}
 use Rattle.ssh_session.specs.World.{Settings, World, circumstances}
 use Rattle.ssh_session.specs.Gate.{gate_of}
 use Rattle.ssh_session.specs.Said.{Said, Nothing, Disconnect, Over_cap, Service, Request, Unfit, Unbuilt, Says}
-use Rattle.ssh_session.specs.Outcome.{Outcome, Goes, Ends, Fails, Fault, Encoding, Inconsistent, Key, Not_built}
+use Rattle.ssh_session.specs.Outcome.{Outcome, Goes, Ends, Fails, Fault, Encoding, Inconsistent, Key, Starved, Not_built}
 use Rattle.ssh_session.specs.Rows.{row, accept_row, reply_row, finished}
 use Rattle.ssh_session.specs.Run.{Owes, OwesKind, Turn}
 use Rattle.ssh_session.specs.Step.{Stops, Closes, Ran}
@@ -120,23 +120,29 @@ proof_fine settings moment w state user (Plain key hash) algorithm (c ∷ cs) f 
 proof_fine settings moment w state user (Certificate certificate) algorithm [] f h = h
 proof_fine settings moment w state user (Certificate certificate) algorithm (c ∷ cs) f h = proven_fine settings moment w state h.0 cs f h.2
 
-signed_fine : {E : Type 0} (settings : Settings) (moment : ℕ) (w : World) (state : AuthRequest) (user : List ℕ) (offer : Offer) (accepted : Bool) (calls : List (Call E)) (f : Fault) →
+-- what memory was wanting for comes to no other fault
+starved_only : {E : Type 0} (calls : List (Call E)) (f : Fault) → (f ≡ Starved → ⊥) → Follows (Finish (Fails Starved)) (map Called calls) (Fails f) → ⊥
+starved_only [] f n h = n (let z : Fails f ≡ Fails Starved = h in cc)
+starved_only (c ∷ cs) f n h = h
+
+signed_fine : {E : Type 0} (settings : Settings) (moment : ℕ) (w : World) (state : AuthRequest) (user : List ℕ) (offer : Offer) (accepted : Option Bool) (calls : List (Call E)) (f : Fault) → (f ≡ Starved → ⊥) →
     Follows (after (signed state user offer accepted) (finished settings moment w)) (map Called calls) (Fails f) → ⊥
-signed_fine settings moment w state user offer false calls f h = rejected_fine settings moment w state false state.methods false calls f h
-signed_fine settings moment w state user offer true calls f h = proof_fine settings moment w state user offer.key offer.algorithm calls f h
+signed_fine settings moment w state user offer None calls f n h = starved_only calls f n h
+signed_fine settings moment w state user offer (Some false) calls f n h = rejected_fine settings moment w state false state.methods false calls f h
+signed_fine settings moment w state user offer (Some true) calls f n h = proof_fine settings moment w state user offer.key offer.algorithm calls f h
 
-permitted_fine : {E : Type 0} (settings : Settings) (moment : ℕ) (w : World) (state : AuthRequest) (user : List ℕ) (offer : Offer) (accepted : Bool) (answer : Auth) (calls : List (Call E)) (f : Fault) →
+permitted_fine : {E : Type 0} (settings : Settings) (moment : ℕ) (w : World) (state : AuthRequest) (user : List ℕ) (offer : Offer) (accepted : Option Bool) (answer : Auth) (calls : List (Call E)) (f : Fault) → (f ≡ Starved → ⊥) →
     Follows (after (permitted state answer (signed state user offer accepted)) (finished settings moment w)) (map Called calls) (Fails f) → ⊥
-permitted_fine settings moment w state user offer accepted Accept calls f h = signed_fine settings moment w state user offer accepted calls f h
-permitted_fine settings moment w state user offer accepted (Reject methods partial) calls f h = rejected_fine settings moment w state false state.methods false calls f h
-permitted_fine settings moment w state user offer accepted UnsupportedMethod calls f h = rejected_fine settings moment w state false state.methods false calls f h
+permitted_fine settings moment w state user offer accepted Accept calls f n h = signed_fine settings moment w state user offer accepted calls f n h
+permitted_fine settings moment w state user offer accepted (Reject methods partial) calls f n h = rejected_fine settings moment w state false state.methods false calls f h
+permitted_fine settings moment w state user offer accepted UnsupportedMethod calls f n h = rejected_fine settings moment w state false state.methods false calls f h
 
-asked_first_fine : {E : Type 0} (settings : Settings) (moment : ℕ) (w : World) (state : AuthRequest) (user : List ℕ) (offer : Offer) (accepted probed : Bool) (calls : List (Call E)) (f : Fault) →
-    Follows (after (if probed then signed state user offer accepted
+asked_first_fine : {E : Type 0} (settings : Settings) (moment : ℕ) (w : World) (state : AuthRequest) (user : List ℕ) (offer : Offer) (accepted : Option Bool) (is_asked : Bool) (calls : List (Call E)) (f : Fault) → (f ≡ Starved → ⊥) →
+    Follows (after (if is_asked then signed state user offer accepted
     else Ask (Auth_publickey_offered user (offered_key offer.key) offer.algorithm) (λ answer. permitted state answer (signed state user offer accepted))) (finished settings moment w)) (map Called calls) (Fails f) → ⊥
-asked_first_fine settings moment w state user offer accepted true calls f h = signed_fine settings moment w state user offer accepted calls f h
-asked_first_fine settings moment w state user offer accepted false [] f h = h
-asked_first_fine settings moment w state user offer accepted false (c ∷ cs) f h = permitted_fine settings moment w state user offer accepted h.0 cs f h.2
+asked_first_fine settings moment w state user offer accepted true calls f n h = signed_fine settings moment w state user offer accepted calls f n h
+asked_first_fine settings moment w state user offer accepted false [] f n h = h
+asked_first_fine settings moment w state user offer accepted false (c ∷ cs) f n h = permitted_fine settings moment w state user offer accepted h.0 cs f n h.2
 
 -- PK_OK comes to no fault where it is short enough
 pk_ok_fine : {E : Type 0} (settings : Settings) (moment : ℕ) (w : World) (state : AuthRequest) (offer : Offer) (fits : Bool) (calls : List (Call E)) (f : Fault) → fits ≡ true →
@@ -172,24 +178,24 @@ abbrev pub ShortensProbe : InputKind → Method → Type 0
 ShortensProbe kind (Probe_method offer) = HasShortReply kind → length (pk_ok offer.name offer.blob) < 2 ^ 32
 ShortensProbe kind _ = Unit {0}
 
-method_fine : {E : Type 0} (settings : Settings) (moment : ℕ) (w : World) (state : AuthRequest) (kind : InputKind) (user : List ℕ) (method : Method) (calls : List (Call E)) (f : Fault) → IsServed method →
+method_fine : {E : Type 0} (settings : Settings) (moment : ℕ) (w : World) (state : AuthRequest) (kind : InputKind) (user : List ℕ) (method : Method) (calls : List (Call E)) (f : Fault) → (f ≡ Starved → ⊥) → IsServed method →
     ShortensProbe kind method → AreFine kind calls → Follows (after (method_verdict state user method) (finished settings moment w)) (map Called calls) (Fails f) → ⊥
-method_fine settings moment w state kind user None_method [] f s short fine h = h
-method_fine settings moment w state kind user None_method (c ∷ cs) f s short fine h = answered_fine settings moment w state method_kind.None true h.0 cs f h.2
-method_fine settings moment w state kind user (Password_method password) [] f s short fine h = h
-method_fine settings moment w state kind user (Password_method password) (c ∷ cs) f s short fine h = answered_fine settings moment w state method_kind.Password false h.0 cs f h.2
-method_fine settings moment w state kind user (Change_method password new_password) calls f s short fine h = rejected_fine settings moment w state false (without method_kind.Password state.methods) false calls f h
-method_fine settings moment w state kind user Unusable_method calls f s short fine h = rejected_fine settings moment w state false state.methods false calls f h
-method_fine settings moment w state kind user Broken_method calls f s short fine h = absurd s
-method_fine settings moment w state kind user (Probe_method offer) [] f s short fine h = h
-method_fine settings moment w state kind user (Probe_method offer) (c ∷ cs) f s short fine h =
+method_fine settings moment w state kind user None_method [] f n s short fine h = h
+method_fine settings moment w state kind user None_method (c ∷ cs) f n s short fine h = answered_fine settings moment w state method_kind.None true h.0 cs f h.2
+method_fine settings moment w state kind user (Password_method password) [] f n s short fine h = h
+method_fine settings moment w state kind user (Password_method password) (c ∷ cs) f n s short fine h = answered_fine settings moment w state method_kind.Password false h.0 cs f h.2
+method_fine settings moment w state kind user (Change_method password new_password) calls f n s short fine h = rejected_fine settings moment w state false (without method_kind.Password state.methods) false calls f h
+method_fine settings moment w state kind user Unusable_method calls f n s short fine h = rejected_fine settings moment w state false state.methods false calls f h
+method_fine settings moment w state kind user Broken_method calls f n s short fine h = absurd s
+method_fine settings moment w state kind user (Probe_method offer) [] f n s short fine h = h
+method_fine settings moment w state kind user (Probe_method offer) (c ∷ cs) f n s short fine h =
     probed_fine settings moment w state offer h.0 cs f (λ e. short (accepted_short kind user (offered_key offer.key) offer.algorithm h.0 c h.1 fine.0 e)) h.2
-method_fine settings moment w state kind user Misnamed_method calls f s short fine h = rejected_fine settings moment w state false state.methods false calls f h
-method_fine settings moment w state kind user (Signed_method offer accepted) calls f s short fine h =
-    asked_first_fine settings moment w state user offer accepted (is_probed state.current offer.name offer.blob) calls f h
-method_fine settings moment w state kind user Other_method calls f s short fine h = rejected_fine settings moment w state false state.methods false calls f h
-method_fine settings moment w state kind user Unbuilt_method calls f s short fine h = absurd s
-method_fine settings moment w state kind user (Unfit_method why) calls f s short fine h = absurd s
+method_fine settings moment w state kind user Misnamed_method calls f n s short fine h = rejected_fine settings moment w state false state.methods false calls f h
+method_fine settings moment w state kind user (Signed_method offer accepted) calls f n s short fine h =
+    asked_first_fine settings moment w state user offer accepted (is_probed state.current offer.name offer.blob) calls f n h
+method_fine settings moment w state kind user Other_method calls f n s short fine h = rejected_fine settings moment w state false state.methods false calls f h
+method_fine settings moment w state kind user Unbuilt_method calls f n s short fine h = absurd s
+method_fine settings moment w state kind user (Unfit_method why) calls f n s short fine h = absurd s
 
 -- a flag that is false is not one that is true
 flag_apart : (values : Values (Flag ∷ [])) → values ≡ (false, tt) → values ≡ (true, tt) → ⊥
@@ -276,54 +282,55 @@ shortened given payload user name rest (Probe_method offer) Is_other is head h =
 shortened given payload user name rest _ named is head h = tt
 
 -- a valid request comes to no fault
-request_fine : {E : Type 0} (given : Circumstances) (settings : Settings) (moment : ℕ) (w : World) (payload : List ℕ) (asked : Asked) (calls : List (Call E)) (f : Fault) →
+request_fine : {E : Type 0} (given : Circumstances) (settings : Settings) (moment : ℕ) (w : World) (payload : List ℕ) (asked : Asked) (calls : List (Call E)) (f : Fault) → (f ≡ Starved → ⊥) →
     AreValidFields given gate.UserauthRequest (drop 1 payload) → AsksSo given (drop 1 payload) asked → AreFine (Payload payload) calls → Follows (row settings moment w (Request asked)) (map Called calls) (Fails f) → ⊥
-request_fine given settings moment w payload (asks.Request user method) calls f v s fine h =
+request_fine given settings moment w payload (asks.Request user method) calls f n v s fine h =
     let once = spells_all_once head_fields (v.0, (codes "ssh-connection", (v.1, tt))) (user, (codes "ssh-connection", (s.0, tt))) (drop 1 payload) v.2 s.1 v.3 s.2 in
     let name : v.1 ≡ s.0 = ap (λ x. x.1.1.0) once.0 in
     let valid : AreValidMethodFields given (named_by s.0) s.1 =
     subst (λ r. AreValidMethodFields given (named_by s.0) r) once.1 (subst (λ n. AreValidMethodFields given (named_by n) v.2) name v.4) in
-    method_fine settings moment w (begun w.auth user (codes "ssh-connection")) (Payload payload) user method calls f (served given (drop 1 payload) (named_by s.0) s.1 method valid s.3)
+    method_fine settings moment w (begun w.auth user (codes "ssh-connection")) (Payload payload) user method calls f n (served given (drop 1 payload) (named_by s.0) s.1 method valid s.3)
     (shortened given payload user s.0 s.1 method (named_by s.0) refl s.2 s.3) fine h
-request_fine given settings moment w payload Other_service calls f v s fine h =
+request_fine given settings moment w payload asks.Unread calls f n v s fine h = starved_only calls f n h
+request_fine given settings moment w payload Other_service calls f n v s fine h =
     let once = spells_all_once head_fields (v.0, (codes "ssh-connection", (v.1, tt))) (s.0, (s.1, (s.2, tt))) (drop 1 payload) v.2 s.3 v.3 s.4 in
     absurd (s.5 (sym (ap (λ x. x.1.0) once.0)))
-request_fine given settings moment w payload (asks.Unfit why) calls f v s fine h =
+request_fine given settings moment w payload (asks.Unfit why) calls f n v s fine h =
     misfits_all_not_spells head_fields (v.0, (codes "ssh-connection", (v.1, tt))) (drop 1 payload) v.2 why s v.3
 
 -- a payload that is valid at its gate comes to no fault
-fields_fine : {E : Type 0} (given : Circumstances) (settings : Settings) (moment : ℕ) (w : World) (at : Gate) (payload : List ℕ) (said : Said) (calls : List (Call E)) (f : Fault) →
+fields_fine : {E : Type 0} (given : Circumstances) (settings : Settings) (moment : ℕ) (w : World) (at : Gate) (payload : List ℕ) (said : Said) (calls : List (Call E)) (f : Fault) → (f ≡ Starved → ⊥) →
     AreValidFields given at (drop 1 payload) → Says given at payload said → AreFine (Payload payload) calls → Follows (row settings moment w said) (map Called calls) (Fails f) → ⊥
-fields_fine given settings moment w gate.Nothing payload Nothing calls f valid fits fine h = goes_fine [] w calls f h
-fields_fine given settings moment w gate.Nothing payload _ calls f valid fits fine h = absurd fits
-fields_fine given settings moment w gate.Ends payload Disconnect calls f valid fits fine h = ends_fine [] calls f h
-fields_fine given settings moment w gate.Ends payload _ calls f valid fits fine h = absurd fits
-fields_fine given settings moment w gate.OverCap payload Over_cap calls f valid fits fine h = ends_fine _ calls f h
-fields_fine given settings moment w gate.OverCap payload _ calls f valid fits fine h = absurd fits
-fields_fine given settings moment w gate.ServiceRequest payload (Service name) calls f valid fits fine h = service_fine (Payload payload) (bytes_eq name (codes "ssh-userauth")) w calls f fine h
-fields_fine given settings moment w gate.ServiceRequest payload (Unfit why) calls f valid fits fine h =
+fields_fine given settings moment w gate.Nothing payload Nothing calls f n valid fits fine h = goes_fine [] w calls f h
+fields_fine given settings moment w gate.Nothing payload _ calls f n valid fits fine h = absurd fits
+fields_fine given settings moment w gate.Ends payload Disconnect calls f n valid fits fine h = ends_fine [] calls f h
+fields_fine given settings moment w gate.Ends payload _ calls f n valid fits fine h = absurd fits
+fields_fine given settings moment w gate.OverCap payload Over_cap calls f n valid fits fine h = ends_fine _ calls f h
+fields_fine given settings moment w gate.OverCap payload _ calls f n valid fits fine h = absurd fits
+fields_fine given settings moment w gate.ServiceRequest payload (Service name) calls f n valid fits fine h = service_fine (Payload payload) (bytes_eq name (codes "ssh-userauth")) w calls f fine h
+fields_fine given settings moment w gate.ServiceRequest payload (Unfit why) calls f n valid fits fine h =
     misfits_whole_not_spells (Text ∷ []) (valid.0, tt) (drop 1 payload) why fits valid.1
-fields_fine given settings moment w gate.ServiceRequest payload _ calls f valid fits fine h = absurd fits
-fields_fine given settings moment w gate.UserauthRequest payload (Request asked) calls f valid fits fine h = request_fine given settings moment w payload asked calls f valid fits fine h
-fields_fine given settings moment w gate.UserauthRequest payload _ calls f valid fits fine h = absurd fits
-fields_fine given settings moment w gate.NotBuilt payload said calls f valid fits fine h = absurd valid
+fields_fine given settings moment w gate.ServiceRequest payload _ calls f n valid fits fine h = absurd fits
+fields_fine given settings moment w gate.UserauthRequest payload (Request asked) calls f n valid fits fine h = request_fine given settings moment w payload asked calls f n valid fits fine h
+fields_fine given settings moment w gate.UserauthRequest payload _ calls f n valid fits fine h = absurd fits
+fields_fine given settings moment w gate.NotBuilt payload said calls f n valid fits fine h = absurd valid
 
-owed_fine : {E : Type 0} (accepts : Acceptance) (settings : Settings) (w : World) (moment : ℕ) (kind : InputKind) (plan : Plan Outcome) (calls : List (Call E)) (f : Fault) →
+owed_fine : {E : Type 0} (accepts : Acceptance) (settings : Settings) (w : World) (moment : ℕ) (kind : InputKind) (plan : Plan Outcome) (calls : List (Call E)) (f : Fault) → (f ≡ Starved → ⊥) →
     IsValidKind (circumstances accepts settings moment) settings w kind → AreFine kind calls → OwesKind accepts settings w moment kind plan → Follows plan (map Called calls) (Fails f) → ⊥
-owed_fine accepts settings w moment End plan calls f v fine o h = ends_fine _ calls f (subst (λ p. Follows p (map Called calls) (Fails f)) o h)
-owed_fine accepts settings w moment (Payload payload) plan calls f v fine o h =
-    fields_fine (circumstances accepts settings moment) settings moment w (gate_of settings w payload) payload o.0 calls f v o.1 fine (subst (λ p. Follows p (map Called calls) (Fails f)) o.2 h)
+owed_fine accepts settings w moment End plan calls f n v fine o h = ends_fine _ calls f (subst (λ p. Follows p (map Called calls) (Fails f)) o h)
+owed_fine accepts settings w moment (Payload payload) plan calls f n v fine o h =
+    fields_fine (circumstances accepts settings moment) settings moment w (gate_of settings w payload) payload o.0 calls f n v o.1 fine (subst (λ p. Follows p (map Called calls) (Fails f)) o.2 h)
 
 closes_fine : {E : Type 0} (accepts : Acceptance) (settings : Settings) (w : World) (turn : Turn E) (rose : Type 0) (e : RunError E) → (rose → ⊥) → IsValid accepts settings w turn →
     (plan : Plan Outcome) → Owes accepts settings w turn.input plan → Stops plan turn.calls turn.frames rose e → IsComplete (Err e)
 closes_fine accepts settings w turn rose error.NoMemory r v plan o s = tt
 closes_fine accepts settings w turn rose error.LinkFault r v plan o s = absurd (r s.0)
 closes_fine accepts settings w turn rose error.InputLimit r v plan o s = tt
-closes_fine accepts settings w turn rose (error.Encoding why) r v plan o s = owed_fine accepts settings w turn.input.moment turn.input.kind plan turn.calls (Encoding why) v.0 v.1 o s.1
-closes_fine accepts settings w turn rose error.Inconsistent r v plan o s = owed_fine accepts settings w turn.input.moment turn.input.kind plan turn.calls Inconsistent v.0 v.1 o s.1
-closes_fine accepts settings w turn rose (error.Key why) r v plan o s = owed_fine accepts settings w turn.input.moment turn.input.kind plan turn.calls Key v.0 v.1 o s.2
+closes_fine accepts settings w turn rose (error.Encoding why) r v plan o s = owed_fine accepts settings w turn.input.moment turn.input.kind plan turn.calls (Encoding why) (λ e. cc) v.0 v.1 o s.1
+closes_fine accepts settings w turn rose error.Inconsistent r v plan o s = owed_fine accepts settings w turn.input.moment turn.input.kind plan turn.calls Inconsistent (λ e. cc) v.0 v.1 o s.1
+closes_fine accepts settings w turn rose (error.Key why) r v plan o s = owed_fine accepts settings w turn.input.moment turn.input.kind plan turn.calls Key (λ e. cc) v.0 v.1 o s.2
 closes_fine accepts settings w turn rose (error.Handler e) r v plan o s = fine_not_broken turn.input.kind plan turn.calls e v.1 s.1
-closes_fine accepts settings w turn rose error.NotBuilt r v plan o s = owed_fine accepts settings w turn.input.moment turn.input.kind plan turn.calls Not_built v.0 v.1 o s.1
+closes_fine accepts settings w turn rose error.NotBuilt r v plan o s = owed_fine accepts settings w turn.input.moment turn.input.kind plan turn.calls Not_built (λ e. cc) v.0 v.1 o s.1
 
 closed_fine : {E : Type 0} (accepts : Acceptance) (settings : Settings) (w : World) (count max : ℕ) (last : Option (Turn E)) (rose : Type 0) (result : Result (Unit {0}) (RunError E)) → (rose → ⊥) →
     IfSome last (IsValid accepts settings w) → Closes accepts settings w count max last rose result → IsComplete result

@@ -1,5 +1,6 @@
--- The fields of a request by a key or a certificate say one thing.
-use Rattle.std.proofs.Common.{◌≡◌, ◌≢◌, ◌⊎◌, ◌↔◌, inl, inr, ℕ, List, [], ◌∷◌, ◌++◌, Bool, true, false, IsTrue, Result, Ok, Err, refl, sym, ◌∙◌, ap, subst}
+-- The fields of a request by a key or a certificate say one thing, but for an answer of the verifier
+-- that was not asked for.
+use Rattle.std.proofs.Common.{◌≡◌, ◌≢◌, ◌⊎◌, ◌↔◌, inl, inr, ℕ, List, [], ◌∷◌, ◌++◌, Bool, true, false, IsTrue, Option, Some, None, Result, Ok, Err, refl, sym, ◌∙◌, ap, subst}
 use Rattle.std.proofs.lemmas.List.{append_cancel_right}
 use Rattle.ssh_wire.specs.declared.error.WireError.{WireError}
 use Rattle.ssh_wire.specs.Field.{Bytes, SpellsAll, MisfitsAll, MisfitsWhole}
@@ -8,14 +9,15 @@ use Rattle.ssh_keys.specs.declared.algorithm.Algorithm.{Algorithm}
 use Rattle.ssh_keys.specs.declared.error.KeyError.{KeyError}
 use Rattle.ssh_keys.specs.declared.error.KeyError.TheVariants.{Blob}
 use Rattle.ssh_keys.specs.declared.key_or_certificate.PublicKeyOrCertificate.{PublicKeyOrCertificate}
+use Rattle.ssh_keys.specs.declared.public_key.PublicKey.{PublicKey}
 use Rattle.ssh_keys.specs.declared.signature.Signature.{Signature}
 use Rattle.ssh_keys.specs.Algorithms.{algorithm_name, certificate_name}
 use Rattle.ssh_keys.specs.Offers.{IsOffer, FailsOffer, offered_key}
 use Rattle.ssh_keys.specs.Signatures.{signature_fields, SpellsSignature, EndsInSignature}
 use Rattle.ssh_keys.proofs.Agreement.{signature_once}
 use Rattle.ssh_keys.proofs.Offered.{algorithm_once, certified_algorithm_once, apart, offers_agree, offer_never_fails, offer_fails_once}
-use Rattle.ssh_auth.specs.Publickey.{Circumstances, Offer, IsOffered, IsUsable, OffersNothing, offer_fields, Offers, question, MisfitsSignature, HoldsNoSignature}
-use Rattle.ssh_auth.specs.Said.{Method, Unusable_method, Broken_method, Probe_method, Misnamed_method, Signed_method, Unfit_method, SaysPublickey}
+use Rattle.ssh_auth.specs.Publickey.{Acceptance, Circumstances, Offer, IsOffered, IsUsable, OffersNothing, offer_fields, Offers, question, IsAnswer, MisfitsSignature, HoldsNoSignature}
+use Rattle.ssh_auth.specs.Said.{Method, None_method, Password_method, Change_method, Other_method, Unbuilt_method, Unusable_method, Broken_method, Probe_method, Misnamed_method, Signed_method, Unfit_method, SaysPublickey}
 
 -- ---- what a name and a blob offer
 
@@ -140,7 +142,7 @@ Signs given all rest offer Broken_method = HoldsNoSignature rest
 Signs given all rest offer Misnamed_method = (signature : Signature) × EndsInSignature signature rest × (signature.name ≢ algorithm_name offer.algorithm)
 Signs given all rest offer (Signed_method asked accepted) =
     (unsigned : List ℕ) × (signature : Signature) × (asked ≡ offer) × EndsInSignature signature rest × (signature.name ≡ algorithm_name offer.algorithm) × (all ≡ unsigned ++ rest)
-    × (IsTrue accepted ↔ given.accepts (offered_key offer.key) offer.algorithm (question given.session_id unsigned) signature.blob)
+    × IsAnswer given.accepts (offered_key offer.key) offer.algorithm (question given.session_id unsigned) signature.blob accepted
 Signs given all rest offer (Unfit_method why) = MisfitsSignature rest why
 Signs given all rest offer _ = ⊥
 
@@ -170,7 +172,37 @@ in_turn given all fields (Unfit_method why) (inr (inl h)) = inr (false, h.0.name
 in_turn given all fields (Unfit_method why) (inr (inr h)) = inr (true, h.0.name, h.0.blob, h.1, h.2.0, Usable h.0, (refl, refl, h.2.1, h.2.2), h.3)
 in_turn given all fields _ h = absurd h
 
--- ---- it says one thing
+-- ---- it says one thing, but for an answer of the verifier that was not asked for
+
+-- two answers of the verifier, where it was asked both times
+abbrev pub AreOneAnswer : Option Bool → Option Bool → Type 0
+AreOneAnswer (Some a) (Some b) = a ≡ b
+AreOneAnswer _ _ = Unit {0}
+
+abbrev pub AreOneMethod : Method → Method → Type 0
+AreOneMethod (Signed_method m a) (Signed_method n b) = (m ≡ n) × AreOneAnswer a b
+AreOneMethod a b = a ≡ b
+
+one_answer : (a : Option Bool) → AreOneAnswer a a
+one_answer None = tt
+one_answer (Some a) = refl
+
+-- a method is the same as itself
+pub itself : (a b : Method) → a ≡ b → AreOneMethod a b
+itself a b e = subst (AreOneMethod a) e (one a)
+  where
+    one : (x : Method) → AreOneMethod x x
+    one (Signed_method m x) = (refl, one_answer x)
+    one None_method = refl
+    one (Password_method password) = refl
+    one (Change_method password new_password) = refl
+    one Unusable_method = refl
+    one Broken_method = refl
+    one (Probe_method offer) = refl
+    one Misnamed_method = refl
+    one Other_method = refl
+    one Unbuilt_method = refl
+    one (Unfit_method why) = refl
 
 asks_once : (rest : List ℕ) (offer : Offer) (a b : Method) → Asks rest offer a → Asks rest offer b → a ≡ b
 asks_once rest offer (Probe_method m) (Probe_method n) h k = ap Probe_method (h.0 ∙ sym k.0)
@@ -187,19 +219,23 @@ same_truth true false h k = absurd (let z : false ≡ true = k.1 (h.0 refl) in c
 same_truth false true h k = absurd (let z : false ≡ true = h.1 (k.0 refl) in cc)
 same_truth false false h k = refl
 
-both_signed : (given : Circumstances) (all rest : List ℕ) (offer m n : Offer) (a b : Bool) → Signs given all rest offer (Signed_method m a) → Signs given all rest offer (Signed_method n b) →
-    Signed_method m a ≡ Signed_method n b
+answers_once : (accepts : Acceptance) (key : PublicKey) (algorithm : Algorithm) (message signature : List ℕ) (a b : Option Bool) →
+    IsAnswer accepts key algorithm message signature a → IsAnswer accepts key algorithm message signature b → AreOneAnswer a b
+answers_once accepts key algorithm message signature (Some a) (Some b) h k = same_truth a b h k
+answers_once accepts key algorithm message signature (Some a) None h k = tt
+answers_once accepts key algorithm message signature None b h k = tt
+
+both_signed : (given : Circumstances) (all rest : List ℕ) (offer m n : Offer) (a b : Option Bool) → Signs given all rest offer (Signed_method m a) → Signs given all rest offer (Signed_method n b) →
+    AreOneMethod (Signed_method m a) (Signed_method n b)
 both_signed given all rest offer m n a b h k =
-    let offers : m ≡ n = h.2 ∙ sym k.2 in
     let fronts : h.0 ≡ k.0 = append_cancel_right h.0 k.0 rest (sym h.5 ∙ k.5) in
     let signatures : h.1 ≡ k.1 = signature_once h.1 k.1 rest h.3 k.3 in
-    let judged : IsTrue b ↔ given.accepts (offered_key offer.key) offer.algorithm (question given.session_id h.0) h.1.blob =
-    subst (λ x. IsTrue b ↔ given.accepts (offered_key offer.key) offer.algorithm (question given.session_id h.0) x.blob) (sym signatures)
-    (subst (λ x. IsTrue b ↔ given.accepts (offered_key offer.key) offer.algorithm (question given.session_id x) k.1.blob) (sym fronts) k.6) in
-    let truths : a ≡ b = same_truth a b h.6 judged in
-    ap (λ x. Signed_method x a) offers ∙ ap (Signed_method n) truths
+    let judged : IsAnswer given.accepts (offered_key offer.key) offer.algorithm (question given.session_id h.0) h.1.blob b =
+    subst (λ x. IsAnswer given.accepts (offered_key offer.key) offer.algorithm (question given.session_id h.0) x.blob b) (sym signatures)
+    (subst (λ x. IsAnswer given.accepts (offered_key offer.key) offer.algorithm (question given.session_id x) k.1.blob b) (sym fronts) k.6) in
+    (h.2 ∙ sym k.2, answers_once given.accepts (offered_key offer.key) offer.algorithm (question given.session_id h.0) h.1.blob a b h.6 judged)
 
-signs_once : (given : Circumstances) (all rest : List ℕ) (offer : Offer) (a b : Method) → Signs given all rest offer a → Signs given all rest offer b → a ≡ b
+signs_once : (given : Circumstances) (all rest : List ℕ) (offer : Offer) (a b : Method) → Signs given all rest offer a → Signs given all rest offer b → AreOneMethod a b
 signs_once given all rest offer Broken_method Broken_method h k = refl
 signs_once given all rest offer Broken_method Misnamed_method h k = absurd (signed_holds k.0 rest k.1 h)
 signs_once given all rest offer Broken_method (Signed_method n b) h k = absurd (signed_holds k.1 rest k.3 h)
@@ -225,10 +261,10 @@ signs_once given all rest offer (Unfit_method why) _ h k = absurd k
 signs_once given all rest offer _ b h k = absurd h
 
 follows_once : (given : Circumstances) (all : List ℕ) (signed : Bool) (rest : List ℕ) (offering : Offering) (a b : Method) →
-    SaysNext given all signed rest offering a → SaysNext given all signed rest offering b → a ≡ b
-follows_once given all signed rest Unusable a b h k = h ∙ sym k
-follows_once given all signed rest Broken a b h k = h ∙ sym k
-follows_once given all false rest (Usable offer) a b h k = asks_once rest offer a b h k
+    SaysNext given all signed rest offering a → SaysNext given all signed rest offering b → AreOneMethod a b
+follows_once given all signed rest Unusable a b h k = itself a b (h ∙ sym k)
+follows_once given all signed rest Broken a b h k = itself a b (h ∙ sym k)
+follows_once given all false rest (Usable offer) a b h k = itself a b (asks_once rest offer a b h k)
 follows_once given all true rest (Usable offer) a b h k = signs_once given all rest offer a b h k
 
 -- ---- from the fields in turn
@@ -247,13 +283,13 @@ same_offer given all fields s t m n b c x y o p method h i k l f =
     (subst (λ z. SaysNext given all t z o method) once.1
     (subst (λ z. SaysNext given all t y z method) offerings f))
 
-in_turn_once : (given : Circumstances) (all fields : List ℕ) (a b : Method) → InTurn given all fields a → InTurn given all fields b → a ≡ b
-in_turn_once given all fields a b (inl h) (inl k) = h.2 ∙ (ap Unfit_method (misfits_all_once offer_fields fields h.0 k.0 h.1 k.1) ∙ sym k.2)
+in_turn_once : (given : Circumstances) (all fields : List ℕ) (a b : Method) → InTurn given all fields a → InTurn given all fields b → AreOneMethod a b
+in_turn_once given all fields a b (inl h) (inl k) = itself a b (h.2 ∙ (ap Unfit_method (misfits_all_once offer_fields fields h.0 k.0 h.1 k.1) ∙ sym k.2))
 in_turn_once given all fields a b (inl h) (inr k) = absurd (misfits_all_not_spells offer_fields (k.0, (k.1, (k.2, tt))) fields k.3 h.0 h.1 k.4)
 in_turn_once given all fields a b (inr h) (inl k) = absurd (misfits_all_not_spells offer_fields (h.0, (h.1, (h.2, tt))) fields h.3 k.0 k.1 h.4)
 in_turn_once given all fields a b (inr h) (inr k) =
     follows_once given all h.0 h.3 h.5 a b h.7 (same_offer given all fields h.0 k.0 h.1 k.1 h.2 k.2 h.3 k.3 h.5 k.5 b h.4 h.6 k.4 k.6 k.7)
 
 -- the fields of a request by a key or a certificate say one thing
-pub publickey_once : (given : Circumstances) (all fields : List ℕ) (a b : Method) → SaysPublickey given all fields a → SaysPublickey given all fields b → a ≡ b
+pub publickey_once : (given : Circumstances) (all fields : List ℕ) (a b : Method) → SaysPublickey given all fields a → SaysPublickey given all fields b → AreOneMethod a b
 publickey_once given all fields a b h k = in_turn_once given all fields a b (in_turn given all fields a h) (in_turn given all fields b k)

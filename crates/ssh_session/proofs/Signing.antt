@@ -1,5 +1,5 @@
 -- A request that is signed is proven.
-use Rattle.std.proofs.Common.{◌≡◌, ℕ, List, ◌∷◌, Bool, true, false, refl, ap}
+use Rattle.std.proofs.Common.{◌≡◌, ℕ, List, ◌∷◌, Bool, true, false, Some, None, refl, ap}
 use Rattle.std.specs.Prelude.{bytes_eq, codes, drop, if◌then◌else◌}
 use Rattle.std.proofs.lemmas.Slice.Eq.{bytes_eq-Decides}
 use Rattle.ssh_wire.specs.Field.{SpellsAll}
@@ -21,7 +21,7 @@ ProvesKey given kind user (Certificate certificate) algorithm = IsProvenRequest 
 
 -- where the verifier accepts its signature, a signed request is proven
 abbrev pub Proves : Circumstances → InputKind → List ℕ → Method → Type 0
-Proves given kind user (Signed_method offer true) = ProvesKey given kind user offer.key offer.algorithm
+Proves given kind user (Signed_method offer (Some true)) = ProvesKey given kind user offer.key offer.algorithm
 Proves given kind user _ = Unit {0}
 
 -- the name publickey alone names it
@@ -49,12 +49,13 @@ head_named fields user name other rest is h = rw is at h
 -- what a request of this method says is proven
 pub proves : (given : Circumstances) (payload user name rest : List ℕ) (method : Method) (named : Named) → named_by name ≡ named → payload ≡ 50 ∷ drop 1 payload →
     SpellsAll head_fields (user, (codes "ssh-connection", (name, tt))) (drop 1 payload) rest → SaysMethod given (drop 1 payload) named rest method → Proves given (Payload payload) user method
-proves given payload user name rest (Signed_method offer true) Is_publickey is numbered head h =
+proves given payload user name rest (Signed_method offer (Some true)) Is_publickey is numbered head h =
     by_key given payload user offer offer.key refl numbered
     (rest, h.0, h.1, h.2, head_named (drop 1 payload) user name (codes "publickey") rest (publickey_named name is) head, h.3, h.4, h.5, h.6, h.7.0 refl)
-proves given payload user name rest (Signed_method offer false) named is numbered head h = tt
-proves given payload user name rest (Signed_method offer true) Is_none is numbered head h = absurd h
-proves given payload user name rest (Signed_method offer true) Is_password is numbered head h = absurd h
-proves given payload user name rest (Signed_method offer true) Is_unbuilt is numbered head h = cc
-proves given payload user name rest (Signed_method offer true) Is_other is numbered head h = cc
+proves given payload user name rest (Signed_method offer (Some false)) named is numbered head h = tt
+proves given payload user name rest (Signed_method offer None) named is numbered head h = tt
+proves given payload user name rest (Signed_method offer (Some true)) Is_none is numbered head h = absurd h
+proves given payload user name rest (Signed_method offer (Some true)) Is_password is numbered head h = absurd h
+proves given payload user name rest (Signed_method offer (Some true)) Is_unbuilt is numbered head h = cc
+proves given payload user name rest (Signed_method offer (Some true)) Is_other is numbered head h = cc
 proves given payload user name rest _ named is numbered head h = tt

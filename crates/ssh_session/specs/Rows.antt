@@ -11,7 +11,7 @@ use Rattle.ssh_session.specs.declared.phase.Phase.TheVariants.{Authentication, A
 use Rattle.ssh_session.specs.Layout.{service_accept, too_many_attempts, at_once, held}
 use Rattle.ssh_session.specs.World.{Settings, World}
 use Rattle.ssh_session.specs.Said.{Said, Nothing, Disconnect, Over_cap, Service, Request, Unfit, Unbuilt}
-use Rattle.ssh_session.specs.Outcome.{Fault, Encoding, Inconsistent, Key, Not_built, Outcome, Goes, Ends, Fails}
+use Rattle.ssh_session.specs.Outcome.{Fault, Encoding, Inconsistent, Key, Starved, Not_built, Outcome, Goes, Ends, Fails}
 
 -- userauth service, with what the banner callback answered: SERVICE_ACCEPT; a banner is not built
 abbrev pub accept_row : World → Option (List ℕ) → Plan Outcome
@@ -47,6 +47,7 @@ abbrev pub fault_of : auth.Fault → Fault
 fault_of (auth.Encoding why) = Encoding why
 fault_of auth.Inconsistent = Inconsistent
 fault_of auth.Key = Key
+fault_of auth.Starved = Starved
 fault_of auth.Not_built = Not_built
 
 -- what the verdict on a request comes to
