@@ -10,5 +10,6 @@ pub mod Kept
 pub mod Endings
 pub mod SaysOnce
 pub mod PlansOnce
+pub mod Unasked
 pub mod RunsOnce
 pub mod TranscriptsOnce

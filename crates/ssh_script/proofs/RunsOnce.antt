@@ -16,7 +16,7 @@ use Rattle.ssh_session.specs.declared.error.RunError.TheVariants as error
 use Rattle.ssh_session.specs.World.{Settings, World, circumstances}
 use Rattle.ssh_session.specs.Gate.{gate_of}
 use Rattle.ssh_session.specs.Rows.{row}
-use Rattle.ssh_session.specs.Outcome.{Outcome, Goes, Ends, Fails, Encoding, Inconsistent, Key, Not_built}
+use Rattle.ssh_session.specs.Outcome.{Outcome, Goes, Ends, Fails, Encoding, Inconsistent, Key, Starved, Not_built}
 use Rattle.ssh_session.specs.Run.{OwesKind, Owes, Turn, Turns, Run, entries}
 use Rattle.ssh_session.specs.Step.{Closes}
 use Rattle.ssh_script.specs.Queue.{rest}
@@ -24,6 +24,7 @@ use Rattle.ssh_script.specs.Played.{Failure, Queues, IsAnswered}
 use Rattle.ssh_script.specs.Given.{Supply, input_at, IsGiven}
 use Rattle.ssh_script.specs.Transcript.{status_of, calls_of}
 use Rattle.ssh_script.proofs.SaysOnce.{said_once}
+use Rattle.ssh_script.proofs.Unasked.{IsFed, Meet, said_meet}
 use Rattle.ssh_script.proofs.PlansOnce.{Comes, plan_once, left, answered_both}
 
 given_later : (supply : Supply) (frames : List Frame) (es : List TraceEntry) → IsGiven supply (map Sent frames ++ es) → IsGiven supply es
@@ -33,13 +34,12 @@ given_later supply (f ∷ frames) es h = given_later supply frames es h
 abbrev less : Supply → Supply
 less supply = record supply { inputs = rest supply.inputs }
 
-kind_once : (accepts : Acceptance) (settings : Settings) (w : World) (moment : ℕ) (kind : InputKind) (p q : Plan Outcome) → OwesKind accepts settings w moment kind p → OwesKind accepts settings w moment kind q → p ≡ q
-kind_once accepts settings w moment End p q h k = h ∙ sym k
-kind_once accepts settings w moment (Payload payload) p q h k =
-    h.2 ∙ (ap (row settings moment w) (said_once (circumstances accepts settings moment) (gate_of settings w payload) payload h.0 k.0 h.1 k.1) ∙ sym k.2)
-
-owes_once : (accepts : Acceptance) (settings : Settings) (w : World) (input : Input) (p q : Plan Outcome) → Owes accepts settings w input p → Owes accepts settings w input q → p ≡ q
-owes_once accepts settings w input p q h k = kind_once accepts settings w input.moment input.kind p q h k
+kind_meet : (accepts : Acceptance) (settings : Settings) (w : World) (moment : ℕ) (kind : InputKind) (p q : Plan Outcome) (xs ys : List (Call Failure)) (o o' : Result Outcome Failure) →
+    OwesKind accepts settings w moment kind p → OwesKind accepts settings w moment kind q → IsFed o → IsFed o' → Comes p xs o → Comes q ys o' → Meet xs ys o o'
+kind_meet accepts settings w moment End p q xs ys o o' h k f g c d = (p, c, subst (λ x. Comes x ys o') (k ∙ sym h) d)
+kind_meet accepts settings w moment (Payload payload) p q xs ys o o' h k f g c d =
+    said_meet settings moment w h.0 k.0 xs ys o o' (said_once (circumstances accepts settings moment) (gate_of settings w payload) payload h.0 k.0 h.1 k.1) f g
+    (subst (λ x. Comes x xs o) h.2 c) (subst (λ x. Comes x ys o') k.2 d)
 
 -- how a turn ends a run, by what its plan comes to
 abbrev Matches : Result Outcome Failure → List Frame → Result (Unit {0}) (RunError Failure) → Type 0
@@ -48,6 +48,7 @@ Matches (Ok (Ends fs)) frames result = (frames ≡ fs) × (result ≡ Ok tt)
 Matches (Ok (Fails (Encoding why))) frames result = (frames ≡ []) × (result ≡ Err (error.Encoding why))
 Matches (Ok (Fails Inconsistent)) frames result = (frames ≡ []) × (result ≡ Err error.Inconsistent)
 Matches (Ok (Fails Key)) frames result = (frames ≡ []) × (result ≡ Err (error.Key Blob))
+Matches (Ok (Fails Starved)) frames result = ⊥
 Matches (Ok (Fails Not_built)) frames result = (frames ≡ []) × (result ≡ Err error.NotBuilt)
 Matches (Err e) frames result = (frames ≡ []) × (result ≡ Err (error.Handler e))
 
@@ -57,8 +58,19 @@ matches_once (Ok (Ends fs)) f g r s h k = (h.0 ∙ sym k.0, h.1 ∙ sym k.1)
 matches_once (Ok (Fails (Encoding why))) f g r s h k = (h.0 ∙ sym k.0, h.1 ∙ sym k.1)
 matches_once (Ok (Fails Inconsistent)) f g r s h k = (h.0 ∙ sym k.0, h.1 ∙ sym k.1)
 matches_once (Ok (Fails Key)) f g r s h k = (h.0 ∙ sym k.0, h.1 ∙ sym k.1)
+matches_once (Ok (Fails Starved)) f g r s h k = absurd h
 matches_once (Ok (Fails Not_built)) f g r s h k = (h.0 ∙ sym k.0, h.1 ∙ sym k.1)
 matches_once (Err e) f g r s h k = (h.0 ∙ sym k.0, h.1 ∙ sym k.1)
+
+matches_fed : (o : Result Outcome Failure) (frames : List Frame) (r : Result (Unit {0}) (RunError Failure)) → Matches o frames r → IsFed o
+matches_fed (Ok (Goes fs w)) frames r h = tt
+matches_fed (Ok (Ends fs)) frames r h = tt
+matches_fed (Ok (Fails (Encoding why))) frames r h = tt
+matches_fed (Ok (Fails Inconsistent)) frames r h = tt
+matches_fed (Ok (Fails Key)) frames r h = tt
+matches_fed (Ok (Fails Starved)) frames r h = h
+matches_fed (Ok (Fails Not_built)) frames r h = tt
+matches_fed (Err e) frames r h = tt
 
 abbrev Ended : Acceptance → Settings → World → Turn Failure → Result (Unit {0}) (RunError Failure) → Type 0
 Ended accepts settings w turn result =
@@ -116,12 +128,12 @@ within accepts settings w queues supply n max turns None result t =
 
 -- two turns at one place, whatever they come to
 same_turn : (accepts : Acceptance) (settings : Settings) (w : World) (queues : Queues) (supply : Supply) (t u : Turn Failure) (plan plan' : Plan Outcome) (o o' : Result Outcome Failure) →
-    t.input ≡ input_at supply → u.input ≡ input_at supply → Owes accepts settings w t.input plan → Owes accepts settings w u.input plan' → Comes plan t.calls o → Comes plan' u.calls o' →
+    t.input ≡ input_at supply → u.input ≡ input_at supply → Owes accepts settings w t.input plan → Owes accepts settings w u.input plan' → IsFed o → IsFed o' → Comes plan t.calls o → Comes plan' u.calls o' →
     IsAnswered queues t.calls → IsAnswered queues u.calls → (t.calls ≡ u.calls) × (o ≡ o')
-same_turn accepts settings w queues supply t u plan plan' o o' i j a b f g x y =
+same_turn accepts settings w queues supply t u plan plan' o o' i j a b fed fed' f g x y =
     let k : u.input ≡ t.input = j ∙ sym i in
-    let e : plan' ≡ plan = owes_once accepts settings w t.input plan' plan (subst (λ i. Owes accepts settings w i plan') k b) a in
-    plan_once plan queues t.calls u.calls o o' f (subst (λ z. Comes z u.calls o') e g) x y
+    let m = kind_meet accepts settings w t.input.moment t.input.kind plan plan' t.calls u.calls o o' a (subst (λ i. Owes accepts settings w i plan') k b) fed fed' f g in
+    plan_once m.0 queues t.calls u.calls o o' m.1 m.2 x y
 
 tail_next : (accepts : Acceptance) (settings : Settings) (w : World) (queues : Queues) (supply : Supply) (n max : ℕ) (t : Turn Failure) (turns : List (Turn Failure)) (last : Option (Turn Failure))
     (result : Result (Unit {0}) (RunError Failure)) → (h : Tail accepts settings w queues supply n max (t ∷ turns) last result) →
@@ -156,14 +168,14 @@ both_last : (accepts : Acceptance) (settings : Settings) (w : World) (queues : Q
     Ended accepts settings w t r → Ended accepts settings w u s → t.input ≡ input_at supply → u.input ≡ input_at supply → IsAnswered queues t.calls → IsAnswered queues u.calls →
     Same (t ∷ []) (u ∷ []) r s
 both_last accepts settings w queues supply t u r s a b i j x y =
-    let m = same_turn accepts settings w queues supply t u a.0 b.0 a.2 b.2 i j a.1 b.1 a.3 b.3 x y in
+    let m = same_turn accepts settings w queues supply t u a.0 b.0 a.2 b.2 i j a.1 b.1 (matches_fed a.2 t.frames r a.4) (matches_fed b.2 u.frames s b.4) a.3 b.3 x y in
     let k = matches_once a.2 t.frames u.frames r s a.4 (subst (λ o. Matches o u.frames s) (sym m.1) b.4) in
     (same_cons t u [] [] (turn_same t u (i ∙ sym j) m.0 k.0) refl, k.1)
 
 gone_not_last : (accepts : Acceptance) (settings : Settings) (w mid : World) (queues : Queues) (supply : Supply) (t u : Turn Failure) (s : Result (Unit {0}) (RunError Failure)) →
     Turns accepts settings w t mid → Ended accepts settings w u s → t.input ≡ input_at supply → u.input ≡ input_at supply → IsAnswered queues t.calls → IsAnswered queues u.calls → ⊥
 gone_not_last accepts settings w mid queues supply t u s a b i j x y =
-    let m = same_turn accepts settings w queues supply t u a.0 b.0 (Ok (Goes t.frames mid)) b.2 i j a.1 b.1 a.2 b.3 x y in
+    let m = same_turn accepts settings w queues supply t u a.0 b.0 (Ok (Goes t.frames mid)) b.2 i j a.1 b.1 tt (matches_fed b.2 u.frames s b.4) a.2 b.3 x y in
     subst (λ o. Matches o u.frames s) (sym m.1) b.4
 
 ended_at : (accepts : Acceptance) (settings : Settings) (w v : World) (n max : ℕ) (t : Turn Failure) (r : Result (Unit {0}) (RunError Failure)) (status : ℕ) → v ≡ w →
@@ -200,7 +212,7 @@ once accepts settings w queues supply n max [] (u ∷ us) (Some t) mast r s h k 
     absurd (gone_not_last accepts settings w k.run.0 queues supply u t r k.run.1 (ended_at accepts settings w h.world (n + 0) max t r h.status h.run h.closes h.status_is) k.given.0 h.given.0
     (answered_both queues u.calls (later us mast) k.answered).0 (answered_both queues t.calls [] h.answered).0)
 once accepts settings w queues supply n max (t ∷ ts) (u ∷ us) last mast r s h k =
-    let m = same_turn accepts settings w queues supply t u h.run.1.0 k.run.1.0 (Ok (Goes t.frames h.run.0)) (Ok (Goes u.frames k.run.0)) h.given.0 k.given.0 h.run.1.1 k.run.1.1
+    let m = same_turn accepts settings w queues supply t u h.run.1.0 k.run.1.0 (Ok (Goes t.frames h.run.0)) (Ok (Goes u.frames k.run.0)) h.given.0 k.given.0 h.run.1.1 k.run.1.1 tt tt
     h.run.1.2 k.run.1.2 (answered_both queues t.calls (later ts last) h.answered).0 (answered_both queues u.calls (later us mast) k.answered).0 in
     let g = goes_once t.frames u.frames h.run.0 k.run.0 m.1 in
     let k1 : Tail accepts settings k.run.0 (left queues u.calls) (less supply) (n + 1) max us mast s = tail_next accepts settings w queues supply n max u us mast s k in

@@ -1,4 +1,5 @@
--- A payload says one thing.
+-- A payload says one thing, where memory is not wanting, but for an answer of the verifier that was not
+-- asked for.
 use Rattle.std.proofs.Common.{◌≡◌, ◌⊎◌, ℕ, List, [], ◌∷◌, Bool, true, false, refl, sym, ◌∙◌, ap, subst, inl, inr}
 use Rattle.std.specs.Prelude.{codes, drop}
 use Rattle.ssh_wire.specs.declared.error.WireError.{WireError}
@@ -8,7 +9,7 @@ use Rattle.ssh_auth.specs.Said.{head_fields, Method, None_method, Password_metho
 use Rattle.ssh_auth.specs.Said.{Said as Asked, Says as Asks}
 use Rattle.ssh_auth.specs.Said as asks
 use Rattle.ssh_auth.specs.Publickey.{Circumstances}
-use Rattle.ssh_session.proofs.KeyFields.{publickey_once}
+use Rattle.ssh_session.proofs.KeyFields.{AreOneMethod, itself, publickey_once}
 use Rattle.ssh_session.specs.declared.gate.Gate.{Gate}
 use Rattle.ssh_session.specs.declared.gate.Gate.TheVariants as gate
 use Rattle.ssh_session.specs.Said.{Said, Nothing, Disconnect, Over_cap, Service, Request, Unfit, Unbuilt, Fits, Says}
@@ -75,23 +76,31 @@ by_flag_once fields a b (inr h) (inr k) =
     let f : h.0 ≡ k.0 = ap (λ v. v.0) t.0 in
     after_flag_once h.0 h.1 a b h.3 (subst (λ x. AfterFlag h.0 x b) (sym t.1) (subst (λ x. AfterFlag x k.1 b) (sym f) k.3))
 
-method_once : (given : Circumstances) (all : List ℕ) (named : Named) (rest : List ℕ) (a b : Method) → SaysMethod given all named rest a → SaysMethod given all named rest b → a ≡ b
-method_once given all Is_none rest a b h k = none_once rest a b h k
-method_once given all Is_password rest a b h k = by_flag_once rest a b (by_flag rest a h) (by_flag rest b k)
+method_once : (given : Circumstances) (all : List ℕ) (named : Named) (rest : List ℕ) (a b : Method) → SaysMethod given all named rest a → SaysMethod given all named rest b → AreOneMethod a b
+method_once given all Is_none rest a b h k = itself a b (none_once rest a b h k)
+method_once given all Is_password rest a b h k = itself a b (by_flag_once rest a b (by_flag rest a h) (by_flag rest b k))
 method_once given all Is_publickey rest a b h k = publickey_once given all rest a b h k
-method_once given all Is_unbuilt rest a b h k = h ∙ sym k
-method_once given all Is_other rest a b h k = h ∙ sym k
+method_once given all Is_unbuilt rest a b h k = itself a b (h ∙ sym k)
+method_once given all Is_other rest a b h k = itself a b (h ∙ sym k)
 
-request_once : (user user' : List ℕ) (method method' : Method) → user ≡ user' → method ≡ method' → asks.Request user method ≡ asks.Request user' method'
-request_once user user' method method' e f = cc
+-- two readings of one request: they are the same where memory was not wanting, but for an answer of the verifier that was not asked for
+abbrev pub AreOneRequest : Asked → Asked → Type 0
+AreOneRequest asks.Unread b = Unit {0}
+AreOneRequest a asks.Unread = Unit {0}
+AreOneRequest (asks.Request user method) (asks.Request user' method') = (user ≡ user') × AreOneMethod method method'
+AreOneRequest a b = a ≡ b
+
+abbrev pub AreOne : Said → Said → Type 0
+AreOne (Request a) (Request b) = AreOneRequest a b
+AreOne a b = a ≡ b
 
 -- the fields of a USERAUTH_REQUEST say one thing
-asked_once : (given : Circumstances) (fields : List ℕ) (a b : Asked) → Asks given fields a → Asks given fields b → a ≡ b
+asked_once : (given : Circumstances) (fields : List ℕ) (a b : Asked) → Asks given fields a → Asks given fields b → AreOneRequest a b
 asked_once given fields (asks.Request user method) (asks.Request user' method') h k =
     let t = spells_all_once head_fields (user, (codes "ssh-connection", (h.0, tt))) (user', (codes "ssh-connection", (k.0, tt))) fields h.1 k.1 h.2 k.2 in
     let n : h.0 ≡ k.0 = ap (λ v. v.1.1.0) t.0 in
     let m : SaysMethod given fields (named_by h.0) h.1 method' = subst (λ x. SaysMethod given fields (named_by h.0) x method') (sym t.1) (subst (λ x. SaysMethod given fields (named_by x) k.1 method') (sym n) k.3) in
-    request_once user user' method method' (ap (λ v. v.0) t.0) (method_once given fields (named_by h.0) h.1 method method' h.3 m)
+    (ap (λ v. v.0) t.0, method_once given fields (named_by h.0) h.1 method method' h.3 m)
 asked_once given fields (asks.Request user method) Other_service h k =
     let t = spells_all_once head_fields (user, (codes "ssh-connection", (h.0, tt))) (k.0, (k.1, (k.2, tt))) fields h.1 k.3 h.2 k.4 in
     absurd (k.5 (sym (ap (λ v. v.1.0) t.0)))
@@ -106,6 +115,10 @@ asked_once given fields (asks.Unfit why) (asks.Request user method) h k =
     absurd (misfits_all_not_spells head_fields (user, (codes "ssh-connection", (k.0, tt))) fields k.1 why h k.2)
 asked_once given fields Other_service (asks.Unfit why) h k = absurd (misfits_all_not_spells head_fields (h.0, (h.1, (h.2, tt))) fields h.3 why k h.4)
 asked_once given fields (asks.Unfit why) Other_service h k = absurd (misfits_all_not_spells head_fields (k.0, (k.1, (k.2, tt))) fields k.3 why h k.4)
+asked_once given fields asks.Unread b h k = tt
+asked_once given fields (asks.Request user method) asks.Unread h k = tt
+asked_once given fields Other_service asks.Unread h k = tt
+asked_once given fields (asks.Unfit why) asks.Unread h k = tt
 
 nothing_said : (fields : List ℕ) (said : Said) → Fits gate.Nothing fields said → said ≡ Nothing
 nothing_said fields Nothing h = refl
@@ -133,16 +146,34 @@ service_said fields (Service name) _ h k = absurd k
 service_said fields (Unfit why) _ h k = absurd k
 service_said fields _ b h k = absurd h
 
-userauth_said : (given : Circumstances) (payload : List ℕ) (a b : Said) → Says given gate.UserauthRequest payload a → Says given gate.UserauthRequest payload b → a ≡ b
-userauth_said given payload (Request asked) (Request other) h k = ap Request (asked_once given (drop 1 payload) asked other h k)
+userauth_said : (given : Circumstances) (payload : List ℕ) (a b : Said) → Says given gate.UserauthRequest payload a → Says given gate.UserauthRequest payload b → AreOne a b
+userauth_said given payload (Request asked) (Request other) h k = asked_once given (drop 1 payload) asked other h k
 userauth_said given payload (Request asked) _ h k = absurd k
 userauth_said given payload _ b h k = absurd h
 
+-- what is said is the same as itself
+one_said : (a b : Said) → a ≡ b → AreOne a b
+one_said a b e = subst (AreOne a) e (one a)
+  where
+    one_request : (x : Asked) → AreOneRequest x x
+    one_request asks.Unread = tt
+    one_request (asks.Request user method) = (refl, itself method method refl)
+    one_request Other_service = refl
+    one_request (asks.Unfit why) = refl
+    one : (x : Said) → AreOne x x
+    one (Request asked) = one_request asked
+    one Nothing = refl
+    one Disconnect = refl
+    one Over_cap = refl
+    one (Service name) = refl
+    one (Unfit why) = refl
+    one Unbuilt = refl
+
 -- at a gate a payload says one thing
-pub said_once : (given : Circumstances) (at : Gate) (payload : List ℕ) (a b : Said) → Says given at payload a → Says given at payload b → a ≡ b
-said_once given gate.Nothing payload a b h k = nothing_said (drop 1 payload) a h ∙ sym (nothing_said (drop 1 payload) b k)
-said_once given gate.Ends payload a b h k = ends_said (drop 1 payload) a h ∙ sym (ends_said (drop 1 payload) b k)
-said_once given gate.OverCap payload a b h k = over_cap_said (drop 1 payload) a h ∙ sym (over_cap_said (drop 1 payload) b k)
-said_once given gate.ServiceRequest payload a b h k = service_said (drop 1 payload) a b h k
+pub said_once : (given : Circumstances) (at : Gate) (payload : List ℕ) (a b : Said) → Says given at payload a → Says given at payload b → AreOne a b
+said_once given gate.Nothing payload a b h k = one_said a b (nothing_said (drop 1 payload) a h ∙ sym (nothing_said (drop 1 payload) b k))
+said_once given gate.Ends payload a b h k = one_said a b (ends_said (drop 1 payload) a h ∙ sym (ends_said (drop 1 payload) b k))
+said_once given gate.OverCap payload a b h k = one_said a b (over_cap_said (drop 1 payload) a h ∙ sym (over_cap_said (drop 1 payload) b k))
+said_once given gate.ServiceRequest payload a b h k = one_said a b (service_said (drop 1 payload) a b h k)
 said_once given gate.UserauthRequest payload a b h k = userauth_said given payload a b h k
-said_once given gate.NotBuilt payload a b h k = not_built_said (drop 1 payload) a h ∙ sym (not_built_said (drop 1 payload) b k)
+said_once given gate.NotBuilt payload a b h k = one_said a b (not_built_said (drop 1 payload) a h ∙ sym (not_built_said (drop 1 payload) b k))
