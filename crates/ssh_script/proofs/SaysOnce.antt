@@ -160,6 +160,7 @@ one_said a b e = subst (AreOne a) e (one a)
     one_request (asks.Request user method) = (refl, itself method method refl)
     one_request Other_service = refl
     one_request (asks.Unfit why) = refl
+
     one : (x : Said) → AreOne x x
     one (Request asked) = one_request asked
     one Nothing = refl

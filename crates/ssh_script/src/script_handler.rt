@@ -183,7 +183,11 @@ impl AuthHandler for ScriptHandler {
         user: &str,
         key: VerifiedPublicKey<'_>,
     ) -> Result<Auth, RecordError<ScriptError>> {
-        let verdict = verdict_at(&self.answers.publickey, self.next.publickey, Verdict::Reject);
+        let verdict = verdict_at(
+            &self.answers.publickey,
+            self.next.publickey,
+            Verdict::Reject,
+        );
         let asked = Asked::publickey(self.alloc, user, key);
         keep(&mut self.asked, &mut self.lost, asked)?;
         self.next.publickey = place_after(&self.answers.publickey, self.next.publickey);

@@ -93,7 +93,16 @@ fn a_link_that_fails(rt: HostRuntime) -> Result<(), Fail> {
     for (number, frames) in [(1u64, 0usize), (2, 0), (3, 1)] {
         let mut link = service_link(alloc, &[number])?;
         let mut handler = Recorded::new(alloc, Open);
-        let run = run_stream(alloc, &config, b"", b"", &mut handler, &verifier, &mut link, 10);
+        let run = run_stream(
+            alloc,
+            &config,
+            b"",
+            b"",
+            &mut handler,
+            &verifier,
+            &mut link,
+            10,
+        );
         assert!(rt; matches!(run, Err(RunError::LinkFault)));
         assert_eq!(rt; sent(&link), frames);
     }
@@ -107,7 +116,16 @@ fn a_handler_that_fails(rt: HostRuntime) -> Result<(), Fail> {
     let verifier = TableVerifier::new(alloc);
     let mut link = service_link(alloc, &[])?;
     let mut handler = Recorded::new(alloc, NoBanner);
-    let run = run_stream(alloc, &config, b"", b"", &mut handler, &verifier, &mut link, 10);
+    let run = run_stream(
+        alloc,
+        &config,
+        b"",
+        b"",
+        &mut handler,
+        &verifier,
+        &mut link,
+        10,
+    );
     assert!(rt; matches!(run, Err(RunError::Handler(RecordError::Inner(Tired)))));
     assert_eq!(rt; sent(&link), 0);
     assert_eq!(rt; handler.calls().len(), 1);
