@@ -35,6 +35,13 @@ impl PlannedFailures {
         }
     }
 
+    // How many calls failed.
+    pub(crate) fn faults(&self) -> u64
+        ensures { result ≡ self.now.faults }
+    {
+        self.faults
+    }
+
     // Whether the call that begins now fails. A full count stands still, and then none does.
     pub(crate) fn next_fails(&mut self) -> bool
         ensures answer { result ≡ fails_next self.old }

@@ -52,6 +52,13 @@ impl MemoryLink {
     {
         self.trace.as_slice()
     }
+
+    /// How many of its calls failed as planned.
+    pub fn faults(&self) -> u64
+        ensures { result ≡ self.now.failures.faults }
+    {
+        self.failures.faults()
+    }
 }
 
 // A copy of the input that comes next.

@@ -93,6 +93,7 @@ fn a_link_that_fails(rt: HostRuntime) -> Result<(), Fail> {
     for (number, frames) in [(1u64, 0usize), (2, 0), (3, 1)] {
         let mut link = service_link(alloc, &[number])?;
         let mut handler = Recorded::new(alloc, Open);
+        assert_eq!(rt; link.faults(), 0);
         let run = run_stream(
             alloc,
             &config,
@@ -104,6 +105,7 @@ fn a_link_that_fails(rt: HostRuntime) -> Result<(), Fail> {
             10,
         );
         assert!(rt; matches!(run, Err(RunError::LinkFault)));
+        assert_eq!(rt; link.faults(), 1);
         assert_eq!(rt; sent(&link), frames);
     }
     Ok(())
