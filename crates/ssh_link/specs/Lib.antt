@@ -1,3 +1,5 @@
 pub mod Told
 pub mod Io
+pub mod Asked
+pub mod Supply
 pub mod Memory

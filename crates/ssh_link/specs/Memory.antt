@@ -1,11 +1,10 @@
 -- The outsides in memory: what they still have, and which of their calls fail.
-use Rattle.std.specs.Prelude.{◌+◌, ◌^◌, ◌==◌, ◌&&◌, ℕ, Bool, nat_lt, if◌then◌else◌, List, [], ◌∷◌, ◌++◌, drop}
+use Rattle.std.specs.Prelude.{◌+◌, ◌^◌, ◌==◌, ◌&&◌, ℕ, Bool, nat_lt, if◌then◌else◌, List, [], ◌∷◌, ◌++◌}
 use Rattle.std.specs.List.{list_any}
-use Rattle.ssh_link.specs.declared.frame.Frame.{Frame}
 use Rattle.ssh_link.specs.declared.frame.Input.{Input}
-use Rattle.ssh_link.specs.declared.frame.InputKind.TheVariants.{End}
 use Rattle.ssh_link.specs.declared.link.TraceEntry.{TraceEntry}
-use Rattle.ssh_link.specs.declared.link.TraceEntry.TheVariants.{Took, Sent}
+use Rattle.ssh_link.specs.declared.link.TraceEntry.TheVariants.{Took}
+use Rattle.ssh_link.specs.Supply.{Supply, left_until, last_moment, next_input, after_next}
 
 pub record Failures : Type 0 where
   -- the numbers of the calls that are to fail; the first call is number 1
@@ -36,44 +35,33 @@ called f =
 
 -- what a link in memory has
 pub record Remembered : Type 0 where
-  -- the inputs that were not given yet, in order
-  pub left : List Input
-  -- the moment of the input that was given last, and 0 before the first
-  pub moment : ℕ
+  -- the inputs that are left
+  pub supply : Supply
   -- its calls that fail
   pub failures : Failures
   -- its finished calls in order
   pub trace : List TraceEntry
 
--- a link that has these inputs and was not called yet
+-- a link that has these inputs, and the end at this moment, and was not called yet
+abbrev pub unused_until : ℕ → List Input → List ℕ → Remembered
+unused_until moment inputs fails = record { supply = left_until moment inputs; failures = no_calls fails; trace = [] }
+
+-- with the end at the moment of the last of them
 abbrev pub unused : List Input → List ℕ → Remembered
-unused inputs fails = record { left = inputs; moment = 0; failures = no_calls fails; trace = [] }
-
--- the first of these inputs; where none is left the end, at the moment of the last input
-abbrev pub first_or_end : List Input → ℕ → Input
-first_or_end [] moment = record { moment = moment; kind = End }
-first_or_end (input ∷ inputs) moment = input
-
--- the input that comes next
-abbrev pub next_input : Remembered → Input
-next_input link = first_or_end link.left link.moment
+unused inputs fails = unused_until (last_moment inputs) inputs fails
 
 -- after a call that was not finished
 abbrev pub failed : Remembered → Remembered
 failed link = record link { failures = called link.failures }
 
--- after the next input was given
-abbrev pub gave : Remembered → Bool → Bool → Remembered
-gave link commands replies = record {
-  left = drop 1 link.left;
-  moment = (next_input link).moment;
-  failures = called link.failures;
-  trace = link.trace ++ Took commands replies (next_input link) ∷ [];
-}
+-- after a call that was finished, and told so
+abbrev pub finished : Remembered → TraceEntry → Remembered
+finished link entry = record link { failures = called link.failures; trace = link.trace ++ entry ∷ [] }
 
--- after a frame was taken
-abbrev pub took_frame : Remembered → Frame → Remembered
-took_frame link frame = record link { failures = called link.failures; trace = link.trace ++ Sent frame ∷ [] }
+-- after the next input was given
+abbrev pub gave : Bool → Bool → Remembered → Remembered
+gave commands replies link =
+    record (finished link (Took commands replies (next_input commands replies link.supply))) { supply = after_next commands replies link.supply }
 
 -- what a source in memory has
 pub record Readable : Type 0 where

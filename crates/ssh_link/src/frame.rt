@@ -1,7 +1,10 @@
 // What goes out to the peer, and what comes in.
 ghost use Rattle.std.specs.Prelude.{◌≡◌, IfOk, IfErr};
 ghost use Rattle.ssh_wire.specs.declared.error.WireError.TheVariants.{NoMemory};
+ghost use Rattle.ssh_link.specs.Asked.{is_asked};
+ghost use Rattle.ssh_link.specs.Supply.{is_reply};
 
+use crate::{Command, OpenAnswer};
 use bytes::Bytes;
 use ssh_wire::{ChannelId, WireError};
 
@@ -58,6 +61,11 @@ impl Input {
 pub enum InputKind {
     /// A payload of the peer, already opened, from its message number on.
     Payload(Bytes),
+    /// A command from outside, and the ticket under which its outcome is answered.
+    Command(u64, Command),
+    /// The answer to an open of the peer from outside, and the ticket under which its outcome is
+    /// answered.
+    OpenReply(u64, OpenAnswer),
     /// The peer is gone: nothing follows.
     End,
 }
@@ -70,7 +78,31 @@ impl InputKind {
     {
         match self {
             InputKind::Payload(bytes) => Ok(InputKind::Payload(bytes.clone()?)),
+            InputKind::Command(ticket, command) => {
+                Ok(InputKind::Command(*ticket, command.copy()?))
+            }
+            InputKind::OpenReply(ticket, answer) => {
+                Ok(InputKind::OpenReply(*ticket, answer.copy()?))
+            }
             InputKind::End => Ok(InputKind::End),
         }
+    }
+
+    // Whether an input of this kind may be given, where these are asked for.
+    pub(crate) fn is_asked(&self, commands: bool, replies: bool) -> bool
+        ensures { result ≡ is_asked commands replies self.now }
+    {
+        match self {
+            InputKind::Command(..) => commands,
+            InputKind::OpenReply(..) => replies,
+            _ => true,
+        }
+    }
+
+    // Whether it is a reply to an open.
+    pub(crate) fn is_reply(&self) -> bool
+        ensures { result ≡ is_reply self.now }
+    {
+        matches!(self, InputKind::OpenReply(..))
     }
 }

@@ -5,21 +5,30 @@
 //! whatever tells its calls goes on telling them.
 #![tactic(auto)]
 
+mod command;
 mod failures;
 mod frame;
+mod input_queue;
 mod io;
 mod link;
 mod lists;
 mod memory_io;
 mod memory_link;
+mod notice;
+mod open_answer;
+mod outcome;
 mod standard;
 #[cfg(test)]
 mod tests;
 
+pub use command::{Command, CommandList};
 pub use frame::{Frame, Input, InputKind};
 pub use io::{IoFailed, Sink, Source};
 pub use link::{Link, LinkFault, TraceEntry};
 pub use lists::{Calls, Inputs};
 pub use memory_io::{MemorySink, MemorySource};
 pub use memory_link::MemoryLink;
+pub use notice::{ChannelMsg, Notice};
+pub use open_answer::{ChannelOpenHandle, OpenAnswer};
+pub use outcome::{CommandOutcome, Refusal};
 pub use standard::{StdSink, StdSource};

@@ -2,10 +2,11 @@
 ghost use Rattle.std.specs.Prelude.{◌≡◌, ◌<◌, ◌≤◌, ℕ, List, Option, IfOk, IfErr, OnOk, OnErr, IsErrOf};
 ghost use Rattle.ssh_wire.specs.declared.error.WireError.TheVariants.{NoMemory};
 ghost use Rattle.ssh_link.specs.declared.link.TraceEntry.{TraceEntry};
-ghost use Rattle.ssh_link.specs.declared.link.TraceEntry.TheVariants.{Took, Sent};
+ghost use Rattle.ssh_link.specs.declared.link.TraceEntry.TheVariants.{Took, Sent, Noticed, Answered};
 ghost use Rattle.ssh_link.specs.Told.{AddsOne, AddsNothing};
+ghost use Rattle.ssh_link.specs.Asked.{IsAsked};
 
-use crate::{Frame, Input};
+use crate::{CommandOutcome, Frame, Input, Notice};
 use ssh_wire::WireError;
 
 /// A call of a link that was finished, as the link tells it.
@@ -22,6 +23,10 @@ pub enum TraceEntry {
     },
     /// A frame was handed on.
     Sent(Frame),
+    /// A notice was given to the users of the channels.
+    Noticed(Notice),
+    /// What came of the command or the reply with this ticket was answered.
+    Answered(u64, CommandOutcome),
 }
 
 impl TraceEntry {
@@ -41,6 +46,8 @@ impl TraceEntry {
                 input: input.copy()?,
             }),
             TraceEntry::Sent(frame) => Ok(TraceEntry::Sent(frame.copy()?)),
+            TraceEntry::Noticed(notice) => Ok(TraceEntry::Noticed(notice.copy()?)),
+            TraceEntry::Answered(ticket, outcome) => Ok(TraceEntry::Answered(*ticket, *outcome)),
         }
     }
 }
@@ -67,6 +74,7 @@ pub trait Link {
     /// an open only where `replies` asks for it.
     fn next(&mut self, commands: bool, replies: bool) -> Result<Input, LinkFault>
         ensures took { IfOk result (λ input. AddsOne (trace self.old) (trace self.new) (Took commands replies input)) }
+        ensures asked { IfOk result (λ input. IsAsked commands replies input.kind) }
         ensures err { OnErr result (AddsNothing (trace self.old) (trace self.new)) }
         ensures cause { IsErrOf result LinkFault.Failed → faults self.old < faults self.new }
         ensures later { faults self.old ≤ faults self.new };
@@ -74,6 +82,20 @@ pub trait Link {
     /// Hands a frame on to the peer.
     fn send(&mut self, frame: Frame) -> Result<(), LinkFault>
         ensures sent { OnOk result (AddsOne (trace self.old) (trace self.new) (Sent frame)) }
+        ensures err { OnErr result (AddsNothing (trace self.old) (trace self.new)) }
+        ensures cause { IsErrOf result LinkFault.Failed → faults self.old < faults self.new }
+        ensures later { faults self.old ≤ faults self.new };
+
+    /// Tells the users of the channels what happened.
+    fn notice(&mut self, notice: Notice) -> Result<(), LinkFault>
+        ensures noticed { OnOk result (AddsOne (trace self.old) (trace self.new) (Noticed notice)) }
+        ensures err { OnErr result (AddsNothing (trace self.old) (trace self.new)) }
+        ensures cause { IsErrOf result LinkFault.Failed → faults self.old < faults self.new }
+        ensures later { faults self.old ≤ faults self.new };
+
+    /// Answers what came of the command or the reply with this ticket.
+    fn answer(&mut self, ticket: u64, outcome: CommandOutcome) -> Result<(), LinkFault>
+        ensures answered { OnOk result (AddsOne (trace self.old) (trace self.new) (Answered ticket outcome)) }
         ensures err { OnErr result (AddsNothing (trace self.old) (trace self.new)) }
         ensures cause { IsErrOf result LinkFault.Failed → faults self.old < faults self.new }
         ensures later { faults self.old ≤ faults self.new };

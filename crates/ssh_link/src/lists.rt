@@ -7,6 +7,17 @@ use ssh_wire::WireError;
 use std::alloc::Global;
 use std::marker::Model;
 
+// Adds an item at the end. What finds no memory is dropped here, whatever it is, and the list is
+// as it was.
+pub(crate) fn pushed<T: Drop>(items: &mut Vec<T>, item: T) -> Result<(), WireError>
+    ensures ok { OnOk result (items.new.items ≡ items.old.items ++ item ∷ []) }
+    ensures err { OnErr result (items.new.items ≡ items.old.items) }
+    ensures memory { IfErr result (λ e. e ≡ NoMemory) }
+{
+    items.push(item)?;
+    Ok(())
+}
+
 /// Inputs, in the order in which they are to be given. A clause sees the list.
 #[derive(Debug, Drop)]
 pub struct Inputs {
@@ -47,6 +58,13 @@ impl Inputs {
     {
         self.items.push(input)?;
         Ok(())
+    }
+
+    // The inputs, in order, to keep.
+    pub(crate) fn into_vec(self) -> Vec<Input>
+        ensures { result.items ≡ self }
+    {
+        self.items
     }
 }
 

@@ -1,46 +1,57 @@
 // A link in memory.
-ghost use Rattle.std.specs.Prelude.{◌≡◌, ◌<◌, ◌≤◌, ◌↔◌, [], ◌∷◌, ◌++◌, Some, IfOk, IfErr, OnOk, OnErr, IsErrOf, IsTrue, drop};
-ghost use Rattle.ssh_wire.specs.declared.error.WireError.TheVariants.{NoMemory};
-ghost use Rattle.ssh_link.specs.declared.link.TraceEntry.TheVariants.{Took, Sent};
+ghost use Rattle.std.specs.Prelude.{◌≡◌, ◌<◌, ◌≤◌, ◌↔◌, Some, IfOk, OnOk, OnErr, IsErrOf, IsTrue};
+ghost use Rattle.ssh_link.specs.declared.link.TraceEntry.TheVariants.{Took, Sent, Noticed, Answered};
 ghost use Rattle.ssh_link.specs.Told.{AddsOne, AddsNothing};
-ghost use Rattle.ssh_link.specs.Memory.{unused, next_input, first_or_end, failed, gave, took_frame, fails_next};
+ghost use Rattle.ssh_link.specs.Asked.{IsAsked};
+ghost use Rattle.ssh_link.specs.Supply.{next_input};
+ghost use Rattle.ssh_link.specs.Memory.{unused, unused_until, failed, finished, gave, fails_next};
 
 use crate::failures::PlannedFailures;
-use crate::{Calls, Frame, Input, InputKind, Inputs, Link, LinkFault, TraceEntry};
-use ssh_wire::WireError;
+use crate::input_queue::InputQueue;
+use crate::lists::pushed;
+use crate::{Calls, CommandOutcome, Frame, Input, Inputs, Link, LinkFault, Notice, TraceEntry};
 use std::alloc::Global;
 use std::marker::Model;
 
-/// A link in memory. It gives its inputs in order, and after the last of them the end, at the
-/// moment of the last input, or at 0 where there was none. The calls whose numbers it was given
-/// fail; both kinds of call are counted together, from 1. It tells its finished calls.
+/// A link in memory. It gives its inputs in order, and behind the last of them the end. A command or a reply to an open that is
+/// not asked for is set aside, and comes first once it is asked for, replies before commands. The
+/// calls whose numbers it was given fail; all kinds of call are counted together, from 1. It tells
+/// its finished calls.
 #[derive(Debug, Drop)]
 pub struct MemoryLink {
-    inputs: Inputs,
-    next: usize,
-    moment: u64,
+    inputs: InputQueue,
     failures: PlannedFailures,
     trace: Vec<TraceEntry>,
 }
 
 impl Model for MemoryLink {
-    ghost use Rattle.std.specs.Prelude.{drop};
     ghost use Rattle.ssh_link.specs.Memory.{Remembered};
 
     ghost Value = { Remembered };
 
-    ghost view = { λ link. record { left = drop link.next link.inputs; moment = link.moment; failures = link.failures; trace = link.trace.items } };
+    ghost view = { λ link. record { supply = link.inputs; failures = link.failures; trace = link.trace.items } };
 }
 
 impl MemoryLink {
-    /// A link with these inputs, whose calls with these numbers fail.
+    /// A link with these inputs, whose calls with these numbers fail. The end comes at the moment of
+    /// the last input, or at 0 where there is none.
     pub fn new(alloc: Global, inputs: Inputs, fails: Calls) -> MemoryLink
         ensures { result ≡ unused inputs fails }
     {
         MemoryLink {
-            inputs,
-            next: 0,
-            moment: 0,
+            inputs: InputQueue::new(inputs),
+            failures: PlannedFailures::new(fails),
+            trace: Vec::new(alloc),
+        }
+    }
+
+    /// A link with these inputs and the end at this moment, in milliseconds since 1970, whose calls
+    /// with these numbers fail.
+    pub fn ending_at(alloc: Global, inputs: Inputs, end_moment: u64, fails: Calls) -> MemoryLink
+        ensures { result ≡ unused_until end_moment inputs fails }
+    {
+        MemoryLink {
+            inputs: InputQueue::ending_at(inputs, end_moment),
             failures: PlannedFailures::new(fails),
             trace: Vec::new(alloc),
         }
@@ -59,46 +70,21 @@ impl MemoryLink {
     {
         self.failures.faults()
     }
-}
 
-// A copy of the input that comes next.
-fn next_of(inputs: &[Input], next: usize, moment: u64) -> Result<Input, WireError>
-    ensures ok { IfOk result (λ input. input ≡ first_or_end (drop next inputs.now) moment) }
-    ensures memory { IfErr result (λ e. e ≡ NoMemory) }
-{
-    match inputs.get(next) {
-        Some(input) => input.copy(),
-        None => Ok(Input {
-            moment,
-            kind: InputKind::End,
-        }),
+    // A call that is to be told so, where it does not fail.
+    fn finish(&mut self, entry: TraceEntry) -> Result<(), LinkFault>
+        ensures finished { OnOk result (self.new ≡ finished self.old entry) }
+        ensures failed { OnErr result (self.new ≡ failed self.old) }
+        ensures planned { IsErrOf result LinkFault.Failed ↔ IsTrue (fails_next self.old.failures) }
+    {
+        if self.failures.next_fails() {
+            return Err(LinkFault::Failed);
+        }
+        if pushed(&mut self.trace, entry).is_err() {
+            return Err(LinkFault::NoMemory);
+        }
+        Ok(())
     }
-}
-
-// The place behind the input that comes next.
-fn after_one(inputs: &[Input], next: usize) -> usize
-    ensures { drop result inputs.now ≡ drop 1 (drop next inputs.now) }
-{
-    if next < inputs.len() { next + 1 } else { next }
-}
-
-// Takes the input that comes next into the trace, and gives a copy of it.
-fn take_into(
-    trace: &mut Vec<TraceEntry>,
-    input: Input,
-    commands: bool,
-    replies: bool,
-) -> Result<Input, WireError>
-    ensures ok { IfOk result (λ given. (given ≡ input) × (trace.new.items ≡ trace.old.items ++ Took commands replies input ∷ [])) }
-    ensures err { OnErr result (trace.new.items ≡ trace.old.items) }
-{
-    let copy = input.copy()?;
-    trace.push(TraceEntry::Took {
-        commands,
-        replies,
-        input: copy,
-    })?;
-    Ok(input)
 }
 
 impl Link for MemoryLink {
@@ -108,25 +94,29 @@ impl Link for MemoryLink {
 
     fn next(&mut self, commands: bool, replies: bool) -> Result<Input, LinkFault>
         ensures took { IfOk result (λ input. AddsOne (Some self.old.trace) (Some self.new.trace) (Took commands replies input)) }
+        ensures asked { IfOk result (λ input. IsAsked commands replies input.kind) }
         ensures err { OnErr result (AddsNothing (Some self.old.trace) (Some self.new.trace)) }
         ensures cause { IsErrOf result LinkFault.Failed → self.old.failures.faults < self.new.failures.faults }
         ensures later { self.old.failures.faults ≤ self.new.failures.faults }
-        ensures given { IfOk result (λ input. (input ≡ next_input self.old) × (self.new ≡ gave self.old commands replies)) }
+        ensures given { IfOk result (λ input. (input ≡ next_input commands replies self.old.supply) × (self.new ≡ gave commands replies self.old)) }
         ensures failed { OnErr result (self.new ≡ failed self.old) }
         ensures planned { IsErrOf result LinkFault.Failed ↔ IsTrue (fails_next self.old.failures) }
     {
         if self.failures.next_fails() {
             return Err(LinkFault::Failed);
         }
-        let Ok(input) = next_of(self.inputs.as_slice(), self.next, self.moment) else {
+        let Ok(input) = self.inputs.copy_next(commands, replies) else {
             return Err(LinkFault::NoMemory);
         };
-        let Ok(input) = take_into(&mut self.trace, input, commands, replies) else {
-            return Err(LinkFault::NoMemory);
+        let entry = TraceEntry::Took {
+            commands,
+            replies,
+            input,
         };
-        self.next = after_one(self.inputs.as_slice(), self.next);
-        self.moment = input.moment;
-        Ok(input)
+        if pushed(&mut self.trace, entry).is_err() {
+            return Err(LinkFault::NoMemory);
+        }
+        Ok(self.inputs.give_next(commands, replies))
     }
 
     fn send(&mut self, frame: Frame) -> Result<(), LinkFault>
@@ -134,16 +124,34 @@ impl Link for MemoryLink {
         ensures err { OnErr result (AddsNothing (Some self.old.trace) (Some self.new.trace)) }
         ensures cause { IsErrOf result LinkFault.Failed → self.old.failures.faults < self.new.failures.faults }
         ensures later { self.old.failures.faults ≤ self.new.failures.faults }
-        ensures taken { OnOk result (self.new ≡ took_frame self.old frame) }
+        ensures finished { OnOk result (self.new ≡ finished self.old (Sent frame)) }
         ensures failed { OnErr result (self.new ≡ failed self.old) }
         ensures planned { IsErrOf result LinkFault.Failed ↔ IsTrue (fails_next self.old.failures) }
     {
-        if self.failures.next_fails() {
-            return Err(LinkFault::Failed);
-        }
-        if self.trace.push(TraceEntry::Sent(frame)).is_err() {
-            return Err(LinkFault::NoMemory);
-        }
-        Ok(())
+        self.finish(TraceEntry::Sent(frame))
+    }
+
+    fn notice(&mut self, notice: Notice) -> Result<(), LinkFault>
+        ensures noticed { OnOk result (AddsOne (Some self.old.trace) (Some self.new.trace) (Noticed notice)) }
+        ensures err { OnErr result (AddsNothing (Some self.old.trace) (Some self.new.trace)) }
+        ensures cause { IsErrOf result LinkFault.Failed → self.old.failures.faults < self.new.failures.faults }
+        ensures later { self.old.failures.faults ≤ self.new.failures.faults }
+        ensures finished { OnOk result (self.new ≡ finished self.old (Noticed notice)) }
+        ensures failed { OnErr result (self.new ≡ failed self.old) }
+        ensures planned { IsErrOf result LinkFault.Failed ↔ IsTrue (fails_next self.old.failures) }
+    {
+        self.finish(TraceEntry::Noticed(notice))
+    }
+
+    fn answer(&mut self, ticket: u64, outcome: CommandOutcome) -> Result<(), LinkFault>
+        ensures answered { OnOk result (AddsOne (Some self.old.trace) (Some self.new.trace) (Answered ticket outcome)) }
+        ensures err { OnErr result (AddsNothing (Some self.old.trace) (Some self.new.trace)) }
+        ensures cause { IsErrOf result LinkFault.Failed → self.old.failures.faults < self.new.failures.faults }
+        ensures later { self.old.failures.faults ≤ self.new.failures.faults }
+        ensures finished { OnOk result (self.new ≡ finished self.old (Answered ticket outcome)) }
+        ensures failed { OnErr result (self.new ≡ failed self.old) }
+        ensures planned { IsErrOf result LinkFault.Failed ↔ IsTrue (fails_next self.old.failures) }
+    {
+        self.finish(TraceEntry::Answered(ticket, outcome))
     }
 }
