@@ -1,13 +1,16 @@
 -- What is owed to a handler and to a link: questions one after another, each going on by its answer,
 -- notices between them, and what comes of them.
 use Rattle.std.specs.Prelude.{◌≡◌, ℕ, List, [], ◌∷◌, Option, Result, Ok, Err}
+use Rattle.ssh_wire.specs.declared.channel_id.ChannelId.{ChannelId}
 use Rattle.ssh_keys.specs.declared.algorithm.Algorithm.{Algorithm}
 use Rattle.ssh_keys.specs.declared.certificate.Certificate.{Certificate}
 use Rattle.ssh_keys.specs.declared.public_key.PublicKey.{PublicKey}
+use Rattle.ssh_link.specs.declared.command.Command.{Command}
+use Rattle.ssh_link.specs.declared.outcome.CommandOutcome.{CommandOutcome}
 use Rattle.ssh_link.specs.declared.link.TraceEntry.{TraceEntry}
 use Rattle.ssh_auth.specs.declared.auth.Auth.{Auth}
 use Rattle.ssh_auth.specs.declared.call.Call.{Call}
-use Rattle.ssh_auth.specs.declared.call.Call.TheVariants.{AuthenticationBanner, AuthNone, AuthPassword, AuthPublickeyOffered, AuthPublickey, AuthOpensshCertificate, AuthSucceeded}
+use Rattle.ssh_auth.specs.declared.call.Call.TheVariants.{AuthenticationBanner, AuthNone, AuthPassword, AuthPublickeyOffered, AuthPublickey, AuthOpensshCertificate, AuthSucceeded, ChannelOpenSession, ChannelEof, ChannelClose, WindowAdjusted, CommandDone}
 
 -- what a handler is asked, or is told
 pub data Question : Type 0 where
@@ -25,8 +28,18 @@ pub data Question : Type 0 where
   Auth_openssh_certificate : (user : List ℕ) → (certificate : Certificate) → Question
   -- that the user is authenticated (RFC 4252 section 5.1)
   Auth_succeeded : Question
+  -- for the answer to a session channel that the peer opens under this number (RFC 4254 section 6.1)
+  Channel_open_session : (channel : ChannelId) → Question
+  -- that the peer sends no more data on the channel (RFC 4254 section 5.3)
+  Channel_eof : (channel : ChannelId) → Question
+  -- that the peer closed the channel (RFC 4254 section 5.3)
+  Channel_close : (channel : ChannelId) → Question
+  -- that so many bytes may still be sent on the channel (RFC 4254 section 5.2)
+  Window_adjusted : (channel : ChannelId) → (new_size : ℕ) → Question
+  -- that this came of the command at this place among those of the last callback
+  Command_done : (place : ℕ) → (outcome : CommandOutcome) → Question
 
--- what it answers where it answers no error
+-- what it answers where it answers no error: of most callbacks, the commands that they recorded
 abbrev pub Answer : Question → Type 0
 Answer Authentication_banner = Option (List ℕ)
 Answer (Auth_none user) = Auth
@@ -34,7 +47,17 @@ Answer (Auth_password user password) = Auth
 Answer (Auth_publickey_offered user public_key algorithm) = Auth
 Answer (Auth_publickey user public_key algorithm) = Auth
 Answer (Auth_openssh_certificate user certificate) = Auth
-Answer Auth_succeeded = Unit {0}
+Answer Auth_succeeded = List Command
+Answer (Channel_open_session channel) = List Command
+Answer (Channel_eof channel) = List Command
+Answer (Channel_close channel) = List Command
+Answer (Window_adjusted channel new_size) = List Command
+Answer (Command_done place outcome) = Unit {0}
+
+-- the callback recorded these commands; after an error they are of no account
+abbrev pub Recorded : {E : Type 0} → Result (List Command) E → (Result (Unit {0}) E → List Command → Call E) → Call E → Type 0
+Recorded (Ok commands) call_of call = call ≡ call_of (Ok tt) commands
+Recorded (Err error) call_of call = (commands : List Command) × (call ≡ call_of (Err error) commands)
 
 -- the call in which this was asked, and so answered
 abbrev pub Answered : {E : Type 0} (question : Question) → Result (Answer question) E → Call E → Type 0
@@ -44,7 +67,12 @@ Answered (Auth_password user password) answer call = call ≡ AuthPassword user 
 Answered (Auth_publickey_offered user public_key algorithm) answer call = call ≡ AuthPublickeyOffered user public_key algorithm answer
 Answered (Auth_publickey user public_key algorithm) answer call = call ≡ AuthPublickey user public_key algorithm answer
 Answered (Auth_openssh_certificate user certificate) answer call = call ≡ AuthOpensshCertificate user certificate answer
-Answered Auth_succeeded answer call = call ≡ AuthSucceeded answer
+Answered Auth_succeeded answer call = Recorded answer AuthSucceeded call
+Answered (Channel_open_session channel) answer call = Recorded answer (ChannelOpenSession channel) call
+Answered (Channel_eof channel) answer call = Recorded answer (ChannelEof channel) call
+Answered (Channel_close channel) answer call = Recorded answer (ChannelClose channel) call
+Answered (Window_adjusted channel new_size) answer call = Recorded answer (WindowAdjusted channel new_size) call
+Answered (Command_done place outcome) answer call = call ≡ CommandDone place outcome answer
 
 pub data Plan (O : Type 0) : Type 0 where
   -- nothing more is asked, and this comes of it

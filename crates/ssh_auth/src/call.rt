@@ -1,9 +1,11 @@
 // What a handler tells of a callback.
 use crate::Auth;
 use ssh_keys::{Algorithm, Certificate, PublicKey};
-use ssh_wire::Text;
+use ssh_link::{CommandList, CommandOutcome};
+use ssh_wire::{ChannelId, Text};
 
-/// One call of a callback of a handler: its arguments, and what it answered.
+/// One call of a callback of a handler: its arguments, what it answered, and the commands that it
+/// recorded where it could.
 #[derive(Drop)]
 pub enum Call<E> {
     /// The banner was asked for.
@@ -60,6 +62,55 @@ pub enum Call<E> {
     },
     /// The user was authenticated.
     AuthSucceeded {
+        /// Whether the handler goes on.
+        answer: Result<(), E>,
+        /// What it asked of the session.
+        commands: CommandList,
+    },
+    /// The peer opens a session channel.
+    ChannelOpenSession {
+        /// This side's number of the channel.
+        channel: ChannelId,
+        /// Whether the handler goes on.
+        answer: Result<(), E>,
+        /// What it asked of the session.
+        commands: CommandList,
+    },
+    /// The peer sends no more data on the channel.
+    ChannelEof {
+        /// This side's number of the channel.
+        channel: ChannelId,
+        /// Whether the handler goes on.
+        answer: Result<(), E>,
+        /// What it asked of the session.
+        commands: CommandList,
+    },
+    /// The peer closed the channel.
+    ChannelClose {
+        /// This side's number of the channel.
+        channel: ChannelId,
+        /// Whether the handler goes on.
+        answer: Result<(), E>,
+        /// What it asked of the session.
+        commands: CommandList,
+    },
+    /// The peer lets more data through.
+    WindowAdjusted {
+        /// This side's number of the channel.
+        channel: ChannelId,
+        /// How many bytes may still be sent.
+        new_size: u32,
+        /// Whether the handler goes on.
+        answer: Result<(), E>,
+        /// What it asked of the session.
+        commands: CommandList,
+    },
+    /// A command that a callback recorded opens a channel, or was refused.
+    CommandDone {
+        /// Its place among the commands of that callback, from 0.
+        place: usize,
+        /// What came of it.
+        outcome: CommandOutcome,
         /// Whether the handler goes on.
         answer: Result<(), E>,
     },
