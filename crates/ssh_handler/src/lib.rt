@@ -7,6 +7,7 @@
 mod commands;
 mod config;
 mod handler;
+mod made;
 mod recorded;
 #[cfg(test)]
 mod tests;

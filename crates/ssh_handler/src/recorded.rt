@@ -3,12 +3,18 @@ ghost use Rattle.std.specs.Prelude.{◌≡◌, [], ◌∷◌, ◌++◌, Some, No
 ghost use Rattle.ssh_link.specs.Told.{AddsOne, Tells};
 ghost use Rattle.ssh_handler.specs.declared.recorded.RecordError.TheVariants.{NoMemory};
 ghost use Rattle.ssh_handler.specs.Recording.{Passes, Records, passed_on};
-ghost use Rattle.ssh_auth.specs.declared.call.Call.TheVariants.{AuthenticationBanner, AuthNone, AuthPassword, AuthPublickeyOffered, AuthPublickey, AuthOpensshCertificate, AuthSucceeded};
+ghost use Rattle.ssh_auth.specs.declared.call.Call.TheVariants.{AuthenticationBanner, AuthNone, AuthPassword, AuthPublickeyOffered, AuthPublickey, AuthOpensshCertificate, AuthSucceeded, ChannelOpenSession, ChannelEof, ChannelClose, WindowAdjusted, CommandDone};
 
+use crate::made::{
+    made_auth_none, made_auth_openssh_certificate, made_auth_password, made_auth_publickey,
+    made_auth_publickey_offered, made_auth_succeeded, made_authentication_banner,
+    made_channel_close, made_channel_eof, made_channel_open_session, made_window_adjusted,
+};
 use crate::{Commands, Handler};
 use ssh_auth::{Auth, AuthHandler, Call, PublicKeyOffer, Unwritten, VerifiedPublicKey};
-use ssh_keys::{Algorithm, Certificate, PublicKey};
-use ssh_wire::{Text, WireError};
+use ssh_keys::Certificate;
+use ssh_link::{ChannelOpenHandle, CommandOutcome};
+use ssh_wire::{ChannelId, Text, WireError};
 use std::alloc::Global;
 use std::marker::Model;
 
@@ -107,106 +113,6 @@ fn passed<T, E>(answer: Result<T, E>) -> Result<T, RecordError<E>>
         Ok(value) => Ok(value),
         Err(e) => Err(RecordError::Inner(e)),
     }
-}
-
-// A copy of an answer to an authentication request.
-fn copied_auth<E: Copy>(answer: &Result<Auth, E>) -> Result<Auth, E>
-    ensures { result ≡ answer.now }
-{
-    match answer {
-        Ok(auth) => Ok(auth.copy()),
-        Err(e) => Err(*e),
-    }
-}
-
-fn made_authentication_banner<E: Copy>(
-    answer: &Result<Option<Text>, E>,
-) -> Result<Call<E>, WireError>
-    ensures { IfOk result (λ call. call ≡ AuthenticationBanner answer.now) }
-{
-    let answer = match answer {
-        Ok(Some(banner)) => Ok(Some(banner.copy()?)),
-        Ok(None) => Ok(None),
-        Err(e) => Err(*e),
-    };
-    Ok(Call::AuthenticationBanner { answer })
-}
-
-fn made_auth_none<E: Copy>(
-    alloc: Global,
-    user: &str,
-    answer: &Result<Auth, E>,
-) -> Result<Call<E>, WireError>
-    ensures { IfOk result (λ call. call ≡ AuthNone user.now answer.now) }
-{
-    Ok(Call::AuthNone {
-        user: Text::new(alloc, user)?,
-        answer: copied_auth(answer),
-    })
-}
-
-fn made_auth_password<E: Copy>(
-    alloc: Global,
-    user: &str,
-    password: &str,
-    answer: &Result<Auth, E>,
-) -> Result<Call<E>, WireError>
-    ensures { IfOk result (λ call. call ≡ AuthPassword user.now password.now answer.now) }
-{
-    Ok(Call::AuthPassword {
-        user: Text::new(alloc, user)?,
-        password: Text::new(alloc, password)?,
-        answer: copied_auth(answer),
-    })
-}
-
-fn made_auth_publickey_offered<E: Copy>(
-    alloc: Global,
-    user: &str,
-    public_key: &PublicKey,
-    algorithm: Algorithm,
-    answer: &Result<Auth, E>,
-) -> Result<Call<E>, WireError>
-    ensures { IfOk result (λ call. call ≡ AuthPublickeyOffered user.now public_key.now algorithm answer.now) }
-{
-    Ok(Call::AuthPublickeyOffered {
-        user: Text::new(alloc, user)?,
-        public_key: public_key.copy()?,
-        algorithm,
-        answer: copied_auth(answer),
-    })
-}
-
-fn made_auth_publickey<E: Copy>(
-    alloc: Global,
-    user: &str,
-    public_key: &PublicKey,
-    algorithm: Algorithm,
-    answer: &Result<Auth, E>,
-) -> Result<Call<E>, WireError>
-    ensures { IfOk result (λ call. call ≡ AuthPublickey user.now public_key.now algorithm answer.now) }
-{
-    Ok(Call::AuthPublickey {
-        user: Text::new(alloc, user)?,
-        public_key: public_key.copy()?,
-        algorithm,
-        answer: copied_auth(answer),
-    })
-}
-
-fn made_auth_openssh_certificate<E: Copy>(
-    alloc: Global,
-    user: &str,
-    certificate: &Certificate,
-    answer: &Result<Auth, E>,
-) -> Result<Call<E>, WireError>
-    ensures { IfOk result (λ call. call ≡ AuthOpensshCertificate user.now certificate.now answer.now) }
-{
-    Ok(Call::AuthOpensshCertificate {
-        user: Text::new(alloc, user)?,
-        certificate: certificate.copy()?,
-        answer: copied_auth(answer),
-    })
 }
 
 impl<H: AuthHandler> AuthHandler for Recorded<H>
@@ -310,12 +216,94 @@ where
     H::Error: Copy,
 {
     fn auth_succeeded(&mut self, session: &mut Commands<'_>) -> Result<(), RecordError<H::Error>>
-        ensures tells { Tells self.old.told self.new.told result (AuthSucceeded result) }
-        ensures records { Records self.old.told self.new.told result (AuthSucceeded result) }
-        ensures passes { Passes (H.AuthHandler.told self.old.inner) (H.AuthHandler.told self.new.inner) result AuthSucceeded }
+        requires fresh { session.old.recorded ≡ [] }
+        ensures tells { Tells self.old.told self.new.told result (AuthSucceeded result session.new.recorded) }
+        ensures records { Records self.old.told self.new.told result (AuthSucceeded result session.new.recorded) }
+        ensures passes { Passes (H.AuthHandler.told self.old.inner) (H.AuthHandler.told self.new.inner) result (λ answer. AuthSucceeded answer session.new.recorded) }
     {
         let answer = passed(self.inner.auth_succeeded(session));
-        self.keep(Ok(Call::AuthSucceeded { answer }))?;
+        self.keep(made_auth_succeeded(answer, session))?;
+        answer
+    }
+
+    fn channel_close(
+        &mut self,
+        channel: ChannelId,
+        session: &mut Commands<'_>,
+    ) -> Result<(), RecordError<H::Error>>
+        requires fresh { session.old.recorded ≡ [] }
+        ensures tells { Tells self.old.told self.new.told result (ChannelClose channel result session.new.recorded) }
+        ensures records { Records self.old.told self.new.told result (ChannelClose channel result session.new.recorded) }
+        ensures passes { Passes (H.AuthHandler.told self.old.inner) (H.AuthHandler.told self.new.inner) result (λ answer. ChannelClose channel answer session.new.recorded) }
+    {
+        let answer = passed(self.inner.channel_close(channel, session));
+        self.keep(made_channel_close(channel, answer, session))?;
+        answer
+    }
+
+    fn channel_eof(
+        &mut self,
+        channel: ChannelId,
+        session: &mut Commands<'_>,
+    ) -> Result<(), RecordError<H::Error>>
+        requires fresh { session.old.recorded ≡ [] }
+        ensures tells { Tells self.old.told self.new.told result (ChannelEof channel result session.new.recorded) }
+        ensures records { Records self.old.told self.new.told result (ChannelEof channel result session.new.recorded) }
+        ensures passes { Passes (H.AuthHandler.told self.old.inner) (H.AuthHandler.told self.new.inner) result (λ answer. ChannelEof channel answer session.new.recorded) }
+    {
+        let answer = passed(self.inner.channel_eof(channel, session));
+        self.keep(made_channel_eof(channel, answer, session))?;
+        answer
+    }
+
+    fn channel_open_session(
+        &mut self,
+        channel: ChannelId,
+        reply: ChannelOpenHandle,
+        session: &mut Commands<'_>,
+    ) -> Result<(), RecordError<H::Error>>
+        requires of { reply ≡ channel }
+        requires fresh { session.old.recorded ≡ [] }
+        ensures tells { Tells self.old.told self.new.told result (ChannelOpenSession channel result session.new.recorded) }
+        ensures records { Records self.old.told self.new.told result (ChannelOpenSession channel result session.new.recorded) }
+        ensures passes { Passes (H.AuthHandler.told self.old.inner) (H.AuthHandler.told self.new.inner) result (λ answer. ChannelOpenSession channel answer session.new.recorded) }
+    {
+        let answer = passed(self.inner.channel_open_session(channel, reply, session));
+        self.keep(made_channel_open_session(channel, answer, session))?;
+        answer
+    }
+
+    fn window_adjusted(
+        &mut self,
+        channel: ChannelId,
+        new_size: u32,
+        session: &mut Commands<'_>,
+    ) -> Result<(), RecordError<H::Error>>
+        requires fresh { session.old.recorded ≡ [] }
+        ensures tells { Tells self.old.told self.new.told result (WindowAdjusted channel new_size result session.new.recorded) }
+        ensures records { Records self.old.told self.new.told result (WindowAdjusted channel new_size result session.new.recorded) }
+        ensures passes { Passes (H.AuthHandler.told self.old.inner) (H.AuthHandler.told self.new.inner) result (λ answer. WindowAdjusted channel new_size answer session.new.recorded) }
+    {
+        let answer = passed(self.inner.window_adjusted(channel, new_size, session));
+        self.keep(made_window_adjusted(channel, new_size, answer, session))?;
+        answer
+    }
+
+    fn command_done(
+        &mut self,
+        place: usize,
+        outcome: CommandOutcome,
+    ) -> Result<(), RecordError<H::Error>>
+        ensures tells { Tells self.old.told self.new.told result (CommandDone place outcome result) }
+        ensures records { Records self.old.told self.new.told result (CommandDone place outcome result) }
+        ensures passes { Passes (H.AuthHandler.told self.old.inner) (H.AuthHandler.told self.new.inner) result (CommandDone place outcome) }
+    {
+        let answer = passed(self.inner.command_done(place, outcome));
+        self.keep(Ok(Call::CommandDone {
+            place,
+            outcome,
+            answer,
+        }))?;
         answer
     }
 }

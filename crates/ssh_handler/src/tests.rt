@@ -1,20 +1,22 @@
 // Handlers by example, through the trait alone.
 use crate::{Commands, Config, Handler, RecordError, Recorded};
 use ssh_auth::{Auth, AuthHandler, Call, Unwritten};
-use ssh_wire::Text;
+use ssh_link::{ChannelOpenHandle, Command, CommandOutcome, Refusal};
+use ssh_wire::{ChannelId, Text};
 use std::alloc::Global;
 use std::test::Fail;
 
 // What the three callbacks answered: whether there was a banner, whether the user was let in,
 // and the error that came last.
 fn answers<H: Handler>(
+    alloc: Global,
     handler: &mut H,
     user: &str,
     config: &Config,
 ) -> (bool, bool, Option<H::Error>) {
     let banner = matches!(handler.authentication_banner(), Ok(Some(_)));
     let accepted = matches!(handler.auth_none(user), Ok(Auth::Accept));
-    let mut session = Commands::new(config, b"SSH-2.0-test");
+    let mut session = Commands::new(alloc, config, b"SSH-2.0-test");
     let error = handler.auth_succeeded(&mut session).err();
     (banner, accepted, error)
 }
@@ -31,7 +33,17 @@ impl AuthHandler for Silent {
     }
 }
 
-impl Handler for Silent {}
+impl Handler for Silent {
+    fn channel_open_session(
+        &mut self,
+        _channel: ChannelId,
+        reply: ChannelOpenHandle,
+        _session: &mut Commands<'_>,
+    ) -> Result<(), ()> {
+        let _answered_later = reply.into_channel();
+        Ok(())
+    }
+}
 
 // Lets anna in, and has no time for anyone.
 #[derive(Drop)]
@@ -74,12 +86,39 @@ impl Handler for Greeter {
     fn auth_succeeded(&mut self, _session: &mut Commands<'_>) -> Result<(), Late> {
         Err(Late)
     }
+
+    fn channel_open_session(
+        &mut self,
+        _channel: ChannelId,
+        reply: ChannelOpenHandle,
+        session: &mut Commands<'_>,
+    ) -> Result<(), Late> {
+        match session.answer_open(reply.accept()) {
+            Ok(()) => Ok(()),
+            Err(_) => Err(Late),
+        }
+    }
 }
 
 #[test]
 fn unwritten_callbacks_refuse_and_go_on(rt: HostRuntime) {
+    let alloc = rt.alloc();
     let config = Config::standard();
-    assert_eq!(rt; answers(&mut Silent, "anna", &config), (false, false, None));
+    assert_eq!(rt;
+        answers(alloc, &mut Silent, "anna", &config),
+        (false, false, None)
+    );
+    let channel = ChannelId(2);
+    let mut at_eof = Commands::new(alloc, &config, &[]);
+    assert_eq!(rt; Silent.channel_eof(channel, &mut at_eof), Ok(()));
+    let mut at_close = Commands::new(alloc, &config, &[]);
+    assert_eq!(rt; Silent.channel_close(channel, &mut at_close), Ok(()));
+    let mut at_grant = Commands::new(alloc, &config, &[]);
+    assert_eq!(rt; Silent.window_adjusted(channel, 5, &mut at_grant), Ok(()));
+    for session in [at_eof, at_close, at_grant] {
+        assert_eq!(rt; session.recorded().len(), 0);
+    }
+    assert_eq!(rt; Silent.command_done(0, CommandOutcome::Accepted), Ok(()));
 }
 
 #[test]
@@ -88,8 +127,14 @@ fn recorded_tells_each_call(rt: HostRuntime) -> Result<(), Fail> {
     let config = Config::standard();
     let mut handler = Recorded::new(alloc, Greeter { alloc });
     let late = Some(RecordError::Inner(Late));
-    assert_eq!(rt; answers(&mut handler, "anna", &config), (true, true, late));
-    assert_eq!(rt; answers(&mut handler, "bert", &config), (true, false, late));
+    assert_eq!(rt;
+        answers(alloc, &mut handler, "anna", &config),
+        (true, true, late)
+    );
+    assert_eq!(rt;
+        answers(alloc, &mut handler, "bert", &config),
+        (true, false, late)
+    );
     let mut users = Vec::new(alloc);
     for call in handler.calls() {
         if let Call::AuthNone { user, answer } = call {
@@ -106,7 +151,33 @@ fn recorded_tells_each_call(rt: HostRuntime) -> Result<(), Fail> {
 #[test]
 fn commands_lend_what_they_were_given(rt: HostRuntime) {
     let config = Config::standard();
-    let session = Commands::new(&config, b"SSH-2.0-test");
+    let session = Commands::new(rt.alloc(), &config, b"SSH-2.0-test");
     assert_eq!(rt; session.config().window_size, 2_097_152);
     assert_eq!(rt; session.remote_sshid(), b"SSH-2.0-test".as_slice());
+}
+
+#[test]
+fn an_open_is_told_with_the_answer_that_was_recorded(rt: HostRuntime) {
+    let alloc = rt.alloc();
+    let config = Config::standard();
+    let mut handler = Recorded::new(alloc, Greeter { alloc });
+    let mut session = Commands::new(alloc, &config, &[]);
+    let channel = ChannelId(2);
+    let asked = handler.channel_open_session(
+        channel,
+        ChannelOpenHandle::new(channel),
+        &mut session,
+    );
+    assert_eq!(rt; asked, Ok(()));
+    let accepted = Command::Answer(ChannelOpenHandle::new(channel).accept());
+    let told =
+        matches!(handler.calls().first(), Some(Call::ChannelOpenSession { channel, answer: Ok(()), commands })
+        if channel.0 == 2 && commands.as_slice().first() == Some(&accepted));
+    assert_eq!(rt; told, true);
+    assert_eq!(rt; session.into_list().as_slice().len(), 1);
+    let refused = CommandOutcome::Refused(Refusal::UnknownOpen);
+    assert_eq!(rt; handler.command_done(0, refused), Ok(()));
+    let last =
+        matches!(handler.calls().last(), Some(Call::CommandDone { place: 0, outcome, answer: Ok(()) }) if *outcome == refused);
+    assert_eq!(rt; last, true);
 }
