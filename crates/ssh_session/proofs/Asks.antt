@@ -1,11 +1,12 @@
--- How a row is served: a call, and what its answer goes on to.
-use Rattle.std.proofs.Common.{List, [], ◌∷◌, ◌++◌, map, Option, Result, Ok, Err}
+-- How a row is served: a call or what the link is told, and what the row goes on to.
+use Rattle.std.proofs.Common.{◌≡◌, ◌≤◌, ℕ, List, [], ◌∷◌, ◌++◌, map, Option, Result, Ok, Err, refl, sym, subst, arith}
 use Rattle.ssh_link.specs.Told.{Adds}
 use Rattle.ssh_link.proofs.Tellings.{adds_both, adds_nil, adds_weak, adds_then}
 use Rattle.ssh_link.specs.declared.frame.Frame.{Frame}
+use Rattle.ssh_link.specs.declared.link.TraceEntry.{TraceEntry}
 use Rattle.ssh_auth.specs.declared.call.Call.{Call}
-use Rattle.ssh_auth.specs.Plan.{Plan, Ask, Question, Answer, Answered, Called, Breaks}
-use Rattle.ssh_auth.proofs.Plans.{breaks_more}
+use Rattle.ssh_auth.specs.Plan.{Plan, Ask, Tell, Question, Answer, Event, Called, Told, calls_in, told_in, Reaches}
+use Rattle.ssh_auth.proofs.Plans.{reaches_follows, reaches_begins, reaches_breaks, calls_in_both, told_in_both, calls_of_calls, told_of_calls}
 use Rattle.ssh_session.specs.declared.error.Flow.{Flow}
 use Rattle.ssh_session.specs.declared.error.Flow.TheVariants.{Continue, Ended}
 use Rattle.ssh_session.specs.declared.error.RunError.{RunError}
@@ -13,27 +14,37 @@ use Rattle.ssh_session.specs.declared.error.RunError.TheVariants as error
 use Rattle.ssh_session.specs.declared.session.Session.{Session}
 use Rattle.ssh_session.specs.World.{Settings}
 use Rattle.ssh_session.specs.Outcome.{Outcome}
-use Rattle.ssh_session.specs.Serve.{Answers, Serves, ToldBy}
+use Rattle.ssh_session.specs.Serve.{Answers, Hears, Heard, heard, Puts, Rose, Serves, ToldBy}
 
-breaks_then : {E : Type 0} (question : Question) (next : Answer question → Plan Outcome) (answer : Answer question) (call : Call E) (calls : List (Call E)) (e : E) →
-    Answered question (Ok answer) call → Breaks (next answer) (map Called calls) e → Breaks (Ask question next) (map Called (call ∷ calls)) e
-breaks_then question next answer call calls e a h = breaks_more question next answer call (map Called calls) e a h
+-- the events after those by which a plan came to its rest
+pub answers_reached : {E : Type 0} (settings : Settings) (plan rest : Plan Outcome) (rose : Type 0) (xs ys : List (Event E)) (staged staged' : List Frame) (session : Session)
+    (result : Result Flow (RunError E)) → Reaches plan xs rest → Answers settings rest rose ys staged staged' session result →
+    Answers settings plan rose (xs ++ ys) staged staged' session result
+answers_reached settings plan rest rose xs ys staged staged' session (Ok Continue) r h = (h.0, h.1, reaches_follows plan rest xs ys _ r h.2, h.3, h.4)
+answers_reached settings plan rest rose xs ys staged staged' session (Ok Ended) r h = (h.0, reaches_follows plan rest xs ys _ r h.1, h.2)
+answers_reached settings plan rest rose xs ys staged staged' session (Err error.NoMemory) r h = reaches_begins plan rest xs ys r h
+answers_reached settings plan rest rose xs ys staged staged' session (Err error.LinkFault) r h = (h.0, reaches_begins plan rest xs ys r h.1)
+answers_reached settings plan rest rose xs ys staged staged' session (Err error.InputLimit) r h = h
+answers_reached settings plan rest rose xs ys staged staged' session (Err (error.Encoding why)) r h = reaches_follows plan rest xs ys _ r h
+answers_reached settings plan rest rose xs ys staged staged' session (Err error.Inconsistent) r h = reaches_follows plan rest xs ys _ r h
+answers_reached settings plan rest rose xs ys staged staged' session (Err (error.Key why)) r h = (h.0, reaches_follows plan rest xs ys _ r h.1)
+answers_reached settings plan rest rose xs ys staged staged' session (Err (error.Handler e)) r h = reaches_breaks plan rest xs ys e r h
+answers_reached settings plan rest rose xs ys staged staged' session (Err error.NotBuilt) r h = reaches_follows plan rest xs ys _ r h
 
--- the calls after a first one
-answers_then : {E : Type 0} (settings : Settings) (question : Question) (next : Answer question → Plan Outcome) (answer : Answer question) (call : Call E) (calls : List (Call E))
-    (staged staged' : List Frame) (session : Session) (result : Result Flow (RunError E)) → Answered question (Ok answer) call →
-    Answers settings (next answer) calls staged staged' session result →
-    Answers settings (Ask question next) (call ∷ calls) staged staged' session result
-answers_then settings question next answer call calls staged staged' session (Ok Continue) a h = (h.0, h.1, (answer, a, h.2), h.3, h.4)
-answers_then settings question next answer call calls staged staged' session (Ok Ended) a h = (h.0, (answer, a, h.1), h.2)
-answers_then settings question next answer call calls staged staged' session (Err error.NoMemory) a h = (answer, a, h)
-answers_then settings question next answer call calls staged staged' session (Err error.LinkFault) a h = h
-answers_then settings question next answer call calls staged staged' session (Err error.InputLimit) a h = h
-answers_then settings question next answer call calls staged staged' session (Err (error.Encoding why)) a h = (answer, a, h)
-answers_then settings question next answer call calls staged staged' session (Err error.Inconsistent) a h = (answer, a, h)
-answers_then settings question next answer call calls staged staged' session (Err (error.Key why)) a h = (h.0, (answer, a, h.1))
-answers_then settings question next answer call calls staged staged' session (Err (error.Handler e)) a h = breaks_then question next answer call calls e a h
-answers_then settings question next answer call calls staged staged' session (Err error.NotBuilt) a h = (answer, a, h)
+-- a rise that began earlier, or ended later
+pub answers_rose : {E : Type 0} (settings : Settings) (plan : Plan Outcome) (rose rose' : Type 0) (events : List (Event E)) (staged staged' : List Frame) (session : Session)
+    (result : Result Flow (RunError E)) → (rose → rose') → Answers settings plan rose events staged staged' session result →
+    Answers settings plan rose' events staged staged' session result
+answers_rose settings plan rose rose' events staged staged' session (Ok Continue) f h = h
+answers_rose settings plan rose rose' events staged staged' session (Ok Ended) f h = h
+answers_rose settings plan rose rose' events staged staged' session (Err error.NoMemory) f h = h
+answers_rose settings plan rose rose' events staged staged' session (Err error.LinkFault) f h = (f h.0, h.1)
+answers_rose settings plan rose rose' events staged staged' session (Err error.InputLimit) f h = h
+answers_rose settings plan rose rose' events staged staged' session (Err (error.Encoding why)) f h = h
+answers_rose settings plan rose rose' events staged staged' session (Err error.Inconsistent) f h = h
+answers_rose settings plan rose rose' events staged staged' session (Err (error.Key why)) f h = h
+answers_rose settings plan rose rose' events staged staged' session (Err (error.Handler e)) f h = h
+answers_rose settings plan rose rose' events staged staged' session (Err error.NotBuilt) f h = h
 
 -- what was told, and then this by the answer
 pub told_then : {T E : Type 0} (result : Result T (RunError E)) (a b c : Option (List (Call E))) (xs ys : List (Call E)) → Adds a b xs → ToldBy result b c ys → ToldBy result a c (xs ++ ys)
@@ -58,26 +69,89 @@ told_all (Err (error.Key why)) a b xs h = h
 told_all (Err (error.Handler e)) a b xs h = adds_weak a b xs h
 told_all (Err error.NotBuilt) a b xs h = h
 
--- the handler was asked, and what its answer goes on to was served
-pub asked : {E : Type 0} (settings : Settings) (question : Question) (next : Answer question → Plan Outcome) (answer : Answer question) (call : Call E)
-    (a b c : Option (List (Call E))) (staged staged' : List Frame) (session : Session) (result : Result Flow (RunError E)) →
-    Answered question (Ok answer) call → Adds a b (call ∷ []) → Serves settings (next answer) b c staged staged' session result →
-    Serves settings (Ask question next) a c staged staged' session result
-asked settings question next answer call a b c staged staged' session result is h k = (
-  call ∷ k.0,
-  told_then result a b c (call ∷ []) k.0 h k.1,
-  answers_then settings question next answer call k.0 staged staged' session result is k.2,
+-- what was told before, all of it, and what was told then
+pub hears_then : {T E : Type 0} (result : Result T (RunError E)) (a b c : Heard E) (xs ys : List (Event E)) →
+    Hears {T = Unit {0}} {E = E} (Ok tt) a b xs → Hears result b c ys → Hears result a c (xs ++ ys)
+hears_then result a b c xs ys h k = (
+  rw (calls_in_both xs ys) (told_then result a.calls b.calls c.calls (calls_in xs) (calls_in ys) h.0 k.0),
+  rw (told_in_both xs ys) (adds_both a.trace b.trace c.trace (told_in xs) (told_in ys) h.1 k.1),
+  omega (arith, h.2, k.2),
 )
 
--- the same, where nothing more is asked
-pub asked_last : {E : Type 0} (settings : Settings) (question : Question) (next : Answer question → Plan Outcome) (answer : Answer question) (call : Call E)
-    (a b : Option (List (Call E))) (staged staged' : List Frame) (session : Session) (result : Result Flow (RunError E)) →
-    Answered question (Ok answer) call → Adds a b (call ∷ []) → Answers settings (next answer) [] staged staged' session result →
-    Serves settings (Ask question next) a b staged staged' session result
-asked_last settings question next answer call a b staged staged' session result is h k =
-    (call ∷ [], told_all result a b (call ∷ []) h, answers_then settings question next answer call [] staged staged' session result is k)
+-- nothing was told
+pub hears_nothing : {T E : Type 0} (result : Result T (RunError E)) (a : Heard E) → Hears result a a []
+hears_nothing result a = (told_all result a.calls a.calls [] (adds_nil a.calls), adds_nil a.trace, omega arith)
 
--- no call was made
-pub not_asked : {E : Type 0} (settings : Settings) (plan : Plan Outcome) (a : Option (List (Call E))) (staged staged' : List Frame) (session : Session) (result : Result Flow (RunError E)) →
-    Answers settings plan [] staged staged' session result → Serves settings plan a a staged staged' session result
-not_asked settings plan a staged staged' session result h = ([], told_all result a a [] (adds_nil a), h)
+-- the handler was told this call, which answered no error
+pub hears_call : {E : Type 0} (a b : Option (List (Call E))) (trace : Option (List TraceEntry)) (faults : ℕ) (call : Call E) → Adds a b (call ∷ []) →
+    Hears {T = Unit {0}} {E = E} (Ok tt) (heard a trace faults) (heard b trace faults) (Called call ∷ [])
+hears_call a b trace faults call h = (h, adds_nil trace, omega arith)
+
+-- calls alone, as events
+pub hears_calls : {T E : Type 0} (result : Result T (RunError E)) (a b : Option (List (Call E))) (trace : Option (List TraceEntry)) (faults : ℕ) (calls : List (Call E)) →
+    ToldBy result a b calls → Hears result (heard a trace faults) (heard b trace faults) (map Called calls)
+hears_calls result a b trace faults calls h =
+    (subst (ToldBy result a b) (sym (calls_of_calls calls)) h, subst (Adds trace trace) (sym (told_of_calls calls)) (adds_nil trace), omega arith)
+
+-- the link was told this
+pub hears_told : {E : Type 0} (calls : Option (List (Call E))) (a b : Option (List TraceEntry)) (faults faults' : ℕ) (entry : TraceEntry) → Adds a b (entry ∷ []) → faults ≤ faults' →
+    Hears {T = Unit {0}} {E = E} (Ok tt) (heard calls a faults) (heard calls b faults') (Told entry ∷ [])
+hears_told calls a b faults faults' entry h k = (adds_nil calls, h, k)
+
+-- a plan has come to its rest, and the rest was served
+pub reached : {E : Type 0} (settings : Settings) (plan rest : Plan Outcome) (a b c : Heard E) (xs : List (Event E)) (staged staged' : List Frame) (session : Session)
+    (result : Result Flow (RunError E)) → Hears {T = Unit {0}} {E = E} (Ok tt) a b xs → Reaches plan xs rest → Serves settings rest b c staged staged' session result →
+    Serves settings plan a c staged staged' session result
+reached settings plan rest a b c xs staged staged' session result h r k = (
+  xs ++ k.0,
+  hears_then result a b c xs k.0 h k.1,
+  answers_reached settings plan rest (Rose a c) xs k.0 staged staged' session result r
+      (answers_rose settings rest (Rose b c) (Rose a c) k.0 staged staged' session result (λ l. omega (arith, h.2, l)) k.2),
+)
+
+-- the handler was asked, and what its answer goes on to was served
+pub asked : {E : Type 0} (settings : Settings) (question : Question) (next : Answer question → Plan Outcome) (answer : Answer question)
+    (a b : Option (List (Call E))) (trace : Option (List TraceEntry)) (faults : ℕ) (c : Heard E) (staged staged' : List Frame) (session : Session) (result : Result Flow (RunError E)) →
+    Puts question a b (Ok answer) → Serves settings (next answer) (heard b trace faults) c staged staged' session result →
+    Serves settings (Ask question next) (heard a trace faults) c staged staged' session result
+asked settings question next answer a b trace faults c staged staged' session result h k =
+    reached settings (Ask question next) (next answer) (heard a trace faults) (heard b trace faults) c (Called h.0 ∷ []) staged staged' session result
+    (hears_call a b trace faults h.0 h.2) (answer, h.1, refl) k
+
+-- the handler was asked, and answered an error
+pub asked_in_vain : {E : Type 0} (settings : Settings) (question : Question) (next : Answer question → Plan Outcome) (e : E)
+    (a b : Option (List (Call E))) (trace : Option (List TraceEntry)) (faults : ℕ) (staged staged' : List Frame) (session : Session) →
+    Puts question a b (Err e) →
+    Serves settings (Ask question next) (heard a trace faults) (heard b trace faults) staged staged' session (Err (error.Handler e))
+asked_in_vain settings question next e a b trace faults staged staged' session h =
+    (Called h.0 ∷ [], (h.2, adds_nil trace, omega arith), h.1)
+
+-- the link was told, and what follows was served
+pub told : {E : Type 0} (settings : Settings) (entry : TraceEntry) (next : Plan Outcome) (calls : Option (List (Call E))) (a b : Option (List TraceEntry)) (faults faults' : ℕ) (c : Heard E)
+    (staged staged' : List Frame) (session : Session) (result : Result Flow (RunError E)) →
+    Adds a b (entry ∷ []) → faults ≤ faults' → Serves settings next (heard calls b faults') c staged staged' session result →
+    Serves settings (Tell entry next) (heard calls a faults) c staged staged' session result
+told settings entry next calls a b faults faults' c staged staged' session result h later k =
+    reached settings (Tell entry next) next (heard calls a faults) (heard calls b faults') c (Told entry ∷ []) staged staged' session result
+    (hears_told calls a b faults faults' entry h later) (refl, refl) k
+
+-- no event came of it
+pub not_asked : {E : Type 0} (settings : Settings) (plan : Plan Outcome) (a : Heard E) (staged staged' : List Frame) (session : Session) (result : Result Flow (RunError E)) →
+    Answers settings plan ⊥ [] staged staged' session result → Serves settings plan a a staged staged' session result
+not_asked settings plan a staged staged' session result h =
+    ([], hears_nothing result a, answers_rose settings plan ⊥ (Rose a a) [] staged staged' session result (λ x. absurd x) h)
+
+-- memory was wanting, or the link failed, before anything was told
+pub starved : {E : Type 0} (settings : Settings) (plan : Plan Outcome) (a : Heard E) (staged staged' : List Frame) (session : Session) →
+    Serves settings plan a a staged staged' session (Err error.NoMemory)
+starved settings plan a staged staged' session = ([], hears_nothing {T = Flow} (Err error.NoMemory) a, tt)
+
+pub link_failed : {E : Type 0} (settings : Settings) (plan : Plan Outcome) (a b : Heard E) (staged staged' : List Frame) (session : Session) →
+    b.calls ≡ a.calls → Adds a.trace b.trace [] → Rose a b → Serves settings plan a b staged staged' session (Err error.LinkFault)
+link_failed settings plan a b staged staged' session same h rose =
+    ([], (rw same (adds_nil a.calls), h, omega (arith, rose)), (rose, tt))
+
+pub link_starved : {E : Type 0} (settings : Settings) (plan : Plan Outcome) (a b : Heard E) (staged staged' : List Frame) (session : Session) →
+    b.calls ≡ a.calls → Adds a.trace b.trace [] → a.faults ≤ b.faults → Serves settings plan a b staged staged' session (Err error.NoMemory)
+link_starved settings plan a b staged staged' session same h later =
+    ([], (rw same (adds_nil a.calls), h, later), tt)

@@ -1,51 +1,99 @@
--- What a gate says of the payload's number.
-use Rattle.std.proofs.Common.{◌≡◌, ℕ, List, [], ◌∷◌, Bool, true, false, refl}
+-- What a gate says of the payload's number, and of the phase.
+use Rattle.std.proofs.Common.{◌≡◌, ℕ, List, [], ◌∷◌, Bool, true, false, refl, subst}
 use Rattle.std.specs.Prelude.{◌==◌, ◌||◌, drop, if◌then◌else◌}
 use Rattle.std.proofs.lemmas.Bool.{eqb-true}
+use Rattle.ssh_auth.specs.Publickey.{Circumstances}
 use Rattle.ssh_session.specs.declared.gate.Gate.{Gate}
 use Rattle.ssh_session.specs.declared.gate.Gate.TheVariants as gate
 use Rattle.ssh_session.specs.declared.phase.Phase.{Phase}
 use Rattle.ssh_session.specs.declared.phase.Phase.TheVariants.{ServiceRequest, Authentication, Accepted}
 use Rattle.ssh_session.specs.World.{Settings, World}
-use Rattle.ssh_session.specs.Gate.{gate_of, phase_gate, is_over_cap, is_connection_number}
+use Rattle.ssh_session.specs.Said.{Said, Request, Fits, Says}
+use Rattle.ssh_session.specs.Gate.{gate_of, phase_gate, authentication_gate, connection_gate, is_over_cap, is_connection_number}
 
--- no phase ends a run, and only a request of authentication is read as one
-connection_gate : (b : Bool) (at : Gate) → (if b then gate.NotBuilt else gate.Nothing) ≡ at → (at ≡ gate.Ends → ⊥) × (at ≡ gate.UserauthRequest → ⊥)
-connection_gate true at e = (λ h. cc, λ h. cc)
-connection_gate false at e = (λ h. cc, λ h. cc)
+-- what a payload of this number, read in this phase, is to a session
+abbrev pub Meets : Phase → ℕ → Gate → Type 0
+Meets phase n gate.Ends = n ≡ 1
+Meets phase n gate.UserauthRequest = n ≡ 50
+Meets phase n gate.ChannelOpen = (n ≡ 90) × (phase ≡ Accepted)
+Meets phase n gate.WindowAdjust = (n ≡ 93) × (phase ≡ Accepted)
+Meets phase n gate.ChannelEof = (n ≡ 96) × (phase ≡ Accepted)
+Meets phase n gate.ChannelClose = (n ≡ 97) × (phase ≡ Accepted)
+Meets phase n _ = Unit {0}
 
-service_gate : (b : Bool) (at : Gate) → (if b then gate.ServiceRequest else gate.Nothing) ≡ at → (at ≡ gate.Ends → ⊥) × (at ≡ gate.UserauthRequest → ⊥)
-service_gate true at e = (λ h. cc, λ h. cc)
-service_gate false at e = (λ h. cc, λ h. cc)
+-- what holds of both gates holds of the one that a test leads to
+chosen : (b : Bool) (P : Gate → Type 0) (at other : Gate) → (b ≡ true → P at) → P other → P (if b then at else other)
+chosen true P at other h k = h refl
+chosen false P at other h k = k
 
-request_gate : (reads over is : Bool) (at : Gate) → (if reads then (if over then gate.OverCap else (if is then gate.UserauthRequest else gate.NotBuilt)) else gate.Nothing) ≡ at →
-    (at ≡ gate.Ends → ⊥) × (at ≡ gate.UserauthRequest → is ≡ true)
-request_gate false over is at e = (λ h. cc, λ h. cc)
-request_gate true true is at e = (λ h. cc, λ h. cc)
-request_gate true false true at e = (λ h. cc, λ h. refl)
-request_gate true false false at e = (λ h. cc, λ h. cc)
+authentication_meets : (settings : Settings) (w : World) (n : ℕ) → Meets Authentication n (authentication_gate settings w n)
+authentication_meets settings w n =
+    chosen ((n == 50) || (n == 61)) (Meets Authentication n) (if is_over_cap settings w then gate.OverCap else (if n == 50 then gate.UserauthRequest else gate.NotBuilt)) gate.Nothing
+    (λ read. chosen (is_over_cap settings w) (Meets Authentication n) gate.OverCap (if n == 50 then gate.UserauthRequest else gate.NotBuilt) (λ over. tt)
+    (chosen (n == 50) (Meets Authentication n) gate.UserauthRequest gate.NotBuilt (eqb-true n 50) tt)) tt
 
-phase_gates : (settings : Settings) (w : World) (phase : Phase) (n : ℕ) (at : Gate) → phase_gate settings w phase n ≡ at →
-    (at ≡ gate.Ends → ⊥) × (at ≡ gate.UserauthRequest → (n == 50) ≡ true)
-phase_gates settings w ServiceRequest n at e = let h = service_gate (n == 5) at e in (h.0, λ k. absurd (h.1 k))
-phase_gates settings w Authentication n at e = request_gate ((n == 50) || (n == 61)) (is_over_cap settings w) (n == 50) at e
-phase_gates settings w Accepted n at e = let h = connection_gate (is_connection_number n) at e in (h.0, λ k. absurd (h.1 k))
+other_meets : (n : ℕ) → Meets Accepted n (if is_connection_number n then gate.NotBuilt else gate.Nothing)
+other_meets n = chosen (is_connection_number n) (Meets Accepted n) gate.NotBuilt gate.Nothing (λ is. tt) tt
 
-gates : (settings : Settings) (w : World) (ends exchange : Bool) (n : ℕ) (at : Gate) →
-    (if ends then gate.Ends else (if exchange then gate.NotBuilt else phase_gate settings w w.phase n)) ≡ at →
-    (at ≡ gate.Ends → ends ≡ true) × (at ≡ gate.UserauthRequest → (n == 50) ≡ true)
-gates settings w true exchange n at e = (λ h. refl, λ h. cc)
-gates settings w false true n at e = (λ h. cc, λ h. cc)
-gates settings w false false n at e = let h = phase_gates settings w w.phase n at e in (λ k. absurd (h.0 k), h.1)
+connection_meets : (n : ℕ) → Meets Accepted n (connection_gate n)
+connection_meets n =
+    let P : Gate → Type 0 = Meets Accepted n in
+    chosen (n == 90) P gate.ChannelOpen _ (λ is. (eqb-true n 90 is, refl))
+    (chosen (n == 93) P gate.WindowAdjust _ (λ is. (eqb-true n 93 is, refl))
+    (chosen (n == 96) P gate.ChannelEof _ (λ is. (eqb-true n 96 is, refl))
+    (chosen (n == 97) P gate.ChannelClose _ (λ is. (eqb-true n 97 is, refl)) (other_meets n))))
+
+phase_meets : (settings : Settings) (w : World) (phase : Phase) (n : ℕ) → Meets phase n (phase_gate settings w phase n)
+phase_meets settings w ServiceRequest n = chosen (n == 5) (Meets ServiceRequest n) gate.ServiceRequest gate.Nothing (λ is. tt) tt
+phase_meets settings w Authentication n = authentication_meets settings w n
+phase_meets settings w Accepted n = connection_meets n
+
+meets : (settings : Settings) (w : World) (n : ℕ) (fields : List ℕ) → Meets w.phase n (gate_of settings w (n ∷ fields))
+meets settings w n fields =
+    chosen (n == 1) (Meets w.phase n) gate.Ends (if n == 20 then gate.NotBuilt else phase_gate settings w w.phase n) (eqb-true n 1)
+    (chosen (n == 20) (Meets w.phase n) gate.NotBuilt (phase_gate settings w w.phase n) (λ is. tt) (phase_meets settings w w.phase n))
 
 -- a payload that is read as a request of authentication is numbered 50
 pub is_userauth : (settings : Settings) (w : World) (payload : List ℕ) → gate_of settings w payload ≡ gate.UserauthRequest → payload ≡ 50 ∷ drop 1 payload
 is_userauth settings w [] e = cc
-is_userauth settings w (n ∷ fields) e =
-    let is : n ≡ 50 = eqb-true n 50 ((gates settings w (n == 1) (n == 20) n gate.UserauthRequest e).1 refl) in cc
+is_userauth settings w (n ∷ fields) e = let is : n ≡ 50 = subst (Meets w.phase n) e (meets settings w n fields) in cc
 
 -- a payload that ends the run is numbered 1
 pub is_disconnect : (settings : Settings) (w : World) (payload : List ℕ) → gate_of settings w payload ≡ gate.Ends → payload ≡ 1 ∷ drop 1 payload
 is_disconnect settings w [] e = cc
-is_disconnect settings w (n ∷ fields) e =
-    let is : n ≡ 1 = eqb-true n 1 ((gates settings w (n == 1) (n == 20) n gate.Ends e).0 refl) in cc
+is_disconnect settings w (n ∷ fields) e = let is : n ≡ 1 = subst (Meets w.phase n) e (meets settings w n fields) in cc
+
+-- the gates of the messages of channels that are read
+abbrev pub IsOfChannels : Gate → Type 0
+IsOfChannels gate.ChannelOpen = Unit {0}
+IsOfChannels gate.WindowAdjust = Unit {0}
+IsOfChannels gate.ChannelEof = Unit {0}
+IsOfChannels gate.ChannelClose = Unit {0}
+IsOfChannels _ = ⊥
+
+meets_accepted : (phase : Phase) (n : ℕ) (at : Gate) → Meets phase n at → IsOfChannels at → phase ≡ Accepted
+meets_accepted phase n gate.ChannelOpen h is = h.1
+meets_accepted phase n gate.WindowAdjust h is = h.1
+meets_accepted phase n gate.ChannelEof h is = h.1
+meets_accepted phase n gate.ChannelClose h is = h.1
+meets_accepted phase n _ h is = absurd is
+
+-- a payload that is read as a message of channels comes after an accepted authentication
+pub is_accepted : (settings : Settings) (w : World) (payload : List ℕ) → IsOfChannels (gate_of settings w payload) → w.phase ≡ Accepted
+is_accepted settings w [] is = absurd is
+is_accepted settings w (n ∷ fields) is = meets_accepted w.phase n (gate_of settings w (n ∷ fields)) (meets settings w n fields) is
+
+-- a payload that is read as a CHANNEL_CLOSE is numbered 97
+pub is_close : (settings : Settings) (w : World) (payload : List ℕ) → gate_of settings w payload ≡ gate.ChannelClose → payload ≡ 97 ∷ drop 1 payload
+is_close settings w [] e = cc
+is_close settings w (n ∷ fields) e = let is = subst (Meets w.phase n) e (meets settings w n fields) in let at : n ≡ 97 = is.0 in cc
+
+-- but for a request of authentication, what a payload says does not turn on the circumstances
+abbrev pub IsOther : Said → Type 0
+IsOther (Request asked) = ⊥
+IsOther _ = Unit {0}
+
+pub fits_of : (given : Circumstances) (at : Gate) (payload : List ℕ) (said : Said) → IsOther said → Says given at payload said → Fits at (drop 1 payload) said
+fits_of given gate.UserauthRequest payload (Request asked) other h = absurd other
+fits_of given gate.UserauthRequest payload _ other h = absurd h
+fits_of given _ payload said other h = h

@@ -1,14 +1,12 @@
 -- The fields of a request by a key or a certificate say one thing, but for an answer of the verifier
 -- that was not asked for.
-use Rattle.std.proofs.Common.{◌≡◌, ◌≢◌, ◌⊎◌, ◌↔◌, inl, inr, ℕ, List, [], ◌∷◌, ◌++◌, Bool, true, false, IsTrue, Option, Some, None, Result, Ok, Err, refl, sym, ◌∙◌, ap, subst}
+use Rattle.std.proofs.Common.{◌≡◌, ◌≢◌, ◌⊎◌, ◌↔◌, inl, inr, ℕ, List, [], ◌∷◌, ◌++◌, Bool, true, false, IsTrue, Option, Some, None, refl, sym, ◌∙◌, ap, subst}
 use Rattle.std.proofs.lemmas.List.{append_cancel_right}
 use Rattle.ssh_wire.specs.declared.error.WireError.{WireError}
 use Rattle.ssh_wire.specs.Field.{Bytes, SpellsAll, MisfitsAll, MisfitsWhole}
 use Rattle.ssh_wire.proofs.Fields.{spells_all_once, misfits_all_not_spells, misfits_all_once, misfits_whole_once}
 use Rattle.ssh_keys.specs.declared.algorithm.Algorithm.{Algorithm}
-use Rattle.ssh_keys.specs.declared.error.KeyError.{KeyError}
 use Rattle.ssh_keys.specs.declared.error.KeyError.TheVariants.{Blob}
-use Rattle.ssh_keys.specs.declared.key_or_certificate.PublicKeyOrCertificate.{PublicKeyOrCertificate}
 use Rattle.ssh_keys.specs.declared.public_key.PublicKey.{PublicKey}
 use Rattle.ssh_keys.specs.declared.signature.Signature.{Signature}
 use Rattle.ssh_keys.specs.Algorithms.{algorithm_name, certificate_name}
@@ -16,7 +14,7 @@ use Rattle.ssh_keys.specs.Offers.{IsOffer, FailsOffer, offered_key}
 use Rattle.ssh_keys.specs.Signatures.{signature_fields, SpellsSignature, EndsInSignature}
 use Rattle.ssh_keys.proofs.Agreement.{signature_once}
 use Rattle.ssh_keys.proofs.Offered.{algorithm_once, certified_algorithm_once, apart, offers_agree, offer_never_fails, offer_fails_once}
-use Rattle.ssh_auth.specs.Publickey.{Acceptance, Circumstances, Offer, IsOffered, IsUsable, OffersNothing, offer_fields, Offers, question, IsAnswer, MisfitsSignature, HoldsNoSignature}
+use Rattle.ssh_auth.specs.Publickey.{Acceptance, Circumstances, Offer, IsOffered, IsUsable, OffersNothing, offer_fields, question, IsAnswer, MisfitsSignature, HoldsNoSignature}
 use Rattle.ssh_auth.specs.Said.{Method, None_method, Password_method, Change_method, Other_method, Unbuilt_method, Unusable_method, Broken_method, Probe_method, Misnamed_method, Signed_method, Unfit_method, SaysPublickey}
 
 -- ---- what a name and a blob offer

@@ -1,11 +1,25 @@
 mod Accepting
 mod Asks
 mod Branches
+mod Closing
 mod Complete
+pub mod Cuts
+mod Faultless
+pub mod Keeping
+pub mod Effects
+pub mod Flush
 mod Gates
+pub mod Kept
+pub mod Ledger
+pub mod Listed
 pub mod KeyFields
+mod Methods
 mod Misfits
+pub mod Places
 mod Requests
 pub mod Runs
+pub mod Settled
 mod Signing
 mod Steps
+pub mod Doing
+mod Peers

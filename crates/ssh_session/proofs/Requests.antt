@@ -1,15 +1,16 @@
 -- From the verdict on a request of authentication to its row.
-use Rattle.std.proofs.Common.{◌≡◌, ℕ, List, [], ◌∷◌, ◌++◌, map, Option, Result, Ok, Err, Bool, true, refl, sym, subst}
-use Rattle.std.proofs.lemmas.List.{append-nil, map-append}
+use Rattle.std.proofs.Common.{◌≡◌, ◌<◌, ℕ, List, [], ◌∷◌, ◌++◌, map, Option, Result, Ok, Err, Bool, true, refl, sym, subst}
+use Rattle.std.proofs.lemmas.List.{append-nil}
 use Rattle.ssh_link.specs.Told.{Adds}
 use Rattle.ssh_link.specs.declared.frame.Frame.{Frame}
+use Rattle.ssh_link.specs.declared.link.TraceEntry.{TraceEntry}
 use Rattle.ssh_auth.specs.declared.call.Call.{Call}
 use Rattle.ssh_auth.specs.declared.auth_request.AuthRequest.{AuthRequest}
 use Rattle.ssh_auth.specs.declared.auth_step.AuthStep.{AuthStep}
 use Rattle.ssh_auth.specs.declared.auth_step.AuthVerdict.TheVariants as verdict
 use Rattle.ssh_auth.specs.declared.error.AuthError.{AuthError}
 use Rattle.ssh_auth.specs.declared.error.AuthError.TheVariants as auth_error
-use Rattle.ssh_auth.specs.Plan.{Plan, Finish, after, Event, Called, Follows, Begins, Breaks}
+use Rattle.ssh_auth.specs.Plan.{Plan, Finish, after, Event, Called, Follows}
 use Rattle.ssh_auth.specs.Said.{Said as Asked}
 use Rattle.ssh_auth.specs.Verdict.{verdict as verdict_on, Outcome as Reply, Replies}
 use Rattle.ssh_auth.specs.Verdict as auth
@@ -26,42 +27,33 @@ use Rattle.ssh_session.specs.Outcome.{Outcome, Goes, Ends, Fails, Encoding, Inco
 use Rattle.ssh_session.specs.Said.{Request}
 use Rattle.ssh_session.specs.Rows.{row, finished, reply_row, moment_after, rejection_hold}
 use Rattle.ssh_session.specs.Layout.{held}
-use Rattle.ssh_session.specs.Serve.{Answers, Serves}
-use Rattle.ssh_session.proofs.Asks.{told_then, not_asked}
+use Rattle.ssh_session.specs.Serve.{Answers, Heard, heard, Serves}
+use Rattle.ssh_session.proofs.Asks.{hears_calls, hears_then, not_asked}
 
--- the same of calls
-calls_follow : {E A B : Type 0} (plan : Plan A) (later : A → Plan B) (xs ys : List (Call E)) (a : A) (b : B) →
-    Follows plan (map Called xs) a → Follows (later a) (map Called ys) b → Follows (after plan later) (map Called (xs ++ ys)) b
-calls_follow plan later xs ys a b h k = rw (map-append Called xs ys) (follows_after plan later (map Called xs) (map Called ys) a b h k)
-
-calls_begin : {E A B : Type 0} (plan : Plan A) (later : A → Plan B) (xs ys : List (Call E)) (a : A) →
-    Follows plan (map Called xs) a → Begins (later a) (map Called ys) → Begins (after plan later) (map Called (xs ++ ys))
-calls_begin plan later xs ys a h k = rw (map-append Called xs ys) (follows_begins plan later (map Called xs) (map Called ys) a h k)
-
-calls_break : {E A B : Type 0} (plan : Plan A) (later : A → Plan B) (xs ys : List (Call E)) (a : A) (e : E) →
-    Follows plan (map Called xs) a → Breaks (later a) (map Called ys) e → Breaks (after plan later) (map Called (xs ++ ys)) e
-calls_break plan later xs ys a e h k = rw (map-append Called xs ys) (follows_breaks plan later (map Called xs) (map Called ys) a e h k)
-
-answers_after : {E : Type 0} (settings : Settings) (plan : Plan Reply) (later : Reply → Plan Outcome) (reply : Reply) (xs ys : List (Call E)) (staged staged' : List Frame) (session : Session)
-    (result : Result Flow (RunError E)) → Follows plan (map Called xs) reply → Answers settings (later reply) ys staged staged' session result →
-    Answers settings (after plan later) (xs ++ ys) staged staged' session result
-answers_after settings plan later reply xs ys staged staged' session (Ok Continue) f h = (h.0, h.1, calls_follow plan later xs ys reply (Goes h.0 h.1) f h.2, h.3, h.4)
-answers_after settings plan later reply xs ys staged staged' session (Ok Ended) f h = (h.0, calls_follow plan later xs ys reply (Ends h.0) f h.1, h.2)
-answers_after settings plan later reply xs ys staged staged' session (Err error.NoMemory) f h = calls_begin plan later xs ys reply f h
-answers_after settings plan later reply xs ys staged staged' session (Err error.LinkFault) f h = h
-answers_after settings plan later reply xs ys staged staged' session (Err error.InputLimit) f h = h
-answers_after settings plan later reply xs ys staged staged' session (Err (error.Encoding why)) f h = calls_follow plan later xs ys reply (Fails (Encoding why)) f h
-answers_after settings plan later reply xs ys staged staged' session (Err error.Inconsistent) f h = calls_follow plan later xs ys reply (Fails Inconsistent) f h
-answers_after settings plan later reply xs ys staged staged' session (Err (error.Key why)) f h = (h.0, calls_follow plan later xs ys reply (Fails Key) f h.1)
-answers_after settings plan later reply xs ys staged staged' session (Err (error.Handler e)) f h = calls_break plan later xs ys reply e f h
-answers_after settings plan later reply xs ys staged staged' session (Err error.NotBuilt) f h = calls_follow plan later xs ys reply (Fails Not_built) f h
+answers_after : {E : Type 0} (settings : Settings) (plan : Plan Reply) (later : Reply → Plan Outcome) (reply : Reply) (rose : Type 0) (xs ys : List (Event E)) (staged staged' : List Frame) (session : Session)
+    (result : Result Flow (RunError E)) → Follows plan xs reply → Answers settings (later reply) rose ys staged staged' session result →
+    Answers settings (after plan later) rose (xs ++ ys) staged staged' session result
+answers_after settings plan later reply rose xs ys staged staged' session (Ok Continue) f h = (h.0, h.1, follows_after plan later xs ys reply (Goes h.0 h.1) f h.2, h.3, h.4)
+answers_after settings plan later reply rose xs ys staged staged' session (Ok Ended) f h = (h.0, follows_after plan later xs ys reply (Ends h.0) f h.1, h.2)
+answers_after settings plan later reply rose xs ys staged staged' session (Err error.NoMemory) f h = follows_begins plan later xs ys reply f h
+answers_after settings plan later reply rose xs ys staged staged' session (Err error.LinkFault) f h = (h.0, follows_begins plan later xs ys reply f h.1)
+answers_after settings plan later reply rose xs ys staged staged' session (Err error.InputLimit) f h = h
+answers_after settings plan later reply rose xs ys staged staged' session (Err (error.Encoding why)) f h = follows_after plan later xs ys reply (Fails (Encoding why)) f h
+answers_after settings plan later reply rose xs ys staged staged' session (Err error.Inconsistent) f h = follows_after plan later xs ys reply (Fails Inconsistent) f h
+answers_after settings plan later reply rose xs ys staged staged' session (Err (error.Key why)) f h = (h.0, follows_after plan later xs ys reply (Fails Key) f h.1)
+answers_after settings plan later reply rose xs ys staged staged' session (Err (error.Handler e)) f h = follows_breaks plan later xs ys reply e f h
+answers_after settings plan later reply rose xs ys staged staged' session (Err error.NotBuilt) f h = follows_after plan later xs ys reply (Fails Not_built) f h
 
 -- the calls of a verdict, and then what its reply goes on to
-pub replied : {E : Type 0} (settings : Settings) (plan : Plan Reply) (later : Reply → Plan Outcome) (reply : Reply) (xs : List (Call E)) (a b c : Option (List (Call E)))
-    (staged staged' : List Frame) (session : Session) (result : Result Flow (RunError E)) → Adds a b xs → Follows plan (map Called xs) reply →
-    Serves settings (later reply) b c staged staged' session result → Serves settings (after plan later) a c staged staged' session result
-replied settings plan later reply xs a b c staged staged' session result h f k =
-    (xs ++ k.0, told_then result a b c xs k.0 h k.1, answers_after settings plan later reply xs k.0 staged staged' session result f k.2)
+pub replied : {E : Type 0} (settings : Settings) (plan : Plan Reply) (later : Reply → Plan Outcome) (reply : Reply) (calls : List (Call E)) (a b : Option (List (Call E)))
+    (trace : Option (List TraceEntry)) (faults : ℕ) (c : Heard E) (staged staged' : List Frame) (session : Session) (result : Result Flow (RunError E)) → Adds a b calls →
+    Follows plan (map Called calls) reply → Serves settings (later reply) (heard b trace faults) c staged staged' session result →
+    Serves settings (after plan later) (heard a trace faults) c staged staged' session result
+replied settings plan later reply calls a b trace faults c staged staged' session result h f k = (
+  map Called calls ++ k.0,
+  hears_then result (heard a trace faults) (heard b trace faults) c (map Called calls) k.0 (hears_calls {T = Unit {0}} (Ok tt) a b trace faults calls h) k.1,
+  answers_after settings plan later reply (faults < c.faults) (map Called calls) k.0 staged staged' session result f k.2,
+)
 
 fails_after : {E : Type 0} (plan : Plan Reply) (later : Reply → Plan Outcome) (reply : Reply) (outcome : Outcome) (events : List (Event E)) →
     later reply ≡ Finish outcome → Follows plan events reply → Follows (after plan later) events outcome
@@ -70,42 +62,58 @@ fails_after {E} plan later reply outcome events is f =
     (follows_after plan later events [] reply outcome f (subst (λ p. Follows {E = E} p [] outcome) (sym is) refl))
 
 -- a request that gets no reply
-pub refused : {E : Type 0} (settings : Settings) (moment : ℕ) (w : World) (plan : Plan Reply) (a b : Option (List (Call E))) (state : AuthRequest) (e : AuthError E)
+pub refused : {E : Type 0} (settings : Settings) (moment : ℕ) (w : World) (plan : Plan Reply) (a b : Option (List (Call E))) (trace : Option (List TraceEntry)) (faults : ℕ) (state : AuthRequest) (e : AuthError E)
     (staged staged' : List Frame) (session : Session) → served.Serves plan a b state (Err e) →
-    Serves settings (after plan (finished settings moment w)) a b staged staged' session (Err (error_of_auth e))
-refused settings moment w plan a b state auth_error.NoMemory staged staged' session h = (h.0, h.1, begins_after plan (finished settings moment w) (map Called h.0) h.2)
-refused settings moment w plan a b state (auth_error.Encoding why) staged staged' session h =
-    (h.0, h.1, fails_after plan (finished settings moment w) (auth.Fails (auth.Encoding why)) (Fails (Encoding why)) (map Called h.0) refl h.2)
-refused settings moment w plan a b state auth_error.Inconsistent staged staged' session h =
-    (h.0, h.1, fails_after plan (finished settings moment w) (auth.Fails auth.Inconsistent) (Fails Inconsistent) (map Called h.0) refl h.2)
-refused settings moment w plan a b state (auth_error.Key why) staged staged' session h =
-    (h.0, h.1, (h.2.0, fails_after plan (finished settings moment w) (auth.Fails auth.Key) (Fails Key) (map Called h.0) refl h.2.1))
-refused settings moment w plan a b state (auth_error.Handler e) staged staged' session h = (h.0, h.1, breaks_after plan (finished settings moment w) (map Called h.0) e h.2)
-refused settings moment w plan a b state auth_error.NotBuilt staged staged' session h =
-    (h.0, h.1, fails_after plan (finished settings moment w) (auth.Fails auth.Not_built) (Fails Not_built) (map Called h.0) refl h.2)
+    Serves settings (after plan (finished settings moment w)) (heard a trace faults) (heard b trace faults) staged staged' session (Err (error_of_auth e))
+refused settings moment w plan a b trace faults state auth_error.NoMemory staged staged' session h =
+    (map Called h.0, hears_calls {T = Flow} (Err error.NoMemory) a b trace faults h.0 h.1, begins_after plan (finished settings moment w) (map Called h.0) h.2)
+refused settings moment w plan a b trace faults state (auth_error.Encoding why) staged staged' session h = (
+  map Called h.0,
+  hears_calls {T = Flow} (Err (error.Encoding why)) a b trace faults h.0 h.1,
+  fails_after plan (finished settings moment w) (auth.Fails (auth.Encoding why)) (Fails (Encoding why)) (map Called h.0) refl h.2,
+)
+refused settings moment w plan a b trace faults state auth_error.Inconsistent staged staged' session h = (
+  map Called h.0,
+  hears_calls {T = Flow} (Err error.Inconsistent) a b trace faults h.0 h.1,
+  fails_after plan (finished settings moment w) (auth.Fails auth.Inconsistent) (Fails Inconsistent) (map Called h.0) refl h.2,
+)
+refused settings moment w plan a b trace faults state (auth_error.Key why) staged staged' session h = (
+  map Called h.0,
+  hears_calls {T = Flow} (Err (error.Key why)) a b trace faults h.0 h.1,
+  (h.2.0, fails_after plan (finished settings moment w) (auth.Fails auth.Key) (Fails Key) (map Called h.0) refl h.2.1),
+)
+refused settings moment w plan a b trace faults state (auth_error.Handler e) staged staged' session h =
+    (map Called h.0, hears_calls {T = Flow} (Err (error.Handler e)) a b trace faults h.0 h.1, breaks_after plan (finished settings moment w) (map Called h.0) e h.2)
+refused settings moment w plan a b trace faults state auth_error.NotBuilt staged staged' session h = (
+  map Called h.0,
+  hears_calls {T = Flow} (Err error.NotBuilt) a b trace faults h.0 h.1,
+  fails_after plan (finished settings moment w) (auth.Fails auth.Not_built) (Fails Not_built) (map Called h.0) refl h.2,
+)
 
 -- a rejection that is held until the same moment
-pub held_until : {E : Type 0} (settings : Settings) (moment : ℕ) (w : World) (reply : List ℕ) (none_method : Bool) (until : ℕ) (told : Option (List (Call E)))
+pub held_until : {E : Type 0} (settings : Settings) (moment : ℕ) (w : World) (reply : List ℕ) (none_method : Bool) (until : ℕ) (a : Heard E)
     (staged staged' : List Frame) (session : Session) (result : Result Flow (RunError E)) → until ≡ moment_after moment (rejection_hold settings.config none_method w.requested) →
-    Answers settings (Finish (Goes (held reply until ∷ []) (record w { requested = true }))) [] staged staged' session result →
-    Serves settings (reply_row settings moment w reply (verdict.Rejected none_method)) told told staged staged' session result
-held_until settings moment w reply none_method until told staged staged' session result is h =
-    not_asked settings (reply_row settings moment w reply (verdict.Rejected none_method)) told staged staged' session result
-    (subst (λ u. Answers settings (Finish (Goes (held reply u ∷ []) (record w { requested = true }))) [] staged staged' session result) is h)
+    Answers settings (Finish (Goes (held reply until ∷ []) (record w { requested = true }))) ⊥ [] staged staged' session result →
+    Serves settings (reply_row settings moment w reply (verdict.Rejected none_method)) a a staged staged' session result
+held_until settings moment w reply none_method until a staged staged' session result is h =
+    not_asked settings (reply_row settings moment w reply (verdict.Rejected none_method)) a staged staged' session result
+    (subst (λ u. Answers settings (Finish (Goes (held reply u ∷ []) (record w { requested = true }))) ⊥ [] staged staged' session result) is h)
 
 -- a request that gets no reply, in the world of the session
-pub unanswered : {E : Type 0} (settings : Settings) (moment : ℕ) (w : World) (asked : Asked) (before : AuthRequest) (a b : Option (List (Call E))) (state : AuthRequest) (e : AuthError E)
-    (staged : List Frame) (session : Session) (result : Result Flow (RunError E)) → before ≡ w.auth → result ≡ Err (error_of_auth e) →
-    served.Serves (verdict_on before asked) a b state (Err e) → Serves settings (row settings moment w (Request asked)) a b staged staged session result
-unanswered settings moment w asked before a b state e staged session result same is h =
-    subst (λ r. Serves settings (row settings moment w (Request asked)) a b staged staged session r) (sym is)
-    (refused settings moment w (verdict_on w.auth asked) a b state e staged staged session (subst (λ x. served.Serves (verdict_on x asked) a b state (Err e)) same h))
+pub unanswered : {E : Type 0} (settings : Settings) (moment : ℕ) (w : World) (asked : Asked) (before : AuthRequest) (a b : Option (List (Call E))) (trace : Option (List TraceEntry)) (faults : ℕ)
+    (state : AuthRequest) (e : AuthError E) (staged : List Frame) (session : Session) (result : Result Flow (RunError E)) → before ≡ w.auth → result ≡ Err (error_of_auth e) →
+    served.Serves (verdict_on before asked) a b state (Err e) →
+    Serves settings (row settings moment w (Request asked)) (heard a trace faults) (heard b trace faults) staged staged session result
+unanswered settings moment w asked before a b trace faults state e staged session result same is h =
+    subst (λ r. Serves settings (row settings moment w (Request asked)) (heard a trace faults) (heard b trace faults) staged staged session r) (sym is)
+    (refused settings moment w (verdict_on w.auth asked) a b trace faults state e staged staged session (subst (λ x. served.Serves (verdict_on x asked) a b state (Err e)) same h))
 
 -- a request that gets its reply, in the world of the session
-pub answered : {E : Type 0} (settings : Settings) (moment : ℕ) (w : World) (asked : Asked) (before : AuthRequest) (a b c : Option (List (Call E))) (state : AuthRequest) (step : AuthStep)
-    (staged staged' : List Frame) (session : Session) (result : Result Flow (RunError E)) → before ≡ w.auth → served.Serves {E = E} (verdict_on before asked) a b state (Ok step) →
-    Serves settings (reply_row settings moment (record w { auth = state }) step.reply step.verdict) b c staged staged' session result →
-    Serves settings (row settings moment w (Request asked)) a c staged staged' session result
-answered settings moment w asked before a b c state step staged staged' session result same h k =
-    replied settings (verdict_on w.auth asked) (finished settings moment w) (Replies step.reply step.verdict state) h.0 a b c staged staged' session result h.1
+pub answered : {E : Type 0} (settings : Settings) (moment : ℕ) (w : World) (asked : Asked) (before : AuthRequest) (a b : Option (List (Call E))) (trace : Option (List TraceEntry)) (faults : ℕ)
+    (c : Heard E) (state : AuthRequest) (step : AuthStep) (staged staged' : List Frame) (session : Session) (result : Result Flow (RunError E)) → before ≡ w.auth →
+    served.Serves {E = E} (verdict_on before asked) a b state (Ok step) →
+    Serves settings (reply_row settings moment (record w { auth = state }) step.reply step.verdict) (heard b trace faults) c staged staged' session result →
+    Serves settings (row settings moment w (Request asked)) (heard a trace faults) c staged staged' session result
+answered settings moment w asked before a b trace faults c state step staged staged' session result same h k =
+    replied settings (verdict_on w.auth asked) (finished settings moment w) (Replies step.reply step.verdict state) h.0 a b trace faults c staged staged' session result h.1
     (subst (λ x. Follows (verdict_on x asked) (map Called h.0) (Replies step.reply step.verdict state)) same h.2) k

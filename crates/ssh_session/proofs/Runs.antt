@@ -1,30 +1,35 @@
 -- From input to input of a run.
-use Rattle.std.proofs.Common.{◌≡◌, ◌<◌, ◌≤◌, ◌+◌, ℕ, List, [], ◌∷◌, ◌++◌, map, length, Option, Some, None, Result, Ok, Err, true, refl, sym, ◌∙◌, ap, subst, arith}
+use Rattle.std.proofs.Common.{◌≡◌, ◌<◌, ◌≤◌, ◌+◌, ℕ, List, [], ◌∷◌, ◌++◌, map, length, Option, Some, None, Result, Ok, Err, Bool, true, refl, sym, ◌∙◌, ap, subst, arith}
 use Rattle.std.specs.Prelude.{flat_map}
 use Rattle.std.proofs.lemmas.List.{append-nil, length-append}
 use Rattle.std.proofs.lemmas.List.Concat.{flat_map-append}
 use Rattle.ssh_link.specs.Told.{Adds}
+use Rattle.ssh_link.specs.Asked.{IsAsked}
 use Rattle.ssh_link.proofs.Tellings.{adds_nil, adds_both}
 use Rattle.ssh_link.specs.declared.frame.Frame.{Frame}
 use Rattle.ssh_link.specs.declared.frame.Input.{Input}
+use Rattle.ssh_link.specs.declared.link.LinkFault.{LinkFault}
+use Rattle.ssh_link.specs.declared.link.LinkFault.TheVariants.{Failed, NoMemory}
 use Rattle.ssh_link.specs.declared.link.TraceEntry.{TraceEntry}
 use Rattle.ssh_link.specs.declared.link.TraceEntry.TheVariants.{Took, Sent}
 use Rattle.ssh_auth.specs.declared.call.Call.{Call}
-use Rattle.ssh_auth.specs.Plan.{Plan}
 use Rattle.ssh_auth.specs.Publickey.{Acceptance}
+use Rattle.ssh_auth.specs.Plan.{Plan, Event, told_in}
 use Rattle.ssh_session.specs.declared.error.Flow.TheVariants.{Continue, Ended}
 use Rattle.ssh_session.specs.declared.error.RunError.{RunError}
 use Rattle.ssh_session.specs.declared.error.RunError.TheVariants as error
 use Rattle.ssh_session.specs.declared.session.Session.{Session}
 use Rattle.ssh_session.specs.World.{Settings, World, opening_world}
+use Rattle.ssh_session.specs.Entries.{nothing_waits}
 use Rattle.ssh_session.specs.Outcome.{Outcome}
 use Rattle.ssh_session.specs.Serve.{Refines, ToldBy}
-use Rattle.ssh_session.specs.Run.{Turn, Turns, Run, entries}
+use Rattle.ssh_session.specs.Run.{Turn, Turns, Run, calls_of, entries}
 use Rattle.ssh_session.specs.Step.{Steps, Stops, Closes, Ran}
+use Rattle.ssh_session.specs.Failure.{error_of_link}
 use Rattle.ssh_session.proofs.Asks.{told_then, told_all}
 
-abbrev pub calls_of : {E : Type 0} → List (Turn E) → List (Call E)
-calls_of turns = flat_map (λ turn. turn.calls) turns
+abbrev pub all_calls : {E : Type 0} → List (Turn E) → List (Call E)
+all_calls turns = flat_map calls_of turns
 
 abbrev pub trace_of : {E : Type 0} → List (Turn E) → List TraceEntry
 trace_of turns = flat_map entries turns
@@ -35,7 +40,7 @@ pub record Going {E : Type 0} (accepts : Acceptance) (settings : Settings) (befo
   pub turns : List (Turn E)
   pub world : World
   pub run : Run accepts settings (opening_world settings) turns world
-  pub told : Adds before after (calls_of turns)
+  pub told : Adds before after (all_calls turns)
   pub traced : Adds trace trace' (trace_of turns)
   pub later : faults ≤ faults'
   pub counted : length turns ≡ count
@@ -61,31 +66,31 @@ run_more accepts settings w (first ∷ turns) mid turn world h t = (h.0, h.1, ru
 
 -- one more turn, in what is told and in the trace
 told_more : {T E : Type 0} (result : Result T (RunError E)) (a b c : Option (List (Call E))) (turns : List (Turn E)) (turn : Turn E) →
-    Adds a b (calls_of turns) → ToldBy result b c turn.calls → ToldBy result a c (calls_of (turns ++ turn ∷ []))
+    Adds a b (all_calls turns) → ToldBy result b c (calls_of turn) → ToldBy result a c (all_calls (turns ++ turn ∷ []))
 told_more result a b c turns turn h k =
-    let e : calls_of (turns ++ turn ∷ []) ≡ calls_of turns ++ turn.calls = flat_map-append (λ t. t.calls) turns (turn ∷ []) ∙ ap (λ l. calls_of turns ++ l) (append-nil turn.calls) in
-    subst (ToldBy result a c) (sym e) (told_then result a b c (calls_of turns) turn.calls h k)
+    let e : all_calls (turns ++ turn ∷ []) ≡ all_calls turns ++ calls_of turn = flat_map-append calls_of turns (turn ∷ []) ∙ ap (λ l. all_calls turns ++ l) (append-nil (calls_of turn)) in
+    subst (ToldBy result a c) (sym e) (told_then result a b c (all_calls turns) (calls_of turn) h k)
 
 traced_more : {E : Type 0} (a b c d : Option (List TraceEntry)) (turns : List (Turn E)) (turn : Turn E) →
-    Adds a b (trace_of turns) → Adds b c (Took true true turn.input ∷ []) → Adds c d (map Sent turn.frames) → Adds a d (trace_of (turns ++ turn ∷ []))
+    Adds a b (trace_of turns) → Adds b c (Took turn.commands true turn.input ∷ []) → Adds c d (told_in turn.events ++ map Sent turn.frames) → Adds a d (trace_of (turns ++ turn ∷ []))
 traced_more a b c d turns turn h k l =
     let e : trace_of (turns ++ turn ∷ []) ≡ trace_of turns ++ entries turn = flat_map-append entries turns (turn ∷ []) ∙ ap (λ l. trace_of turns ++ l) (append-nil (entries turn)) in
-    subst (Adds a d) (sym e) (adds_both a b d (trace_of turns) (entries turn) h (adds_both b c d (Took true true turn.input ∷ []) (map Sent turn.frames) k l))
+    subst (Adds a d) (sym e) (adds_both a b d (trace_of turns) (entries turn) h (adds_both b c d (Took turn.commands true turn.input ∷ []) (told_in turn.events ++ map Sent turn.frames) k l))
 
 -- an input was finished, and the run goes on
-pub goes_on : {E : Type 0} (accepts : Acceptance) (settings : Settings) (a b c : Option (List (Call E))) (t u v s : Option (List TraceEntry)) (f g h i count : ℕ) (session session' : Session) (input : Input) →
+pub goes_on : {E : Type 0} (accepts : Acceptance) (settings : Settings) (a b c : Option (List (Call E))) (t u v s : Option (List TraceEntry)) (f g h i count : ℕ) (session session' : Session) (commands : Bool) (input : Input) →
     Going accepts settings a b t u f g count session →
-    Adds u v (Took true true input ∷ []) → g ≤ h →
+    Adds u v (Took commands true input ∷ []) → IsAsked commands true input.kind → ((w : World) → Refines settings session w → commands ≡ nothing_waits w.entries) → g ≤ h →
     ((w : World) → Refines settings session w → Steps accepts settings w input b c v s h i session' (Ok Continue)) →
     Going accepts settings a c t s f i (count + 1) session'
-goes_on accepts settings a b c t u v s f g h i count session session' input going took later step =
+goes_on accepts settings a b c t u v s f g h i count session session' commands input going took given flag later step =
     let w = going.world in
     let done = step w going.refines in
-    let turn : Turn _ = record { input = input; calls = done.calls; frames = done.sent } in
+    let turn : Turn _ = record { input = input; commands = commands; events = done.events; frames = done.sent } in
     record {
       turns = going.turns ++ turn ∷ [];
       world = done.finishes.0;
-      run = run_more accepts settings (opening_world settings) going.turns w turn done.finishes.0 going.run (done.plan, done.owes, done.finishes.1);
+      run = run_more accepts settings (opening_world settings) going.turns w turn done.finishes.0 going.run (done.plan, done.owes, done.finishes.1, (flag w going.refines, given));
       told = told_more (Ok Continue) a b c going.turns turn going.told done.told;
       traced = traced_more t u v s going.turns turn going.traced took done.traced;
       later = let e = going.later in let k = done.later in omega arith;
@@ -94,21 +99,21 @@ goes_on accepts settings a b c t u v s f g h i count session session' input goin
     }
 
 -- an input ended the run
-pub ends : {E : Type 0} (accepts : Acceptance) (settings : Settings) (a b c : Option (List (Call E))) (t u v s : Option (List TraceEntry)) (f g h i count max : ℕ) (session session' : Session) (input : Input) →
+pub ends : {E : Type 0} (accepts : Acceptance) (settings : Settings) (a b c : Option (List (Call E))) (t u v s : Option (List TraceEntry)) (f g h i count max : ℕ) (session session' : Session) (commands : Bool) (input : Input) →
     Going accepts settings a b t u f g count session →
-    Adds u v (Took true true input ∷ []) → g ≤ h →
+    Adds u v (Took commands true input ∷ []) → IsAsked commands true input.kind → ((w : World) → Refines settings session w → commands ≡ nothing_waits w.entries) → g ≤ h →
     ((w : World) → Refines settings session w → Steps accepts settings w input b c v s h i session' (Ok Ended)) → count < max →
     Ran accepts settings a c t s f i max (Ok tt)
-ends accepts settings a b c t u v s f g h i count max session session' input going took later step room =
+ends accepts settings a b c t u v s f g h i count max session session' commands input going took given flag later step room =
     let w = going.world in
     let done = step w going.refines in
-    let turn : Turn _ = record { input = input; calls = done.calls; frames = done.sent } in
+    let turn : Turn _ = record { input = input; commands = commands; events = done.events; frames = done.sent } in
     record {
       turns = going.turns;
       world = w;
       run = going.run;
       last = Some turn;
-      closes = (done.plan, done.owes, done.finishes);
+      closes = (done.plan, done.owes, done.finishes, (flag w going.refines, given));
       room = subst (λ n. n < max) (sym going.counted) room;
       told = told_more {T = Unit {0}} (Ok tt) a b c going.turns turn going.told done.told;
       traced = traced_more t u v s going.turns turn going.traced took done.traced;
@@ -116,33 +121,33 @@ ends accepts settings a b c t u v s f g h i count max session session' input goi
     }
 
 -- what is known by a later count of faults
-stops_later : {E : Type 0} (plan : Plan Outcome) (calls : List (Call E)) (sent : List Frame) (rose rose' : Type 0) (e : RunError E) →
-    (rose → rose') → Stops plan calls sent rose e → Stops plan calls sent rose' e
-stops_later plan calls sent rose rose' error.NoMemory r h = h
-stops_later plan calls sent rose rose' error.LinkFault r h = (r h.0, h.1)
-stops_later plan calls sent rose rose' error.InputLimit r h = h
-stops_later plan calls sent rose rose' (error.Encoding why) r h = h
-stops_later plan calls sent rose rose' error.Inconsistent r h = h
-stops_later plan calls sent rose rose' (error.Key why) r h = h
-stops_later plan calls sent rose rose' (error.Handler e) r h = h
-stops_later plan calls sent rose rose' error.NotBuilt r h = h
+stops_later : {E : Type 0} (plan : Plan Outcome) (events : List (Event E)) (sent : List Frame) (rose rose' : Type 0) (e : RunError E) →
+    (rose → rose') → Stops plan events sent rose e → Stops plan events sent rose' e
+stops_later plan events sent rose rose' error.NoMemory r h = h
+stops_later plan events sent rose rose' error.LinkFault r h = (r h.0, h.1)
+stops_later plan events sent rose rose' error.InputLimit r h = h
+stops_later plan events sent rose rose' (error.Encoding why) r h = h
+stops_later plan events sent rose rose' error.Inconsistent r h = h
+stops_later plan events sent rose rose' (error.Key why) r h = h
+stops_later plan events sent rose rose' (error.Handler e) r h = h
+stops_later plan events sent rose rose' error.NotBuilt r h = h
 
 -- an input was not finished
-pub stopped : {E : Type 0} (accepts : Acceptance) (settings : Settings) (a b c : Option (List (Call E))) (t u v s : Option (List TraceEntry)) (f g h i count max : ℕ) (session session' : Session) (input : Input) (e : RunError E) →
+pub stopped : {E : Type 0} (accepts : Acceptance) (settings : Settings) (a b c : Option (List (Call E))) (t u v s : Option (List TraceEntry)) (f g h i count max : ℕ) (session session' : Session) (commands : Bool) (input : Input) (e : RunError E) →
     Going accepts settings a b t u f g count session →
-    Adds u v (Took true true input ∷ []) → g ≤ h →
+    Adds u v (Took commands true input ∷ []) → IsAsked commands true input.kind → ((w : World) → Refines settings session w → commands ≡ nothing_waits w.entries) → g ≤ h →
     ((w : World) → Refines settings session w → Steps accepts settings w input b c v s h i session' (Err e)) → count < max →
     Ran accepts settings a c t s f i max (Err e)
-stopped accepts settings a b c t u v s f g h i count max session session' input e going took later step room =
+stopped accepts settings a b c t u v s f g h i count max session session' commands input e going took given flag later step room =
     let w = going.world in
     let done = step w going.refines in
-    let turn : Turn _ = record { input = input; calls = done.calls; frames = done.sent } in
+    let turn : Turn _ = record { input = input; commands = commands; events = done.events; frames = done.sent } in
     record {
       turns = going.turns;
       world = w;
       run = going.run;
       last = Some turn;
-      closes = (done.plan, done.owes, stops_later done.plan done.calls done.sent (h < i) (f < i) e (λ r. let k = going.later in omega arith) done.finishes);
+      closes = (done.plan, done.owes, stops_later done.plan done.events done.sent (h < i) (f < i) e (λ r. let k = going.later in omega arith) done.finishes, (flag w going.refines, given));
       room = subst (λ n. n < max) (sym going.counted) room;
       told = told_more {T = Unit {0}} (Err e) a b c going.turns turn going.told done.told;
       traced = traced_more t u v s going.turns turn going.traced took done.traced;
@@ -162,10 +167,21 @@ no_input accepts settings a b t u v f g h count max session e going took later c
       last = None;
       closes = subst (λ n. Closes accepts settings going.world n max None (f < h) (Err e)) (sym going.counted) (closes going.world);
       room = tt;
-      told = subst (λ l. ToldBy {T = Unit {0}} (Err e) a b (calls_of l)) (sym (append-nil going.turns)) (told_all {T = Unit {0}} (Err e) a b (calls_of going.turns) going.told);
+      told = subst (λ l. ToldBy {T = Unit {0}} (Err e) a b (all_calls l)) (sym (append-nil going.turns)) (told_all {T = Unit {0}} (Err e) a b (all_calls going.turns) going.told);
       traced = subst (λ l. Adds t v (trace_of l)) (sym (append-nil going.turns)) (subst (Adds t v) (append-nil (trace_of going.turns)) (adds_both t u v (trace_of going.turns) [] going.traced took));
       later = let e = going.later in omega arith;
     }
+
+-- the link gave no further input
+pub link_left : {E : Type 0} (accepts : Acceptance) (settings : Settings) (a b : Option (List (Call E))) (t u v : Option (List TraceEntry)) (f g h count max : ℕ) (session : Session) (fault : LinkFault)
+    (result : Result (Unit {0}) (RunError E)) → result ≡ Err (error_of_link fault) →
+    Going accepts settings a b t u f g count session → Adds u v [] → g ≤ h → (fault ≡ Failed → g < h) →
+    Ran accepts settings a b t v f h max result
+link_left accepts settings a b t u v f g h count max session Failed result is going took later cause =
+    subst (Ran accepts settings a b t v f h max) (sym is)
+    (no_input accepts settings a b t u v f g h count max session error.LinkFault going took later (λ w. let rose = cause refl in let more = going.later in omega (arith, rose, more)))
+link_left accepts settings a b t u v f g h count max session NoMemory result is going took later cause =
+    subst (Ran accepts settings a b t v f h max) (sym is) (no_input accepts settings a b t u v f g h count max session error.NoMemory going took later (λ w. tt))
 
 -- a run that could not begin
 pub not_begun : (E : Type 0) (accepts : Acceptance) (settings : Settings) (a : Option (List (Call E))) (t : Option (List TraceEntry)) (f max : ℕ) →

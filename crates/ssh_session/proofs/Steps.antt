@@ -1,158 +1,139 @@
--- From what serving a payload does, and what handing its frames on does, to what taking an input does.
+-- From what serving an input does, and what handing its frames on does, to what taking an input does.
 use Rattle.std.proofs.Common.{◌≡◌, ◌<◌, ◌≤◌, ℕ, List, [], ◌++◌, map, Option, Result, Ok, Err, refl, sym, ◌∙◌, subst, inl, inr, arith}
+use Rattle.std.proofs.lemmas.List.{append-nil}
 use Rattle.ssh_link.specs.Told.{Adds}
-use Rattle.ssh_link.proofs.Tellings.{adds_nil}
+use Rattle.ssh_link.proofs.Tellings.{adds_both}
 use Rattle.ssh_link.specs.declared.frame.Frame.{Frame}
 use Rattle.ssh_link.specs.declared.frame.Input.{Input}
-use Rattle.ssh_link.specs.declared.frame.InputKind.TheVariants.{Payload, End}
+use Rattle.ssh_link.specs.declared.link.LinkFault.{LinkFault}
+use Rattle.ssh_link.specs.declared.link.LinkFault.TheVariants.{Failed, NoMemory}
 use Rattle.ssh_link.specs.declared.link.TraceEntry.{TraceEntry}
 use Rattle.ssh_link.specs.declared.link.TraceEntry.TheVariants.{Sent}
 use Rattle.ssh_auth.specs.declared.call.Call.{Call}
-use Rattle.ssh_auth.specs.Plan.{Plan, Finish}
 use Rattle.ssh_auth.specs.Publickey.{Acceptance}
+use Rattle.ssh_auth.specs.Plan.{Plan, Event, told_in}
 use Rattle.ssh_session.specs.declared.error.Flow.{Flow}
 use Rattle.ssh_session.specs.declared.error.Flow.TheVariants.{Continue, Ended}
 use Rattle.ssh_session.specs.declared.error.RunError.{RunError}
 use Rattle.ssh_session.specs.declared.error.RunError.TheVariants as error
 use Rattle.ssh_session.specs.declared.session.Session.{Session}
-use Rattle.ssh_session.specs.World.{Settings, World, circumstances}
-use Rattle.ssh_session.specs.Gate.{gate_of}
-use Rattle.ssh_session.specs.Said.{Said, Says}
-use Rattle.ssh_session.specs.Outcome.{Outcome, Ends}
-use Rattle.ssh_session.specs.Rows.{row}
-use Rattle.ssh_session.specs.Serve.{Serves, Answers}
-use Rattle.ssh_session.specs.Run.{Owes, OwesKind}
+use Rattle.ssh_session.specs.Failure.{error_of_link}
+use Rattle.ssh_session.specs.World.{Settings, World}
+use Rattle.ssh_session.specs.Outcome.{Outcome}
+use Rattle.ssh_session.specs.Serve.{Heard, heard, Serves, Answers, ToldBy}
+use Rattle.ssh_session.specs.Run.{Owes}
 use Rattle.ssh_session.specs.Step.{Steps, SendsPart, Stops}
 
--- what serving a payload does, its frames staged in an empty list
-abbrev pub Served : {E : Type 0} → Acceptance → Settings → World → ℕ → List ℕ → Option (List (Call E)) → Option (List (Call E)) → List Frame → Session → Result Flow (RunError E) → Type 0
-Served accepts settings w moment payload before after staged session result =
-    (said : Said) × Says (circumstances accepts settings moment) (gate_of settings w payload) payload said × Serves settings (row settings moment w said) before after [] staged session result
+-- what serving an input does, its frames staged in an empty list
+abbrev pub Served : {E : Type 0} → Acceptance → Settings → World → Input → Heard E → Heard E → List Frame → Session → Result Flow (RunError E) → Type 0
+Served accepts settings w input before after staged session result =
+    (plan : Plan Outcome) × Owes accepts settings w input plan × Serves settings plan before after [] staged session result
 
-owes : (accepts : Acceptance) (settings : Settings) (w : World) (input : Input) (payload : List ℕ) (said : Said) → input.kind ≡ Payload payload → Says (circumstances accepts settings input.moment) (gate_of settings w payload) payload said →
-    Owes accepts settings w input (row settings input.moment w said)
-owes accepts settings w input payload said is says = subst (λ k. OwesKind accepts settings w input.moment k (row settings input.moment w said)) (sym is) (said, says, refl)
+-- the frames of an input follow what the link was told of it
+traced : {E : Type 0} (t u v : Option (List TraceEntry)) (events : List (Event E)) (sent : List Frame) → Adds t u (told_in events) → Adds u v (map Sent sent) →
+    Adds t v (told_in events ++ map Sent sent)
+traced t u v events sent h k = adds_both t u v (told_in events) (map Sent sent) h k
 
-pub at_end : {E : Type 0} (accepts : Acceptance) (settings : Settings) (w : World) (input : Input) (before : Option (List (Call E))) (trace : Option (List TraceEntry)) (faults : ℕ) (session : Session) →
-    input.kind ≡ End → Steps accepts settings w input before before trace trace faults faults session (Ok Ended)
-at_end accepts settings w input before trace faults session is = record {
-  plan = Finish (Ends []);
-  owes = subst (λ k. OwesKind accepts settings w input.moment k (Finish (Ends []))) (sym is) refl;
-  calls = [];
-  told = adds_nil before;
-  sent = [];
-  traced = adds_nil trace;
-  later = omega arith;
-  finishes = refl;
-}
-
-pub served_and_sent : {E : Type 0} (accepts : Acceptance) (settings : Settings) (w : World) (input : Input) (payload : List ℕ) (before after : Option (List (Call E)))
-    (trace trace' : Option (List TraceEntry)) (faults faults' : ℕ) (staged : List Frame) (session : Session) (flow : Flow) →
-    input.kind ≡ Payload payload → Served accepts settings w input.moment payload before after staged session (Ok flow) →
-    Adds trace trace' (map Sent staged) → faults ≤ faults' →
-    Steps accepts settings w input before after trace trace' faults faults' session (Ok flow)
-served_and_sent accepts settings w input payload before after trace trace' faults faults' staged session Continue is h sent later =
-    let s = h.2.2 in
+pub served_and_sent : {E : Type 0} (accepts : Acceptance) (settings : Settings) (w : World) (input : Input) (a b : Option (List (Call E))) (t u v : Option (List TraceEntry)) (f g h : ℕ)
+    (staged : List Frame) (session : Session) (flow : Flow) → Served accepts settings w input (heard a t f) (heard b u g) staged session (Ok flow) →
+    Adds u v (map Sent staged) → g ≤ h → Steps accepts settings w input a b t v f h session (Ok flow)
+served_and_sent accepts settings w input a b t u v f g h staged session Continue s sent later =
+    let k = s.2.2 in
     record {
-      plan = row settings input.moment w h.0;
-      owes = owes accepts settings w input payload h.0 is h.1;
-      calls = h.2.0;
-      told = h.2.1;
-      sent = s.0;
-      traced = subst (λ l. Adds trace trace' (map Sent l)) s.3 sent;
-      later = later;
-      finishes = (s.1, s.2, s.4);
+      plan = s.0;
+      owes = s.1;
+      events = s.2.0;
+      told = s.2.1.0;
+      sent = k.0;
+      traced = traced t u v s.2.0 k.0 s.2.1.1 (subst (λ l. Adds u v (map Sent l)) k.3 sent);
+      later = let e = s.2.1.2 in omega (arith, e, later);
+      finishes = (k.1, k.2, k.4);
     }
-served_and_sent accepts settings w input payload before after trace trace' faults faults' staged session Ended is h sent later =
-    let s = h.2.2 in
+served_and_sent accepts settings w input a b t u v f g h staged session Ended s sent later =
+    let k = s.2.2 in
     record {
-      plan = row settings input.moment w h.0;
-      owes = owes accepts settings w input payload h.0 is h.1;
-      calls = h.2.0;
-      told = h.2.1;
-      sent = s.0;
-      traced = subst (λ l. Adds trace trace' (map Sent l)) s.2 sent;
-      later = later;
-      finishes = s.1;
+      plan = s.0;
+      owes = s.1;
+      events = s.2.0;
+      told = s.2.1.0;
+      sent = k.0;
+      traced = traced t u v s.2.0 k.0 s.2.1.1 (subst (λ l. Adds u v (map Sent l)) k.2 sent);
+      later = let e = s.2.1.2 in omega (arith, e, later);
+      finishes = k.1;
     }
 
 -- what was staged is handed on in part
-sends_part : {E : Type 0} (settings : Settings) (plan : Plan Outcome) (calls : List (Call E)) (staged sent rest : List Frame) (session : Session) (flow : Flow) →
-    Answers settings plan calls [] staged session (Ok flow) → staged ≡ sent ++ rest → SendsPart plan calls sent
-sends_part settings plan calls staged sent rest session Continue h e = (rest, inl (h.1, rw (sym h.3 ∙ e) at h.2))
-sends_part settings plan calls staged sent rest session Ended h e = (rest, inr (rw (sym h.2 ∙ e) at h.1))
+sends_part : {E : Type 0} (settings : Settings) (plan : Plan Outcome) (rose : Type 0) (events : List (Event E)) (staged sent rest : List Frame) (session : Session) (flow : Flow) →
+    Answers settings plan rose events [] staged session (Ok flow) → staged ≡ sent ++ rest → SendsPart plan events sent
+sends_part settings plan rose events staged sent rest session Continue h e = (rest, inl (h.1, rw (sym h.3 ∙ e) at h.2))
+sends_part settings plan rose events staged sent rest session Ended h e = (rest, inr (rw (sym h.2 ∙ e) at h.1))
 
-pub served_and_failed : {E : Type 0} (accepts : Acceptance) (settings : Settings) (w : World) (input : Input) (payload : List ℕ) (before after : Option (List (Call E)))
-    (trace trace' : Option (List TraceEntry)) (faults faults' : ℕ) (staged sent rest : List Frame) (session : Session) (flow : Flow) →
-    input.kind ≡ Payload payload → Served accepts settings w input.moment payload before after staged session (Ok flow) →
-    staged ≡ sent ++ rest → Adds trace trace' (map Sent sent) → faults ≤ faults' → faults < faults' →
-    Steps accepts settings w input before after trace trace' faults faults' session (Err error.LinkFault)
-served_and_failed accepts settings w input payload before after trace trace' faults faults' staged sent rest session flow is h parts traced later rose =
+-- a call of the link that was not finished
+abbrev pub failing : LinkFault → Result (Unit {0}) LinkFault
+failing fault = Err fault
+
+-- the link failed, or had no memory, while the frames were handed on
+left_by : {E : Type 0} (plan : Plan Outcome) (events : List (Event E)) (sent : List Frame) (rose : Type 0) (fault : LinkFault) →
+    (failing fault ≡ Err Failed → rose) → SendsPart plan events sent → Stops plan events sent rose (error_of_link {E = E} fault)
+left_by plan events sent rose Failed cause h = (cause refl, inr h)
+left_by plan events sent rose NoMemory cause h = inr h
+
+told_by_link : {E : Type 0} (a b : Option (List (Call E))) (fault : LinkFault) (calls : List (Call E)) → Adds a b calls →
+    ToldBy {T = Flow} (Err (error_of_link fault)) a b calls
+told_by_link a b Failed calls h = h
+told_by_link a b NoMemory calls h = h
+
+pub served_and_stopped : {E : Type 0} (accepts : Acceptance) (settings : Settings) (w : World) (input : Input) (a b : Option (List (Call E))) (t u v : Option (List TraceEntry)) (f g h : ℕ)
+    (staged sent rest : List Frame) (session : Session) (flow : Flow) (fault : LinkFault) → Served accepts settings w input (heard a t f) (heard b u g) staged session (Ok flow) →
+    staged ≡ sent ++ rest → Adds u v (map Sent sent) → g ≤ h → (failing fault ≡ Err Failed → g < h) →
+    Steps accepts settings w input a b t v f h session (Err (error_of_link fault))
+served_and_stopped accepts settings w input a b t u v f g h staged sent rest session flow fault s parts handed later cause =
     record {
-      plan = row settings input.moment w h.0;
-      owes = owes accepts settings w input payload h.0 is h.1;
-      calls = h.2.0;
-      told = h.2.1;
+      plan = s.0;
+      owes = s.1;
+      events = s.2.0;
+      told = told_by_link a b fault _ s.2.1.0;
       sent = sent;
-      traced = traced;
-      later = later;
-      finishes = (rose, sends_part settings (row settings input.moment w h.0) h.2.0 staged sent rest session flow h.2.2 parts);
+      traced = traced t u v s.2.0 sent s.2.1.1 handed;
+      later = let e = s.2.1.2 in omega (arith, e, later);
+      finishes = left_by s.0 s.2.0 sent (f < h) fault (λ i. let e = s.2.1.2 in let r = cause i in omega (arith, e, r))
+          (sends_part settings s.0 (f < g) s.2.0 staged sent rest session flow s.2.2 parts);
     }
 
-pub served_and_no_memory : {E : Type 0} (accepts : Acceptance) (settings : Settings) (w : World) (input : Input) (payload : List ℕ) (before after : Option (List (Call E)))
-    (trace trace' : Option (List TraceEntry)) (faults faults' : ℕ) (staged sent rest : List Frame) (session : Session) (flow : Flow) →
-    input.kind ≡ Payload payload → Served accepts settings w input.moment payload before after staged session (Ok flow) →
-    staged ≡ sent ++ rest → Adds trace trace' (map Sent sent) → faults ≤ faults' →
-    Steps accepts settings w input before after trace trace' faults faults' session (Err error.NoMemory)
-served_and_no_memory accepts settings w input payload before after trace trace' faults faults' staged sent rest session flow is h parts traced later =
-    record {
-      plan = row settings input.moment w h.0;
-      owes = owes accepts settings w input payload h.0 is h.1;
-      calls = h.2.0;
-      told = h.2.1;
-      sent = sent;
-      traced = traced;
-      later = later;
-      finishes = inr (sends_part settings (row settings input.moment w h.0) h.2.0 staged sent rest session flow h.2.2 parts);
-    }
+-- an answer that is an error stops the input with no frame handed on
+stops : {E : Type 0} (settings : Settings) (plan : Plan Outcome) (events : List (Event E)) (staged : List Frame) (session : Session) (rose : Type 0) (e : RunError E) →
+    Answers settings plan rose events [] staged session (Err e) → Stops plan events [] rose e
+stops settings plan events staged session rose error.NoMemory h = inl (refl, h)
+stops settings plan events staged session rose error.LinkFault h = (h.0, inl (refl, h.1))
+stops settings plan events staged session rose error.InputLimit h = h
+stops settings plan events staged session rose (error.Encoding why) h = (refl, h)
+stops settings plan events staged session rose error.Inconsistent h = (refl, h)
+stops settings plan events staged session rose (error.Key why) h = (refl, h.0, h.1)
+stops settings plan events staged session rose (error.Handler e) h = (refl, h)
+stops settings plan events staged session rose error.NotBuilt h = (refl, h)
 
--- an answer that is an error stops the input with nothing handed on
-stops : {E : Type 0} (settings : Settings) (plan : Plan Outcome) (calls : List (Call E)) (staged : List Frame) (session : Session) (rose : Type 0) (e : RunError E) →
-    Answers settings plan calls [] staged session (Err e) → Stops plan calls [] rose e
-stops settings plan calls staged session rose error.NoMemory h = inl (refl, h)
-stops settings plan calls staged session rose error.LinkFault h = absurd h
-stops settings plan calls staged session rose error.InputLimit h = h
-stops settings plan calls staged session rose (error.Encoding why) h = (refl, h)
-stops settings plan calls staged session rose error.Inconsistent h = (refl, h)
-stops settings plan calls staged session rose (error.Key why) h = (refl, h.0, h.1)
-stops settings plan calls staged session rose (error.Handler e) h = (refl, h)
-stops settings plan calls staged session rose error.NotBuilt h = (refl, h)
-
--- the payload was not served, and nothing was handed on
-pub not_served : {E : Type 0} (accepts : Acceptance) (settings : Settings) (w : World) (input : Input) (payload : List ℕ) (before after : Option (List (Call E)))
-    (trace : Option (List TraceEntry)) (faults : ℕ) (staged : List Frame) (session : Session) (e : RunError E) →
-    input.kind ≡ Payload payload → Served accepts settings w input.moment payload before after staged session (Err e) →
-    Steps accepts settings w input before after trace trace faults faults session (Err e)
-not_served accepts settings w input payload before after trace faults staged session e is h =
+-- the input was not served, and no frame was handed on
+pub not_served : {E : Type 0} (accepts : Acceptance) (settings : Settings) (w : World) (input : Input) (a b : Option (List (Call E))) (t u : Option (List TraceEntry)) (f g : ℕ)
+    (staged : List Frame) (session : Session) (e : RunError E) → Served accepts settings w input (heard a t f) (heard b u g) staged session (Err e) →
+    Steps accepts settings w input a b t u f g session (Err e)
+not_served accepts settings w input a b t u f g staged session e s =
     record {
-      plan = row settings input.moment w h.0;
-      owes = owes accepts settings w input payload h.0 is h.1;
-      calls = h.2.0;
-      told = h.2.1;
+      plan = s.0;
+      owes = s.1;
+      events = s.2.0;
+      told = s.2.1.0;
       sent = [];
-      traced = adds_nil trace;
-      later = omega arith;
-      finishes = stops settings (row settings input.moment w h.0) h.2.0 staged session (faults < faults) e h.2.2;
+      traced = subst (Adds t u) (sym (append-nil (told_in s.2.0))) s.2.1.1;
+      later = s.2.1.2;
+      finishes = stops settings s.0 s.2.0 staged session (f < g) e s.2.2;
     }
 
--- the frames were staged in an empty list, and these bytes are the payload's
-pub from_empty : {E : Type 0} (accepts : Acceptance) (settings : Settings) (w : World) (moment : ℕ) (bytes payload : List ℕ) (before after : Option (List (Call E))) (empty staged : List Frame) (session : Session) (result : Result Flow (RunError E)) →
-    empty ≡ [] → bytes ≡ payload →
-    ((said : Said) × Says (circumstances accepts settings moment) (gate_of settings w bytes) bytes said × Serves settings (row settings moment w said) before after empty staged session result) →
-    Served accepts settings w moment payload before after staged session result
-from_empty accepts settings w moment bytes payload before after empty staged session result e b h =
-    let P : List Frame → List ℕ → Type 0 = λ l bs. (said : Said) × Says (circumstances accepts settings moment) (gate_of settings w bs) bs said × Serves settings (row settings moment w said) before after l staged session result in
-    subst (λ bs. P [] bs) b (subst (λ l. P l bytes) e h)
+-- frames are staged from an empty list on
+pub from_empty : {E : Type 0} (accepts : Acceptance) (settings : Settings) (w : World) (input : Input) (before after : Heard E) (empty staged : List Frame) (session : Session) (result : Result Flow (RunError E)) →
+    empty ≡ [] → ((plan : Plan Outcome) × Owes accepts settings w input plan × Serves settings plan before after empty staged session result) →
+    Served accepts settings w input before after staged session result
+from_empty accepts settings w input before after empty staged session result e h =
+    subst (λ l. (plan : Plan Outcome) × Owes accepts settings w input plan × Serves settings plan before after l staged session result) e h
 
 -- where the session continues it is the same, and else nothing is said of it
 pub noted : {E : Type 0} (accepts : Acceptance) (settings : Settings) (w : World) (input : Input) (before after : Option (List (Call E))) (trace trace' : Option (List TraceEntry))
@@ -164,7 +145,7 @@ noted accepts settings w input before after trace trace' faults faults' session 
 noted accepts settings w input before after trace trace' faults faults' session other (Ok Ended) same h = record {
   plan = h.plan;
   owes = h.owes;
-  calls = h.calls;
+  events = h.events;
   told = h.told;
   sent = h.sent;
   traced = h.traced;
@@ -174,7 +155,7 @@ noted accepts settings w input before after trace trace' faults faults' session 
 noted accepts settings w input before after trace trace' faults faults' session other (Err e) same h = record {
   plan = h.plan;
   owes = h.owes;
-  calls = h.calls;
+  events = h.events;
   told = h.told;
   sent = h.sent;
   traced = h.traced;

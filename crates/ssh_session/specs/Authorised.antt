@@ -3,19 +3,21 @@ use Rattle.std.specs.Prelude.{◌≡◌, ◌≤◌, ◌⊎◌, ℕ, List, [], �
 use Rattle.ssh_wire.specs.Field.{Text, SpellsAll}
 use Rattle.ssh_link.specs.declared.frame.Frame.{Frame}
 use Rattle.ssh_link.specs.declared.frame.InputKind.{InputKind}
-use Rattle.ssh_link.specs.declared.frame.InputKind.TheVariants.{Payload, End}
+use Rattle.ssh_link.specs.declared.frame.InputKind.TheVariants.{Payload, Command, OpenReply, End}
 use Rattle.ssh_auth.specs.declared.auth.Auth.TheVariants.{Accept}
 use Rattle.ssh_auth.specs.declared.call.Call.{Call}
-use Rattle.ssh_auth.specs.declared.call.Call.TheVariants.{AuthNone, AuthPassword, AuthPublickey, AuthOpensshCertificate, AuthSucceeded}
+use Rattle.ssh_auth.specs.declared.call.Call.TheVariants.{AuthenticationBanner, AuthNone, AuthPassword, AuthPublickeyOffered, AuthPublickey, AuthOpensshCertificate}
 use Rattle.ssh_auth.specs.Plan.{Question, Auth_publickey, Auth_openssh_certificate}
 use Rattle.ssh_auth.specs.Proven.{IsProven}
 use Rattle.ssh_auth.specs.Publickey.{Acceptance, Circumstances}
 use Rattle.ssh_session.specs.World.{Settings, circumstances}
-use Rattle.ssh_session.specs.Run.{Turn}
+use Rattle.ssh_session.specs.Run.{Turn, calls_of}
 
 -- the input is a USERAUTH_REQUEST of this user: byte 50, string user, string service, string method, and more
 abbrev pub IsRequestOf : List ℕ → InputKind → Type 0
 IsRequestOf user End = ⊥
+IsRequestOf user (Command ticket command) = ⊥
+IsRequestOf user (OpenReply ticket answer) = ⊥
 IsRequestOf user (Payload payload) = (fields : List ℕ) × (service : List ℕ) × (method : List ℕ) × (rest : List ℕ) × (payload ≡ 50 ∷ fields) ×
     SpellsAll (Text ∷ Text ∷ Text ∷ []) (user, (service, (method, tt))) fields rest
 
@@ -24,6 +26,8 @@ IsRequestOf user (Payload payload) = (fields : List ℕ) × (service : List ℕ)
 -- signature field; and where it is a certificate, the verifier accepts the certificate's own signature too
 abbrev pub IsProvenRequest : Circumstances → InputKind → Question → Type 0
 IsProvenRequest given End question = ⊥
+IsProvenRequest given (Command ticket command) question = ⊥
+IsProvenRequest given (OpenReply ticket answer) question = ⊥
 IsProvenRequest given (Payload payload) question = (fields : List ℕ) × (payload ≡ 50 ∷ fields) × IsProven given fields question
 
 -- the call accepted the user of its input's request, and of one by a key or a certificate the signature was accepted
@@ -36,8 +40,13 @@ IsAccepting given kind _ = ⊥
 
 -- a callback of the connection: every one but those that authenticate
 abbrev pub IsOfConnection : {E : Type 0} → Call E → Type 0
-IsOfConnection (AuthSucceeded answer) = Unit {0}
-IsOfConnection _ = ⊥
+IsOfConnection (AuthenticationBanner answer) = ⊥
+IsOfConnection (AuthNone user answer) = ⊥
+IsOfConnection (AuthPassword user password answer) = ⊥
+IsOfConnection (AuthPublickeyOffered user key algorithm answer) = ⊥
+IsOfConnection (AuthPublickey user key algorithm answer) = ⊥
+IsOfConnection (AuthOpensshCertificate user certificate answer) = ⊥
+IsOfConnection _ = Unit {0}
 
 -- a frame of a channel: its number is 90 to 100
 abbrev pub IsOfChannel : Frame → Type 0
@@ -65,6 +74,6 @@ AuthorisedFrames accepted (frame ∷ frames) = (IsOfChannel frame → accepted) 
 abbrev pub Authorised : {E : Type 0} → Acceptance → Settings → Type 0 → List (Turn E) → Type 0
 Authorised accepts settings accepted [] = Unit {0}
 Authorised accepts settings accepted (turn ∷ turns) =
-    AuthorisedCalls (circumstances accepts settings turn.input.moment) accepted turn.input.kind turn.calls
-    × AuthorisedFrames (accepted ⊎ SomeAccepting (circumstances accepts settings turn.input.moment) turn.input.kind turn.calls) turn.frames
-    × Authorised accepts settings (accepted ⊎ SomeAccepting (circumstances accepts settings turn.input.moment) turn.input.kind turn.calls) turns
+    AuthorisedCalls (circumstances accepts settings turn.input.moment) accepted turn.input.kind (calls_of turn)
+    × AuthorisedFrames (accepted ⊎ SomeAccepting (circumstances accepts settings turn.input.moment) turn.input.kind (calls_of turn)) turn.frames
+    × Authorised accepts settings (accepted ⊎ SomeAccepting (circumstances accepts settings turn.input.moment) turn.input.kind (calls_of turn)) turns

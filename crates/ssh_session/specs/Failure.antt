@@ -1,6 +1,10 @@
--- The error of a run that a field's error, or that of a request of authentication, is.
+-- The error of a run that a field's error is, or that of a message, of a request of authentication, or of a link.
 use Rattle.ssh_wire.specs.declared.error.WireError.{WireError}
 use Rattle.ssh_wire.specs.declared.error.WireError.TheVariants as wire
+use Rattle.ssh_wire.specs.declared.error.LayoutError.{LayoutError}
+use Rattle.ssh_wire.specs.declared.error.LayoutError.TheVariants as layout
+use Rattle.ssh_link.specs.declared.link.LinkFault.{LinkFault}
+use Rattle.ssh_link.specs.declared.link.LinkFault.TheVariants as link
 use Rattle.ssh_auth.specs.declared.error.AuthError.{AuthError}
 use Rattle.ssh_auth.specs.declared.error.AuthError.TheVariants as auth
 use Rattle.ssh_session.specs.declared.error.RunError.{RunError}
@@ -17,3 +21,11 @@ error_of_auth auth.Inconsistent = error.Inconsistent
 error_of_auth (auth.Key why) = error.Key why
 error_of_auth (auth.Handler e) = error.Handler e
 error_of_auth auth.NotBuilt = error.NotBuilt
+
+abbrev pub error_of_layout : {E : Type 0} → LayoutError → RunError E
+error_of_layout (layout.Wire why) = run_error_of why
+error_of_layout layout.Inconsistent = error.Inconsistent
+
+abbrev pub error_of_link : {E : Type 0} → LinkFault → RunError E
+error_of_link link.Failed = error.LinkFault
+error_of_link link.NoMemory = error.NoMemory

@@ -2,6 +2,7 @@ pub mod Layout
 pub mod World
 pub mod Gate
 pub mod Said
+pub mod OpenRead
 pub mod Failure
 pub mod Outcome
 pub mod Rows
@@ -10,3 +11,13 @@ pub mod Run
 pub mod Step
 pub mod Valid
 pub mod Authorised
+pub mod ChannelLayout
+pub mod Cut
+pub mod Entry
+pub mod Entries
+pub mod Sent
+pub mod Held
+pub mod Pending
+pub mod Effect
+pub mod Commanded
+pub mod Closing

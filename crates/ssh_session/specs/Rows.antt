@@ -1,16 +1,25 @@
 -- The reply table: what each input owes, row by row.
-use Rattle.std.specs.Prelude.{ℕ, ◌+◌, ◌-◌, ◌^◌, min, List, [], ◌∷◌, Bool, true, false, Option, Some, None, unwrap_or, if◌then◌else◌, bytes_eq, codes}
+use Rattle.std.specs.Prelude.{ℕ, ◌+◌, ◌-◌, ◌^◌, min, List, [], ◌∷◌, ◌++◌, Bool, true, false, Option, Some, None, unwrap_or, if◌then◌else◌, bytes_eq, codes}
+use Rattle.ssh_wire.specs.declared.channel_id.ChannelId.{ChannelId}
+use Rattle.ssh_link.specs.declared.frame.Frame.{Frame}
+use Rattle.ssh_link.specs.declared.link.TraceEntry.TheVariants.{Noticed}
+use Rattle.ssh_link.specs.declared.notice.ChannelMsg.TheVariants as msg
+use Rattle.ssh_link.specs.declared.notice.Notice.TheVariants.{Channel, Granted}
 use Rattle.ssh_auth.specs.declared.auth_step.AuthVerdict.{AuthVerdict}
 use Rattle.ssh_auth.specs.declared.auth_step.AuthVerdict.TheVariants as verdict
-use Rattle.ssh_auth.specs.Plan.{Plan, Finish, Ask, after, Authentication_banner, Auth_succeeded}
+use Rattle.ssh_auth.specs.Plan.{Plan, Finish, Ask, Tell, after, Authentication_banner, Auth_succeeded, Channel_open_session, Channel_eof, Channel_close, Window_adjusted}
 use Rattle.ssh_auth.specs.Said.{Said as Asked}
 use Rattle.ssh_auth.specs.Verdict.{verdict as verdict_on, Outcome as Reply, Replies}
 use Rattle.ssh_auth.specs.Verdict as auth
 use Rattle.ssh_handler.specs.declared.config.Config.{Config}
 use Rattle.ssh_session.specs.declared.phase.Phase.TheVariants.{Authentication, Accepted}
 use Rattle.ssh_session.specs.Layout.{service_accept, too_many_attempts, at_once, held}
-use Rattle.ssh_session.specs.World.{Settings, World}
-use Rattle.ssh_session.specs.Said.{Said, Nothing, Disconnect, Over_cap, Service, Request, Unfit, Unbuilt}
+use Rattle.ssh_session.specs.ChannelLayout.{close_frame}
+use Rattle.ssh_session.specs.Entry.{Entry, granting, flushed, flush_out, credit_left}
+use Rattle.ssh_session.specs.Entries.{find, put, without}
+use Rattle.ssh_session.specs.World.{Settings, World, next_number, has_no_channel}
+use Rattle.ssh_session.specs.Commanded.{done_all}
+use Rattle.ssh_session.specs.Said.{Said, Nothing, Disconnect, Over_cap, Service, Request, Open_session, Open_other, Open_without_packets, Grant, Peer_eof, Peer_close, Unfit, Unbuilt}
 use Rattle.ssh_session.specs.Outcome.{Fault, Encoding, Inconsistent, Key, Starved, Not_built, Outcome, Goes, Ends, Fails}
 
 -- userauth service, with what the banner callback answered: SERVICE_ACCEPT; a banner is not built
@@ -37,7 +46,7 @@ moment_after moment time = min (moment + time) (2 ^ 64 - 1)
 -- a request is finished with this reply: a rejection is held, and an accepted user is told to the handler
 abbrev pub reply_row : Settings → ℕ → World → List ℕ → AuthVerdict → Plan Outcome
 reply_row settings moment w reply verdict.Accepted =
-    Ask Auth_succeeded (λ _. Finish (Goes (at_once reply ∷ []) (record w { phase = Accepted; requested = true })))
+    Ask Auth_succeeded (done_all settings (record w { phase = Accepted; requested = true }) (at_once reply ∷ []) 0)
 reply_row settings moment w reply (verdict.Rejected none_method) =
     Finish (Goes (held reply (moment_after moment (rejection_hold settings.config none_method w.requested)) ∷ []) (record w { requested = true }))
 reply_row settings moment w reply verdict.Continued = Finish (Goes (at_once reply ∷ []) (record w { requested = true }))
@@ -59,6 +68,52 @@ finished settings moment w (auth.Fails fault) = Finish (Fails (fault_of fault))
 abbrev pub request_row : Settings → ℕ → World → Asked → Plan Outcome
 request_row settings moment w asked = after (verdict_on w.auth asked) (finished settings moment w)
 
+-- the channel of this number on this side
+abbrev pub own : ℕ → ChannelId
+own number = record { 0 = number }
+
+-- the open draws a number, and waits for its answer
+abbrev pub drawn : World → (peer window packet : ℕ) → World
+drawn w peer window packet = record w {
+  last = next_number w;
+  pending = w.pending ++ (record { number = own (next_number w); peer = peer; window = window; packet = packet }) ∷ [];
+}
+
+-- the peer opens a session channel (RFC 4254 section 6.1); beside another channel it is not built
+abbrev pub open_session_row : Settings → World → (peer window packet : ℕ) → Plan Outcome
+open_session_row settings w peer window packet =
+    if has_no_channel w
+    then Ask (Channel_open_session (own (next_number w))) (done_all settings (drawn w peer window packet) [] 0)
+    else Finish (Fails Not_built)
+
+-- it is told how many bytes may still be sent (RFC 4254 section 5.2)
+abbrev pub window_told : Settings → World → List Frame → ChannelId → (new_size : ℕ) → Plan Outcome
+window_told settings w frames channel new_size =
+    Tell (Noticed (Channel channel (msg.WindowAdjusted new_size))) (Ask (Window_adjusted channel new_size) (done_all settings w frames 0))
+
+-- the peer has granted more on this channel (RFC 4254 section 5.2)
+abbrev pub granted_row : Settings → World → (amount : ℕ) → Entry → Plan Outcome
+granted_row settings w amount e =
+    Tell (Noticed (Granted (own e.number) amount))
+    (window_told settings (record w { entries = put (flushed e) w.entries }) (flush_out e) (own e.number) (credit_left e))
+
+-- the peer grants more; on no channel it does nothing
+abbrev pub grant_row : Settings → World → (amount : ℕ) → Option Entry → Plan Outcome
+grant_row settings w amount None = Finish (Goes [] w)
+grant_row settings w amount (Some e) = granted_row settings w amount (granting e amount)
+
+-- the peer sends no more data (RFC 4254 section 5.3)
+abbrev pub peer_eof_row : Settings → World → Option Entry → Plan Outcome
+peer_eof_row settings w None = Finish (Goes [] w)
+peer_eof_row settings w (Some e) = Tell (Noticed (Channel (own e.number) msg.Eof)) (Ask (Channel_eof (own e.number)) (done_all settings w [] 0))
+
+-- the peer closes, and is answered by a close; what still waited is dropped (RFC 4254 section 5.3)
+abbrev pub peer_close_row : Settings → World → Option Entry → Plan Outcome
+peer_close_row settings w None = Finish (Goes [] w)
+peer_close_row settings w (Some e) =
+    Tell (Noticed (Channel (own e.number) msg.Close))
+    (Ask (Channel_close (own e.number)) (done_all settings (record w { entries = without e.number w.entries }) (close_frame e.number e.peer ∷ []) 0))
+
 -- what a payload owes by what it says
 abbrev pub row : Settings → ℕ → World → Said → Plan Outcome
 row settings moment w Nothing = Finish (Goes [] w)
@@ -66,5 +121,12 @@ row settings moment w Disconnect = Finish (Ends [])
 row settings moment w Over_cap = Finish (Ends (at_once too_many_attempts ∷ []))
 row settings moment w (Service name) = service_row w name
 row settings moment w (Request asked) = request_row settings moment w asked
+row settings moment w (Open_session peer window packet) = open_session_row settings w peer window packet
+-- the other types are not built
+row settings moment w Open_other = Finish (Fails Not_built)
+row settings moment w Open_without_packets = Finish (Fails Inconsistent)
+row settings moment w (Grant channel amount) = grant_row settings w amount (find channel w.entries)
+row settings moment w (Peer_eof channel) = peer_eof_row settings w (find channel w.entries)
+row settings moment w (Peer_close channel) = peer_close_row settings w (find channel w.entries)
 row settings moment w (Unfit why) = Finish (Fails (Encoding why))
 row settings moment w Unbuilt = Finish (Fails Not_built)

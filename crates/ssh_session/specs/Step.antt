@@ -8,7 +8,7 @@ use Rattle.ssh_link.specs.declared.link.TraceEntry.TheVariants.{Sent}
 use Rattle.ssh_keys.specs.declared.error.KeyError.TheVariants.{Blob}
 use Rattle.ssh_auth.specs.declared.call.Call.{Call}
 use Rattle.ssh_auth.specs.Publickey.{Acceptance}
-use Rattle.ssh_auth.specs.Plan.{Plan, Called, Follows, Begins, Breaks}
+use Rattle.ssh_auth.specs.Plan.{Plan, Event, calls_in, told_in, Follows, Begins, Breaks}
 use Rattle.ssh_session.specs.declared.error.Flow.{Flow}
 use Rattle.ssh_session.specs.declared.error.Flow.TheVariants.{Continue, Ended}
 use Rattle.ssh_session.specs.declared.error.RunError.{RunError}
@@ -17,46 +17,52 @@ use Rattle.ssh_session.specs.declared.session.Session.{Session}
 use Rattle.ssh_session.specs.World.{Settings, World, opening_world}
 use Rattle.ssh_session.specs.Outcome.{Outcome, Goes, Ends, Fails, Encoding, Inconsistent, Key, Not_built}
 use Rattle.ssh_session.specs.Serve.{Refines, ToldBy}
-use Rattle.ssh_session.specs.Run.{Owes, Turn, Run, entries}
+use Rattle.ssh_session.specs.Run.{Owes, Turn, Run, IsTaken, calls_of, entries}
 
 -- the plan comes to frames that begin with those that were handed on
-abbrev pub SendsPart : {E : Type 0} → Plan Outcome → List (Call E) → List Frame → Type 0
-SendsPart plan calls sent = (rest : List Frame) ×
-    (((world : World) × Follows plan (map Called calls) (Goes (sent ++ rest) world)) ⊎ Follows plan (map Called calls) (Ends (sent ++ rest)))
+abbrev pub SendsPart : {E : Type 0} → Plan Outcome → List (Event E) → List Frame → Type 0
+SendsPart plan events sent = (rest : List Frame) ×
+    (((world : World) × Follows plan events (Goes (sent ++ rest) world)) ⊎ Follows plan events (Ends (sent ++ rest)))
+
+-- the input was left before any frame was handed on, or while they were
+abbrev pub IsLeft : {E : Type 0} → Plan Outcome → List (Event E) → List Frame → Type 0
+IsLeft plan events sent = ((sent ≡ []) × Begins plan events) ⊎ SendsPart plan events sent
 
 -- an input was not finished, by this error; rose says that the link's faults rose
-abbrev pub Stops : {E : Type 0} → Plan Outcome → List (Call E) → List Frame → Type 0 → RunError E → Type 0
-Stops plan calls sent rose error.NoMemory = ((sent ≡ []) × Begins plan (map Called calls)) ⊎ SendsPart plan calls sent
-Stops plan calls sent rose error.LinkFault = rose × SendsPart plan calls sent
-Stops plan calls sent rose error.InputLimit = ⊥
-Stops plan calls sent rose (error.Encoding why) = (sent ≡ []) × Follows plan (map Called calls) (Fails (Encoding why))
-Stops plan calls sent rose error.Inconsistent = (sent ≡ []) × Follows plan (map Called calls) (Fails Inconsistent)
-Stops plan calls sent rose (error.Key why) = (sent ≡ []) × (why ≡ Blob) × Follows plan (map Called calls) (Fails Key)
-Stops plan calls sent rose (error.Handler e) = (sent ≡ []) × Breaks plan (map Called calls) e
-Stops plan calls sent rose error.NotBuilt = (sent ≡ []) × Follows plan (map Called calls) (Fails Not_built)
+abbrev pub Stops : {E : Type 0} → Plan Outcome → List (Event E) → List Frame → Type 0 → RunError E → Type 0
+Stops plan events sent rose error.NoMemory = IsLeft plan events sent
+Stops plan events sent rose error.LinkFault = rose × IsLeft plan events sent
+Stops plan events sent rose error.InputLimit = ⊥
+Stops plan events sent rose (error.Encoding why) = (sent ≡ []) × Follows plan events (Fails (Encoding why))
+Stops plan events sent rose error.Inconsistent = (sent ≡ []) × Follows plan events (Fails Inconsistent)
+Stops plan events sent rose (error.Key why) = (sent ≡ []) × (why ≡ Blob) × Follows plan events (Fails Key)
+Stops plan events sent rose (error.Handler e) = (sent ≡ []) × Breaks plan events e
+Stops plan events sent rose error.NotBuilt = (sent ≡ []) × Follows plan events (Fails Not_built)
 
-abbrev pub Finishes : {E : Type 0} → Settings → Plan Outcome → List (Call E) → List Frame → Type 0 → Session → Result Flow (RunError E) → Type 0
-Finishes settings plan calls sent rose session (Ok Continue) = (world : World) × Follows plan (map Called calls) (Goes sent world) × Refines settings session world
-Finishes settings plan calls sent rose session (Ok Ended) = Follows plan (map Called calls) (Ends sent)
-Finishes settings plan calls sent rose session (Err e) = Stops plan calls sent rose e
+abbrev pub Finishes : {E : Type 0} → Settings → Plan Outcome → List (Event E) → List Frame → Type 0 → Session → Result Flow (RunError E) → Type 0
+Finishes settings plan events sent rose session (Ok Continue) = (world : World) × Follows plan events (Goes sent world) × Refines settings session world
+Finishes settings plan events sent rose session (Ok Ended) = Follows plan events (Ends sent)
+Finishes settings plan events sent rose session (Err e) = Stops plan events sent rose e
 
 -- an input was taken by a session in this world
 pub record Steps {E : Type 0} (accepts : Acceptance) (settings : Settings) (w : World) (input : Input) (before after : Option (List (Call E))) (trace trace' : Option (List TraceEntry))
     (faults faults' : ℕ) (session : Session) (result : Result Flow (RunError E)) : Type 0 where
   pub plan : Plan Outcome
   pub owes : Owes accepts settings w input plan
-  pub calls : List (Call E)
-  pub told : ToldBy result before after calls
+  pub events : List (Event E)
+  pub told : ToldBy result before after (calls_in events)
   pub sent : List Frame
-  pub traced : Adds trace trace' (map Sent sent)
+  pub traced : Adds trace trace' (told_in events ++ map Sent sent)
   pub later : faults ≤ faults'
-  pub finishes : Finishes settings plan calls sent (faults < faults') session result
+  pub finishes : Finishes settings plan events sent (faults < faults') session result
 
 -- how a run ends: in this world, after so many finished inputs, with one more that ended it or was not finished
 abbrev pub Closes : {E : Type 0} → Acceptance → Settings → World → ℕ → ℕ → Option (Turn E) → Type 0 → Result (Unit {0}) (RunError E) → Type 0
-Closes accepts settings w count max (Some turn) rose (Ok _) = (plan : Plan Outcome) × Owes accepts settings w turn.input plan × Follows plan (map Called turn.calls) (Ends turn.frames)
+Closes accepts settings w count max (Some turn) rose (Ok _) =
+    (plan : Plan Outcome) × Owes accepts settings w turn.input plan × Follows plan turn.events (Ends turn.frames) × IsTaken w turn
 Closes accepts settings w count max None rose (Ok _) = ⊥
-Closes accepts settings w count max (Some turn) rose (Err e) = (plan : Plan Outcome) × Owes accepts settings w turn.input plan × Stops plan turn.calls turn.frames rose e
+Closes accepts settings w count max (Some turn) rose (Err e) =
+    (plan : Plan Outcome) × Owes accepts settings w turn.input plan × Stops plan turn.events turn.frames rose e × IsTaken w turn
 Closes accepts settings w count max None rose (Err error.InputLimit) = count ≡ max
 Closes accepts settings w count max None rose (Err error.LinkFault) = rose
 Closes accepts settings w count max None rose (Err error.NoMemory) = Unit {0}
@@ -75,7 +81,7 @@ pub record Ran {E : Type 0} (accepts : Acceptance) (settings : Settings) (before
   -- no input is taken beyond the limit
   pub room : IfSome last (λ turn. length turns < max)
   -- the handler was called for these and for nothing else
-  pub told : ToldBy result before after (flat_map (λ turn. turn.calls) (turns ++ option_to_list last))
+  pub told : ToldBy result before after (flat_map calls_of (turns ++ option_to_list last))
   -- the link was asked for these inputs and given these frames, and nothing else
   pub traced : Adds trace trace' (flat_map entries (turns ++ option_to_list last))
   pub later : faults ≤ faults'

@@ -1,23 +1,27 @@
 -- Which inputs a session can finish, said positively.
-use Rattle.std.specs.Prelude.{◌≡◌, ◌<◌, ◌^◌, ◌⊎◌, ℕ, List, [], ◌∷◌, length, Some, None, Bool, true, false, Result, Ok, Err, codes, drop}
+use Rattle.std.specs.Prelude.{◌≡◌, ◌≢◌, ◌<◌, ◌^◌, ◌⊎◌, ℕ, List, [], ◌∷◌, length, Some, None, Bool, true, false, Result, Ok, Err, codes, drop}
 use Rattle.ssh_wire.specs.Field.{Flag, Text, SpellsAll, SpellsWhole}
+use Rattle.ssh_wire.specs.Open.{Leads}
+use Rattle.ssh_link.specs.declared.command.Command.{Command as Commanded}
+use Rattle.ssh_link.specs.declared.command.Command.TheVariants as command
 use Rattle.ssh_auth.specs.Said.{Named, Is_none, Is_password, Is_publickey, Is_unbuilt, Is_other, named_by, head_fields}
 use Rattle.ssh_link.specs.declared.frame.InputKind.{InputKind}
-use Rattle.ssh_link.specs.declared.frame.InputKind.TheVariants.{Payload, End}
+use Rattle.ssh_link.specs.declared.frame.InputKind.TheVariants.{Payload, Command, OpenReply, End}
 use Rattle.ssh_keys.specs.declared.signature.Signature.{Signature}
 use Rattle.ssh_keys.specs.Signatures.{EndsInSignature}
 use Rattle.ssh_auth.specs.Layout.{pk_ok}
 use Rattle.ssh_auth.specs.Publickey.{Acceptance, Circumstances, Offer, OffersNothing, offer_fields, Offers}
 use Rattle.ssh_auth.specs.declared.auth.Auth.TheVariants.{Accept}
 use Rattle.ssh_auth.specs.declared.call.Call.{Call}
-use Rattle.ssh_auth.specs.declared.call.Call.TheVariants.{AuthenticationBanner, AuthNone, AuthPassword, AuthPublickeyOffered, AuthPublickey, AuthOpensshCertificate, AuthSucceeded}
+use Rattle.ssh_auth.specs.declared.call.Call.TheVariants.{AuthenticationBanner, AuthNone, AuthPassword, AuthPublickeyOffered, AuthPublickey, AuthOpensshCertificate, AuthSucceeded, ChannelOpenSession, ChannelEof, ChannelClose, WindowAdjusted, CommandDone}
 use Rattle.ssh_session.specs.declared.error.RunError.{RunError}
 use Rattle.ssh_session.specs.declared.error.RunError.TheVariants as error
 use Rattle.ssh_session.specs.declared.gate.Gate.{Gate}
 use Rattle.ssh_session.specs.declared.gate.Gate.TheVariants as gate
-use Rattle.ssh_session.specs.World.{Settings, World, circumstances}
+use Rattle.ssh_session.specs.World.{Settings, World, circumstances, has_no_channel}
 use Rattle.ssh_session.specs.Gate.{gate_of}
-use Rattle.ssh_session.specs.Run.{Turn}
+use Rattle.ssh_session.specs.Said.{grant_fields, channel_field}
+use Rattle.ssh_session.specs.Run.{Turn, calls_of}
 
 -- boolean signed, string algorithm name, string blob: nothing that can be used is offered, and the rest is not read;
 -- or a usable offer is asked about; or it is signed, and string signature ends the request, which holds a signature
@@ -40,26 +44,47 @@ AreValidMethodFields given Is_unbuilt fields = ⊥
 AreValidMethodFields given Is_other fields = Unit {0}
 
 -- the fields fit their layout, and ask for what is built
-abbrev pub AreValidFields : Circumstances → Gate → List ℕ → Type 0
-AreValidFields given gate.Nothing fields = Unit {0}
-AreValidFields given gate.Ends fields = Unit {0}
-AreValidFields given gate.OverCap fields = Unit {0}
-AreValidFields given gate.ServiceRequest fields = (name : List ℕ) × SpellsWhole (Text ∷ []) (name, tt) fields
+abbrev pub AreValidFields : Circumstances → World → Gate → List ℕ → Type 0
+AreValidFields given w gate.Nothing fields = Unit {0}
+AreValidFields given w gate.Ends fields = Unit {0}
+AreValidFields given w gate.OverCap fields = Unit {0}
+AreValidFields given w gate.ServiceRequest fields = (name : List ℕ) × SpellsWhole (Text ∷ []) (name, tt) fields
 -- a request for the service ssh-connection
-AreValidFields given gate.UserauthRequest fields = (user name rest : List ℕ)
+AreValidFields given w gate.UserauthRequest fields = (user name rest : List ℕ)
     × SpellsAll head_fields (user, (codes "ssh-connection", (name, tt))) fields rest × AreValidMethodFields given (named_by name) rest
-AreValidFields given gate.NotBuilt fields = ⊥
+-- an open of a session channel, the only one, with a packet size that is not 0
+AreValidFields given w gate.ChannelOpen fields = (peer window packet : ℕ)
+    × Leads (codes "session") peer window packet fields [] × (packet ≢ 0) × (has_no_channel w ≡ true)
+AreValidFields given w gate.WindowAdjust fields = (channel amount : ℕ) × SpellsWhole grant_fields (channel, (amount, tt)) fields
+AreValidFields given w gate.ChannelEof fields = (channel : ℕ) × SpellsWhole channel_field (channel, tt) fields
+AreValidFields given w gate.ChannelClose fields = (channel : ℕ) × SpellsWhole channel_field (channel, tt) fields
+AreValidFields given w gate.NotBuilt fields = ⊥
 
 abbrev pub IsValidKind : Circumstances → Settings → World → InputKind → Type 0
 IsValidKind given settings w End = Unit {0}
-IsValidKind given settings w (Payload payload) = AreValidFields given (gate_of settings w payload) (drop 1 payload)
+IsValidKind given settings w (Payload payload) = AreValidFields given w (gate_of settings w payload) (drop 1 payload)
+IsValidKind given settings w (Command ticket command) = Unit {0}
+IsValidKind given settings w (OpenReply ticket answer) = Unit {0}
 
 -- PK_OK, the reply to a probe whose key may sign, is no longer than a payload can be (RFC 4252 section 7)
 abbrev pub HasShortReply : InputKind → Type 0
 HasShortReply End = Unit {0}
+HasShortReply (Command ticket command) = Unit {0}
+HasShortReply (OpenReply ticket answer) = Unit {0}
 HasShortReply (Payload payload) = (user name blob rest : List ℕ) →
     SpellsAll head_fields (user, (codes "ssh-connection", (codes "publickey", tt))) (drop 1 payload) rest →
     SpellsAll offer_fields (false, (name, (blob, tt))) rest [] → length (pk_ok name blob) < 2 ^ 32
+
+-- a callback records nothing but answers to opens, for which alone `Commands` has a call
+abbrev pub AreAnswers : List Commanded → Type 0
+AreAnswers [] = Unit {0}
+AreAnswers (command.Answer answer ∷ commands) = AreAnswers commands
+AreAnswers (_ ∷ commands) = ⊥
+
+-- a callback of the connection answered no error
+abbrev pub IsDone : {E : Type 0} → Result (Unit {0}) E → List Commanded → Type 0
+IsDone (Ok done) commands = AreAnswers commands
+IsDone (Err e) commands = ⊥
 
 -- the call answered no error, no banner, and no acceptance of a probe whose reply is too long
 abbrev pub IsFine : {E : Type 0} → InputKind → Call E → Type 0
@@ -77,8 +102,13 @@ IsFine kind (AuthPublickey user key algorithm (Ok auth)) = Unit {0}
 IsFine kind (AuthPublickey user key algorithm (Err e)) = ⊥
 IsFine kind (AuthOpensshCertificate user certificate (Ok auth)) = Unit {0}
 IsFine kind (AuthOpensshCertificate user certificate (Err e)) = ⊥
-IsFine kind (AuthSucceeded (Ok done)) = Unit {0}
-IsFine kind (AuthSucceeded (Err e)) = ⊥
+IsFine kind (AuthSucceeded answer commands) = IsDone answer commands
+IsFine kind (ChannelOpenSession channel answer commands) = IsDone answer commands
+IsFine kind (ChannelEof channel answer commands) = IsDone answer commands
+IsFine kind (ChannelClose channel answer commands) = IsDone answer commands
+IsFine kind (WindowAdjusted channel new_size answer commands) = IsDone answer commands
+IsFine kind (CommandDone place outcome (Ok done)) = Unit {0}
+IsFine kind (CommandDone place outcome (Err e)) = ⊥
 
 abbrev pub AreFine : {E : Type 0} → InputKind → List (Call E) → Type 0
 AreFine kind [] = Unit {0}
@@ -87,7 +117,7 @@ AreFine kind (call ∷ calls) = IsFine kind call × AreFine kind calls
 -- in this world the input is valid, and so are the answers that it got, where the verifier accepts these signatures
 abbrev pub IsValid : {E : Type 0} → Acceptance → Settings → World → Turn E → Type 0
 IsValid accepts settings w turn =
-    IsValidKind (circumstances accepts settings turn.input.moment) settings w turn.input.kind × AreFine turn.input.kind turn.calls
+    IsValidKind (circumstances accepts settings turn.input.moment) settings w turn.input.kind × AreFine turn.input.kind (calls_of turn)
 
 -- no answer but these three
 abbrev pub IsComplete : {E : Type 0} → Result (Unit {0}) (RunError E) → Type 0
@@ -99,4 +129,6 @@ IsComplete (Err e) = ⊥
 -- an input that ends a run: the end, DISCONNECT, whose number is 1, or a request over the cap
 abbrev pub IsEnding : Settings → World → InputKind → Type 0
 IsEnding settings w End = Unit {0}
+IsEnding settings w (Command ticket command) = ⊥
+IsEnding settings w (OpenReply ticket answer) = ⊥
 IsEnding settings w (Payload payload) = ((fields : List ℕ) × (payload ≡ 1 ∷ fields)) ⊎ (gate_of settings w payload ≡ gate.OverCap)

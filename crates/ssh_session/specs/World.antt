@@ -1,12 +1,14 @@
 -- The state of a session in the standard's terms. It is a record of the definitions alone: the code
 -- has what it needs of it, and the relation `Refines` ties the two.
-use Rattle.std.specs.Prelude.{ℕ, List, Bool, false}
+use Rattle.std.specs.Prelude.{◌+◌, ◌%◌, ◌^◌, ◌==◌, ◌&&◌, ℕ, List, [], length, Bool, false}
 use Rattle.ssh_handler.specs.declared.config.Config.{Config}
 use Rattle.ssh_session.specs.declared.phase.Phase.{Phase}
 use Rattle.ssh_session.specs.declared.phase.Phase.TheVariants.{ServiceRequest}
+use Rattle.ssh_session.specs.Pending.{Pending}
 use Rattle.ssh_auth.specs.declared.auth_request.AuthRequest.{AuthRequest}
 use Rattle.ssh_auth.specs.Publickey.{Acceptance, Circumstances}
 use Rattle.ssh_auth.specs.Request.{server_request}
+use Rattle.ssh_session.specs.Entry.{Entry}
 
 -- what is fixed in a run
 pub record Settings : Type 0 where
@@ -27,11 +29,28 @@ pub record World : Type 0 where
   pub auth : AuthRequest
   -- a USERAUTH_REQUEST was finished
   pub requested : Bool
+  -- the channel number that was drawn last
+  pub last : ℕ
+  -- the opens of the peer that were not answered yet
+  pub pending : List Pending
+  -- the channels
+  pub entries : List Entry
 
--- before the first input
+-- before the first input; the first channel number that is drawn is 2
 abbrev pub opening_world : Settings → World
 opening_world settings = record {
   phase = ServiceRequest;
   auth = server_request settings.config.methods;
   requested = false;
+  last = 1;
+  pending = [];
+  entries = [];
 }
+
+-- the number after the one that was drawn last; no number is taken when one is drawn
+abbrev pub next_number : World → ℕ
+next_number w = (w.last + 1) % 2 ^ 32
+
+-- no channel is open, and no open waits for its answer
+abbrev pub has_no_channel : World → Bool
+has_no_channel w = (length w.entries == 0) && (length w.pending == 0)

@@ -8,7 +8,7 @@ ghost use Rattle.ssh_session.specs.World.{Settings, World, circumstances};
 ghost use Rattle.ssh_session.specs.Said.{Said, Says, Over_cap};
 ghost use Rattle.ssh_session.specs.Outcome.{Goes};
 ghost use Rattle.ssh_session.specs.Rows.{row, reply_row, rejection_hold};
-ghost use Rattle.ssh_session.specs.Serve.{Refines, Serves, Answers};
+ghost use Rattle.ssh_session.specs.Serve.{Refines, Serves, Answers, heard};
 
 use crate::frames::too_many_attempts_frame;
 use crate::phase::Phase;
@@ -17,14 +17,15 @@ use bytes::Bytes;
 use ssh_auth::{AuthStep, AuthVerdict, serve_request};
 use ssh_handler::Handler;
 use ssh_keys::Verifier;
-use ssh_link::Frame;
+use ssh_link::{Frame, Link};
 
 impl Session {
     /// USERAUTH_REQUEST (RFC 4252 section 5).
-    pub(crate) fn serve_userauth_request<H: Handler, V: Verifier>(
+    pub(crate) fn serve_userauth_request<H: Handler, V: Verifier, L: Link>(
         &mut self,
         handler: &mut H,
         verifier: &V,
+        link: &mut L,
         moment: u64,
         payload: &[u8],
         staged: &mut Vec<Frame>,
@@ -32,7 +33,7 @@ impl Session {
         requires { IsNumbered 50 payload.now }
         ensures { (settings : Settings) (w : World) → Refines settings self.old w →
             (said : Said) × Says (circumstances (V.accepts verifier.now) settings moment) gate.UserauthRequest payload.now said × Serves settings (row settings moment w said)
-            (H.AuthHandler.told handler.old) (H.AuthHandler.told handler.new) staged.old.items staged.new.items self.new result }
+            (heard (H.AuthHandler.told handler.old) (L.trace link.old) (L.faults link.old)) (heard (H.AuthHandler.told handler.new) (L.trace link.new) (L.faults link.new)) staged.old.items staged.new.items self.new result }
     {
         match serve_request(
             self.alloc,
@@ -43,26 +44,27 @@ impl Session {
             moment,
             payload,
         ) {
-            Ok(step) => self.finish_request(handler, moment, step, staged),
+            Ok(step) => self.finish_request(handler, link, moment, step, staged),
             Err(e) => Err(RunError::from(e)),
         }
     }
 
     /// A request is finished with its reply.
-    fn finish_request<H: Handler>(
+    fn finish_request<H: Handler, L: Link>(
         &mut self,
         handler: &mut H,
+        link: &mut L,
         moment: u64,
         step: AuthStep,
         staged: &mut Vec<Frame>,
     ) -> Result<Flow, RunError<H::Error>>
         ensures { (settings : Settings) (w : World) → Refines settings self.old w →
             Serves settings (reply_row settings moment w step.reply step.verdict)
-            (H.AuthHandler.told handler.old) (H.AuthHandler.told handler.new) staged.old.items staged.new.items self.new result }
+            (heard (H.AuthHandler.told handler.old) (L.trace link.old) (L.faults link.old)) (heard (H.AuthHandler.told handler.new) (L.trace link.new) (L.faults link.new)) staged.old.items staged.new.items self.new result }
     {
         let AuthStep { reply, verdict } = step;
         match verdict {
-            AuthVerdict::Accepted => self.accept(handler, reply, staged),
+            AuthVerdict::Accepted => self.accept(handler, link, reply, staged),
             AuthVerdict::Rejected { none_method } => {
                 let hold_until = moment.saturating_add(self.rejection_hold(none_method));
                 self.reply(reply, Some(hold_until), staged)
@@ -92,7 +94,7 @@ impl Session {
         staged: &mut Vec<Frame>,
     ) -> Result<Flow, RunError<E>>
         ensures { (settings : Settings) (w : World) → Refines settings self.old w →
-            Answers settings (Finish (Goes (record { payload = payload; hold_until = hold_until; channel = None } ∷ []) (record w { requested = true }))) []
+            Answers settings (Finish (Goes (record { payload = payload; hold_until = hold_until; channel = None } ∷ []) (record w { requested = true }))) ⊥ []
             staged.old.items staged.new.items self.new result }
     {
         staged.push(Frame {
@@ -106,15 +108,16 @@ impl Session {
 
     /// An accepted user: the handler is told, and the messages of the connection are read from now
     /// on.
-    fn accept<H: Handler>(
+    fn accept<H: Handler, L: Link>(
         &mut self,
         handler: &mut H,
+        link: &mut L,
         reply: Bytes,
         staged: &mut Vec<Frame>,
     ) -> Result<Flow, RunError<H::Error>>
         ensures { (settings : Settings) (w : World) (moment : ℕ) → Refines settings self.old w →
             Serves settings (reply_row settings moment w reply verdict.Accepted)
-            (H.AuthHandler.told handler.old) (H.AuthHandler.told handler.new) staged.old.items staged.new.items self.new result }
+            (heard (H.AuthHandler.told handler.old) (L.trace link.old) (L.faults link.old)) (heard (H.AuthHandler.told handler.new) (L.trace link.new) (L.faults link.new)) staged.old.items staged.new.items self.new result }
     {
         staged.push(Frame {
             payload: reply,
@@ -122,10 +125,10 @@ impl Session {
             channel: None,
         })?;
         match self.ask_succeeded(handler) {
-            Ok(()) => {
+            Ok(commands) => {
                 self.phase = Phase::Accepted;
                 self.requested = true;
-                Ok(Flow::Continue)
+                self.finish_commands(handler, link, commands, staged)
             }
             Err(e) => Err(RunError::Handler(e)),
         }
@@ -134,7 +137,7 @@ impl Session {
     /// A request after as many rejected ones as are allowed: it is not read, and ends the run.
     pub(crate) fn serve_over_cap<E>(&mut self, staged: &mut Vec<Frame>) -> Result<Flow, RunError<E>>
         ensures { (settings : Settings) (w : World) (moment : ℕ) →
-            Answers settings (row settings moment w Over_cap) [] staged.old.items staged.new.items self.new result }
+            Answers settings (row settings moment w Over_cap) ⊥ [] staged.old.items staged.new.items self.new result }
     {
         let disconnect = too_many_attempts_frame(self.alloc)?;
         staged.push(disconnect)?;

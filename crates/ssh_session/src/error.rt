@@ -1,11 +1,12 @@
 // How a session goes on, and why it may not.
 ghost use Rattle.std.specs.Prelude.{◌≡◌};
 ghost use Rattle.ssh_session.specs.declared.error.RunError.TheVariants.{NoMemory};
-ghost use Rattle.ssh_session.specs.Failure.{run_error_of, error_of_auth};
+ghost use Rattle.ssh_session.specs.Failure.{run_error_of, error_of_auth, error_of_layout, error_of_link};
 
 use ssh_auth::AuthError;
 use ssh_keys::KeyError;
-use ssh_wire::WireError;
+use ssh_link::LinkFault as LinkFailure;
+use ssh_wire::{LayoutError, WireError};
 use std::alloc::{AllocError, AllocFailed};
 
 /// Whether a session takes another input.
@@ -26,16 +27,18 @@ pub enum RunError<HE> {
     InputLimit,
     /// A field of the payload does not fit its layout.
     Encoding(WireError),
-    /// A request of authentication names another service than `ssh-connection`, or the session is
-    /// spent.
+    /// A request of authentication names another service than `ssh-connection`, an open has a
+    /// packet size of 0, or the session is spent.
     Inconsistent,
     /// The blob of a key or a certificate in a request does not fit its layout, or a signature
     /// does not: always `KeyError::Blob`.
     Key(KeyError),
     /// The handler answered this error.
     Handler(HE),
-    /// The payload asks for what is not built yet: a key exchange, a message of the connection, a
-    /// request by keyboard-interactive, a response to prompts, or a banner.
+    /// The input asks for what is not built yet: a key exchange, a message of the connection but
+    /// those on a session channel that the peer opens, a second channel, an end of file or a close
+    /// behind data that wait, a request by keyboard-interactive, a response to prompts, or a
+    /// banner.
     NotBuilt,
 }
 
@@ -62,6 +65,28 @@ impl<HE> From<WireError> for RunError<HE> {
         match error {
             WireError::NoMemory => RunError::NoMemory,
             refused => RunError::Encoding(refused),
+        }
+    }
+}
+
+impl<HE> From<LayoutError> for RunError<HE> {
+    ghost from_gives = { λ e r. r ≡ error_of_layout e };
+
+    fn from(error: LayoutError) -> RunError<HE> {
+        match error {
+            LayoutError::Wire(why) => RunError::from(why),
+            LayoutError::Inconsistent => RunError::Inconsistent,
+        }
+    }
+}
+
+impl<HE> From<LinkFailure> for RunError<HE> {
+    ghost from_gives = { λ e r. r ≡ error_of_link e };
+
+    fn from(fault: LinkFailure) -> RunError<HE> {
+        match fault {
+            LinkFailure::Failed => RunError::LinkFault,
+            LinkFailure::NoMemory => RunError::NoMemory,
         }
     }
 }

@@ -3,7 +3,7 @@ ghost use Rattle.std.specs.Prelude.{◌≡◌, ◌==◌, if◌then◌else◌};
 ghost use Rattle.ssh_auth.specs.Serve.{IsNumbered};
 ghost use Rattle.ssh_session.specs.World.{Settings, World};
 ghost use Rattle.ssh_session.specs.Serve.{Refines};
-ghost use Rattle.ssh_session.specs.Gate.{gate_of, phase_gate, authentication_gate, is_over_cap, is_connection_number};
+ghost use Rattle.ssh_session.specs.Gate.{gate_of, phase_gate, authentication_gate, is_over_cap, connection_gate};
 
 use crate::Session;
 use crate::phase::Phase;
@@ -21,6 +21,14 @@ pub enum Gate {
     ServiceRequest,
     /// It asks for authentication.
     UserauthRequest,
+    /// It opens a channel.
+    ChannelOpen,
+    /// It grants more on a channel.
+    WindowAdjust,
+    /// It ends the peer's data on a channel.
+    ChannelEof,
+    /// It closes a channel.
+    ChannelClose,
     /// What it asks for is not built.
     NotBuilt,
 }
@@ -34,6 +42,14 @@ const KEXINIT: u8 = 20;
 const USERAUTH_REQUEST: u8 = 50;
 
 const USERAUTH_INFO_RESPONSE: u8 = 61;
+
+const CHANNEL_OPEN: u8 = 90;
+
+const CHANNEL_WINDOW_ADJUST: u8 = 93;
+
+const CHANNEL_EOF: u8 = 96;
+
+const CHANNEL_CLOSE: u8 = 97;
 
 impl Session {
     /// What this payload is to the session.
@@ -101,13 +117,16 @@ fn service_gate(number: u8) -> Gate
     }
 }
 
-/// The messages of the connection are not built.
+/// The messages of the connection; most are not built.
 fn connection_gate(number: u8) -> Gate
-    ensures { result ≡ (if is_connection_number number then Gate.NotBuilt else Gate.Nothing) }
+    ensures { result ≡ connection_gate number }
 {
-    if (80..=82).contains(&number) || (90..=98).contains(&number) {
-        Gate::NotBuilt
-    } else {
-        Gate::Nothing
+    match number {
+        CHANNEL_OPEN => Gate::ChannelOpen,
+        CHANNEL_WINDOW_ADJUST => Gate::WindowAdjust,
+        CHANNEL_EOF => Gate::ChannelEof,
+        CHANNEL_CLOSE => Gate::ChannelClose,
+        80..=82 | 90..=98 => Gate::NotBuilt,
+        _ => Gate::Nothing,
     }
 }

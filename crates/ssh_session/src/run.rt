@@ -1,6 +1,9 @@
 // A run: inputs from a link, one after another, until one ends it.
-ghost use Rattle.std.specs.Prelude.{◌≡◌, ◌<◌, ◌≤◌, ◌^◌, length, OnOk, IfSome, IsSomeAnd, IsErrOf, flat_map, option_to_list, ◌++◌};
-ghost use Rattle.ssh_session.specs.World.{settings_of};
+ghost use Rattle.std.specs.Prelude.{◌≡◌, ◌<◌, ◌≤◌, ◌^◌, List, length, OnOk, IfSome, IsSomeAnd, IsErrOf, flat_map, option_to_list, ◌++◌};
+ghost use Rattle.ssh_session.specs.World.{World, settings_of, opening_world};
+ghost use Rattle.ssh_session.specs.Run.{Turn, Run as RunOf, entries};
+ghost use Rattle.ssh_session.specs.Sent.{Settled};
+ghost use Rattle.ssh_session.specs.Closing.{ClosesRightly};
 ghost use Rattle.ssh_session.specs.Step.{Ran};
 ghost use Rattle.ssh_session.specs.Authorised.{Authorised};
 ghost use Rattle.ssh_session.specs.Valid.{IsValid, IsComplete, IsEnding};
@@ -8,7 +11,7 @@ ghost use Rattle.ssh_session.specs.Valid.{IsValid, IsComplete, IsEnding};
 use crate::{Flow, RunError, Session};
 use ssh_handler::{Config, Handler};
 use ssh_keys::Verifier;
-use ssh_link::{Link, LinkFault};
+use ssh_link::Link;
 use std::alloc::Global;
 
 // The loop of a run.
@@ -28,10 +31,9 @@ fn run_inputs<H: Handler, V: Verifier, L: Link>(
 {
     let mut session = Session::new(alloc, config, session_id, remote_sshid)?;
     for _ in 0..max_inputs {
-        let input = match link.next(true, true) {
+        let input = match link.next(session.asks_commands(), true) {
             Ok(input) => input,
-            Err(LinkFault::Failed) => return Err(RunError::LinkFault),
-            Err(LinkFault::NoMemory) => return Err(RunError::NoMemory),
+            Err(fault) => return Err(RunError::from(fault)),
         };
         match session.step(handler, verifier, link, input) {
             Ok(Flow::Continue) => {}
@@ -72,6 +74,17 @@ pub fn run_stream<H: Handler, V: Verifier, L: Link>(
         (L.trace link.old) (L.trace link.new) (L.faults link.old) (L.faults link.new) max_inputs result) →
         L.faults link.new ≡ L.faults link.old →
         IfSome account.last (IsValid (V.accepts verifier.now) (settings_of config.now session_id.now) account.world) → IsComplete result }
+    // After each finished input, what was sent on each channel is what is due on it: of the accepted bytes the first
+    // that the peer granted, in frames that fit, with no data behind an end of file and nothing behind a close.
+    ensures ledger { (account : Ran (V.accepts verifier.now) (settings_of config.now session_id.now) (H.AuthHandler.told handler.old) (H.AuthHandler.told handler.new)
+        (L.trace link.old) (L.trace link.new) (L.faults link.old) (L.faults link.new) max_inputs result) →
+        (earlier later : List (Turn _)) → account.turns ≡ earlier ++ later →
+        (w : World) × RunOf (V.accepts verifier.now) (settings_of config.now session_id.now) (opening_world (settings_of config.now session_id.now)) earlier w
+        × Settled w.entries (flat_map entries earlier) }
+    // A close goes out only as the answer to the peer's, or by a command once all accepted bytes of the channel are due.
+    ensures closing { (account : Ran (V.accepts verifier.now) (settings_of config.now session_id.now) (H.AuthHandler.told handler.old) (H.AuthHandler.told handler.new)
+        (L.trace link.old) (L.trace link.new) (L.faults link.old) (L.faults link.new) max_inputs result) →
+        ClosesRightly (V.accepts verifier.now) (settings_of config.now session_id.now) (account.turns ++ option_to_list account.last) }
     ensures link_fault { IsErrOf result RunError.LinkFault → L.faults link.old < L.faults link.new }
 {
     run_inputs(

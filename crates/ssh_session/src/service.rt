@@ -1,10 +1,11 @@
 // The service request.
-ghost use Rattle.std.specs.Prelude.{◌≡◌, [], ℕ};
+ghost use Rattle.std.specs.Prelude.{◌≡◌, [], ℕ, List, Option};
+ghost use Rattle.ssh_link.specs.declared.link.TraceEntry.{TraceEntry};
 ghost use Rattle.ssh_session.specs.declared.gate.Gate.TheVariants as gate;
 ghost use Rattle.ssh_session.specs.World.{Settings, World};
 ghost use Rattle.ssh_session.specs.Said.{Said, Fits};
 ghost use Rattle.ssh_session.specs.Rows.{row, service_row, accept_row};
-ghost use Rattle.ssh_session.specs.Serve.{Refines, Serves, Answers};
+ghost use Rattle.ssh_session.specs.Serve.{Refines, Serves, Answers, heard};
 
 use crate::frames::service_accept_frame;
 use crate::message::read_service;
@@ -22,9 +23,9 @@ impl Session {
         fields: &[u8],
         staged: &mut Vec<Frame>,
     ) -> Result<Flow, RunError<H::Error>>
-        ensures { (settings : Settings) (w : World) (moment : ℕ) → Refines settings self.old w →
+        ensures { (settings : Settings) (w : World) (moment : ℕ) (trace : Option (List TraceEntry)) (faults : ℕ) → Refines settings self.old w →
             (said : Said) × Fits gate.ServiceRequest fields.now said × Serves settings (row settings moment w said)
-            (H.AuthHandler.told handler.old) (H.AuthHandler.told handler.new) staged.old.items staged.new.items self.new result }
+            (heard (H.AuthHandler.told handler.old) trace faults) (heard (H.AuthHandler.told handler.new) trace faults) staged.old.items staged.new.items self.new result }
     {
         let name = read_service(fields)?;
         self.serve_service(handler, name, staged)
@@ -37,8 +38,8 @@ impl Session {
         name: &str,
         staged: &mut Vec<Frame>,
     ) -> Result<Flow, RunError<H::Error>>
-        ensures { (settings : Settings) (w : World) → Refines settings self.old w → Serves settings (service_row w name.now)
-            (H.AuthHandler.told handler.old) (H.AuthHandler.told handler.new) staged.old.items staged.new.items self.new result }
+        ensures { (settings : Settings) (w : World) (trace : Option (List TraceEntry)) (faults : ℕ) → Refines settings self.old w → Serves settings (service_row w name.now)
+            (heard (H.AuthHandler.told handler.old) trace faults) (heard (H.AuthHandler.told handler.new) trace faults) staged.old.items staged.new.items self.new result }
     {
         if name != "ssh-userauth" {
             return Ok(Flow::Continue);
@@ -56,7 +57,7 @@ impl Session {
         staged: &mut Vec<Frame>,
     ) -> Result<Flow, RunError<E>>
         ensures { (settings : Settings) (w : World) → Refines settings self.old w →
-            Answers settings (accept_row w banner) [] staged.old.items staged.new.items self.new result }
+            Answers settings (accept_row w banner) ⊥ [] staged.old.items staged.new.items self.new result }
     {
         let None = banner else {
             return Err(RunError::NotBuilt);

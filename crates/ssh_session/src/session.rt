@@ -1,12 +1,18 @@
 // A session and what it is made of.
 ghost use Rattle.std.specs.Prelude.{◌<◌, ◌^◌, length};
 
+use crate::channel::Channel;
+use crate::pending::PendingOpen;
 use crate::phase::Phase;
+use crate::table;
 use bytes::Bytes;
 use ssh_auth::AuthRequest;
-use ssh_handler::{Commands, Config, Handler};
-use ssh_wire::WireError;
+use ssh_handler::Config;
+use ssh_wire::{ChannelId, WireError};
 use std::alloc::Global;
+
+/// The first channel number that is drawn.
+const FIRST_DRAWN: u32 = 2;
 
 /// A server's side of one connection, above the encrypted transport.
 #[derive(Drop)]
@@ -19,16 +25,21 @@ pub struct Session {
     pub(crate) auth: AuthRequest,
     /// Whether a USERAUTH_REQUEST was finished.
     pub(crate) requested: bool,
+    /// The channel number that was drawn last.
+    pub(crate) last_channel: u32,
+    /// The opens of the peer that wait for their answers.
+    pub(crate) pending: Vec<PendingOpen>,
+    /// The channels, in the order of their opening.
+    pub(crate) channels: Vec<Channel>,
     pub(crate) spent: bool,
     ghost session_id_fits: { length session_id < 2 ^ 32 },
 }
 
 impl Session {
-    ghost use Rattle.std.specs.Prelude.{◌≡◌, ◌<◌, ◌^◌, length, IfOk, IfErr};
+    ghost use Rattle.std.specs.Prelude.{◌≡◌, ◌<◌, ◌^◌, length, is_some, IfOk, IfErr};
     ghost use Rattle.ssh_wire.specs.declared.error.WireError.TheVariants.{NoMemory};
-    ghost use Rattle.ssh_link.specs.Told.{Tells};
-    ghost use Rattle.ssh_auth.specs.declared.call.Call.TheVariants.{AuthSucceeded};
-    ghost use Rattle.ssh_session.specs.World.{settings_of, opening_world};
+    ghost use Rattle.ssh_session.specs.Entries.{find, nothing_waits};
+    ghost use Rattle.ssh_session.specs.World.{Settings, World, settings_of, opening_world, has_no_channel, next_number};
     ghost use Rattle.ssh_session.specs.Serve.{Refines, is_spent};
 
     /// A session before its first input. `session_id` is that of the key exchange (RFC 4253 section
@@ -52,6 +63,9 @@ impl Session {
             phase: Phase::ServiceRequest,
             auth: AuthRequest::server(config.methods),
             requested: false,
+            last_channel: FIRST_DRAWN - 1,
+            pending: Vec::new(alloc),
+            channels: Vec::new(alloc),
             spent: false,
         })
     }
@@ -63,11 +77,31 @@ impl Session {
         self.spent
     }
 
-    /// Tells the handler that authentication succeeded.
-    pub(crate) fn ask_succeeded<H: Handler>(&self, handler: &mut H) -> Result<(), H::Error>
-        ensures { Tells (H.AuthHandler.told handler.old) (H.AuthHandler.told handler.new) result (AuthSucceeded result) }
+    /// Whether commands are asked for: on no channel data wait.
+    pub(crate) fn asks_commands(&self) -> bool
+        ensures { (settings : Settings) (w : World) → Refines settings self.now w → result ≡ nothing_waits w.entries }
     {
-        let mut commands = Commands::new(&self.config, self.remote_sshid.as_slice());
-        handler.auth_succeeded(&mut commands)
+        table::nothing_waits(&self.channels)
+    }
+
+    /// Whether no channel is open, and no open waits for its answer.
+    pub(crate) fn has_no_channel(&self) -> bool
+        ensures { (settings : Settings) (w : World) → Refines settings self.now w → result ≡ has_no_channel w }
+    {
+        self.channels.is_empty() && self.pending.is_empty()
+    }
+
+    /// Whether there is a channel of this number.
+    pub(crate) fn is_open(&self, channel: ChannelId) -> bool
+        ensures { (settings : Settings) (w : World) → Refines settings self.now w → result ≡ is_some (find channel.0 w.entries) }
+    {
+        table::place_of(&self.channels, channel).is_some()
+    }
+
+    /// The number after the one that was drawn last.
+    pub(crate) fn next_number(&self) -> ChannelId
+        ensures { (settings : Settings) (w : World) → Refines settings self.now w → result.0 ≡ next_number w }
+    {
+        ChannelId(self.last_channel.wrapping_add(1))
     }
 }

@@ -6,8 +6,11 @@ ghost use Rattle.ssh_link.specs.Told.{Adds};
 ghost use Rattle.ssh_session.specs.World.{Settings, World, circumstances};
 ghost use Rattle.ssh_session.specs.Gate.{gate_of};
 ghost use Rattle.ssh_session.specs.Said.{Said, Says};
+ghost use Rattle.ssh_auth.specs.Plan.{Plan};
+ghost use Rattle.ssh_session.specs.Outcome.{Outcome};
 ghost use Rattle.ssh_session.specs.Rows.{row};
-ghost use Rattle.ssh_session.specs.Serve.{Refines, Serves, is_spent};
+ghost use Rattle.ssh_session.specs.Run.{OwesKind};
+ghost use Rattle.ssh_session.specs.Serve.{Refines, Serves, heard, is_spent};
 ghost use Rattle.ssh_session.specs.Step.{Steps};
 
 use crate::gate::Gate;
@@ -15,7 +18,7 @@ use crate::message::fields_of;
 use crate::{Flow, RunError, Session};
 use ssh_handler::Handler;
 use ssh_keys::Verifier;
-use ssh_link::{Frame, Input, InputKind, Link, LinkFault};
+use ssh_link::{Command, Frame, Input, InputKind, Link, LinkFault};
 
 /// Hands the staged frames on, in order.
 fn send_all<L: Link>(link: &mut L, staged: Vec<Frame>) -> Result<(), LinkFault>
@@ -80,43 +83,72 @@ impl Session {
             (L.trace link.old) (L.trace link.new) (L.faults link.old) (L.faults link.new) self.new result }
     {
         let Input { moment, kind } = input;
-        let InputKind::Payload(payload) = kind else {
-            return Ok(Flow::Ended);
-        };
         let mut staged = Vec::new(self.alloc);
-        let flow = match self.serve(handler, verifier, moment, payload.as_slice(), &mut staged) {
+        let flow = match self.serve(handler, verifier, link, moment, kind, &mut staged) {
             Ok(flow) => flow,
             Err(e) => return Err(e),
         };
         match send_all(link, staged) {
             Ok(()) => Ok(flow),
-            Err(LinkFault::Failed) => Err(RunError::LinkFault),
-            Err(LinkFault::NoMemory) => Err(RunError::NoMemory),
+            Err(fault) => Err(RunError::from(fault)),
         }
     }
 
-    /// A payload: makes the calls that its row owes, and stages its frames.
-    fn serve<H: Handler, V: Verifier>(
+    /// An input: makes the calls and tells the notices that it owes, and stages its frames.
+    fn serve<H: Handler, V: Verifier, L: Link>(
         &mut self,
         handler: &mut H,
         verifier: &V,
+        link: &mut L,
+        moment: u64,
+        kind: InputKind,
+        staged: &mut Vec<Frame>,
+    ) -> Result<Flow, RunError<H::Error>>
+        ensures { (settings : Settings) (w : World) → Refines settings self.old w →
+            (plan : Plan Outcome) × OwesKind (V.accepts verifier.now) settings w moment kind plan × Serves settings plan
+            (heard (H.AuthHandler.told handler.old) (L.trace link.old) (L.faults link.old)) (heard (H.AuthHandler.told handler.new) (L.trace link.new) (L.faults link.new)) staged.old.items staged.new.items self.new result }
+    {
+        match kind {
+            InputKind::Payload(payload) => {
+                self.serve_payload(handler, verifier, link, moment, payload.as_slice(), staged)
+            }
+            InputKind::Command(ticket, command) => {
+                self.serve_command(link, ticket, command, staged)
+            }
+            InputKind::OpenReply(ticket, answer) => {
+                self.serve_command(link, ticket, Command::Answer(answer), staged)
+            }
+            InputKind::End => Ok(Flow::Ended),
+        }
+    }
+
+    /// A payload, by what its number means to the session.
+    fn serve_payload<H: Handler, V: Verifier, L: Link>(
+        &mut self,
+        handler: &mut H,
+        verifier: &V,
+        link: &mut L,
         moment: u64,
         payload: &[u8],
         staged: &mut Vec<Frame>,
     ) -> Result<Flow, RunError<H::Error>>
         ensures { (settings : Settings) (w : World) → Refines settings self.old w →
-            (said : Said) × Says (circumstances (V.accepts verifier.now) settings moment) (gate_of settings w payload.now) payload.now said
-            × Serves settings (row settings moment w said) (H.AuthHandler.told handler.old) (H.AuthHandler.told handler.new) staged.old.items staged.new.items self.new result }
+            (said : Said) × Says (circumstances (V.accepts verifier.now) settings moment) (gate_of settings w payload.now) payload.now said × Serves settings (row settings moment w said)
+            (heard (H.AuthHandler.told handler.old) (L.trace link.old) (L.faults link.old)) (heard (H.AuthHandler.told handler.new) (L.trace link.new) (L.faults link.new)) staged.old.items staged.new.items self.new result }
     {
         let fields = fields_of(payload);
         match self.gate(payload) {
             Gate::Nothing => Ok(Flow::Continue),
             Gate::Ends => Ok(Flow::Ended),
+            Gate::OverCap => self.serve_over_cap(staged),
             Gate::ServiceRequest => self.serve_service_request(handler, fields, staged),
             Gate::UserauthRequest => {
-                self.serve_userauth_request(handler, verifier, moment, payload, staged)
+                self.serve_userauth_request(handler, verifier, link, moment, payload, staged)
             }
-            Gate::OverCap => self.serve_over_cap(staged),
+            Gate::ChannelOpen => self.serve_channel_open(handler, link, fields, staged),
+            Gate::WindowAdjust => self.serve_window_adjust(handler, link, fields, staged),
+            Gate::ChannelEof => self.serve_channel_eof(handler, link, fields, staged),
+            Gate::ChannelClose => self.serve_channel_close(handler, link, fields, staged),
             Gate::NotBuilt => Err(RunError::NotBuilt),
         }
     }

@@ -1,19 +1,22 @@
 use Rattle.std.proofs.Common.{[], ◌∷◌, true, refl}
-use Rattle.std.specs.Prelude.{Ok}
-use Rattle.ssh_auth.specs.declared.call.Call.TheVariants.{AuthSucceeded}
+use Rattle.ssh_auth.specs.Plan.{Auth_succeeded}
 use Rattle.ssh_session.specs.declared.phase.Phase.TheVariants.{Accepted}
 use Rattle.ssh_session.specs.Layout.{at_once}
+use Rattle.ssh_session.specs.Commanded.{done_all}
+use Rattle.ssh_session.proofs.Asks.{asked, asked_in_vain}
 use Rattle.ssh_session.proofs.session.Session.accept.Goals as goal
 
 pub returns-in-Ok : goal.returns-in-Ok
-returns-in-Ok g c = λ settings w moment r. (
-  AuthSucceeded (Ok c.in-Ok.field-0) ∷ [],
-  c.in-Ok.ensures,
-  (
-    at_once c.args.reply ∷ [],
-    record w { phase = Accepted; requested = true },
-    (c.in-Ok.field-0, refl, refl),
-    c.in_ok-push.ensures.items,
-    record { config = r.config; session_id = r.session_id; phase = refl; auth = r.auth; requested = refl; live = r.live },
-  ),
-)
+returns-in-Ok g c = λ settings w moment r.
+    let accepted = record w { phase = Accepted; requested = true } in
+    let f = c.finish_commands in
+    asked settings Auth_succeeded (done_all settings accepted (at_once c.args.reply ∷ []) 0) c.in-Ok.commands _ _ _ _ _ c.args.staged.now.items f.new.staged.items f.new.self f.result
+    c.in-Ok.ensures
+    (f.ensures settings accepted c.args.staged.now.items (at_once c.args.reply ∷ [])
+    (record { config = r.config; session_id = r.session_id; phase = refl; auth = r.auth; requested = refl; last = r.last; pending = r.pending; channels = r.channels; live = r.live })
+    c.in_ok-push.ensures.items)
+
+pub returns-in-Err : goal.returns-in-Err
+returns-in-Err g c = λ settings w moment r.
+    let accepted = record w { phase = Accepted; requested = true } in
+    asked_in_vain settings Auth_succeeded (done_all settings accepted (at_once c.args.reply ∷ []) 0) c.in-Err.e _ _ _ _ c.args.staged.now.items c.push.new.self.items c.args.self.now c.in-Err.ensures

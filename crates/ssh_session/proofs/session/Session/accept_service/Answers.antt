@@ -9,5 +9,5 @@ returns g c = λ settings w r. (
   record w { phase = Authentication },
   rw c.in-None.is refl,
   cc (c.in_ok-accept.ensures.ok, c.in_ok-push.ensures.items),
-  record { config = r.config; session_id = r.session_id; phase = refl; auth = r.auth; requested = r.requested; live = r.live },
+  record { config = r.config; session_id = r.session_id; phase = refl; auth = r.auth; requested = r.requested; last = r.last; pending = r.pending; channels = r.channels; live = r.live },
 )

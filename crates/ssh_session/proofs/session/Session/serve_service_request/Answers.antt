@@ -6,7 +6,7 @@ use Rattle.ssh_session.proofs.Misfits.{misfit_error, unfit}
 use Rattle.ssh_session.proofs.session.Session.serve_service_request.Goals as goal
 
 pub returns-in_err-name : goal.returns-in_err-name
-returns-in_err-name g c = λ settings w moment r.
+returns-in_err-name g c = λ settings w moment trace faults r.
     let p = err_from_is_err_and c.from_residual.result c.from_residual.ensures.1 in (
       Unfit c.in_err-name.field-0.0,
       c.in_err-name.ensures,
@@ -14,4 +14,4 @@ returns-in_err-name g c = λ settings w moment r.
     )
 
 pub returns : goal.returns
-returns g c = λ settings w moment r. (Service c.in_ok-name.name.now, c.in_ok-name.ensures, c.serve_service.ensures settings w r)
+returns g c = λ settings w moment trace faults r. (Service c.in_ok-name.name.now, c.in_ok-name.ensures, c.serve_service.ensures settings w trace faults r)
