@@ -5,10 +5,14 @@ use Rattle.ssh_link.specs.declared.frame.Input.{Input}
 use Rattle.ssh_link.specs.declared.link.TraceEntry.{TraceEntry}
 use Rattle.ssh_link.specs.declared.link.TraceEntry.TheVariants as entry
 use Rattle.ssh_auth.specs.declared.call.Call.{Call}
+use Rattle.ssh_wire.specs.declared.open_failure.ChannelOpenFailure.TheVariants.{AdministrativelyProhibited}
+use Rattle.ssh_script.specs.Opens.{own, accepting, rejecting}
+use Rattle.ssh_script.specs.declared.answers.OpenVerdict.{OpenVerdict}
+use Rattle.ssh_script.specs.declared.answers.OpenVerdict.TheVariants as opens
 use Rattle.ssh_script.specs.declared.answers.Verdict.{Verdict}
 use Rattle.ssh_script.specs.declared.answers.Verdict.TheVariants.{Accept, Reject, Fail}
-use Rattle.ssh_script.specs.Played.{Failure, Queues, verdict_number, told_queue, told_banners, heading}
-use Rattle.ssh_script.specs.Given.{Supply, supply_of, told_input, told_moment}
+use Rattle.ssh_script.specs.Played.{Failure, Queues, verdict_number, told_queue, told_banners, told_opens, heading}
+use Rattle.ssh_script.specs.Given.{told_input, told_moment}
 use Rattle.ssh_script.specs.Given.{heading as input_heading}
 
 verdict_in : ℕ → Verdict
@@ -30,10 +34,29 @@ queue_once q p xs ys e =
 banners_once : (m n : ℕ) (xs ys : List (Call Failure)) → told_banners m ∷ xs ≡ told_banners n ∷ ys → (m ≡ n) × (xs ≡ ys)
 banners_once m n xs ys e = (cc, cc)
 
+accept_or_reject : told_opens opens.Accept ≡ told_opens opens.Reject → ⊥
+accept_or_reject e =
+    let a : accepting (own 0) ≡ rejecting (own 0) AdministrativelyProhibited = cc in
+    let z : None ≡ Some AdministrativelyProhibited = ap (λ answer. answer.rejection) a in cc
+
+opens_once : (v w : OpenVerdict) → told_opens v ≡ told_opens w → v ≡ w
+opens_once opens.Accept opens.Accept e = refl
+opens_once opens.Accept opens.Reject e = absurd (accept_or_reject e)
+opens_once opens.Accept opens.Hold e = cc
+opens_once opens.Reject opens.Accept e = absurd (accept_or_reject (sym e))
+opens_once opens.Reject opens.Reject e = refl
+opens_once opens.Reject opens.Hold e = cc
+opens_once opens.Hold opens.Accept e = cc
+opens_once opens.Hold opens.Reject e = cc
+opens_once opens.Hold opens.Hold e = refl
+
+told_opens_once : (v w : OpenVerdict) (xs ys : List (Call Failure)) → told_opens v ∷ xs ≡ told_opens w ∷ ys → (v ≡ w) × (xs ≡ ys)
+told_opens_once v w xs ys e = let a : told_opens v ≡ told_opens w = cc in (opens_once v w a, cc)
+
 queues_same : (q p : Queues) → q.none ≡ p.none → q.password ≡ p.password → q.offered ≡ p.offered → q.publickey ≡ p.publickey → q.certificate ≡ p.certificate →
-    q.banners ≡ p.banners → q ≡ p
-queues_same q p a b c d e f =
-    λ i. record { none = a i; password = b i; offered = c i; publickey = d i; certificate = e i; banners = f i }
+    q.banners ≡ p.banners → q.opens ≡ p.opens → q ≡ p
+queues_same q p a b c d e f g =
+    λ i. record { none = a i; password = b i; offered = c i; publickey = d i; certificate = e i; banners = f i; opens = g i }
 
 -- the answers are told once
 pub heads : (q p : Queues) (xs ys : List (Call Failure)) → heading q ++ xs ≡ heading p ++ ys → (q ≡ p) × (xs ≡ ys)
@@ -43,19 +66,24 @@ heads q p xs ys e =
     let c = queue_once q.offered p.offered _ _ b.1 in
     let d = queue_once q.publickey p.publickey _ _ c.1 in
     let f = queue_once q.certificate p.certificate _ _ d.1 in
-    let g = banners_once q.banners p.banners xs ys f.1 in
-    (queues_same q p a.0 b.0 c.0 d.0 f.0 g.0, g.1)
+    let g = banners_once q.banners p.banners _ _ f.1 in
+    let h = told_opens_once q.opens p.opens xs ys g.1 in
+    (queues_same q p a.0 b.0 c.0 d.0 f.0 g.0 h.0, h.1)
 
 -- an entry's input, and the moment until which its frame is held
 input_in : Input → List TraceEntry → Input
 input_in other [] = other
 input_in other (entry.Took commands replies input ∷ entries) = input
 input_in other (entry.Sent frame ∷ entries) = other
+input_in other (entry.Noticed notice ∷ entries) = other
+input_in other (entry.Answered ticket outcome ∷ entries) = other
 
 moment_in : List TraceEntry → Option ℕ
 moment_in [] = None
 moment_in (entry.Took commands replies input ∷ entries) = None
 moment_in (entry.Sent frame ∷ entries) = frame.hold_until
+moment_in (entry.Noticed notice ∷ entries) = None
+moment_in (entry.Answered ticket outcome ∷ entries) = None
 
 told_input_once : (a b : Input) (xs ys : List TraceEntry) → told_input a ∷ xs ≡ told_input b ∷ ys → (a ≡ b) × (xs ≡ ys)
 unfolding input_in
@@ -68,20 +96,15 @@ told_moment_once : (m n : ℕ) (xs ys : List TraceEntry) → told_moment m ∷ x
 unfolding moment_in
 told_moment_once m n xs ys e = let z : Some m ≡ Some n = ap moment_in e in (cc, cc)
 
-input_headings : (ins bs : List Input) (m n : ℕ) (xs ys : List TraceEntry) → (map told_input ins ++ told_moment m ∷ []) ++ xs ≡ (map told_input bs ++ told_moment n ∷ []) ++ ys →
+-- the inputs are told once
+pub input_heads : (ins bs : List Input) (m n : ℕ) (xs ys : List TraceEntry) → input_heading ins m ++ xs ≡ input_heading bs n ++ ys →
     (ins ≡ bs) × (m ≡ n) × (xs ≡ ys)
-input_headings [] [] m n xs ys e = let t = told_moment_once m n xs ys e in (refl, t.0, t.1)
-input_headings [] (b ∷ bs) m n xs ys e = absurd (other_entry m b xs ((map told_input bs ++ told_moment n ∷ []) ++ ys) e)
-input_headings (a ∷ ins) [] m n xs ys e = absurd (other_entry n a ys ((map told_input ins ++ told_moment m ∷ []) ++ xs) (sym e))
-input_headings (a ∷ ins) (b ∷ bs) m n xs ys e =
-    let t = told_input_once a b ((map told_input ins ++ told_moment m ∷ []) ++ xs) ((map told_input bs ++ told_moment n ∷ []) ++ ys) e in
-    let u = input_headings ins bs m n xs ys t.1 in
+input_heads [] [] m n xs ys e = let t = told_moment_once m n xs ys e in (refl, t.0, t.1)
+input_heads [] (b ∷ bs) m n xs ys e = absurd (other_entry m b xs (input_heading bs n ++ ys) e)
+input_heads (a ∷ ins) [] m n xs ys e = absurd (other_entry n a ys (input_heading ins m ++ xs) (sym e))
+input_heads (a ∷ ins) (b ∷ bs) m n xs ys e =
+    let t = told_input_once a b (input_heading ins m ++ xs) (input_heading bs n ++ ys) e in
+    let u = input_heads ins bs m n xs ys t.1 in
     let f = t.0 in
     let g = u.0 in
     (cc, u.1, u.2)
-
--- the inputs are told once
-pub input_heads : (q p : Supply) (xs ys : List TraceEntry) → input_heading q ++ xs ≡ input_heading p ++ ys → (q ≡ p) × (xs ≡ ys)
-input_heads q p xs ys e =
-    let t = input_headings q.inputs p.inputs q.last_moment p.last_moment xs ys e in
-    (ap (λ inputs. supply_of inputs q.last_moment) t.0 ∙ ap (supply_of p.inputs) t.1, t.2)

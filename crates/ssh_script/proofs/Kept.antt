@@ -4,24 +4,24 @@ use Rattle.std.specs.Prelude.{flat_map, option_to_list}
 use Rattle.std.proofs.lemmas.List.{append-nil}
 use Rattle.ssh_link.specs.declared.frame.Input.{Input}
 use Rattle.ssh_link.specs.declared.link.TraceEntry.{TraceEntry}
+use Rattle.ssh_link.specs.declared.link.TraceEntry.TheVariants as entry
+use Rattle.ssh_link.specs.Supply.{Supply, left_until, after_next}
 use Rattle.ssh_auth.specs.declared.call.Call.{Call}
 use Rattle.ssh_auth.specs.Publickey.{Acceptance}
 use Rattle.ssh_session.specs.declared.error.RunError.{RunError}
 use Rattle.ssh_session.specs.declared.error.RunError.TheVariants as error
 use Rattle.ssh_session.specs.World.{Settings, settings_of, World}
 use Rattle.ssh_session.specs.Serve.{ToldBy}
-use Rattle.ssh_session.specs.Run.{Turn, entries}
+use Rattle.ssh_session.specs.Run.{Turn, calls_of, entries}
 use Rattle.ssh_session.specs.Step.{Closes, Ran}
 use Rattle.ssh_script.specs.declared.asked.Asked.{Asked}
 use Rattle.ssh_script.specs.declared.asked.Asked.TheVariants as asked
-use Rattle.ssh_script.specs.declared.script_link.Event.{Event}
-use Rattle.ssh_script.specs.declared.script_link.Event.TheVariants as event
 use Rattle.ssh_script.specs.Scene.{Scene}
 use Rattle.ssh_script.specs.Played.{Failure, Queues, after, played, IsAnswered, heading, told_of}
-use Rattle.ssh_script.specs.Given.{Supply, supply_of, traced, IsGiven, trace_of}
-use Rattle.ssh_script.specs.Given.{after as after_event, heading as input_heading}
-use Rattle.ssh_script.specs.Print.{asked_line, call_line, entry_lines, event_lines, frame_line, input_line, last_line}
-use Rattle.ssh_script.specs.Transcript.{status_of, scene_settings, scene_accepts, calls_of, IsRun}
+use Rattle.ssh_script.specs.Given.{IsGiven, as_given, trace_of}
+use Rattle.ssh_script.specs.Given.{heading as input_heading}
+use Rattle.ssh_script.specs.Print.{asked_line, call_line, entry_lines, last_line}
+use Rattle.ssh_script.specs.Transcript.{status_of, scene_settings, scene_accepts, IsRun}
 use Rattle.ssh_script.proofs.Heads.{heads, input_heads}
 
 -- what was played was answered by the script
@@ -34,6 +34,11 @@ is_answered queues (asked.AuthPublickeyOffered user key algorithm ∷ all) = (re
 is_answered queues (asked.AuthPublickey user key algorithm ∷ all) = (refl, is_answered (after queues (asked.AuthPublickey user key algorithm)) all)
 is_answered queues (asked.AuthOpensshCertificate user certificate ∷ all) = (refl, is_answered (after queues (asked.AuthOpensshCertificate user certificate)) all)
 is_answered queues (asked.AuthSucceeded ∷ all) = (refl, is_answered queues all)
+is_answered queues (asked.ChannelOpenSession channel ∷ all) = (refl, is_answered queues all)
+is_answered queues (asked.ChannelEof channel ∷ all) = (refl, is_answered queues all)
+is_answered queues (asked.ChannelClose channel ∷ all) = (refl, is_answered queues all)
+is_answered queues (asked.WindowAdjusted channel new_size ∷ all) = (refl, is_answered queues all)
+is_answered queues (asked.CommandDone place outcome ∷ all) = (refl, is_answered queues all)
 
 -- it prints as it was kept
 calls_print : (queues : Queues) (all : List Asked) → flat_map asked_line all ≡ flat_map call_line (played queues all)
@@ -49,17 +54,19 @@ calls_print queues (asked.AuthPublickey user key algorithm ∷ all) =
 calls_print queues (asked.AuthOpensshCertificate user certificate ∷ all) =
     ap (λ t. asked_line (asked.AuthOpensshCertificate user certificate) ++ t) (calls_print (after queues (asked.AuthOpensshCertificate user certificate)) all)
 calls_print queues (asked.AuthSucceeded ∷ all) = ap (λ t. asked_line asked.AuthSucceeded ++ t) (calls_print queues all)
+calls_print queues (asked.ChannelOpenSession channel ∷ all) = ap (λ t. asked_line (asked.ChannelOpenSession channel) ++ t) (calls_print queues all)
+calls_print queues (asked.ChannelEof channel ∷ all) = ap (λ t. asked_line (asked.ChannelEof channel) ++ t) (calls_print queues all)
+calls_print queues (asked.ChannelClose channel ∷ all) = ap (λ t. asked_line (asked.ChannelClose channel) ++ t) (calls_print queues all)
+calls_print queues (asked.WindowAdjusted channel new_size ∷ all) = ap (λ t. asked_line (asked.WindowAdjusted channel new_size) ++ t) (calls_print queues all)
+calls_print queues (asked.CommandDone place outcome ∷ all) = ap (λ t. asked_line (asked.CommandDone place outcome) ++ t) (calls_print queues all)
 
-is_given : (supply : Supply) (all : List Event) → IsGiven supply (traced supply all)
+-- what a supply gives is given by it
+is_given : (supply : Supply) (all : List TraceEntry) → IsGiven supply (as_given supply all)
 is_given supply [] = tt
-is_given supply (event.Took commands replies ∷ all) = (refl, is_given (after_event supply (event.Took commands replies)) all)
-is_given supply (event.Sent frame ∷ all) = is_given supply all
-
-trace_print : (supply : Supply) (taken : ℕ) (all : List Event) → event_lines taken all ≡ entry_lines taken (traced supply all)
-trace_print supply taken [] = refl
-trace_print supply taken (event.Took commands replies ∷ all) =
-    ap (λ t. input_line (taken + 1) ++ t) (trace_print (after_event supply (event.Took commands replies)) (taken + 1) all)
-trace_print supply taken (event.Sent frame ∷ all) = ap (λ t. frame_line frame ++ t) (trace_print supply taken all)
+is_given supply (entry.Took commands replies input ∷ all) = (refl, is_given (after_next commands replies supply) all)
+is_given supply (entry.Sent frame ∷ all) = is_given supply all
+is_given supply (entry.Noticed notice ∷ all) = is_given supply all
+is_given supply (entry.Answered ticket outcome ∷ all) = is_given supply all
 
 -- a handler that goes on telling told these calls
 told_some : (result : Result (Unit {0}) (RunError Failure)) (old new calls : List (Call Failure)) → ToldBy result (Some old) (Some new) calls → new ≡ old ++ calls
@@ -83,13 +90,20 @@ told_is result false false queues queues' old all calls l m o h =
     let f : heading queues ++ played queues old ≡ heading queues = ap (λ x. heading queues ++ played queues x) o ∙ append-nil (heading queues) in
     heads queues' queues (played queues' all) calls (e ∙ ap (λ x. x ++ calls) f)
 
-traced_is : (supply supply' : Supply) (old all : List Event) (entries : List TraceEntry) → old ≡ [] →
-    trace_of supply' all ≡ Some ((input_heading supply ++ traced supply old) ++ entries) → (supply' ≡ supply) × (traced supply' all ≡ entries)
-traced_is supply supply' old all entries o h =
-    let z : Some (input_heading supply' ++ traced supply' all) ≡ Some ((input_heading supply ++ traced supply old) ++ entries) = h in
-    let e : input_heading supply' ++ traced supply' all ≡ (input_heading supply ++ traced supply old) ++ entries = cc in
-    let f : input_heading supply ++ traced supply old ≡ input_heading supply = ap (λ x. input_heading supply ++ traced supply x) o ∙ append-nil (input_heading supply) in
-    input_heads supply' supply (traced supply' all) entries (e ∙ ap (λ x. x ++ entries) f)
+traced_is : (inputs inputs' : List Input) (moment moment' : ℕ) (old all entries : List TraceEntry) → old ≡ [] →
+    trace_of inputs' moment' all ≡ Some ((input_heading inputs moment ++ old) ++ entries) → (inputs' ≡ inputs) × (moment' ≡ moment) × (all ≡ entries)
+traced_is inputs inputs' moment moment' old all entries o h =
+    let z : Some (input_heading inputs' moment' ++ all) ≡ Some ((input_heading inputs moment ++ old) ++ entries) = h in
+    let e : input_heading inputs' moment' ++ all ≡ (input_heading inputs moment ++ old) ++ entries = cc in
+    let f : input_heading inputs moment ++ old ≡ input_heading inputs moment = ap (λ x. input_heading inputs moment ++ x) o ∙ append-nil (input_heading inputs moment) in
+    input_heads inputs' inputs moment' moment all entries (e ∙ ap (λ x. x ++ entries) f)
+
+-- the trace of a link that gives these inputs is given by the script that has them
+given_same : (inputs inputs' : List Input) (moment moment' : ℕ) (all entries : List TraceEntry) → inputs' ≡ inputs → moment' ≡ moment → all ≡ entries →
+    as_given (left_until moment' inputs') all ≡ all → IsGiven (left_until moment inputs) entries
+given_same inputs inputs' moment moment' all entries e f g h =
+    let supply : left_until moment' inputs' ≡ left_until moment inputs = ap (λ m. left_until m inputs') f ∙ ap (left_until moment) e in
+    subst (λ s. IsGiven s entries) supply (subst (IsGiven (left_until moment' inputs')) (h ∙ g) (is_given (left_until moment' inputs') all))
 
 -- where no fault rose, a run ends as one of a link without faults
 without_faults : {E : Type 0} (accepts : Acceptance) (settings : Settings) (w : World) (count max : ℕ) (last : Option (Turn E)) (rose : Type 0) (result : Result (Unit {0}) (RunError E)) →
@@ -117,22 +131,21 @@ not_below : 0 < 0 → ⊥
 not_below h = absurd (omega (arith, h))
 
 pub kept : (scene : Scene) (status : ℕ) (result : Result (Unit {0}) (RunError Failure)) (lost lost' : Bool) (queues queues' : Queues) (old all : List Asked)
-    (supply supply' : Supply) (events events' : List Event) (id text : List ℕ) → lost ≡ false → lost' ≡ false → queues ≡ scene.queues → old ≡ [] →
-    supply ≡ supply_of scene.inputs scene.moment → events ≡ [] → status_of result ≡ Some status → id ≡ scene.session_id →
-    Ran (scene_accepts scene) (settings_of scene.config id) (told_of lost queues old) (told_of lost' queues' all) (trace_of supply events) (trace_of supply' events') 0 0 scene.max_inputs result →
-    text ≡ flat_map asked_line all ++ event_lines 0 events' ++ last_line result → IsRun scene status text
-kept scene status result lost lost' queues queues' old all supply supply' events events' id text l m qe oe se ee h ie given_ran te =
-    let ran : Ran (scene_accepts scene) (scene_settings scene) (told_of lost queues old) (told_of lost' queues' all) (trace_of supply events) (trace_of supply' events') 0 0 scene.max_inputs result =
-    subst (λ x. Ran (scene_accepts scene) (settings_of scene.config x) (told_of lost queues old) (told_of lost' queues' all) (trace_of supply events) (trace_of supply' events') 0 0 scene.max_inputs result) ie given_ran in
+    (inputs inputs' : List Input) (moment moment' : ℕ) (trace trace' : List TraceEntry) (id text : List ℕ) → lost ≡ false → lost' ≡ false → queues ≡ scene.queues → old ≡ [] →
+    inputs ≡ scene.inputs → moment ≡ scene.moment → trace ≡ [] → as_given (left_until moment' inputs') trace' ≡ trace' → status_of result ≡ Some status → id ≡ scene.session_id →
+    Ran (scene_accepts scene) (settings_of scene.config id) (told_of lost queues old) (told_of lost' queues' all) (trace_of inputs moment trace) (trace_of inputs' moment' trace') 0 0 scene.max_inputs result →
+    text ≡ flat_map asked_line all ++ entry_lines 0 trace' ++ last_line result → IsRun scene status text
+kept scene status result lost lost' queues queues' old all inputs inputs' moment moment' trace trace' id text l m qe oe ie me te given h de given_ran texts =
+    let ran : Ran (scene_accepts scene) (scene_settings scene) (told_of lost queues old) (told_of lost' queues' all) (trace_of inputs moment trace) (trace_of inputs' moment' trace') 0 0 scene.max_inputs result =
+    subst (λ x. Ran (scene_accepts scene) (settings_of scene.config x) (told_of lost queues old) (told_of lost' queues' all) (trace_of inputs moment trace) (trace_of inputs' moment' trace') 0 0 scene.max_inputs result)
+    de given_ran in
     let calls = flat_map (calls_of {E = Failure}) (ran.turns ++ option_to_list ran.last) in
-    let trace = flat_map (entries {E = Failure}) (ran.turns ++ option_to_list ran.last) in
+    let told = flat_map (entries {E = Failure}) (ran.turns ++ option_to_list ran.last) in
     let t = told_is result lost lost' queues queues' old all calls l m oe ran.told in
-    let u = traced_is supply supply' events events' trace ee ran.traced in
-    let given = supply_of scene.inputs scene.moment in
+    let u = traced_is inputs inputs' moment moment' trace trace' told te ran.traced in
     let c : played scene.queues all ≡ calls = ap (λ q. played q all) (sym (t.0 ∙ qe)) ∙ t.1 in
-    let d : traced given events' ≡ trace = ap (λ q. traced q events') (sym (u.0 ∙ se)) ∙ u.1 in
     let f : flat_map asked_line all ≡ flat_map call_line calls = calls_print scene.queues all ∙ ap (λ x. flat_map call_line x) c in
-    let g : event_lines 0 events' ≡ entry_lines 0 trace = trace_print given 0 events' ∙ ap (entry_lines 0) d in
+    let g : entry_lines 0 trace' ≡ entry_lines 0 told = ap (entry_lines 0) u.2 in
     record {
       turns = ran.turns;
       world = ran.world;
@@ -142,13 +155,10 @@ kept scene status result lost lost' queues queues' old all supply supply' events
       closes = without_faults (scene_accepts scene) (scene_settings scene) ran.world (length ran.turns) scene.max_inputs ran.last (0 < 0) result not_below ran.closes;
       room = ran.room;
       answered = subst (IsAnswered scene.queues) c (is_answered scene.queues all);
-      given = subst (IsGiven given) d (is_given given events');
+      given = given_same scene.inputs inputs' scene.moment moment' trace' told (u.0 ∙ ie) (u.1 ∙ me) u.2 given;
       status_is = h;
-      text_is = te ∙ (ap (λ x. x ++ event_lines 0 events' ++ last_line result) f ∙ ap (λ x. flat_map call_line calls ++ x ++ last_line result) g);
+      text_is = texts ∙ (ap (λ x. x ++ entry_lines 0 trace' ++ last_line result) f ∙ ap (λ x. flat_map call_line calls ++ x ++ last_line result) g);
     }
 
 pub text_of : (t0 t1 t2 t3 a b c : List ℕ) → t0 ≡ [] → t1 ≡ t0 ++ a → t2 ≡ t1 ++ b → t3 ≡ t2 ++ c → t3 ≡ a ++ b ++ c
 text_of t0 t1 t2 t3 a b c e f g h = h ∙ ap (λ x. x ++ c) (g ∙ ap (λ x. x ++ b) (f ∙ ap (λ x. x ++ a) e))
-
-pub supply_same : (xs ys : List Input) (m n : ℕ) → xs ≡ ys → m ≡ n → supply_of xs m ≡ supply_of ys n
-supply_same xs ys m n e f = ap (λ v. supply_of v m) e ∙ ap (supply_of ys) f

@@ -1,13 +1,17 @@
 pub mod Reading
 pub mod Digits
+pub mod Printing
+pub mod Reasons
 pub mod Queues
 pub mod Telling
+pub mod Giving
 pub mod Cutting
 pub mod LinesOnce
 pub mod Signatures
 pub mod Heads
 pub mod Kept
 pub mod Endings
+pub mod ChannelsOnce
 pub mod SaysOnce
 pub mod PlansOnce
 pub mod Unasked

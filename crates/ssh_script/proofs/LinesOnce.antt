@@ -1,5 +1,5 @@
 -- A line says one thing, and so does a script.
-use Rattle.std.proofs.Common.{◌≡◌, ◌+◌, ℕ, List, [], ◌∷◌, Bool, true, false, Option, Some, None, Result, Ok, Err, refl, sym, ◌∙◌, ap, subst, inl, inr}
+use Rattle.std.proofs.Common.{◌≡◌, ◌<◌, ◌^◌, ◌+◌, ℕ, arith, List, [], ◌∷◌, Bool, true, false, Option, Some, None, Result, Ok, Err, refl, sym, ◌∙◌, ap, subst, inl, inr}
 use Rattle.std.specs.Prelude.{codes, MatchOption}
 use Rattle.std.proofs.lemmas.Fmt.{decimal_injective}
 use Rattle.hex.specs.Hex.{decode_of}
@@ -12,11 +12,14 @@ use Rattle.ssh_keys.proofs.Offered.{algorithm_once}
 use Rattle.ssh_script.specs.declared.lines.Line.{Line}
 use Rattle.ssh_script.specs.declared.lines.Line.TheVariants as line
 use Rattle.ssh_script.specs.declared.lines.Setting.TheVariants as setting
-use Rattle.ssh_script.specs.Grammar.{IsNumber, IsHex, IsKeyHex, IsSignature, Form, No_form, Whole, Of_number, Of_bytes, Of_signature, Fits, is_passed, ReadsWords, form_of, Reads}
+use Rattle.ssh_script.specs.Grammar.{IsNumber, IsSmall, IsHex, IsKeyHex, IsSignature, Form, No_form, Whole, Of_number, Of_bytes, Of_small, Of_signature, Fits, is_passed, ReadsWords, form_of, Reads}
 use Rattle.ssh_script.specs.Scene.{Scene, with_line, Gives}
 
 number_once : (digits : List ℕ) (m n : ℕ) → IsNumber digits m → IsNumber digits n → m ≡ n
 number_once digits m n h k = decimal_injective m n h.0 k.0 (sym h.1 ∙ k.1)
+
+small_once : (digits : List ℕ) (m n : ℕ) → IsSmall digits m → IsSmall digits n → m ≡ n
+small_once digits m n h k = decimal_injective m n (omega (arith, h.0)) (omega (arith, k.0)) (sym h.1 ∙ k.1)
 
 no_dash : (bytes : List ℕ) → decode_of (codes "-") ≡ Ok bytes → ⊥
 no_dash bytes e = cc
@@ -56,6 +59,11 @@ fits_once (Of_signature key algorithm message signature) None (Some b) h k = abs
 fits_once (Of_signature key algorithm message signature) (Some a) None h k = absurd (k h.0 h.1)
 fits_once (Of_signature key algorithm message signature) (Some a) (Some b) h k =
     ap Some (h.2 ∙ (ap (λ one. line.Setting (setting.Sign one)) (signature_once key algorithm message signature h.0 k.0 h.1 k.1) ∙ sym k.2))
+fits_once (Of_small next digits) a b (inl h) (inl k) =
+    fits_once (next h.0) a b h.2 (subst (λ n. Fits (next n) b) (sym (small_once digits h.0 k.0 h.1 k.1)) k.2)
+fits_once (Of_small next digits) a b (inl h) (inr k) = absurd (k.0 h.0 h.1)
+fits_once (Of_small next digits) a b (inr h) (inl k) = absurd (h.0 k.0 k.1)
+fits_once (Of_small next digits) a b (inr h) (inr k) = h.1 ∙ sym k.1
 
 words_once : (passed : Bool) (text : List ℕ) (a b : Option Line) → ReadsWords passed text a → ReadsWords passed text b → a ≡ b
 words_once true text a b h k = h ∙ sym k

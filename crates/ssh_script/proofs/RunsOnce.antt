@@ -1,45 +1,51 @@
 -- A scene has one run.
-use Rattle.std.proofs.Common.{◌≡◌, ◌<◌, ◌≤◌, ◌+◌, ℕ, List, [], ◌∷◌, ◌++◌, length, map, Option, Some, None, Result, Ok, Err, arith, refl, sym, ◌∙◌, ap, subst}
+use Rattle.std.proofs.Common.{◌≡◌, ◌<◌, ◌≤◌, ◌+◌, ℕ, List, [], ◌∷◌, ◌++◌, length, map, Option, Some, None, Result, Ok, Err, true, arith, refl, sym, ◌∙◌, ap, subst}
 use Rattle.std.specs.Prelude.{flat_map, option_to_list, IfSome}
 use Rattle.ssh_link.specs.declared.frame.Frame.{Frame}
 use Rattle.ssh_link.specs.declared.frame.Input.{Input}
 use Rattle.ssh_link.specs.declared.frame.InputKind.{InputKind}
-use Rattle.ssh_link.specs.declared.frame.InputKind.TheVariants.{Payload, End}
+use Rattle.ssh_link.specs.declared.frame.InputKind.TheVariants.{Payload, Command, OpenReply, End}
 use Rattle.ssh_link.specs.declared.link.TraceEntry.{TraceEntry}
-use Rattle.ssh_link.specs.declared.link.TraceEntry.TheVariants.{Sent}
+use Rattle.ssh_link.specs.declared.link.TraceEntry.TheVariants as entry
+use Rattle.ssh_link.specs.Supply.{Supply, next_input, after_next}
 use Rattle.ssh_keys.specs.declared.error.KeyError.TheVariants.{Blob}
 use Rattle.ssh_auth.specs.declared.call.Call.{Call}
 use Rattle.ssh_auth.specs.Publickey.{Acceptance}
-use Rattle.ssh_auth.specs.Plan.{Plan}
+use Rattle.ssh_auth.specs.Plan.{Plan, Event}
 use Rattle.ssh_session.specs.declared.error.RunError.{RunError}
 use Rattle.ssh_session.specs.declared.error.RunError.TheVariants as error
 use Rattle.ssh_session.specs.World.{Settings, World, circumstances}
 use Rattle.ssh_session.specs.Gate.{gate_of}
-use Rattle.ssh_session.specs.Rows.{row}
 use Rattle.ssh_session.specs.Outcome.{Outcome, Goes, Ends, Fails, Encoding, Inconsistent, Key, Starved, Not_built}
-use Rattle.ssh_session.specs.Run.{OwesKind, Owes, Turn, Turns, Run, entries}
+use Rattle.ssh_session.specs.Run.{OwesKind, Owes, Turn, IsTaken, Turns, Run, calls_of, entries}
 use Rattle.ssh_session.specs.Step.{Closes}
-use Rattle.ssh_script.specs.Queue.{rest}
 use Rattle.ssh_script.specs.Played.{Failure, Queues, IsAnswered}
-use Rattle.ssh_script.specs.Given.{Supply, input_at, IsGiven}
-use Rattle.ssh_script.specs.Transcript.{status_of, calls_of}
+use Rattle.ssh_script.specs.Given.{IsGiven, left_after}
+use Rattle.ssh_script.specs.Transcript.{status_of}
 use Rattle.ssh_script.proofs.SaysOnce.{said_once}
 use Rattle.ssh_script.proofs.Unasked.{IsFed, Meet, said_meet}
 use Rattle.ssh_script.proofs.PlansOnce.{Comes, plan_once, left, answered_both}
 
-given_later : (supply : Supply) (frames : List Frame) (es : List TraceEntry) → IsGiven supply (map Sent frames ++ es) → IsGiven supply es
-given_later supply [] es h = h
-given_later supply (f ∷ frames) es h = given_later supply frames es h
+given_both : (supply : Supply) (xs ys : List TraceEntry) → IsGiven supply (xs ++ ys) → IsGiven supply xs × IsGiven (left_after supply xs) ys
+given_both supply [] ys h = (tt, h)
+given_both supply (entry.Took commands replies input ∷ xs) ys h =
+    let t = given_both (after_next commands replies supply) xs ys h.1 in ((h.0, t.0), t.1)
+given_both supply (entry.Sent frame ∷ xs) ys h = given_both supply xs ys h
+given_both supply (entry.Noticed notice ∷ xs) ys h = given_both supply xs ys h
+given_both supply (entry.Answered ticket outcome ∷ xs) ys h = given_both supply xs ys h
 
-abbrev less : Supply → Supply
-less supply = record supply { inputs = rest supply.inputs }
+-- what is left after a turn
+abbrev less : Supply → Turn Failure → Supply
+less supply turn = left_after supply (entries turn)
 
-kind_meet : (accepts : Acceptance) (settings : Settings) (w : World) (moment : ℕ) (kind : InputKind) (p q : Plan Outcome) (xs ys : List (Call Failure)) (o o' : Result Outcome Failure) →
+kind_meet : (accepts : Acceptance) (settings : Settings) (w : World) (moment : ℕ) (kind : InputKind) (p q : Plan Outcome) (xs ys : List (Event Failure)) (o o' : Result Outcome Failure) →
     OwesKind accepts settings w moment kind p → OwesKind accepts settings w moment kind q → IsFed o → IsFed o' → Comes p xs o → Comes q ys o' → Meet xs ys o o'
 kind_meet accepts settings w moment End p q xs ys o o' h k f g c d = (p, c, subst (λ x. Comes x ys o') (k ∙ sym h) d)
 kind_meet accepts settings w moment (Payload payload) p q xs ys o o' h k f g c d =
     said_meet settings moment w h.0 k.0 xs ys o o' (said_once (circumstances accepts settings moment) (gate_of settings w payload) payload h.0 k.0 h.1 k.1) f g
     (subst (λ x. Comes x xs o) h.2 c) (subst (λ x. Comes x ys o') k.2 d)
+kind_meet accepts settings w moment (Command ticket command) p q xs ys o o' h k f g c d = (p, c, subst (λ x. Comes x ys o') (k ∙ sym h) d)
+kind_meet accepts settings w moment (OpenReply ticket answer) p q xs ys o o' h k f g c d = (p, c, subst (λ x. Comes x ys o') (k ∙ sym h) d)
 
 -- how a turn ends a run, by what its plan comes to
 abbrev Matches : Result Outcome Failure → List Frame → Result (Unit {0}) (RunError Failure) → Type 0
@@ -74,22 +80,22 @@ matches_fed (Err e) frames r h = tt
 
 abbrev Ended : Acceptance → Settings → World → Turn Failure → Result (Unit {0}) (RunError Failure) → Type 0
 Ended accepts settings w turn result =
-    (plan : Plan Outcome) × Owes accepts settings w turn.input plan × (o : Result Outcome Failure) × Comes plan turn.calls o × Matches o turn.frames result
+    (plan : Plan Outcome) × Owes accepts settings w turn.input plan × (o : Result Outcome Failure) × Comes plan turn.events o × Matches o turn.frames result × IsTaken w turn
 
 no_status : (status : ℕ) → None ≡ Some status → ⊥
 no_status status e = cc
 
 closes_some : (accepts : Acceptance) (settings : Settings) (w : World) (n max : ℕ) (turn : Turn Failure) (result : Result (Unit {0}) (RunError Failure)) (status : ℕ) →
     Closes accepts settings w n max (Some turn) ⊥ result → status_of result ≡ Some status → Ended accepts settings w turn result
-closes_some accepts settings w n max turn (Ok done) status c h = (c.0, c.1, Ok (Ends turn.frames), c.2, (refl, refl))
+closes_some accepts settings w n max turn (Ok done) status c h = (c.0, c.1, Ok (Ends turn.frames), c.2, (refl, refl), c.3)
 closes_some accepts settings w n max turn (Err error.NoMemory) status c h = absurd (no_status status h)
 closes_some accepts settings w n max turn (Err error.LinkFault) status c h = absurd c.2.0
 closes_some accepts settings w n max turn (Err error.InputLimit) status c h = absurd c.2
-closes_some accepts settings w n max turn (Err (error.Encoding why)) status c h = (c.0, c.1, Ok (Fails (Encoding why)), c.2.1, (c.2.0, refl))
-closes_some accepts settings w n max turn (Err error.Inconsistent) status c h = (c.0, c.1, Ok (Fails Inconsistent), c.2.1, (c.2.0, refl))
-closes_some accepts settings w n max turn (Err (error.Key why)) status c h = (c.0, c.1, Ok (Fails Key), c.2.2, (c.2.0, ap (λ x. Err (error.Key x)) c.2.1))
-closes_some accepts settings w n max turn (Err (error.Handler e)) status c h = (c.0, c.1, Err e, c.2.1, (c.2.0, refl))
-closes_some accepts settings w n max turn (Err error.NotBuilt) status c h = (c.0, c.1, Ok (Fails Not_built), c.2.1, (c.2.0, refl))
+closes_some accepts settings w n max turn (Err (error.Encoding why)) status c h = (c.0, c.1, Ok (Fails (Encoding why)), c.2.1, (c.2.0, refl), c.3)
+closes_some accepts settings w n max turn (Err error.Inconsistent) status c h = (c.0, c.1, Ok (Fails Inconsistent), c.2.1, (c.2.0, refl), c.3)
+closes_some accepts settings w n max turn (Err (error.Key why)) status c h = (c.0, c.1, Ok (Fails Key), c.2.2, (c.2.0, ap (λ x. Err (error.Key x)) c.2.1), c.3)
+closes_some accepts settings w n max turn (Err (error.Handler e)) status c h = (c.0, c.1, Err e, c.2.1, (c.2.0, refl), c.3)
+closes_some accepts settings w n max turn (Err error.NotBuilt) status c h = (c.0, c.1, Ok (Fails Not_built), c.2.1, (c.2.0, refl), c.3)
 
 closes_none : (accepts : Acceptance) (settings : Settings) (w : World) (n max : ℕ) (result : Result (Unit {0}) (RunError Failure)) (status : ℕ) →
     Closes accepts settings w n max None ⊥ result → status_of result ≡ Some status → (n ≡ max) × (result ≡ Err error.InputLimit)
@@ -103,10 +109,12 @@ closes_none accepts settings w n max (Err (error.Key why)) status c h = absurd c
 closes_none accepts settings w n max (Err (error.Handler e)) status c h = absurd c
 closes_none accepts settings w n max (Err error.NotBuilt) status c h = absurd c
 
-turn_same : {E : Type 0} (t u : Turn E) → t.input ≡ u.input → t.calls ≡ u.calls → t.frames ≡ u.frames → t ≡ u
-turn_same t u e f g =
-    ap (λ i. record { input = i; calls = t.calls; frames = t.frames }) e
-    ∙ (ap (λ c. record { input = u.input; calls = c; frames = t.frames }) f ∙ ap (λ s. record { input = u.input; calls = u.calls; frames = s }) g)
+turn_same : {E : Type 0} (t u : Turn E) → t.input ≡ u.input → t.commands ≡ u.commands → t.events ≡ u.events → t.frames ≡ u.frames → t ≡ u
+turn_same t u e c f g =
+    ap (λ i. record { input = i; commands = t.commands; events = t.events; frames = t.frames }) e
+    ∙ (ap (λ b. record { input = u.input; commands = b; events = t.events; frames = t.frames }) c
+    ∙ (ap (λ l. record { input = u.input; commands = u.commands; events = l; frames = t.frames }) f
+    ∙ ap (λ s. record { input = u.input; commands = u.commands; events = u.events; frames = s }) g))
 
 -- the rest of a run, from this world on, after so many inputs
 pub record Tail (accepts : Acceptance) (settings : Settings) (w : World) (queues : Queues) (supply : Supply) (n max : ℕ) (turns : List (Turn Failure)) (last : Option (Turn Failure))
@@ -126,21 +134,32 @@ within accepts settings w queues supply n max turns (Some turn) result t = let r
 within accepts settings w queues supply n max turns None result t =
     let r = (closes_none accepts settings t.world (n + length turns) max result t.status t.closes t.status_is).0 in omega arith
 
+-- the turn takes what it asks for of what the supply gives
+abbrev Takes : World → Supply → Turn Failure → Type 0
+Takes w supply turn = IsTaken w turn × (turn.input ≡ next_input turn.commands true supply)
+
+same_commands : (w : World) (t u : Turn Failure) → IsTaken w t → IsTaken w u → t.commands ≡ u.commands
+same_commands w t u i j = i.0 ∙ sym j.0
+
+same_input : (w : World) (supply : Supply) (t u : Turn Failure) → Takes w supply t → Takes w supply u → t.input ≡ u.input
+same_input w supply t u i j = i.1 ∙ (ap (λ asked. next_input asked true supply) (same_commands w t u i.0 j.0) ∙ sym j.1)
+
 -- two turns at one place, whatever they come to
 same_turn : (accepts : Acceptance) (settings : Settings) (w : World) (queues : Queues) (supply : Supply) (t u : Turn Failure) (plan plan' : Plan Outcome) (o o' : Result Outcome Failure) →
-    t.input ≡ input_at supply → u.input ≡ input_at supply → Owes accepts settings w t.input plan → Owes accepts settings w u.input plan' → IsFed o → IsFed o' → Comes plan t.calls o → Comes plan' u.calls o' →
-    IsAnswered queues t.calls → IsAnswered queues u.calls → (t.calls ≡ u.calls) × (o ≡ o')
+    Takes w supply t → Takes w supply u → Owes accepts settings w t.input plan → Owes accepts settings w u.input plan' → IsFed o → IsFed o' → Comes plan t.events o → Comes plan' u.events o' →
+    IsAnswered queues (calls_of t) → IsAnswered queues (calls_of u) → (t.events ≡ u.events) × (o ≡ o')
 same_turn accepts settings w queues supply t u plan plan' o o' i j a b fed fed' f g x y =
-    let k : u.input ≡ t.input = j ∙ sym i in
-    let m = kind_meet accepts settings w t.input.moment t.input.kind plan plan' t.calls u.calls o o' a (subst (λ i. Owes accepts settings w i plan') k b) fed fed' f g in
-    plan_once m.0 queues t.calls u.calls o o' m.1 m.2 x y
+    let m = kind_meet accepts settings w t.input.moment t.input.kind plan plan' t.events u.events o o' a
+    (subst (λ i. Owes accepts settings w i plan') (same_input w supply u t j i) b) fed fed' f g in
+    plan_once m.0 queues t.events u.events o o' m.1 m.2 x y
 
 tail_next : (accepts : Acceptance) (settings : Settings) (w : World) (queues : Queues) (supply : Supply) (n max : ℕ) (t : Turn Failure) (turns : List (Turn Failure)) (last : Option (Turn Failure))
     (result : Result (Unit {0}) (RunError Failure)) → (h : Tail accepts settings w queues supply n max (t ∷ turns) last result) →
-    Tail accepts settings h.run.0 (left queues t.calls) (less supply) (n + 1) max turns last result
+    Tail accepts settings h.run.0 (left queues (calls_of t)) (less supply t) (n + 1) max turns last result
 tail_next accepts settings w queues supply n max t turns last result h =
     let e : n + length (t ∷ turns) ≡ (n + 1) + length turns = omega arith in
-    let a = answered_both queues t.calls (flat_map (calls_of {E = Failure}) (turns ++ option_to_list last)) h.answered in
+    let a = answered_both queues (calls_of t) (flat_map (calls_of {E = Failure}) (turns ++ option_to_list last)) h.answered in
+    let g = given_both supply (entries t) (flat_map (entries {E = Failure}) (turns ++ option_to_list last)) h.given in
     record {
       world = h.world;
       run = h.run.2;
@@ -149,7 +168,7 @@ tail_next accepts settings w queues supply n max t turns last result h =
       status = h.status;
       status_is = h.status_is;
       answered = a.1;
-      given = given_later (less supply) t.frames (flat_map entries (turns ++ option_to_list last)) h.given.1;
+      given = g.1;
     }
 
 abbrev goes : List Frame → World → Result Outcome Failure
@@ -165,17 +184,18 @@ same_cons : {A : Type 0} (x y : A) (xs ys : List A) → x ≡ y → xs ≡ ys �
 same_cons x y xs ys e f = cc
 
 both_last : (accepts : Acceptance) (settings : Settings) (w : World) (queues : Queues) (supply : Supply) (t u : Turn Failure) (r s : Result (Unit {0}) (RunError Failure)) →
-    Ended accepts settings w t r → Ended accepts settings w u s → t.input ≡ input_at supply → u.input ≡ input_at supply → IsAnswered queues t.calls → IsAnswered queues u.calls →
-    Same (t ∷ []) (u ∷ []) r s
+    Ended accepts settings w t r → Ended accepts settings w u s → t.input ≡ next_input t.commands true supply → u.input ≡ next_input u.commands true supply →
+    IsAnswered queues (calls_of t) → IsAnswered queues (calls_of u) → Same (t ∷ []) (u ∷ []) r s
 both_last accepts settings w queues supply t u r s a b i j x y =
-    let m = same_turn accepts settings w queues supply t u a.0 b.0 a.2 b.2 i j a.1 b.1 (matches_fed a.2 t.frames r a.4) (matches_fed b.2 u.frames s b.4) a.3 b.3 x y in
+    let m = same_turn accepts settings w queues supply t u a.0 b.0 a.2 b.2 (a.5, i) (b.5, j) a.1 b.1 (matches_fed a.2 t.frames r a.4) (matches_fed b.2 u.frames s b.4) a.3 b.3 x y in
     let k = matches_once a.2 t.frames u.frames r s a.4 (subst (λ o. Matches o u.frames s) (sym m.1) b.4) in
-    (same_cons t u [] [] (turn_same t u (i ∙ sym j) m.0 k.0) refl, k.1)
+    (same_cons t u [] [] (turn_same t u (same_input w supply t u (a.5, i) (b.5, j)) (same_commands w t u a.5 b.5) m.0 k.0) refl, k.1)
 
 gone_not_last : (accepts : Acceptance) (settings : Settings) (w mid : World) (queues : Queues) (supply : Supply) (t u : Turn Failure) (s : Result (Unit {0}) (RunError Failure)) →
-    Turns accepts settings w t mid → Ended accepts settings w u s → t.input ≡ input_at supply → u.input ≡ input_at supply → IsAnswered queues t.calls → IsAnswered queues u.calls → ⊥
+    Turns accepts settings w t mid → Ended accepts settings w u s → t.input ≡ next_input t.commands true supply → u.input ≡ next_input u.commands true supply →
+    IsAnswered queues (calls_of t) → IsAnswered queues (calls_of u) → ⊥
 gone_not_last accepts settings w mid queues supply t u s a b i j x y =
-    let m = same_turn accepts settings w queues supply t u a.0 b.0 (Ok (Goes t.frames mid)) b.2 i j a.1 b.1 tt (matches_fed b.2 u.frames s b.4) a.2 b.3 x y in
+    let m = same_turn accepts settings w queues supply t u a.0 b.0 (Ok (Goes t.frames mid)) b.2 (a.3, i) (b.5, j) a.1 b.1 tt (matches_fed b.2 u.frames s b.4) a.2 b.3 x y in
     subst (λ o. Matches o u.frames s) (sym m.1) b.4
 
 ended_at : (accepts : Acceptance) (settings : Settings) (w v : World) (n max : ℕ) (t : Turn Failure) (r : Result (Unit {0}) (RunError Failure)) (status : ℕ) → v ≡ w →
@@ -198,27 +218,30 @@ once accepts settings w queues supply n max [] [] (Some t) None r s h k =
 once accepts settings w queues supply n max [] [] (Some t) (Some u) r s h k =
     both_last accepts settings w queues supply t u r s (ended_at accepts settings w h.world (n + 0) max t r h.status h.run h.closes h.status_is)
     (ended_at accepts settings w k.world (n + 0) max u s k.status k.run k.closes k.status_is)
-    h.given.0 k.given.0 (answered_both queues t.calls [] h.answered).0 (answered_both queues u.calls [] k.answered).0
+    h.given.0 k.given.0 (answered_both queues (calls_of t) [] h.answered).0 (answered_both queues (calls_of u) [] k.answered).0
 once accepts settings w queues supply n max (t ∷ ts) [] last None r s h k =
     let a = (closes_none accepts settings k.world (n + 0) max s k.status k.closes k.status_is).0 in
     let b : n + length (t ∷ ts) ≤ max = within accepts settings w queues supply n max (t ∷ ts) last r h in absurd (omega arith)
 once accepts settings w queues supply n max (t ∷ ts) [] last (Some u) r s h k =
     absurd (gone_not_last accepts settings w h.run.0 queues supply t u s h.run.1 (ended_at accepts settings w k.world (n + 0) max u s k.status k.run k.closes k.status_is) h.given.0 k.given.0
-    (answered_both queues t.calls (later ts last) h.answered).0 (answered_both queues u.calls [] k.answered).0)
+    (answered_both queues (calls_of t) (later ts last) h.answered).0 (answered_both queues (calls_of u) [] k.answered).0)
 once accepts settings w queues supply n max [] (u ∷ us) None mast r s h k =
     let a = (closes_none accepts settings h.world (n + 0) max r h.status h.closes h.status_is).0 in
     let b : n + length (u ∷ us) ≤ max = within accepts settings w queues supply n max (u ∷ us) mast s k in absurd (omega arith)
 once accepts settings w queues supply n max [] (u ∷ us) (Some t) mast r s h k =
     absurd (gone_not_last accepts settings w k.run.0 queues supply u t r k.run.1 (ended_at accepts settings w h.world (n + 0) max t r h.status h.run h.closes h.status_is) k.given.0 h.given.0
-    (answered_both queues u.calls (later us mast) k.answered).0 (answered_both queues t.calls [] h.answered).0)
+    (answered_both queues (calls_of u) (later us mast) k.answered).0 (answered_both queues (calls_of t) [] h.answered).0)
 once accepts settings w queues supply n max (t ∷ ts) (u ∷ us) last mast r s h k =
-    let m = same_turn accepts settings w queues supply t u h.run.1.0 k.run.1.0 (Ok (Goes t.frames h.run.0)) (Ok (Goes u.frames k.run.0)) h.given.0 k.given.0 h.run.1.1 k.run.1.1 tt tt
-    h.run.1.2 k.run.1.2 (answered_both queues t.calls (later ts last) h.answered).0 (answered_both queues u.calls (later us mast) k.answered).0 in
+    let i : Takes w supply t = (h.run.1.3, h.given.0) in
+    let j : Takes w supply u = (k.run.1.3, k.given.0) in
+    let m = same_turn accepts settings w queues supply t u h.run.1.0 k.run.1.0 (Ok (Goes t.frames h.run.0)) (Ok (Goes u.frames k.run.0)) i j h.run.1.1 k.run.1.1 tt tt
+    h.run.1.2 k.run.1.2 (answered_both queues (calls_of t) (later ts last) h.answered).0 (answered_both queues (calls_of u) (later us mast) k.answered).0 in
     let g = goes_once t.frames u.frames h.run.0 k.run.0 m.1 in
-    let k1 : Tail accepts settings k.run.0 (left queues u.calls) (less supply) (n + 1) max us mast s = tail_next accepts settings w queues supply n max u us mast s k in
-    let k2 : Tail accepts settings h.run.0 (left queues u.calls) (less supply) (n + 1) max us mast s =
-    subst (λ v. Tail accepts settings v (left queues u.calls) (less supply) (n + 1) max us mast s) (sym g.1) k1 in
-    let k3 : Tail accepts settings h.run.0 (left queues t.calls) (less supply) (n + 1) max us mast s =
-    subst (λ c. Tail accepts settings h.run.0 (left queues c) (less supply) (n + 1) max us mast s) (sym m.0) k2 in
-    let i = once accepts settings h.run.0 (left queues t.calls) (less supply) (n + 1) max ts us last mast r s (tail_next accepts settings w queues supply n max t ts last r h) k3 in
-    (same_cons t u _ _ (turn_same t u (h.given.0 ∙ sym k.given.0) m.0 g.0) i.0, i.1)
+    let e : t ≡ u = turn_same t u (same_input w supply t u i j) (same_commands w t u i.0 j.0) m.0 g.0 in
+    let k1 : Tail accepts settings k.run.0 (left queues (calls_of u)) (less supply u) (n + 1) max us mast s = tail_next accepts settings w queues supply n max u us mast s k in
+    let k2 : Tail accepts settings h.run.0 (left queues (calls_of u)) (less supply u) (n + 1) max us mast s =
+    subst (λ v. Tail accepts settings v (left queues (calls_of u)) (less supply u) (n + 1) max us mast s) (sym g.1) k1 in
+    let k3 : Tail accepts settings h.run.0 (left queues (calls_of t)) (less supply t) (n + 1) max us mast s =
+    subst (λ z. Tail accepts settings h.run.0 (left queues (calls_of z)) (less supply z) (n + 1) max us mast s) (sym e) k2 in
+    let later = once accepts settings h.run.0 (left queues (calls_of t)) (less supply t) (n + 1) max ts us last mast r s (tail_next accepts settings w queues supply n max t ts last r h) k3 in
+    (same_cons t u _ _ e later.0, later.1)

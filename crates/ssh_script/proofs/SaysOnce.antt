@@ -12,7 +12,8 @@ use Rattle.ssh_auth.specs.Publickey.{Circumstances}
 use Rattle.ssh_session.proofs.KeyFields.{AreOneMethod, itself, publickey_once}
 use Rattle.ssh_session.specs.declared.gate.Gate.{Gate}
 use Rattle.ssh_session.specs.declared.gate.Gate.TheVariants as gate
-use Rattle.ssh_session.specs.Said.{Said, Nothing, Disconnect, Over_cap, Service, Request, Unfit, Unbuilt, Fits, Says}
+use Rattle.ssh_session.specs.Said.{Said, Nothing, Disconnect, Over_cap, Service, Request, Open_session, Open_other, Open_without_packets, Grant, Peer_eof, Peer_close, Unfit, Unbuilt, Fits, Says}
+use Rattle.ssh_script.proofs.ChannelsOnce.{open_said, grant_said, eof_said, close_said}
 
 none_once : (rest : List ℕ) (a b : Method) → SaysNone rest a → SaysNone rest b → a ≡ b
 none_once rest None_method None_method h k = refl
@@ -167,6 +168,12 @@ one_said a b e = subst (AreOne a) e (one a)
     one Disconnect = refl
     one Over_cap = refl
     one (Service name) = refl
+    one (Open_session peer window packet) = refl
+    one Open_other = refl
+    one Open_without_packets = refl
+    one (Grant channel amount) = refl
+    one (Peer_eof channel) = refl
+    one (Peer_close channel) = refl
     one (Unfit why) = refl
     one Unbuilt = refl
 
@@ -177,4 +184,8 @@ said_once given gate.Ends payload a b h k = one_said a b (ends_said (drop 1 payl
 said_once given gate.OverCap payload a b h k = one_said a b (over_cap_said (drop 1 payload) a h ∙ sym (over_cap_said (drop 1 payload) b k))
 said_once given gate.ServiceRequest payload a b h k = one_said a b (service_said (drop 1 payload) a b h k)
 said_once given gate.UserauthRequest payload a b h k = userauth_said given payload a b h k
+said_once given gate.ChannelOpen payload a b h k = one_said a b (open_said (drop 1 payload) a b h k)
+said_once given gate.WindowAdjust payload a b h k = one_said a b (grant_said (drop 1 payload) a b h k)
+said_once given gate.ChannelEof payload a b h k = one_said a b (eof_said (drop 1 payload) a b h k)
+said_once given gate.ChannelClose payload a b h k = one_said a b (close_said (drop 1 payload) a b h k)
 said_once given gate.NotBuilt payload a b h k = one_said a b (not_built_said (drop 1 payload) a h ∙ sym (not_built_said (drop 1 payload) b k))

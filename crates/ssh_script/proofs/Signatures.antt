@@ -1,5 +1,5 @@
 -- What a line sign says.
-use Rattle.std.proofs.Common.{◌≡◌, ◌⊎◌, ℕ, List, Option, Some, None, Result, Ok, Err, IsErrOf, sym, ◌∙◌, ap, subst, inl, inr}
+use Rattle.std.proofs.Common.{◌≡◌, ◌⊎◌, ℕ, List, Option, Some, None, Result, Ok, Err, IsErrOf, refl, sym, ◌∙◌, ap, subst, inl, inr}
 use Rattle.ssh_keys.specs.Keys.{IsKey, DecodesKey}
 use Rattle.ssh_keys.specs.declared.error.KeyError.{KeyError}
 use Rattle.ssh_keys.specs.declared.error.KeyError.TheVariants.{NoMemory}
@@ -41,3 +41,7 @@ pub four_words : (rest key more algorithm later message signature : List ℕ) (s
     cut later ≡ Some (message, signature) → Fits (Of_signature key algorithm message signature) said → Fits (sign_form rest) said
 four_words rest key more algorithm later message signature said a b c h =
     subst (λ x. Fits (sign_words x) said) (sym a) (subst (λ x. Fits (sign_algorithm key x) said) (sym b) (subst (λ x. Fits (sign_message key algorithm x) said) (sym c) h))
+
+pub three_words : (rest key more algorithm later : List ℕ) → cut rest ≡ Some (key, more) → cut more ≡ Some (algorithm, later) → cut later ≡ None → Fits (sign_form rest) None
+three_words rest key more algorithm later a b c =
+    subst (λ x. Fits (sign_words x) None) (sym a) (subst (λ x. Fits (sign_algorithm key x) None) (sym b) (subst (λ x. Fits (sign_message key algorithm x) None) (sym c) refl))

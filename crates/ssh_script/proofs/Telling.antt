@@ -1,10 +1,14 @@
--- What a script's handler and link tell.
+-- What a script's handler tells.
 use Rattle.std.proofs.Common.{◌≡◌, ℕ, List, [], ◌∷◌, ◌++◌, Option, Some, None, Result, Ok, Err, Bool, true, false, refl, sym, ◌∙◌, ap, append_assoc, subst, OnOk, OnErr, IfOk, IsOk, drop}
 use Rattle.ssh_wire.specs.declared.error.WireError.{WireError}
 use Rattle.ssh_link.specs.Told.{Adds, AddsOrStops, Tells}
-use Rattle.ssh_link.specs.declared.link.TraceEntry.{TraceEntry}
 use Rattle.ssh_auth.specs.declared.auth.Auth.{Auth}
 use Rattle.ssh_auth.specs.declared.call.Call.{Call}
+use Rattle.ssh_auth.specs.declared.call.Call.TheVariants.{ChannelOpenSession}
+use Rattle.ssh_wire.specs.declared.channel_id.ChannelId.{ChannelId}
+use Rattle.ssh_link.specs.declared.command.Command.{Command}
+use Rattle.ssh_link.specs.declared.open_answer.OpenAnswer.{OpenAnswer}
+use Rattle.ssh_script.specs.Opens.{open_answer, recorded}
 use Rattle.ssh_keys.specs.declared.algorithm.Algorithm.{Algorithm}
 use Rattle.ssh_keys.specs.declared.certificate.Certificate.{Certificate}
 use Rattle.ssh_keys.specs.declared.public_key.PublicKey.{PublicKey}
@@ -14,10 +18,7 @@ use Rattle.ssh_script.specs.declared.answers.Verdict.{Verdict}
 use Rattle.ssh_script.specs.Queue.{rest}
 use Rattle.ssh_script.specs.declared.asked.Asked.{Asked}
 use Rattle.ssh_script.specs.declared.asked.Asked.TheVariants as asked
-use Rattle.ssh_script.specs.declared.script_link.Event.{Event}
 use Rattle.ssh_script.specs.Played.{Failure, Queues, queues_from, first_verdict, verdict_answer, answered, after, played, left_after, heading, told_of}
-use Rattle.ssh_script.specs.Given.{Supply, told_as, traced, trace_of}
-use Rattle.ssh_script.specs.Given.{after as after_event, left_after as left_after_events, heading as input_heading}
 
 -- one more callback
 played_more : (queues : Queues) (all : List Asked) (one : Asked) →
@@ -63,31 +64,6 @@ tells_call lost lost' queues left all new one result call l n k e =
     tells (told_of lost queues all) (told_of lost' queues new) result call
     (subst (λ b. Adds (told_of lost queues all) (told_of b queues new) (call ∷ [])) (sym k) i)
 
--- one more call of the link
-traced_more : (supply : Supply) (all : List Event) (one : Event) →
-    traced supply (all ++ one ∷ []) ≡ traced supply all ++ told_as (left_after_events supply all) one ∷ []
-traced_more supply [] one = refl
-traced_more supply (first ∷ all) one = ap (λ t. told_as supply first ∷ t) (traced_more (after_event supply first) all one)
-
-left_more_events : (supply : Supply) (all : List Event) (one : Event) → left_after_events supply (all ++ one ∷ []) ≡ after_event (left_after_events supply all) one
-left_more_events supply [] one = refl
-left_more_events supply (first ∷ all) one = left_more_events (after_event supply first) all one
-
-pub left_next_event : (supply left left' : Supply) (all new : List Event) (one : Event) → left_after_events supply all ≡ left → new ≡ all ++ one ∷ [] → after_event left one ≡ left' →
-    left_after_events supply new ≡ left'
-left_next_event supply left left' all new one l n e =
-    ap (left_after_events supply) n ∙ (left_more_events supply all one ∙ (ap (λ q. after_event q one) l ∙ e))
-
-pub adds_entry : (supply left : Supply) (all new : List Event) (one : Event) (entry : TraceEntry) →
-    left_after_events supply all ≡ left → new ≡ all ++ one ∷ [] → told_as left one ≡ entry →
-    Adds (trace_of supply all) (trace_of supply new) (entry ∷ [])
-adds_entry supply left all new one entry l n e =
-    let c : told_as (left_after_events supply all) one ≡ entry = ap (λ q. told_as q one) l ∙ e in
-    ap (trace_of supply) n
-    ∙ (ap (λ t. Some (input_heading supply ++ t)) (traced_more supply all one)
-    ∙ (ap (λ x. Some (input_heading supply ++ (traced supply all ++ x ∷ []))) c
-    ∙ ap Some (sym (append_assoc (input_heading supply) (traced supply all) (entry ∷ [])))))
-
 -- a callback that was made and kept
 pub kept_one : (made : Result Asked WireError) (one : Asked) (all new : List Asked) → IsOk made → IfOk made (λ x. x ≡ one) → IfOk made (λ x. new ≡ all ++ x ∷ []) → new ≡ all ++ one ∷ []
 kept_one (Ok x) one all new m e k = k ∙ ap (λ y. all ++ y ∷ []) e
@@ -129,7 +105,13 @@ pub left_same : {T E : Type 0} (result : Result T E) (queues left : Queues) (all
 left_same (Ok value) queues left all new one l n m e = left_next queues left left all new one l n e
 left_same (Err error) queues left all new one l n m e = ap (left_after queues) m ∙ l
 
-pub left_same_event : {T E : Type 0} (result : Result T E) (supply left : Supply) (all new : List Event) (one : Event) → left_after_events supply all ≡ left →
-    OnOk result (new ≡ all ++ one ∷ []) → OnErr result (new ≡ all) → after_event left one ≡ left → left_after_events supply new ≡ left
-left_same_event (Ok value) supply left all new one l n m e = left_next_event supply left left all new one l n e
-left_same_event (Err error) supply left all new one l n m e = ap (left_after_events supply) m ∙ l
+-- an open is told with the answer that was recorded; where there was no memory for it, no call is told
+pub tells_open : (result : Result (Unit {0}) Failure) (lost lost' lost'' : Bool) (queues left : Queues) (all new : List Asked) (channel : ChannelId)
+    (answer : Option OpenAnswer) (commands : List Command) → left_after queues all ≡ left → new ≡ all ++ asked.ChannelOpenSession channel ∷ [] → lost' ≡ lost →
+    answer ≡ open_answer left.opens channel → OnOk result (commands ≡ recorded answer) → OnOk result (lost'' ≡ lost') → OnErr result (lost'' ≡ true) →
+    Tells (told_of lost queues all) (told_of lost'' queues new) result (ChannelOpenSession channel result commands)
+tells_open (Ok done) lost lost' lost'' queues left all new channel answer commands l n m a c s f =
+    tells_call lost lost'' queues left all new (asked.ChannelOpenSession channel) (Ok done) (ChannelOpenSession channel (Ok done) commands) l n (s ∙ m)
+    (ap (λ x. ChannelOpenSession channel (Ok done) (recorded x)) (sym a) ∙ ap (ChannelOpenSession channel (Ok done)) (sym c))
+tells_open (Err error) lost lost' lost'' queues left all new channel answer commands l n m a c s f =
+    subst (λ b. AddsOrStops (told_of lost queues all) (told_of b queues new) (ChannelOpenSession channel (Err error) commands ∷ [])) (sym f) tt

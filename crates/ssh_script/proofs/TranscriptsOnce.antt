@@ -5,13 +5,12 @@ use Rattle.ssh_handler.specs.declared.recorded.RecordError.TheVariants as record
 use Rattle.ssh_session.specs.declared.error.RunError.{RunError}
 use Rattle.ssh_session.specs.declared.error.RunError.TheVariants as error
 use Rattle.ssh_session.specs.World.{opening_world}
-use Rattle.ssh_session.specs.Run.{Turn, entries}
+use Rattle.ssh_session.specs.Run.{Turn, calls_of, entries}
 use Rattle.ssh_session.specs.Step.{Closes}
 use Rattle.ssh_script.specs.Scene.{Scene, opening_scene, lines_of, Gives}
 use Rattle.ssh_script.specs.Played.{Failure}
-use Rattle.ssh_script.specs.Given.{supply_of}
 use Rattle.ssh_script.specs.Print.{printed}
-use Rattle.ssh_script.specs.Transcript.{status_of, scene_settings, scene_accepts, calls_of, IsRun, Shows, Scripted, Transcript, IsBadScript, run_words}
+use Rattle.ssh_script.specs.Transcript.{status_of, scene_settings, scene_accepts, scene_supply, IsRun, Shows, Scripted, Transcript, IsBadScript, run_words}
 use Rattle.ssh_script.proofs.LinesOnce.{gives_once}
 use Rattle.ssh_script.proofs.RunsOnce.{Tail, once}
 
@@ -19,7 +18,7 @@ some_once : (m n : ℕ) → Some m ≡ Some n → m ≡ n
 some_once m n e = cc
 
 tail_of : (scene : Scene) (status : ℕ) (text : List ℕ) → (h : IsRun scene status text) →
-    Tail (scene_accepts scene) (scene_settings scene) (opening_world (scene_settings scene)) scene.queues (supply_of scene.inputs scene.moment) 0 scene.max_inputs h.turns h.last h.result
+    Tail (scene_accepts scene) (scene_settings scene) (opening_world (scene_settings scene)) scene.queues (scene_supply scene) 0 scene.max_inputs h.turns h.last h.result
 tail_of scene status text h = record {
   world = h.world;
   run = h.run;
@@ -33,7 +32,7 @@ tail_of scene status text h = record {
 
 run_once : (scene : Scene) (m n : ℕ) (s t : List ℕ) → IsRun scene m s → IsRun scene n t → (m ≡ n) × (s ≡ t)
 run_once scene m n s t h k =
-    let o = once (scene_accepts scene) (scene_settings scene) (opening_world (scene_settings scene)) scene.queues (supply_of scene.inputs scene.moment) 0 scene.max_inputs h.turns k.turns h.last k.last
+    let o = once (scene_accepts scene) (scene_settings scene) (opening_world (scene_settings scene)) scene.queues (scene_supply scene) 0 scene.max_inputs h.turns k.turns h.last k.last
     h.result k.result (tail_of scene m s h) (tail_of scene n t k) in
     let P = λ (l : List (Turn Failure)) (r : Result (Unit {0}) (RunError Failure)). printed (flat_map (calls_of {E = Failure}) l) (flat_map (entries {E = Failure}) l) r in (
       some_once m n (sym h.status_is ∙ (ap status_of o.1 ∙ k.status_is)),

@@ -5,8 +5,7 @@ use Rattle.ssh_keys.specs.Offers.{offered_key}
 use Rattle.ssh_auth.specs.declared.auth.Auth.{Auth}
 use Rattle.ssh_auth.specs.declared.auth.Auth.TheVariants.{Reject, Accept, UnsupportedMethod}
 use Rattle.ssh_auth.specs.declared.auth_request.AuthRequest.{AuthRequest}
-use Rattle.ssh_auth.specs.declared.call.Call.{Call}
-use Rattle.ssh_auth.specs.Plan.{Plan, Finish, Ask, after, Auth_publickey_offered, Called, Follows, Breaks}
+use Rattle.ssh_auth.specs.Plan.{Plan, Finish, Ask, after, Auth_publickey_offered, Event, Called, Told, Follows, Breaks}
 use Rattle.ssh_auth.specs.Publickey.{Offer}
 use Rattle.ssh_auth.specs.Request.{begun, is_probed}
 use Rattle.ssh_auth.specs.Said.{Said as Asked, Method, Signed_method}
@@ -27,61 +26,63 @@ IsFed (Ok (Fails Starved)) = ⊥
 IsFed _ = Unit {0}
 
 -- nothing comes of a plan that starves
-starves : (calls : List (Call Failure)) (end : Result Outcome Failure) → IsFed end → Comes (Finish (Fails Starved)) calls end → ⊥
+starves : (events : List (Event Failure)) (end : Result Outcome Failure) → IsFed end → Comes (Finish (Fails Starved)) events end → ⊥
 starves [] (Ok outcome) fed h = subst (λ o. IsFed (Ok o)) h fed
 starves [] (Err error) fed h = h
-starves (call ∷ calls) (Ok outcome) fed h = h
-starves (call ∷ calls) (Err error) fed h = h
+starves (event ∷ events) (Ok outcome) fed h = h
+starves (event ∷ events) (Err error) fed h = h
 
 -- what a key that was asked about goes on to
 permitted_any : (settings : Settings) (moment : ℕ) (w : World) (state : AuthRequest) (user : List ℕ) (offer : Offer) (accepted : Option Bool) (answer : Auth)
-    (calls : List (Call Failure)) (end : Result Outcome Failure) → IsFed end → Comes (after (permitted state answer (signed state user offer None)) (finished settings moment w)) calls end →
-    Comes (after (permitted state answer (signed state user offer accepted)) (finished settings moment w)) calls end
-permitted_any settings moment w state user offer accepted Accept calls end fed h = absurd (starves calls end fed h)
-permitted_any settings moment w state user offer accepted (Reject methods partial) calls end fed h = h
-permitted_any settings moment w state user offer accepted UnsupportedMethod calls end fed h = h
+    (events : List (Event Failure)) (end : Result Outcome Failure) → IsFed end → Comes (after (permitted state answer (signed state user offer None)) (finished settings moment w)) events end →
+    Comes (after (permitted state answer (signed state user offer accepted)) (finished settings moment w)) events end
+permitted_any settings moment w state user offer accepted Accept events end fed h = absurd (starves events end fed h)
+permitted_any settings moment w state user offer accepted (Reject methods partial) events end fed h = h
+permitted_any settings moment w state user offer accepted UnsupportedMethod events end fed h = h
 
 -- a request by a key that is asked about first, or was already
 signed_any : (settings : Settings) (moment : ℕ) (w : World) (state : AuthRequest) (user : List ℕ) (offer : Offer) (accepted : Option Bool) (is_asked : Bool)
-    (calls : List (Call Failure)) (end : Result Outcome Failure) → IsFed end →
+    (events : List (Event Failure)) (end : Result Outcome Failure) → IsFed end →
     Comes (after (if is_asked then signed state user offer None
-    else Ask (Auth_publickey_offered user (offered_key offer.key) offer.algorithm) (λ answer. permitted state answer (signed state user offer None))) (finished settings moment w)) calls end →
+    else Ask (Auth_publickey_offered user (offered_key offer.key) offer.algorithm) (λ answer. permitted state answer (signed state user offer None))) (finished settings moment w)) events end →
     Comes (after (if is_asked then signed state user offer accepted
-    else Ask (Auth_publickey_offered user (offered_key offer.key) offer.algorithm) (λ answer. permitted state answer (signed state user offer accepted))) (finished settings moment w)) calls end
-signed_any settings moment w state user offer accepted true calls end fed h = absurd (starves calls end fed h)
+    else Ask (Auth_publickey_offered user (offered_key offer.key) offer.algorithm) (λ answer. permitted state answer (signed state user offer accepted))) (finished settings moment w)) events end
+signed_any settings moment w state user offer accepted true events end fed h = absurd (starves events end fed h)
 signed_any settings moment w state user offer accepted false [] (Ok outcome) fed h = h
 signed_any settings moment w state user offer accepted false [] (Err error) fed h = h
-signed_any settings moment w state user offer accepted false (call ∷ calls) (Ok outcome) fed h =
-    (h.0, h.1, permitted_any settings moment w state user offer accepted h.0 calls (Ok outcome) fed h.2)
-signed_any settings moment w state user offer accepted false (call ∷ []) (Err error) fed h = h
-signed_any settings moment w state user offer accepted false (call ∷ later ∷ calls) (Err error) fed h =
-    (h.0, h.1, permitted_any settings moment w state user offer accepted h.0 (later ∷ calls) (Err error) fed h.2)
+signed_any settings moment w state user offer accepted false (Told entry ∷ events) (Ok outcome) fed h = absurd h
+signed_any settings moment w state user offer accepted false (Told entry ∷ events) (Err error) fed h = absurd h
+signed_any settings moment w state user offer accepted false (Called call ∷ events) (Ok outcome) fed h =
+    (h.0, h.1, permitted_any settings moment w state user offer accepted h.0 events (Ok outcome) fed h.2)
+signed_any settings moment w state user offer accepted false (Called call ∷ []) (Err error) fed h = h
+signed_any settings moment w state user offer accepted false (Called call ∷ later ∷ events) (Err error) fed h =
+    (h.0, h.1, permitted_any settings moment w state user offer accepted h.0 (later ∷ events) (Err error) fed h.2)
 
 abbrev signed_row : Settings → ℕ → World → List ℕ → Offer → Option Bool → Plan Outcome
 signed_row settings moment w user offer accepted = row settings moment w (Request (asks.Request user (Signed_method offer accepted)))
 
-row_any : (settings : Settings) (moment : ℕ) (w : World) (user : List ℕ) (offer : Offer) (accepted : Option Bool) (calls : List (Call Failure)) (end : Result Outcome Failure) → IsFed end →
-    Comes (signed_row settings moment w user offer None) calls end → Comes (signed_row settings moment w user offer accepted) calls end
-row_any settings moment w user offer accepted calls end fed h =
+row_any : (settings : Settings) (moment : ℕ) (w : World) (user : List ℕ) (offer : Offer) (accepted : Option Bool) (events : List (Event Failure)) (end : Result Outcome Failure) → IsFed end →
+    Comes (signed_row settings moment w user offer None) events end → Comes (signed_row settings moment w user offer accepted) events end
+row_any settings moment w user offer accepted events end fed h =
     let state = begun w.auth user (codes "ssh-connection") in
-    signed_any settings moment w state user offer accepted (is_probed state.current offer.name offer.blob) calls end fed h
+    signed_any settings moment w state user offer accepted (is_probed state.current offer.name offer.blob) events end fed h
 
 -- one plan comes to both ends
-abbrev pub Meet : (xs ys : List (Call Failure)) → (o p : Result Outcome Failure) → Type 0
+abbrev pub Meet : (xs ys : List (Event Failure)) → (o p : Result Outcome Failure) → Type 0
 Meet xs ys o p = (plan : Plan Outcome) × Comes plan xs o × Comes plan ys p
 
-answers_meet : (settings : Settings) (moment : ℕ) (w : World) (user : List ℕ) (offer : Offer) (a b : Option Bool) (xs ys : List (Call Failure)) (o p : Result Outcome Failure) → AreOneAnswer a b → IsFed o → IsFed p →
+answers_meet : (settings : Settings) (moment : ℕ) (w : World) (user : List ℕ) (offer : Offer) (a b : Option Bool) (xs ys : List (Event Failure)) (o p : Result Outcome Failure) → AreOneAnswer a b → IsFed o → IsFed p →
     Comes (signed_row settings moment w user offer a) xs o → Comes (signed_row settings moment w user offer b) ys p → Meet xs ys o p
 answers_meet settings moment w user offer None b xs ys o p e f g h k = (signed_row settings moment w user offer b, row_any settings moment w user offer b xs o f h, k)
 answers_meet settings moment w user offer (Some a) None xs ys o p e f g h k = (signed_row settings moment w user offer (Some a), h, row_any settings moment w user offer (Some a) ys p g k)
 answers_meet settings moment w user offer (Some a) (Some b) xs ys o p e f g h k =
     (signed_row settings moment w user offer (Some a), h, subst (λ x. Comes (signed_row settings moment w user offer (Some x)) ys p) (sym e) k)
 
-same_meet : (settings : Settings) (moment : ℕ) (w : World) (a b : Said) (xs ys : List (Call Failure)) (o p : Result Outcome Failure) → a ≡ b →
+same_meet : (settings : Settings) (moment : ℕ) (w : World) (a b : Said) (xs ys : List (Event Failure)) (o p : Result Outcome Failure) → a ≡ b →
     Comes (row settings moment w a) xs o → Comes (row settings moment w b) ys p → Meet xs ys o p
 same_meet settings moment w a b xs ys o p e h k = (row settings moment w a, h, subst (λ x. Comes (row settings moment w x) ys p) (sym e) k)
 
-methods_meet : (settings : Settings) (moment : ℕ) (w : World) (user : List ℕ) (a b : Method) (xs ys : List (Call Failure)) (o p : Result Outcome Failure) → AreOneMethod a b → IsFed o → IsFed p →
+methods_meet : (settings : Settings) (moment : ℕ) (w : World) (user : List ℕ) (a b : Method) (xs ys : List (Event Failure)) (o p : Result Outcome Failure) → AreOneMethod a b → IsFed o → IsFed p →
     Comes (row settings moment w (Request (asks.Request user a))) xs o → Comes (row settings moment w (Request (asks.Request user b))) ys p → Meet xs ys o p
 methods_meet settings moment w user (Signed_method m a) (Signed_method n b) xs ys o p e f g h k =
     answers_meet settings moment w user m a b xs ys o p e.1 f g h (subst (λ x. Comes (signed_row settings moment w user x b) ys p) (sym e.0) k)
@@ -90,7 +91,7 @@ methods_meet settings moment w user (Signed_method m a) b xs ys o p e f g h k =
 methods_meet settings moment w user a b xs ys o p e f g h k =
     same_meet settings moment w (Request (asks.Request user a)) (Request (asks.Request user b)) xs ys o p (ap (λ x. Request (asks.Request user x)) e) h k
 
-requests_meet : (settings : Settings) (moment : ℕ) (w : World) (a b : Asked) (xs ys : List (Call Failure)) (o p : Result Outcome Failure) → AreOneRequest a b → IsFed o → IsFed p →
+requests_meet : (settings : Settings) (moment : ℕ) (w : World) (a b : Asked) (xs ys : List (Event Failure)) (o p : Result Outcome Failure) → AreOneRequest a b → IsFed o → IsFed p →
     Comes (row settings moment w (Request a)) xs o → Comes (row settings moment w (Request b)) ys p → Meet xs ys o p
 requests_meet settings moment w asks.Unread b xs ys o p e f g h k = absurd (starves xs o f h)
 requests_meet settings moment w (asks.Request user a) asks.Unread xs ys o p e f g h k = absurd (starves ys p g k)
@@ -101,7 +102,7 @@ requests_meet settings moment w (asks.Request user a) (asks.Request other b) xs 
 requests_meet settings moment w a b xs ys o p e f g h k = same_meet settings moment w (Request a) (Request b) xs ys o p (ap Request e) h k
 
 -- two readings of one payload meet, where memory was not wanting
-pub said_meet : (settings : Settings) (moment : ℕ) (w : World) (a b : Said) (xs ys : List (Call Failure)) (o p : Result Outcome Failure) → AreOne a b → IsFed o → IsFed p →
+pub said_meet : (settings : Settings) (moment : ℕ) (w : World) (a b : Said) (xs ys : List (Event Failure)) (o p : Result Outcome Failure) → AreOne a b → IsFed o → IsFed p →
     Comes (row settings moment w a) xs o → Comes (row settings moment w b) ys p → Meet xs ys o p
 said_meet settings moment w (Request a) (Request b) xs ys o p e f g h k = requests_meet settings moment w a b xs ys o p e f g h k
 said_meet settings moment w a b xs ys o p e f g h k = same_meet settings moment w a b xs ys o p e h k

@@ -7,6 +7,15 @@ use Rattle.ssh_keys.specs.Algorithms.{algorithm_name}
 use Rattle.ssh_keys.specs.Keys.{IsKey}
 use Rattle.ssh_keys.specs.declared.public_key.PublicKey.{PublicKey}
 use Rattle.ssh_keys.specs.declared.table_verifier.AcceptedSignature.{AcceptedSignature}
+use Rattle.ssh_wire.specs.declared.channel_id.ChannelId.{ChannelId}
+use Rattle.ssh_wire.specs.declared.open_failure.ChannelOpenFailure.{ChannelOpenFailure}
+use Rattle.ssh_wire.specs.declared.open_failure.ChannelOpenFailure.TheVariants as reason
+use Rattle.ssh_link.specs.declared.command.Command.{Command}
+use Rattle.ssh_link.specs.declared.command.Command.TheVariants as command
+use Rattle.ssh_link.specs.declared.open_answer.OpenAnswer.{OpenAnswer}
+use Rattle.ssh_script.specs.Opens.{own, accepting, rejecting}
+use Rattle.ssh_script.specs.declared.answers.OpenVerdict.{OpenVerdict}
+use Rattle.ssh_script.specs.declared.answers.OpenVerdict.TheVariants as open_verdict
 use Rattle.ssh_script.specs.declared.answers.Verdict.{Verdict}
 use Rattle.ssh_script.specs.declared.answers.Verdict.TheVariants as verdict
 use Rattle.ssh_script.specs.declared.lines.Setting.{Setting}
@@ -18,6 +27,19 @@ use Rattle.ssh_script.specs.declared.lines.Line.TheVariants as line
 -- a number is written in decimal, in one way
 abbrev pub IsNumber : List ℕ → ℕ → Type 0
 IsNumber digits n = (n < 2 ^ 64) × (digits ≡ decimal n)
+
+-- one below 2^32 likewise
+abbrev pub IsSmall : List ℕ → ℕ → Type 0
+IsSmall digits n = (n < 2 ^ 32) × (digits ≡ decimal n)
+
+abbrev pub IsSmallIn : List ℕ → Option ℕ → Type 0
+IsSmallIn digits (Some n) = IsSmall digits n
+IsSmallIn digits None = (n : ℕ) → IsSmall digits n → ⊥
+
+-- a channel is written by its number
+abbrev pub IsChannelIn : List ℕ → Option ChannelId → Type 0
+IsChannelIn digits (Some channel) = IsSmall digits channel.0
+IsChannelIn digits None = (n : ℕ) → IsSmall digits n → ⊥
 
 abbrev pub IsNumberIn : List ℕ → Option ℕ → Type 0
 IsNumberIn digits (Some n) = IsNumber digits n
@@ -63,6 +85,8 @@ pub data Form : Type 0 where
   Of_bytes : (says : List ℕ → Line) → (digits : List ℕ) → Form
   -- these words write the signature that it accepts
   Of_signature : (key algorithm message signature : List ℕ) → Form
+  -- these digits write a number below 2^32, and by it this is what the line is
+  Of_small : (next : ℕ → Form) → (digits : List ℕ) → Form
 
 -- the first word, and what follows the space after it; None where there is no space
 abbrev pub is_space : ℕ → Bool
@@ -103,11 +127,29 @@ verdict_form name (Some one) = setting_form (answer_to name one)
 abbrev pub banner_form : List ℕ → Form
 banner_form word = if bytes_eq word (codes "fail") then Whole (line.Setting setting.FailBanner) else No_form
 
+-- accept, reject or hold
+abbrev pub open_verdict_of : List ℕ → Option OpenVerdict
+open_verdict_of word =
+    if bytes_eq word (codes "accept") then Some open_verdict.Accept
+    else if bytes_eq word (codes "reject") then Some open_verdict.Reject
+    else if bytes_eq word (codes "hold") then Some open_verdict.Hold
+    else None
+
+abbrev pub open_verdict_form : Option OpenVerdict → Form
+open_verdict_form None = No_form
+open_verdict_form (Some one) = Whole (line.Setting (setting.AnswerOpen one))
+
+-- answer open, and one of these
+abbrev pub open_form : List ℕ → Form
+open_form word = open_verdict_form (open_verdict_of word)
+
 -- answer, a name and a word
 abbrev pub answer_words : Option (List ℕ × List ℕ) → Form
 answer_words None = No_form
 answer_words (Some parts) =
-    if bytes_eq parts.0 (codes "banner") then banner_form parts.1 else verdict_form parts.0 (verdict_of parts.1)
+    if bytes_eq parts.0 (codes "banner") then banner_form parts.1
+    else if bytes_eq parts.0 (codes "open") then open_form parts.1
+    else verdict_form parts.0 (verdict_of parts.1)
 
 abbrev pub answer_form : List ℕ → Form
 answer_form rest = answer_words (cut rest)
@@ -140,6 +182,52 @@ sign_words (Some parts) = sign_algorithm parts.0 (cut parts.1)
 abbrev pub sign_form : List ℕ → Form
 sign_form rest = sign_words (cut rest)
 
+abbrev pub commands : Command → Line
+commands one = line.Input (input.Command one)
+
+abbrev pub replies : OpenAnswer → Line
+replies answer = line.Input (input.Reply answer)
+
+-- data, a channel and bytes
+abbrev pub data_words : Option (List ℕ × List ℕ) → Form
+data_words None = No_form
+data_words (Some parts) = Of_small (λ channel. Of_bytes (λ bytes. commands (command.Data (own channel) bytes)) parts.1) parts.0
+
+abbrev pub data_form : List ℕ → Form
+data_form rest = data_words (cut rest)
+
+-- eof, and a channel; and close, and a channel
+abbrev pub eof_form : List ℕ → Form
+eof_form rest = Of_small (λ channel. Whole (commands (command.Eof (own channel)))) rest
+
+abbrev pub close_form : List ℕ → Form
+close_form rest = Of_small (λ channel. Whole (commands (command.Close (own channel)))) rest
+
+-- accept, and a channel
+abbrev pub accept_form : List ℕ → Form
+accept_form rest = Of_small (λ channel. Whole (replies (accepting (own channel)))) rest
+
+-- the reason that has this code
+abbrev pub reason_of : ℕ → Option ChannelOpenFailure
+reason_of code =
+    if code == 1 then Some reason.AdministrativelyProhibited
+    else if code == 2 then Some reason.ConnectFailed
+    else if code == 3 then Some reason.UnknownChannelType
+    else if code == 4 then Some reason.ResourceShortage
+    else None
+
+abbrev pub rejecting_form : ℕ → Option ChannelOpenFailure → Form
+rejecting_form channel None = No_form
+rejecting_form channel (Some why) = Whole (replies (rejecting (own channel) why))
+
+-- reject, a channel and the code of a reason
+abbrev pub reject_words : Option (List ℕ × List ℕ) → Form
+reject_words None = No_form
+reject_words (Some parts) = Of_small (λ channel. Of_small (λ code. rejecting_form channel (reason_of code)) parts.1) parts.0
+
+abbrev pub reject_form : List ℕ → Form
+reject_form rest = reject_words (cut rest)
+
 -- a word, and what follows it
 abbrev pub word_form : List ℕ → List ℕ → Form
 word_form word rest =
@@ -150,6 +238,11 @@ word_form word rest =
     else if bytes_eq word (codes "sign") then sign_form rest
     else if bytes_eq word (codes "at") then Of_number (λ moment. line.Input (input.At moment)) rest
     else if bytes_eq word (codes "recv") then Of_bytes (λ bytes. line.Input (input.Recv bytes)) rest
+    else if bytes_eq word (codes "data") then data_form rest
+    else if bytes_eq word (codes "eof") then eof_form rest
+    else if bytes_eq word (codes "close") then close_form rest
+    else if bytes_eq word (codes "accept") then accept_form rest
+    else if bytes_eq word (codes "reject") then reject_form rest
     else No_form
 
 -- one word alone
@@ -174,6 +267,8 @@ Fits (Of_bytes says digits) None = (bytes : List ℕ) → IsHex digits bytes →
 Fits (Of_signature key algorithm message signature) (Some said) =
     (accepted : AcceptedSignature) × IsSignature key algorithm message signature accepted × (said ≡ line.Setting (setting.Sign accepted))
 Fits (Of_signature key algorithm message signature) None = (accepted : AcceptedSignature) → IsSignature key algorithm message signature accepted → ⊥
+Fits (Of_small next digits) said =
+    ((n : ℕ) × IsSmall digits n × Fits (next n) said) ⊎ (((n : ℕ) → IsSmall digits n → ⊥) × (said ≡ None))
 
 -- an empty line, or a comment, which begins with #
 abbrev pub is_passed : List ℕ → Bool

@@ -1,4 +1,5 @@
 pub mod Transfer
+pub mod Opens
 pub mod Grammar
 pub mod Queue
 pub mod Played

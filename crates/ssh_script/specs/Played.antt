@@ -3,12 +3,14 @@ use Rattle.std.specs.Prelude.{◌≡◌, ℕ, ◌-◌, ◌==◌, List, [], ◌�
 use Rattle.ssh_auth.specs.declared.auth.Auth.{Auth}
 use Rattle.ssh_auth.specs.declared.auth.Auth.TheVariants.{Reject, Accept}
 use Rattle.ssh_auth.specs.declared.call.Call.{Call}
-use Rattle.ssh_auth.specs.declared.call.Call.TheVariants.{AuthenticationBanner, AuthNone, AuthPassword, AuthPublickeyOffered, AuthPublickey, AuthOpensshCertificate, AuthSucceeded}
+use Rattle.ssh_auth.specs.declared.call.Call.TheVariants.{AuthenticationBanner, AuthNone, AuthPassword, AuthPublickeyOffered, AuthPublickey, AuthOpensshCertificate, AuthSucceeded, ChannelOpenSession, ChannelEof, ChannelClose, WindowAdjusted, CommandDone}
 use Rattle.ssh_handler.specs.declared.recorded.RecordError.{RecordError}
 use Rattle.ssh_handler.specs.declared.recorded.RecordError.TheVariants.{Inner}
 use Rattle.ssh_script.specs.Queue.{rest}
+use Rattle.ssh_script.specs.Opens.{own, open_answer, recorded}
 use Rattle.ssh_script.specs.declared.answers.Answers.{Answers}
 use Rattle.ssh_script.specs.declared.answers.Places.{Places}
+use Rattle.ssh_script.specs.declared.answers.OpenVerdict.{OpenVerdict}
 use Rattle.ssh_script.specs.declared.answers.Verdict.{Verdict}
 use Rattle.ssh_script.specs.declared.answers.Verdict.TheVariants as verdict
 use Rattle.ssh_script.specs.declared.asked.Asked.{Asked}
@@ -36,6 +38,8 @@ pub record Queues : Type 0 where
   pub certificate : List Verdict
   -- how many banner callbacks fail
   pub banners : ℕ
+  -- to all channels that the peer opens
+  pub opens : OpenVerdict
 
 -- as the code holds them
 abbrev pub queues_in : Answers → Queues
@@ -46,6 +50,7 @@ queues_in answers = record {
   publickey = answers.publickey.items;
   certificate = answers.certificate.items;
   banners = answers.failing_banners;
+  opens = answers.opens;
 }
 
 -- those after as many as were given
@@ -57,6 +62,7 @@ queues_from answers next banners = record {
   publickey = drop next.publickey answers.publickey.items;
   certificate = drop next.certificate answers.certificate.items;
   banners = banners;
+  opens = answers.opens;
 }
 
 -- the next verdict, and this one where there is none
@@ -81,7 +87,12 @@ answered queues (asked.AuthPublickeyOffered user key algorithm) = AuthPublickeyO
 answered queues (asked.AuthPublickey user key algorithm) = AuthPublickey user key algorithm (verdict_answer (first_verdict verdict.Reject queues.publickey))
 answered queues (asked.AuthOpensshCertificate user certificate) =
     AuthOpensshCertificate user certificate (verdict_answer (first_verdict verdict.Reject queues.certificate))
-answered queues asked.AuthSucceeded = AuthSucceeded (Ok tt)
+answered queues asked.AuthSucceeded = AuthSucceeded (Ok tt) []
+answered queues (asked.ChannelOpenSession channel) = ChannelOpenSession channel (Ok tt) (recorded (open_answer queues.opens channel))
+answered queues (asked.ChannelEof channel) = ChannelEof channel (Ok tt) []
+answered queues (asked.ChannelClose channel) = ChannelClose channel (Ok tt) []
+answered queues (asked.WindowAdjusted channel new_size) = WindowAdjusted channel new_size (Ok tt) []
+answered queues (asked.CommandDone place outcome) = CommandDone place outcome (Ok tt)
 
 -- the answers that are left after it
 abbrev pub after : Queues → Asked → Queues
@@ -92,6 +103,11 @@ after queues (asked.AuthPublickeyOffered user key algorithm) = record queues { o
 after queues (asked.AuthPublickey user key algorithm) = record queues { publickey = rest queues.publickey }
 after queues (asked.AuthOpensshCertificate user certificate) = record queues { certificate = rest queues.certificate }
 after queues asked.AuthSucceeded = queues
+after queues (asked.ChannelOpenSession channel) = queues
+after queues (asked.ChannelEof channel) = queues
+after queues (asked.ChannelClose channel) = queues
+after queues (asked.WindowAdjusted channel new_size) = queues
+after queues (asked.CommandDone place outcome) = queues
 
 -- the callbacks in order, each with its answer
 abbrev pub played : Queues → List Asked → List (Call Failure)
@@ -110,7 +126,12 @@ asked_of (AuthPassword user password answer) = asked.AuthPassword user password
 asked_of (AuthPublickeyOffered user key algorithm answer) = asked.AuthPublickeyOffered user key algorithm
 asked_of (AuthPublickey user key algorithm answer) = asked.AuthPublickey user key algorithm
 asked_of (AuthOpensshCertificate user certificate answer) = asked.AuthOpensshCertificate user certificate
-asked_of (AuthSucceeded answer) = asked.AuthSucceeded
+asked_of (AuthSucceeded answer commands) = asked.AuthSucceeded
+asked_of (ChannelOpenSession channel answer commands) = asked.ChannelOpenSession channel
+asked_of (ChannelEof channel answer commands) = asked.ChannelEof channel
+asked_of (ChannelClose channel answer commands) = asked.ChannelClose channel
+asked_of (WindowAdjusted channel new_size answer commands) = asked.WindowAdjusted channel new_size
+asked_of (CommandDone place outcome answer) = asked.CommandDone place outcome
 
 -- each of these calls was answered by the script, in order
 abbrev pub IsAnswered : Queues → List (Call Failure) → Type 0
@@ -118,7 +139,8 @@ IsAnswered queues [] = Unit {0}
 IsAnswered queues (call ∷ calls) =
     (call ≡ answered queues (asked_of call)) × IsAnswered (after queues (asked_of call)) calls
 
--- the answers as a handler tells them before its calls: a call for each queue, which names its verdicts by their numbers, and one for the number of banners that fail
+-- the answers as a handler tells them before its calls: a call for each queue, which names its verdicts by their numbers, one for the number of banners that fail, and
+-- one for the opens
 abbrev pub verdict_number : Verdict → ℕ
 verdict_number verdict.Accept = 0
 verdict_number verdict.Reject = 1
@@ -130,6 +152,9 @@ told_queue queue = AuthNone (map verdict_number queue) (Ok Accept)
 abbrev pub told_banners : ℕ → Call Failure
 told_banners count = AuthenticationBanner (Ok (Some (count ∷ [])))
 
+abbrev pub told_opens : OpenVerdict → Call Failure
+told_opens opens = ChannelOpenSession (own 0) (Ok tt) (recorded (open_answer opens (own 0)))
+
 abbrev pub heading : Queues → List (Call Failure)
 heading queues =
     told_queue queues.none
@@ -138,6 +163,7 @@ heading queues =
     ∷ told_queue queues.publickey
     ∷ told_queue queues.certificate
     ∷ told_banners queues.banners
+    ∷ told_opens queues.opens
     ∷ []
 
 -- what a handler tells that has these answers and was called so; one that lost a call tells nothing

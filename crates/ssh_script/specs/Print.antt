@@ -7,6 +7,14 @@ use Rattle.ssh_keys.specs.Algorithms.{algorithm_name}
 use Rattle.ssh_keys.specs.Keys.{key_blob}
 use Rattle.ssh_keys.specs.declared.algorithm.Algorithm.{Algorithm}
 use Rattle.ssh_keys.specs.declared.public_key.PublicKey.{PublicKey}
+use Rattle.ssh_link.specs.declared.notice.ChannelMsg.{ChannelMsg}
+use Rattle.ssh_link.specs.declared.notice.ChannelMsg.TheVariants as msg
+use Rattle.ssh_link.specs.declared.notice.Notice.{Notice}
+use Rattle.ssh_link.specs.declared.notice.Notice.TheVariants as notice
+use Rattle.ssh_link.specs.declared.outcome.CommandOutcome.{CommandOutcome}
+use Rattle.ssh_link.specs.declared.outcome.CommandOutcome.TheVariants as outcome
+use Rattle.ssh_link.specs.declared.outcome.Refusal.{Refusal}
+use Rattle.ssh_link.specs.declared.outcome.Refusal.TheVariants as refusal
 use Rattle.ssh_link.specs.declared.frame.Frame.{Frame}
 use Rattle.ssh_link.specs.declared.link.TraceEntry.{TraceEntry}
 use Rattle.ssh_link.specs.declared.link.TraceEntry.TheVariants as entry
@@ -15,8 +23,6 @@ use Rattle.ssh_session.specs.declared.error.RunError.{RunError}
 use Rattle.ssh_session.specs.declared.error.RunError.TheVariants as error
 use Rattle.ssh_script.specs.declared.asked.Asked.{Asked}
 use Rattle.ssh_script.specs.declared.asked.Asked.TheVariants as asked
-use Rattle.ssh_script.specs.declared.script_link.Event.{Event}
-use Rattle.ssh_script.specs.declared.script_link.Event.TheVariants as event
 use Rattle.ssh_script.specs.Played.{asked_of}
 
 -- bytes in hex, and - for none
@@ -27,6 +33,29 @@ hex_text (byte ∷ bytes) = encode_lower (byte ∷ bytes)
 -- a key: its blob, and the name of the algorithm by which it signs
 abbrev pub key_text : PublicKey → Algorithm → List ℕ
 key_text key algorithm = hex_text (key_blob key) ++ codes " " ++ algorithm_name algorithm
+
+-- how a refusal is named
+abbrev pub refusal_name : Refusal → List ℕ
+refusal_name refusal.UnknownChannel = codes "UnknownChannel"
+refusal_name refusal.UnknownOpen = codes "UnknownOpen"
+refusal_name refusal.SendingEnded = codes "SendingEnded"
+refusal_name refusal.TooLong = codes "TooLong"
+
+-- what came of a command
+abbrev pub outcome_text : CommandOutcome → List ℕ
+outcome_text outcome.Accepted = codes "accepted"
+outcome_text (outcome.Opened channel) = codes "opened " ++ decimal channel.0
+outcome_text (outcome.Refused why) = codes "refused " ++ refusal_name why
+
+-- a callback that speaks of a channel alone
+abbrev pub channel_line : List ℕ → ChannelId → List ℕ
+channel_line name channel = codes "call " ++ name ++ codes " " ++ decimal channel.0 ++ codes "\n"
+
+abbrev pub window_line : ChannelId → ℕ → List ℕ
+window_line channel new_size = codes "call window_adjusted " ++ decimal channel.0 ++ codes " " ++ decimal new_size ++ codes "\n"
+
+abbrev pub command_line : ℕ → CommandOutcome → List ℕ
+command_line place result = codes "call command_done " ++ decimal place ++ codes " " ++ outcome_text result ++ codes "\n"
 
 -- a callback and its arguments
 abbrev pub asked_line : Asked → List ℕ
@@ -40,6 +69,11 @@ asked_line (asked.AuthPublickey user key algorithm) = codes "call auth_publickey
 asked_line (asked.AuthOpensshCertificate user certificate) =
     codes "call auth_openssh_certificate " ++ hex_text user ++ codes " " ++ hex_text certificate.key_id ++ codes "\n"
 asked_line asked.AuthSucceeded = codes "call auth_succeeded\n"
+asked_line (asked.ChannelOpenSession channel) = channel_line (codes "channel_open_session") channel
+asked_line (asked.ChannelEof channel) = channel_line (codes "channel_eof") channel
+asked_line (asked.ChannelClose channel) = channel_line (codes "channel_close") channel
+asked_line (asked.WindowAdjusted channel new_size) = window_line channel new_size
+asked_line (asked.CommandDone place result) = command_line place result
 
 -- a call prints without its answer
 abbrev pub call_line : {E : Type 0} → Call E → List ℕ
@@ -59,6 +93,26 @@ abbrev pub frame_line : Frame → List ℕ
 frame_line frame =
     codes "send " ++ channel_text frame.channel ++ codes " " ++ hex_text frame.payload ++ hold_text frame.hold_until ++ codes "\n"
 
+-- what happened on a channel
+abbrev pub msg_text : ChannelMsg → List ℕ
+msg_text (msg.WindowAdjusted new_size) = codes " WindowAdjusted " ++ decimal new_size
+msg_text msg.Eof = codes " Eof"
+msg_text msg.Close = codes " Close"
+
+-- a notice: its channel, its variant, and its fields
+abbrev pub notice_text : Notice → List ℕ
+notice_text (notice.Channel channel happened) = decimal channel.0 ++ msg_text happened
+notice_text (notice.Granted channel amount) = decimal channel.0 ++ codes " Granted " ++ decimal amount
+notice_text (notice.Ready channel window packet) =
+    decimal channel.0 ++ codes " Ready " ++ decimal window ++ codes " " ++ decimal packet
+
+abbrev pub notice_line : Notice → List ℕ
+notice_line one = codes "notice " ++ notice_text one ++ codes "\n"
+
+-- what came of the command or the answer to an open with this ticket
+abbrev pub answer_line : ℕ → CommandOutcome → List ℕ
+answer_line ticket result = codes "done " ++ decimal ticket ++ codes " " ++ outcome_text result ++ codes "\n"
+
 abbrev pub input_line : ℕ → List ℕ
 input_line number = codes "input " ++ decimal number ++ codes "\n"
 
@@ -67,12 +121,8 @@ abbrev pub entry_lines : ℕ → List TraceEntry → List ℕ
 entry_lines taken [] = []
 entry_lines taken (entry.Took commands replies input ∷ entries) = input_line (taken + 1) ++ entry_lines (taken + 1) entries
 entry_lines taken (entry.Sent frame ∷ entries) = frame_line frame ++ entry_lines taken entries
-
--- the same of what a script's link keeps
-abbrev pub event_lines : ℕ → List Event → List ℕ
-event_lines taken [] = []
-event_lines taken (event.Took commands replies ∷ events) = input_line (taken + 1) ++ event_lines (taken + 1) events
-event_lines taken (event.Sent frame ∷ events) = frame_line frame ++ event_lines taken events
+entry_lines taken (entry.Noticed one ∷ entries) = notice_line one ++ entry_lines taken entries
+entry_lines taken (entry.Answered ticket result ∷ entries) = answer_line ticket result ++ entry_lines taken entries
 
 -- how the error of a run is named
 abbrev pub variant_name : {E : Type 0} → RunError E → List ℕ

@@ -1,10 +1,12 @@
 -- What the lines of a script say together.
 use Rattle.std.specs.Prelude.{◌≡◌, ◌+◌, ◌^◌, ◌==◌, ℕ, List, [], ◌∷◌, ◌++◌, length, nat_lt, false, if◌then◌else◌, Option, Some, None, Result, Ok, Err, MatchOption}
 use Rattle.ssh_link.specs.declared.frame.Input.{Input}
-use Rattle.ssh_link.specs.declared.frame.InputKind.TheVariants.{Payload}
+use Rattle.ssh_link.specs.declared.frame.InputKind.{InputKind}
+use Rattle.ssh_link.specs.declared.frame.InputKind.TheVariants.{Payload, Command, OpenReply}
 use Rattle.ssh_handler.specs.declared.config.Config.{Config}
 use Rattle.ssh_handler.specs.Settings.{standard_config}
 use Rattle.ssh_keys.specs.declared.table_verifier.AcceptedSignature.{AcceptedSignature}
+use Rattle.ssh_script.specs.declared.answers.OpenVerdict.TheVariants.{Accept}
 use Rattle.ssh_script.specs.declared.lines.Setting.{Setting}
 use Rattle.ssh_script.specs.declared.lines.Setting.TheVariants as setting
 use Rattle.ssh_script.specs.declared.lines.InputLine.{InputLine}
@@ -27,6 +29,8 @@ pub record Scene : Type 0 where
   pub accepted : List AcceptedSignature
   -- what the callbacks answer
   pub queues : Queues
+  -- how many of the inputs are commands and answers to opens
+  pub tickets : ℕ
   pub inputs : List Input
   -- the moment in force
   pub moment : ℕ
@@ -40,7 +44,8 @@ opening_scene = record {
   max_inputs = 1000000;
   config = standard_config;
   accepted = [];
-  queues = record { none = []; password = []; offered = []; publickey = []; certificate = []; banners = 0 };
+  queues = record { none = []; password = []; offered = []; publickey = []; certificate = []; banners = 0; opens = Accept };
+  tickets = 0;
   inputs = [];
   moment = 0;
   stage = stage.Settings;
@@ -60,6 +65,7 @@ set (setting.AnswerOffered verdict) s = Some (record s { queues = record s.queue
 set (setting.AnswerPublickey verdict) s = Some (record s { queues = record s.queues { publickey = s.queues.publickey ++ verdict ∷ [] } })
 set (setting.AnswerCertificate verdict) s = Some (record s { queues = record s.queues { certificate = s.queues.certificate ++ verdict ∷ [] } })
 set setting.FailBanner s = Some (record s { queues = record s.queues { banners = s.queues.banners + 1 } })
+set (setting.AnswerOpen verdict) s = Some (record s { queues = record s.queues { opens = verdict } })
 
 -- settings come before the first input line
 abbrev pub set_in : Stage → Setting → Scene → Option Scene
@@ -67,10 +73,24 @@ set_in stage.Settings one s = set one s
 set_in stage.Inputs one s = None
 set_in stage.Ended one s = None
 
+-- an input of this kind comes at the moment in force
+abbrev pub with_input : InputKind → Scene → Scene
+with_input kind s = record s { inputs = s.inputs ++ (record { moment = s.moment; kind = kind }) ∷ [] }
+
+-- one more ticket is given
+abbrev pub with_ticket : Scene → Scene
+with_ticket s = record s { tickets = s.tickets + 1 }
+
+-- there was an input line
+abbrev pub begun : Scene → Scene
+begun s = record s { stage = stage.Inputs }
+
 -- after an input line
 abbrev pub after_input : InputLine → Scene → Scene
-after_input (input.At moment) s = record s { moment = moment; stage = stage.Inputs }
-after_input (input.Recv bytes) s = record s { inputs = s.inputs ++ (record { moment = s.moment; kind = Payload bytes }) ∷ []; stage = stage.Inputs }
+after_input (input.At moment) s = record (begun s) { moment = moment }
+after_input (input.Recv bytes) s = with_input (Payload bytes) (begun s)
+after_input (input.Command command) s = with_input (Command (s.tickets + 1) command) (with_ticket (begun s))
+after_input (input.Reply answer) s = with_input (OpenReply (s.tickets + 1) answer) (with_ticket (begun s))
 after_input input.End s = record s { stage = stage.Ended }
 
 -- once the peer is gone, input lines are not taken
@@ -114,6 +134,7 @@ scene_of script = record {
   config = script.config;
   accepted = script.verifier;
   queues = queues_in script.answers;
+  tickets = script.tickets;
   inputs = script.inputs.items;
   moment = script.moment;
   stage = script.stage;

@@ -2,19 +2,19 @@
 use Rattle.std.specs.Prelude.{◌≡◌, ◌≢◌, ◌<◌, ◌≤◌, ◌⊎◌, ℕ, List, [], ◌∷◌, ◌++◌, codes, flat_map, length, Option, Some, None, option_to_list, IfSome, Result, Ok, Err}
 use Rattle.std.specs.Fmt.{decimal}
 use Rattle.ssh_link.specs.Told.{Adds}
-use Rattle.ssh_auth.specs.declared.call.Call.{Call}
 use Rattle.ssh_keys.specs.Tables.{IsListed}
+use Rattle.ssh_link.specs.Supply.{Supply, left_until}
 use Rattle.ssh_auth.specs.Publickey.{Acceptance}
 use Rattle.ssh_handler.specs.declared.recorded.RecordError.TheVariants as record_error
 use Rattle.ssh_session.specs.declared.error.RunError.{RunError}
 use Rattle.ssh_session.specs.declared.error.RunError.TheVariants as error
 use Rattle.ssh_session.specs.World.{Settings, settings_of, World, opening_world}
-use Rattle.ssh_session.specs.Run.{Turn, Run, entries}
+use Rattle.ssh_session.specs.Run.{Turn, Run, calls_of, entries}
 use Rattle.ssh_session.specs.Step.{Closes}
 use Rattle.ssh_script.specs.Transfer.{IsAll, AddsPart}
 use Rattle.ssh_script.specs.Scene.{Scene, opening_scene, lines_of, Gives}
 use Rattle.ssh_script.specs.Played.{Failure, IsAnswered}
-use Rattle.ssh_script.specs.Given.{supply_of, IsGiven}
+use Rattle.ssh_script.specs.Given.{IsGiven}
 use Rattle.ssh_script.specs.Print.{printed}
 
 -- the status of a run: 0 where it is Ok, 1 where it ended by an error; want of memory has none
@@ -31,8 +31,9 @@ scene_settings scene = settings_of scene.config scene.session_id
 abbrev pub scene_accepts : Scene → Acceptance
 scene_accepts scene = IsListed scene.accepted
 
-abbrev pub calls_of : {E : Type 0} → Turn E → List (Call E)
-calls_of turn = turn.calls
+-- its inputs, of which none was given yet, and the end at its last moment
+abbrev pub scene_supply : Scene → Supply
+scene_supply scene = left_until scene.moment scene.inputs
 
 -- this is the status and the text of a run of the scene, in which each callback is answered by the scene and each input is the scene's
 pub record IsRun (scene : Scene) (status : ℕ) (text : List ℕ) : Type 0 where
@@ -45,7 +46,7 @@ pub record IsRun (scene : Scene) (status : ℕ) (text : List ℕ) : Type 0 where
   pub closes : Closes (scene_accepts scene) (scene_settings scene) world (length turns) scene.max_inputs last ⊥ result
   pub room : IfSome last (λ turn. length turns < scene.max_inputs)
   pub answered : IsAnswered scene.queues (flat_map calls_of (turns ++ option_to_list last))
-  pub given : IsGiven (supply_of scene.inputs scene.moment) (flat_map entries (turns ++ option_to_list last))
+  pub given : IsGiven (scene_supply scene) (flat_map entries (turns ++ option_to_list last))
   pub status_is : status_of result ≡ Some status
   pub text_is : text ≡ printed (flat_map calls_of (turns ++ option_to_list last)) (flat_map entries (turns ++ option_to_list last)) result
 

@@ -11,6 +11,17 @@ pub enum Verdict {
     Fail,
 }
 
+/// What a script answers to the channels that the peer opens.
+#[derive(Clone, Copy, Debug, PartialEq, Eq)]
+pub enum OpenVerdict {
+    /// They are accepted.
+    Accept,
+    /// They are refused as administratively prohibited.
+    Reject,
+    /// The callback leaves the answer to a later line.
+    Hold,
+}
+
 /// The answers of a script, each list in order.
 #[derive(Drop)]
 pub struct Answers {
@@ -26,6 +37,8 @@ pub struct Answers {
     pub certificate: Vec<Verdict>,
     /// How many banner callbacks fail.
     pub failing_banners: u64,
+    /// To all channels that the peer opens.
+    pub opens: OpenVerdict,
 }
 
 /// How many answers of each list were given.

@@ -4,7 +4,8 @@ ghost use Rattle.ssh_script.specs.declared.asked.Asked.TheVariants as asked;
 
 use ssh_auth::{PublicKeyOffer, VerifiedPublicKey};
 use ssh_keys::{Algorithm, Certificate, PublicKey};
-use ssh_wire::{Text, WireError};
+use ssh_link::CommandOutcome;
+use ssh_wire::{ChannelId, Text, WireError};
 use std::alloc::Global;
 
 /// A callback that was made, without its answer.
@@ -51,6 +52,35 @@ pub enum Asked {
     },
     /// The user was authenticated.
     AuthSucceeded,
+    /// The peer opens a session channel.
+    ChannelOpenSession {
+        /// This side's number of the channel.
+        channel: ChannelId,
+    },
+    /// The peer sends no more data on the channel.
+    ChannelEof {
+        /// This side's number of the channel.
+        channel: ChannelId,
+    },
+    /// The peer closed the channel.
+    ChannelClose {
+        /// This side's number of the channel.
+        channel: ChannelId,
+    },
+    /// The peer lets more data through.
+    WindowAdjusted {
+        /// This side's number of the channel.
+        channel: ChannelId,
+        /// How many bytes may still be sent.
+        new_size: u32,
+    },
+    /// A command that a callback recorded opens a channel, or was refused.
+    CommandDone {
+        /// Its place among the commands of that callback, from 0.
+        place: usize,
+        /// What came of it.
+        outcome: CommandOutcome,
+    },
 }
 
 impl Asked {

@@ -1,8 +1,9 @@
 // How the lines of a script are written: words with one space between each two.
 ghost use Rattle.std.specs.Prelude.{◌≡◌, IfOk};
-ghost use Rattle.ssh_script.specs.Grammar.{IsNumberIn, IsHexIn, IsKeyIn, IsSignatureIn, Fits, Reads, word_form, config_form, answer_form, sign_form, lone_form, verdict_of, answer_to, verdict_form, banner_form};
+ghost use Rattle.ssh_script.specs.Grammar.{IsNumberIn, IsHexIn, IsKeyIn, IsSignatureIn, Fits, Reads, word_form, config_form, answer_form, sign_form, lone_form, verdict_of, open_verdict_of, answer_to, verdict_form, banner_form, open_form};
 
-use crate::answers::Verdict;
+use crate::answers::{OpenVerdict, Verdict};
+use crate::command_lines::{accept_line, close_line, data_line, eof_line, reject_line};
 use crate::lines::{InputLine, Line, Setting};
 use bytes::Bytes;
 use hex::FromHexError;
@@ -10,7 +11,7 @@ use ssh_keys::{AcceptedSignature, Algorithm, KeyError, PublicKey};
 use std::alloc::{AllocError, Global};
 
 /// The number that the digits write: decimal, without sign or leading zero, below 2^64.
-fn number_in(alloc: Global, digits: &str) -> Result<Option<u64>, AllocError>
+pub(crate) fn number_in(alloc: Global, digits: &str) -> Result<Option<u64>, AllocError>
     ensures { IfOk result (IsNumberIn digits.now) }
 {
     let Ok(n) = digits.parse::<u64>() else {
@@ -24,7 +25,7 @@ fn number_in(alloc: Global, digits: &str) -> Result<Option<u64>, AllocError>
 }
 
 /// The bytes that the digits write in hex, with `-` for none.
-fn bytes_in(alloc: Global, digits: &str) -> Result<Option<Bytes>, AllocError>
+pub(crate) fn bytes_in(alloc: Global, digits: &str) -> Result<Option<Bytes>, AllocError>
     ensures { IfOk result (IsHexIn digits.now) }
 {
     if digits.is_empty() {
@@ -139,12 +140,31 @@ fn banner_line(word: &str) -> Option<Line>
     }
 }
 
+fn open_verdict_in(word: &str) -> Option<OpenVerdict>
+    ensures { result ≡ open_verdict_of word.now }
+{
+    match word {
+        "accept" => Some(OpenVerdict::Accept),
+        "reject" => Some(OpenVerdict::Reject),
+        "hold" => Some(OpenVerdict::Hold),
+        _ => None,
+    }
+}
+
+fn open_line(word: &str) -> Option<Line>
+    ensures { Fits (open_form word.now) result }
+{
+    let verdict = open_verdict_in(word)?;
+    Some(Line::Setting(Setting::AnswerOpen(verdict)))
+}
+
 /// The rest of a line `answer`.
 fn answer_line(rest: &str) -> Option<Line>
     ensures { Fits (answer_form rest.now) result }
 {
     match rest.split_once(' ') {
         Some(("banner", word)) => banner_line(word),
+        Some(("open", word)) => open_line(word),
         Some((name, word)) => verdict_line(name, word),
         None => None,
     }
@@ -195,6 +215,11 @@ fn word_line(alloc: Global, word: &str, rest: &str) -> Result<Option<Line>, Allo
         "sign" => sign_line(alloc, rest),
         "at" => Ok(number_in(alloc, rest)?.map(|ms| Line::Input(InputLine::At(ms)))),
         "recv" => Ok(bytes_in(alloc, rest)?.map(|bytes| Line::Input(InputLine::Recv(bytes)))),
+        "data" => data_line(alloc, rest),
+        "eof" => eof_line(alloc, rest),
+        "close" => close_line(alloc, rest),
+        "accept" => accept_line(alloc, rest),
+        "reject" => reject_line(alloc, rest),
         _ => Ok(None),
     }
 }

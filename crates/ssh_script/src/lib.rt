@@ -7,9 +7,11 @@
 
 mod answers;
 mod asked;
+mod command_lines;
 mod grammar;
 mod lines;
 mod print;
+mod print_notice;
 mod queue;
 mod run;
 mod scene;
@@ -18,10 +20,10 @@ mod script_handler;
 mod script_link;
 mod transfer;
 
-pub use answers::{Answers, Verdict};
+pub use answers::{Answers, OpenVerdict, Verdict};
 pub use asked::Asked;
 pub use lines::{InputLine, Line, Setting};
 pub use run::{one_transcript, run_script};
 pub use script::{Script, Stage};
 pub use script_handler::{ScriptError, ScriptHandler};
-pub use script_link::{Event, ScriptLink};
+pub use script_link::ScriptLink;

@@ -1,8 +1,9 @@
 // The lines of a script.
 
-use crate::answers::Verdict;
+use crate::answers::{OpenVerdict, Verdict};
 use bytes::Bytes;
 use ssh_keys::AcceptedSignature;
+use ssh_link::{Command, OpenAnswer};
 
 /// How a session is set up, and what its handler answers.
 #[derive(Debug, Drop)]
@@ -31,6 +32,8 @@ pub enum Setting {
     AnswerCertificate(Verdict),
     /// One more banner callback fails.
     FailBanner,
+    /// The answer to the channels that the peer opens; the last of these counts.
+    AnswerOpen(OpenVerdict),
 }
 
 /// What comes in.
@@ -40,6 +43,10 @@ pub enum InputLine {
     At(u64),
     /// The peer's payload.
     Recv(Bytes),
+    /// A command from outside.
+    Command(Command),
+    /// The answer to an open of the peer from outside.
+    Reply(OpenAnswer),
     /// The peer is gone.
     End,
 }

@@ -3,13 +3,13 @@ ghost use Rattle.std.specs.Prelude.{◌≡◌, ◌++◌, ◌+◌, codes, flat_ma
 ghost use Rattle.std.specs.Fmt.{decimal};
 ghost use Rattle.std.specs.String.{string_bytes};
 ghost use Rattle.ssh_keys.specs.Keys.{key_blob};
-ghost use Rattle.ssh_script.specs.Print.{hex_text, key_text, channel_text, hold_text, frame_line, asked_line, event_lines};
+ghost use Rattle.ssh_script.specs.Print.{hex_text, key_text, channel_text, hold_text, frame_line, channel_line, asked_line, window_line, command_line, entry_lines};
 
 use crate::asked::Asked;
-use crate::script_link::Event;
+use crate::print_notice::{print_answer, print_notice, print_outcome};
 use bytes::Bytes;
 use ssh_keys::{Algorithm, PublicKey};
-use ssh_link::Frame;
+use ssh_link::{CommandOutcome, Frame, TraceEntry};
 use ssh_wire::ChannelId;
 use std::alloc::{AllocError, Global};
 
@@ -137,6 +137,49 @@ fn print_auth_openssh_certificate(
     out.push_str("\n")
 }
 
+/// A callback that speaks of a channel.
+fn print_of_channel(
+    alloc: Global,
+    out: &mut String,
+    name: &str,
+    channel: ChannelId,
+) -> Result<(), AllocError>
+    ensures { OnOk result (string_bytes out.new ≡ string_bytes out.old ++ channel_line name.now channel) }
+{
+    out.push_str("call ")?;
+    out.push_str(name)?;
+    out.push_str(" ")?;
+    print_id(alloc, out, channel)?;
+    out.push_str("\n")
+}
+
+fn print_window_adjusted(
+    alloc: Global,
+    out: &mut String,
+    channel: ChannelId,
+    new_size: u32,
+) -> Result<(), AllocError>
+    ensures { OnOk result (string_bytes out.new ≡ string_bytes out.old ++ window_line channel new_size) }
+{
+    print_field(alloc, out, "call window_adjusted ", u64::from(channel.0))?;
+    print_field(alloc, out, " ", u64::from(new_size))?;
+    out.push_str("\n")
+}
+
+fn print_command_done(
+    alloc: Global,
+    out: &mut String,
+    place: usize,
+    outcome: CommandOutcome,
+) -> Result<(), AllocError>
+    ensures { OnOk result (string_bytes out.new ≡ string_bytes out.old ++ command_line place outcome) }
+{
+    print_field(alloc, out, "call command_done ", place as u64)?;
+    out.push_str(" ")?;
+    print_outcome(alloc, out, outcome)?;
+    out.push_str("\n")
+}
+
 fn print_asked(alloc: Global, out: &mut String, asked: &Asked) -> Result<(), AllocError>
     ensures { OnOk result (string_bytes out.new ≡ string_bytes out.old ++ asked_line asked.now) }
 {
@@ -168,6 +211,15 @@ fn print_asked(alloc: Global, out: &mut String, asked: &Asked) -> Result<(), All
             print_auth_openssh_certificate(alloc, out, user.as_str().as_bytes(), key_id)
         }
         Asked::AuthSucceeded => out.push_str("call auth_succeeded\n"),
+        Asked::ChannelOpenSession { channel } => {
+            print_of_channel(alloc, out, "channel_open_session", *channel)
+        }
+        Asked::ChannelEof { channel } => print_of_channel(alloc, out, "channel_eof", *channel),
+        Asked::ChannelClose { channel } => print_of_channel(alloc, out, "channel_close", *channel),
+        Asked::WindowAdjusted { channel, new_size } => {
+            print_window_adjusted(alloc, out, *channel, *new_size)
+        }
+        Asked::CommandDone { place, outcome } => print_command_done(alloc, out, *place, *outcome),
     }
 }
 
@@ -183,6 +235,30 @@ pub(crate) fn print_calls(
         print_asked(alloc, out, one)?;
     }
     Ok(())
+}
+
+/// A word, and the number that follows it.
+pub(crate) fn print_field(
+    alloc: Global,
+    out: &mut String,
+    word: &str,
+    number: u64,
+) -> Result<(), AllocError>
+    ensures { OnOk result (string_bytes out.new ≡ string_bytes out.old ++ (word.now ++ decimal number)) }
+{
+    out.push_str(word)?;
+    print_number(alloc, out, number)
+}
+
+/// The number of a channel.
+pub(crate) fn print_id(
+    alloc: Global,
+    out: &mut String,
+    channel: ChannelId,
+) -> Result<(), AllocError>
+    ensures { OnOk result (string_bytes out.new ≡ string_bytes out.old ++ decimal channel.0) }
+{
+    print_number(alloc, out, u64::from(channel.0))
 }
 
 /// The number of a channel, and `-` for none.
@@ -233,18 +309,20 @@ fn print_input(alloc: Global, out: &mut String, number: u64) -> Result<(), Alloc
 pub(crate) fn print_trace(
     alloc: Global,
     out: &mut String,
-    events: &[Event],
+    entries: &[TraceEntry],
 ) -> Result<(), AllocError>
-    ensures { OnOk result (string_bytes out.new ≡ string_bytes out.old ++ event_lines 0 events.now) }
+    ensures { OnOk result (string_bytes out.new ≡ string_bytes out.old ++ entry_lines 0 entries.now) }
 {
     let mut taken: u64 = 0;
-    for event in events {
-        match event {
-            Event::Took { .. } => {
+    for entry in entries {
+        match entry {
+            TraceEntry::Took { .. } => {
                 taken = taken.checked_add(1).ok_or(AllocError)?;
                 print_input(alloc, out, taken)?;
             }
-            Event::Sent(frame) => print_frame(alloc, out, frame)?,
+            TraceEntry::Sent(frame) => print_frame(alloc, out, frame)?,
+            TraceEntry::Noticed(notice) => print_notice(alloc, out, notice)?,
+            TraceEntry::Answered(ticket, outcome) => print_answer(alloc, out, *ticket, *outcome)?,
         }
     }
     Ok(())

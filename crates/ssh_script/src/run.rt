@@ -86,7 +86,9 @@ fn run_scene(alloc: Global, script: Script) -> Result<Report, AllocError>
     ensures { IfOk result (λ report. IsRun (scene_of script) report.status (string_bytes report.text)) }
 {
     let mut handler = ScriptHandler::new(alloc, script.answers);
-    let mut link = ScriptLink::new(alloc, script.inputs, script.moment);
+    let Ok(mut link) = ScriptLink::new(alloc, script.inputs, script.moment) else {
+        return Err(AllocError);
+    };
     let run = run_stream(
         alloc,
         &script.config,
@@ -105,7 +107,7 @@ fn run_scene(alloc: Global, script: Script) -> Result<Report, AllocError>
     }
     let mut text = String::new(alloc);
     print_calls(alloc, &mut text, handler.asked())?;
-    print_trace(alloc, &mut text, link.events())?;
+    print_trace(alloc, &mut text, link.trace())?;
     print_last(&mut text, &run)?;
     Ok(Report { status, text })
 }

@@ -1,9 +1,9 @@
 // What the lines of a script say together.
-ghost use Rattle.std.specs.Prelude.{◌≡◌, ◌<◌, ◌∷◌, [], length, Some, None, if◌then◌else◌, IfOk, OnOk, IfSome, MatchOption};
+ghost use Rattle.std.specs.Prelude.{◌≡◌, ◌<◌, ◌+◌, ◌∷◌, [], length, Some, None, if◌then◌else◌, IfOk, OnOk, IfSome, MatchOption};
 ghost use Rattle.ssh_script.specs.declared.lines.Setting.TheVariants as setting;
-ghost use Rattle.ssh_script.specs.Scene.{scene_of, seen, opening_scene, set, taken, with_line, lines_of, Gives};
+ghost use Rattle.ssh_script.specs.Scene.{scene_of, seen, opening_scene, set, with_input, with_ticket, taken, with_line, lines_of, Gives};
 
-use crate::answers::Answers;
+use crate::answers::{Answers, OpenVerdict};
 use crate::grammar::read_line;
 use crate::lines::{InputLine, Line, Setting};
 use crate::script::{Script, Stage};
@@ -30,7 +30,9 @@ impl Script {
                 publickey: Vec::new(alloc),
                 certificate: Vec::new(alloc),
                 failing_banners: 0,
+                opens: OpenVerdict::Accept,
             },
+            tickets: 0,
             inputs: Vec::new(alloc),
             moment: 0,
             stage: Stage::Settings,
@@ -62,6 +64,7 @@ impl Script {
                 let more = self.answers.failing_banners.checked_add(1);
                 self.answers.failing_banners = more.ok_or(AllocError)?;
             }
+            Setting::AnswerOpen(verdict) => self.answers.opens = verdict,
         }
         Ok(true)
     }
@@ -82,6 +85,26 @@ impl Script {
         }
     }
 
+    /// An input of this kind comes at the moment in force.
+    fn push(&mut self, kind: InputKind) -> Result<(), AllocError>
+        ensures { OnOk result (with_input kind (scene_of self.old) ≡ scene_of self.new) }
+    {
+        self.inputs.push(Input {
+            moment: self.moment,
+            kind,
+        })?;
+        Ok(())
+    }
+
+    /// The ticket of one more command, or of one more answer to an open.
+    fn next_ticket(&mut self) -> Result<u64, AllocError>
+        ensures ticket { IfOk result (λ ticket. ticket ≡ self.old.tickets + 1) }
+        ensures counted { OnOk result (with_ticket (scene_of self.old) ≡ scene_of self.new) }
+    {
+        self.tickets = self.tickets.checked_add(1).ok_or(AllocError)?;
+        Ok(self.tickets)
+    }
+
     /// Takes in an input line.
     fn take(&mut self, line: InputLine) -> Result<(), AllocError>
         ensures { OnOk result (taken self.old.stage line (scene_of self.old) ≡ scene_of self.new) }
@@ -92,10 +115,15 @@ impl Script {
         self.stage = Stage::Inputs;
         match line {
             InputLine::At(moment) => self.moment = moment,
-            InputLine::Recv(bytes) => self.inputs.push(Input {
-                moment: self.moment,
-                kind: InputKind::Payload(bytes),
-            })?,
+            InputLine::Recv(bytes) => self.push(InputKind::Payload(bytes))?,
+            InputLine::Command(command) => {
+                let ticket = self.next_ticket()?;
+                self.push(InputKind::Command(ticket, command))?;
+            }
+            InputLine::Reply(answer) => {
+                let ticket = self.next_ticket()?;
+                self.push(InputKind::OpenReply(ticket, answer))?;
+            }
             InputLine::End => self.stage = Stage::Ended,
         }
         Ok(())

@@ -31,6 +31,9 @@ pub struct Script {
     pub verifier: TableVerifier,
     /// What the callbacks are answered.
     pub answers: Answers,
+    /// How many of the inputs are commands and answers to opens: these have the tickets from 1 to
+    /// this.
+    pub tickets: u64,
     /// The inputs, in order.
     pub inputs: Vec<Input>,
     /// The moment in force, in milliseconds.

@@ -2,14 +2,16 @@
 ghost use Rattle.std.specs.Prelude.{◌≡◌, ◌-◌, [], ◌∷◌, ◌++◌, None, Some, true, false, drop, OnOk, OnErr, IfOk, IsOk};
 ghost use Rattle.ssh_handler.specs.declared.recorded.RecordError.TheVariants.{NoMemory};
 ghost use Rattle.ssh_script.specs.Played.{queues_in, queues_from, first_verdict, verdict_answer, banner_answer, left_after};
+ghost use Rattle.ssh_script.specs.Opens.{open_answer, recorded};
 
-use crate::answers::{Answers, Places, Verdict};
+use crate::answers::{Answers, OpenVerdict, Places, Verdict};
 use crate::asked::Asked;
 use crate::queue::place_after;
 use ssh_auth::{Auth, AuthHandler, PublicKeyOffer, Unwritten, VerifiedPublicKey};
 use ssh_handler::{Commands, Handler, RecordError};
 use ssh_keys::Certificate;
-use ssh_wire::{Text, WireError};
+use ssh_link::{ChannelOpenHandle, CommandOutcome, OpenAnswer};
+use ssh_wire::{ChannelId, Text, WireError};
 use std::alloc::Global;
 
 /// The error that a script's handler answers where the script says `fail`.
@@ -122,6 +124,41 @@ fn banner_of(banners_left: u64) -> Result<Option<Text>, RecordError<ScriptError>
     }
 }
 
+// The answer to an open, or none where it is to be answered later.
+fn open_answer_of(verdict: OpenVerdict, reply: ChannelOpenHandle) -> Option<OpenAnswer>
+    ensures { result ≡ open_answer verdict reply }
+{
+    match verdict {
+        OpenVerdict::Accept => Some(reply.accept()),
+        OpenVerdict::Reject => Some(reply.reject_default()),
+        OpenVerdict::Hold => {
+            let _number = reply.into_channel();
+            None
+        }
+    }
+}
+
+// Records the answer to an open, where there is one.
+fn answer_open(
+    session: &mut Commands<'_>,
+    lost: &mut bool,
+    answer: Option<OpenAnswer>,
+) -> Result<(), RecordError<ScriptError>>
+    requires fresh { session.old.recorded ≡ [] }
+    ensures recorded { OnOk result (session.new.recorded ≡ recorded answer) }
+    ensures same { OnOk result (lost.new ≡ lost.old) }
+    ensures lost { OnErr result (lost.new ≡ true) }
+{
+    let Some(answer) = answer else {
+        return Ok(());
+    };
+    if session.answer_open(answer).is_err() {
+        *lost = true;
+        return Err(RecordError::NoMemory);
+    }
+    Ok(())
+}
+
 impl AuthHandler for ScriptHandler {
     type Error = RecordError<ScriptError>;
 
@@ -217,6 +254,74 @@ impl Handler for ScriptHandler {
         _session: &mut Commands<'_>,
     ) -> Result<(), RecordError<ScriptError>> {
         keep(&mut self.asked, &mut self.lost, Ok(Asked::AuthSucceeded))?;
+        Ok(())
+    }
+
+    fn channel_open_session(
+        &mut self,
+        channel: ChannelId,
+        reply: ChannelOpenHandle,
+        session: &mut Commands<'_>,
+    ) -> Result<(), RecordError<ScriptError>> {
+        let answer = open_answer_of(self.answers.opens, reply);
+        keep(
+            &mut self.asked,
+            &mut self.lost,
+            Ok(Asked::ChannelOpenSession { channel }),
+        )?;
+        answer_open(session, &mut self.lost, answer)
+    }
+
+    fn channel_eof(
+        &mut self,
+        channel: ChannelId,
+        _session: &mut Commands<'_>,
+    ) -> Result<(), RecordError<ScriptError>> {
+        keep(
+            &mut self.asked,
+            &mut self.lost,
+            Ok(Asked::ChannelEof { channel }),
+        )?;
+        Ok(())
+    }
+
+    fn channel_close(
+        &mut self,
+        channel: ChannelId,
+        _session: &mut Commands<'_>,
+    ) -> Result<(), RecordError<ScriptError>> {
+        keep(
+            &mut self.asked,
+            &mut self.lost,
+            Ok(Asked::ChannelClose { channel }),
+        )?;
+        Ok(())
+    }
+
+    fn window_adjusted(
+        &mut self,
+        channel: ChannelId,
+        new_size: u32,
+        _session: &mut Commands<'_>,
+    ) -> Result<(), RecordError<ScriptError>> {
+        keep(
+            &mut self.asked,
+            &mut self.lost,
+            Ok(Asked::WindowAdjusted { channel, new_size }),
+        )?;
+        Ok(())
+    }
+
+    fn command_done(
+        &mut self,
+        place: usize,
+        outcome: CommandOutcome,
+    ) -> Result<(), RecordError<ScriptError>> {
+        keep(
+            &mut self.asked,
+            &mut self.lost,
+            Ok(Asked::CommandDone { place, outcome }),
+        )?;
         Ok(())
     }
 }

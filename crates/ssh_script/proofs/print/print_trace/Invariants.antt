@@ -1,7 +1,7 @@
 use Rattle.std.proofs.Common.{drop, ◌++◌, ◌≡◌}
 use Rattle.std.specs.String.{string_bytes}
-use Rattle.ssh_script.specs.Print.{event_lines}
+use Rattle.ssh_script.specs.Print.{entry_lines}
 use Rattle.ssh_script.proofs.print.print_trace.Given as goal
 
-abbrev pub invariant-loop-event : goal.invariant-loop-event
-invariant-loop-event l = string_bytes l.out ++ event_lines l.taken (drop l.event-index l.events) ≡ string_bytes l.fn.out ++ event_lines 0 l.events
+abbrev pub invariant-loop-entry : goal.invariant-loop-entry
+invariant-loop-entry l = string_bytes l.out ++ entry_lines l.taken (drop l.entry-index l.entries) ≡ string_bytes l.fn.out ++ entry_lines 0 l.entries

@@ -3,22 +3,21 @@ use Rattle.std.specs.Prelude.{flat_map}
 use Rattle.std.specs.String.{string_bytes}
 use Rattle.ssh_script.specs.Scene.{scene_of}
 use Rattle.ssh_script.specs.Played.{queues_in}
-use Rattle.ssh_script.specs.Given.{supply_of}
-use Rattle.ssh_script.specs.Print.{asked_line, event_lines}
-use Rattle.ssh_script.proofs.Kept.{kept, text_of, supply_same}
+use Rattle.ssh_script.specs.Print.{asked_line, entry_lines}
+use Rattle.ssh_script.proofs.Kept.{kept, text_of}
 use Rattle.ssh_script.proofs.run.run_scene.Goals as goal
 
 pub returns : goal.returns
 returns c = kept (scene_of c.args.script) c.in-Some.status c.run_stream-run.result c.new-handler.result.lost c.run_stream-run.new.handler.lost
     (queues_in c.new-handler.result.answers) (queues_in c.run_stream-run.new.handler.answers)
     c.new-handler.result.asked.items c.run_stream-run.new.handler.asked.items
-    (supply_of c.new-link.result.inputs.items c.new-link.result.last_moment) (supply_of c.run_stream-run.new.link.inputs.items c.run_stream-run.new.link.last_moment)
-    c.new-link.result.events.items c.run_stream-run.new.link.events.items c.as_slice.result.now (string_bytes c.print_last.new.out)
+    c.in-Ok.link.inputs.items c.run_stream-run.new.link.inputs.items c.in-Ok.link.last_moment c.run_stream-run.new.link.last_moment
+    c.in-Ok.link.memory.trace c.run_stream-run.new.link.memory.trace c.as_slice.result.now (string_bytes c.print_last.new.out)
     c.new-handler.ensures.lost (sym c.lost.ensures ∙ c.if-lost.false)
     (ap queues_in c.new-handler.ensures.answers) c.new-handler.ensures.asked
-    (supply_same _ _ _ _ (ap (λ v. v.items) c.new-link.ensures.inputs) c.new-link.ensures.last_moment) c.new-link.ensures.events
+    (ap (λ v. v.items) c.in-Ok.ensures.inputs) c.in-Ok.ensures.last_moment c.in-Ok.ensures.trace c.run_stream-run.new.link.given
     (sym c.status_of.ensures ∙ c.in-Some.is) c.as_slice.ensures c.run_stream-run.ensures.run
     (text_of (string_bytes c.new-text.result) (string_bytes c.print_calls.new.out) (string_bytes c.print_trace.new.out) (string_bytes c.print_last.new.out) _ _ _
     c.new-text.ensures.bytes
     (c.in_ok-print_calls.ensures ∙ ap (λ l. string_bytes c.new-text.result ++ flat_map asked_line l) c.asked.ensures)
-    (c.in_ok-print_trace.ensures ∙ ap (λ l. string_bytes c.print_calls.new.out ++ event_lines 0 l) c.events.ensures) c.in_ok-print_last.ensures)
+    (c.in_ok-print_trace.ensures ∙ ap (λ l. string_bytes c.print_calls.new.out ++ entry_lines 0 l) c.trace.ensures) c.in_ok-print_last.ensures)

@@ -1,0 +1,106 @@
+// How the lines of a script are written that bring a command, or the answer to an open of the peer.
+ghost use Rattle.std.specs.Prelude.{◌≡◌, IfOk};
+ghost use Rattle.ssh_script.specs.Grammar.{IsSmallIn, IsChannelIn, Fits, reason_of, data_form, eof_form, close_form, accept_form, reject_form};
+
+use crate::grammar::{bytes_in, number_in};
+use crate::lines::{InputLine, Line};
+use ssh_link::{ChannelOpenHandle, Command};
+use ssh_wire::{ChannelId, ChannelOpenFailure};
+use std::alloc::{AllocError, Global};
+
+/// The number that the digits write, below 2^32.
+fn small_in(alloc: Global, digits: &str) -> Result<Option<u32>, AllocError>
+    ensures { IfOk result (IsSmallIn digits.now) }
+{
+    let Some(number) = number_in(alloc, digits)? else {
+        return Ok(None);
+    };
+    match u32::try_from(number) {
+        Ok(small) => Ok(Some(small)),
+        Err(_) => Ok(None),
+    }
+}
+
+/// The channel whose number the digits write.
+fn channel_in(alloc: Global, digits: &str) -> Result<Option<ChannelId>, AllocError>
+    ensures { IfOk result (IsChannelIn digits.now) }
+{
+    Ok(small_in(alloc, digits)?.map(ChannelId))
+}
+
+/// The reason to refuse an open that has this code.
+fn reason_in(code: u32) -> Option<ChannelOpenFailure>
+    ensures { result ≡ reason_of code }
+{
+    ChannelOpenFailure::from_u32(code)
+}
+
+/// The rest of a line `data`: a channel, and bytes.
+pub(crate) fn data_line(alloc: Global, rest: &str) -> Result<Option<Line>, AllocError>
+    ensures { IfOk result (Fits (data_form rest.now)) }
+{
+    let Some((number, digits)) = rest.split_once(' ') else {
+        return Ok(None);
+    };
+    let Some(channel) = channel_in(alloc, number)? else {
+        return Ok(None);
+    };
+    let Some(bytes) = bytes_in(alloc, digits)? else {
+        return Ok(None);
+    };
+    let command = Command::Data { channel, bytes };
+    Ok(Some(Line::Input(InputLine::Command(command))))
+}
+
+/// The rest of a line `eof`: a channel.
+pub(crate) fn eof_line(alloc: Global, number: &str) -> Result<Option<Line>, AllocError>
+    ensures { IfOk result (Fits (eof_form number.now)) }
+{
+    let Some(channel) = channel_in(alloc, number)? else {
+        return Ok(None);
+    };
+    let command = Command::Eof { channel };
+    Ok(Some(Line::Input(InputLine::Command(command))))
+}
+
+/// The rest of a line `close`: a channel.
+pub(crate) fn close_line(alloc: Global, number: &str) -> Result<Option<Line>, AllocError>
+    ensures { IfOk result (Fits (close_form number.now)) }
+{
+    let Some(channel) = channel_in(alloc, number)? else {
+        return Ok(None);
+    };
+    let command = Command::Close { channel };
+    Ok(Some(Line::Input(InputLine::Command(command))))
+}
+
+/// The rest of a line `accept`: a channel.
+pub(crate) fn accept_line(alloc: Global, number: &str) -> Result<Option<Line>, AllocError>
+    ensures { IfOk result (Fits (accept_form number.now)) }
+{
+    let Some(channel) = channel_in(alloc, number)? else {
+        return Ok(None);
+    };
+    let answer = ChannelOpenHandle::new(channel).accept();
+    Ok(Some(Line::Input(InputLine::Reply(answer))))
+}
+
+/// The rest of a line `reject`: a channel, and the code of a reason.
+pub(crate) fn reject_line(alloc: Global, rest: &str) -> Result<Option<Line>, AllocError>
+    ensures { IfOk result (Fits (reject_form rest.now)) }
+{
+    let Some((number, digits)) = rest.split_once(' ') else {
+        return Ok(None);
+    };
+    let Some(channel) = channel_in(alloc, number)? else {
+        return Ok(None);
+    };
+    let Some(code) = small_in(alloc, digits)? else {
+        return Ok(None);
+    };
+    let Some(reason) = reason_in(code) else {
+        return Ok(None);
+    };
+    let answer = ChannelOpenHandle::new(channel).reject(reason);
+    Ok(Some(Line::Input(InputLine::Reply(answer))))
+}

@@ -1,0 +1,112 @@
+// How notices to the users of channels are printed, and what came of commands.
+ghost use Rattle.std.specs.Prelude.{◌≡◌, ◌++◌, codes, OnOk};
+ghost use Rattle.std.specs.Fmt.{decimal};
+ghost use Rattle.std.specs.String.{string_bytes};
+ghost use Rattle.ssh_script.specs.Print.{refusal_name, outcome_text, msg_text, notice_text, notice_line, answer_line};
+
+use crate::print::{print_field, print_id};
+use ssh_link::{ChannelMsg, CommandOutcome, Notice, Refusal};
+use ssh_wire::ChannelId;
+use std::alloc::{AllocError, Global};
+
+/// How a refusal is named.
+fn refusal_name(why: Refusal) -> &'static str
+    ensures { result.now ≡ refusal_name why }
+{
+    match why {
+        Refusal::UnknownChannel => "UnknownChannel",
+        Refusal::UnknownOpen => "UnknownOpen",
+        Refusal::SendingEnded => "SendingEnded",
+        Refusal::TooLong => "TooLong",
+    }
+}
+
+/// What came of a command.
+pub(crate) fn print_outcome(
+    alloc: Global,
+    out: &mut String,
+    outcome: CommandOutcome,
+) -> Result<(), AllocError>
+    ensures { OnOk result (string_bytes out.new ≡ string_bytes out.old ++ outcome_text outcome) }
+{
+    match outcome {
+        CommandOutcome::Accepted => out.push_str("accepted"),
+        CommandOutcome::Opened(ChannelId(number)) => {
+            print_field(alloc, out, "opened ", u64::from(number))
+        }
+        CommandOutcome::Refused(why) => {
+            out.push_str("refused ")?;
+            out.push_str(refusal_name(why))
+        }
+    }
+}
+
+fn print_msg(alloc: Global, out: &mut String, msg: &ChannelMsg) -> Result<(), AllocError>
+    ensures { OnOk result (string_bytes out.new ≡ string_bytes out.old ++ msg_text msg.now) }
+{
+    match msg {
+        ChannelMsg::WindowAdjusted { new_size } => {
+            print_field(alloc, out, " WindowAdjusted ", u64::from(*new_size))
+        }
+        ChannelMsg::Eof => out.push_str(" Eof"),
+        ChannelMsg::Close => out.push_str(" Close"),
+    }
+}
+
+fn print_ready(alloc: Global, out: &mut String, window: u32, packet: u32) -> Result<(), AllocError>
+    ensures { OnOk result (string_bytes out.new ≡ string_bytes out.old ++ (codes " Ready " ++ decimal window ++ codes " " ++ decimal packet)) }
+{
+    print_field(alloc, out, " Ready ", u64::from(window))?;
+    print_field(alloc, out, " ", u64::from(packet))
+}
+
+/// The channel of a notice, and what happened on it.
+fn print_fields(alloc: Global, out: &mut String, notice: &Notice) -> Result<(), AllocError>
+    ensures { OnOk result (string_bytes out.new ≡ string_bytes out.old ++ notice_text notice.now) }
+{
+    match notice {
+        Notice::Channel(channel, msg) => {
+            print_id(alloc, out, *channel)?;
+            print_msg(alloc, out, msg)
+        }
+        Notice::Granted { channel, amount } => {
+            print_id(alloc, out, *channel)?;
+            print_field(alloc, out, " Granted ", u64::from(*amount))
+        }
+        Notice::Ready {
+            channel,
+            window,
+            packet,
+        } => {
+            print_id(alloc, out, *channel)?;
+            print_ready(alloc, out, *window, *packet)
+        }
+    }
+}
+
+pub(crate) fn print_notice(
+    alloc: Global,
+    out: &mut String,
+    notice: &Notice,
+) -> Result<(), AllocError>
+    ensures { OnOk result (string_bytes out.new ≡ string_bytes out.old ++ notice_line notice.now) }
+{
+    out.push_str("notice ")?;
+    print_fields(alloc, out, notice)?;
+    out.push_str("\n")
+}
+
+/// What came of the command or the answer to an open with this ticket.
+pub(crate) fn print_answer(
+    alloc: Global,
+    out: &mut String,
+    ticket: u64,
+    outcome: CommandOutcome,
+) -> Result<(), AllocError>
+    ensures { OnOk result (string_bytes out.new ≡ string_bytes out.old ++ answer_line ticket outcome) }
+{
+    print_field(alloc, out, "done ", ticket)?;
+    out.push_str(" ")?;
+    print_outcome(alloc, out, outcome)?;
+    out.push_str("\n")
+}
