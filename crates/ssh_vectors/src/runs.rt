@@ -3,9 +3,9 @@ use bytes::Bytes;
 use ssh_auth::{Auth, AuthHandler, Unwritten};
 use ssh_handler::{Commands, Config, Handler, RecordError, Recorded};
 use ssh_keys::TableVerifier;
-use ssh_link::{Calls, Input, InputKind, Inputs, MemoryLink, TraceEntry};
+use ssh_link::{Calls, ChannelOpenHandle, Input, InputKind, Inputs, MemoryLink, TraceEntry};
 use ssh_session::{Flow, RunError, Session, run_stream};
-use ssh_wire::Text;
+use ssh_wire::{ChannelId, Text};
 use std::alloc::Global;
 use std::test::Fail;
 
@@ -32,7 +32,17 @@ impl AuthHandler for NoBanner {
     }
 }
 
-impl Handler for NoBanner {}
+impl Handler for NoBanner {
+    fn channel_open_session(
+        &mut self,
+        _channel: ChannelId,
+        reply: ChannelOpenHandle,
+        _session: &mut Commands<'_>,
+    ) -> Result<(), Tired> {
+        let _number = reply.into_channel();
+        Err(Tired)
+    }
+}
 
 // A handler that lets everybody in.
 #[derive(Drop)]
@@ -53,6 +63,15 @@ impl AuthHandler for Open {
 impl Handler for Open {
     fn auth_succeeded(&mut self, _session: &mut Commands<'_>) -> Result<(), Tired> {
         Ok(())
+    }
+
+    fn channel_open_session(
+        &mut self,
+        _channel: ChannelId,
+        reply: ChannelOpenHandle,
+        session: &mut Commands<'_>,
+    ) -> Result<(), Tired> {
+        session.answer_open(reply.accept()).map_err(|_| Tired)
     }
 }
 
