@@ -16,7 +16,7 @@ use Rattle.ssh_auth.specs.Failure.{auth_error_of}
 use Rattle.ssh_auth.specs.Plan.{Plan, Finish, Ask, Question, Answer, Answered, Called}
 use Rattle.ssh_auth.specs.Request.{bound_to, begun}
 use Rattle.ssh_auth.specs.Publickey.{Circumstances}
-use Rattle.ssh_auth.specs.Said.{head_fields, Method, Other_method, Unbuilt_method, Unfit_method, Said, Request, Unread, Is_other, Is_unbuilt, named_by, SaysMethod, Says}
+use Rattle.ssh_auth.specs.Said.{head_fields, Method, Other_method, Unfit_method, Said, Request, Unread, Is_other, named_by, SaysMethod, Says}
 use Rattle.ssh_auth.specs.Verdict.{Outcome, Replies, Fails, Encoding, refused, verdict}
 use Rattle.ssh_auth.specs.Serve.{Answers, ToldBy, Serves, ServesMethod}
 use Rattle.ssh_auth.proofs.Plans.{breaks_more}
@@ -33,7 +33,7 @@ answers_then question next answer call calls auth (Err (error.Encoding why)) a h
 answers_then question next answer call calls auth (Err error.Inconsistent) a h = (answer, a, h)
 answers_then question next answer call calls auth (Err (error.Key why)) a h = (h.0, (answer, a, h.1))
 answers_then question next answer call calls auth (Err (error.Handler e)) a h = breaks_more question next answer call (map Called calls) e a h
-answers_then question next answer call calls auth (Err error.NotBuilt) a h = (answer, a, h)
+answers_then question next answer call calls auth (Err error.UnsupportedAuthMethod) a h = (answer, a, h)
 
 -- what was told, and then this by the answer
 told_then : {T E : Type 0} (result : Result T (AuthError E)) (a b c : Option (List (Call E))) (xs ys : List (Call E)) → Adds a b xs → ToldBy result b c ys → ToldBy result a c (xs ++ ys)
@@ -43,7 +43,7 @@ told_then (Err (error.Encoding why)) a b c xs ys h k = adds_both a b c xs ys h k
 told_then (Err error.Inconsistent) a b c xs ys h k = adds_both a b c xs ys h k
 told_then (Err (error.Key why)) a b c xs ys h k = adds_both a b c xs ys h k
 told_then (Err (error.Handler e)) a b c xs ys h k = adds_then a b c xs ys (adds_weak a b xs h) k
-told_then (Err error.NotBuilt) a b c xs ys h k = adds_both a b c xs ys h k
+told_then (Err error.UnsupportedAuthMethod) a b c xs ys h k = adds_both a b c xs ys h k
 
 -- the handler was asked, and what its answer goes on to was served
 pub asked : {E : Type 0} (question : Question) (next : Answer question → Plan Outcome) (answer : Answer question) (call : Call E)
@@ -54,6 +54,23 @@ asked question next answer call a b c auth result is h k = (
   told_then result a b c (call ∷ []) k.0 h k.1,
   answers_then question next answer call k.0 auth result is k.2,
 )
+
+told_nothing : {T E : Type 0} (result : Result T (AuthError E)) (told : Option (List (Call E))) → ToldBy result told told []
+told_nothing (Ok x) told = adds_nil told
+told_nothing (Err error.NoMemory) told = adds_nil told
+told_nothing (Err (error.Encoding why)) told = adds_nil told
+told_nothing (Err error.Inconsistent) told = adds_nil told
+told_nothing (Err (error.Key why)) told = adds_nil told
+told_nothing (Err error.UnsupportedAuthMethod) told = adds_nil told
+told_nothing (Err (error.Handler e)) told = adds_weak told told [] (adds_nil told)
+
+-- the handler was asked, and this came of its answer
+pub asked_once : {E : Type 0} (question : Question) (next : Answer question → Outcome) (answer : Answer question) (call : Call E)
+    (a b : Option (List (Call E))) (auth : AuthRequest) (result : Result AuthStep (AuthError E)) →
+    Answered question (Ok answer) call → Adds a b (call ∷ []) → Answers (Finish (next answer)) [] auth result →
+    Serves (Ask question (λ answer. Finish (next answer))) a b auth result
+asked_once question next answer call a b auth result is h k =
+    asked question (λ answer. Finish (next answer)) answer call a b b auth result is h ([], told_nothing result b, k)
 
 -- ---- no call, or none after it
 
@@ -125,10 +142,6 @@ named_other : (name : List ℕ) → bytes_eq name (codes "none") ≡ false → b
     bytes_eq name (codes "keyboard-interactive") ≡ false → named_by name ≡ Is_other
 named_other name none password publickey interactive = rw (none, password, publickey, interactive) refl
 
-named_unbuilt : (name : List ℕ) → bytes_eq name (codes "none") ≡ false → bytes_eq name (codes "password") ≡ false → bytes_eq name (codes "publickey") ≡ false →
-    bytes_eq name (codes "keyboard-interactive") ≡ true → named_by name ≡ Is_unbuilt
-named_unbuilt name none password publickey interactive = rw (none, password, publickey, interactive) refl
-
 -- a method that the server does not have
 pub other_method : {E : Type 0} (given : Circumstances) (all name fields : List ℕ) (auth : AuthRequest) (user : List ℕ) (told : Option (List (Call E))) (auth' : AuthRequest) (step : AuthStep) →
     bytes_eq name (codes "none") ≡ false → bytes_eq name (codes "password") ≡ false → bytes_eq name (codes "publickey") ≡ false → bytes_eq name (codes "keyboard-interactive") ≡ false →
@@ -136,11 +149,3 @@ pub other_method : {E : Type 0} (given : Circumstances) (all name fields : List 
 other_method given all name fields auth user told auth' step none password publickey interactive is =
     subst (λ named. ServesMethod (SaysMethod given all named fields) auth user told told auth' (Ok step)) (sym (named_other name none password publickey interactive))
     (inl (Other_method, refl, finished (refused auth) told auth' step is))
-
--- a method that is not built
-pub unbuilt_method : {E : Type 0} (given : Circumstances) (all name fields : List ℕ) (auth : AuthRequest) (user : List ℕ) (told : Option (List (Call E))) (auth' : AuthRequest) →
-    bytes_eq name (codes "none") ≡ false → bytes_eq name (codes "password") ≡ false → bytes_eq name (codes "publickey") ≡ false → bytes_eq name (codes "keyboard-interactive") ≡ true →
-    ServesMethod (SaysMethod given all (named_by name) fields) auth user told told auth' (Err error.NotBuilt)
-unbuilt_method given all name fields auth user told auth' none password publickey interactive =
-    subst (λ named. ServesMethod (SaysMethod given all named fields) auth user told told auth' (Err error.NotBuilt)) (sym (named_unbuilt name none password publickey interactive))
-    (inl (Unbuilt_method, refl, ([], adds_nil told, refl)))

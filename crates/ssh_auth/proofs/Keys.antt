@@ -73,7 +73,7 @@ unsigned_request given all fields rest offer auth user told auth' error.Inconsis
 unsigned_request given all fields rest offer auth user told auth' (error.Key why) offers h =
     inl (Broken_method, inr (offer, rest, offers, h.1), ([], adds_nil told, (h.0, refl)))
 unsigned_request given all fields rest offer auth user told auth' (error.Handler e) offers h = absurd h
-unsigned_request given all fields rest offer auth user told auth' error.NotBuilt offers h = absurd h
+unsigned_request given all fields rest offer auth user told auth' error.UnsupportedAuthMethod offers h = absurd h
 
 -- an offer that was not read
 pub no_offer : {E : Type 0} (given : Circumstances) (all fields rest name blob : List ℕ) (is-signed : Bool) (auth : AuthRequest) (user : List ℕ) (told : Option (List (Call E))) (auth' : AuthRequest)

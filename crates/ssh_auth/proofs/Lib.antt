@@ -3,3 +3,6 @@ pub mod Keys
 pub mod Misfits
 pub mod Plans
 pub mod Signatures
+pub mod Responses
+pub mod Prompting
+pub mod Rounds

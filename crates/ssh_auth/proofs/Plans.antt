@@ -1,7 +1,7 @@
 -- How plans go on from one another, and that their events determine what comes of them.
 use Rattle.std.proofs.Common.{◌≡◌, List, [], ◌∷◌, ◌++◌, map, Ok, refl, sym, ◌∙◌, subst, ap}
 use Rattle.ssh_auth.specs.declared.call.Call.{Call}
-use Rattle.ssh_auth.specs.Plan.{Question, Authentication_banner, Auth_none, Auth_password, Auth_publickey_offered, Auth_publickey, Auth_openssh_certificate, Auth_succeeded, Channel_open_session, Channel_eof, Channel_close, Window_adjusted, Command_done, Answer, Answered, Plan, Finish, Ask, Tell, after, Event, Called, Told, calls_in, told_in, Follows, Begins, Breaks, Reaches}
+use Rattle.ssh_auth.specs.Plan.{Question, Authentication_banner, Auth_none, Auth_password, Auth_publickey_offered, Auth_publickey, Auth_openssh_certificate, Auth_keyboard_interactive, Auth_succeeded, Channel_open_session, Channel_eof, Channel_close, Window_adjusted, Command_done, Answer, Answered, Plan, Finish, Ask, Tell, after, Event, Called, Told, calls_in, told_in, Follows, Begins, Breaks, Reaches}
 
 -- a plan breaks at some event
 pub no_break : {O : Type 0} (E : Type 0) (plan : Plan O) (error : E) → Breaks plan [] error → ⊥
@@ -143,6 +143,7 @@ answered_once (Auth_password user password) a b call h k = cc
 answered_once (Auth_publickey_offered user public_key algorithm) a b call h k = cc
 answered_once (Auth_publickey user public_key algorithm) a b call h k = cc
 answered_once (Auth_openssh_certificate user certificate) a b call h k = cc
+answered_once (Auth_keyboard_interactive user submethods response) a b call h k = cc
 answered_once Auth_succeeded a b call h k = cc
 answered_once (Channel_open_session channel) a b call h k = cc
 answered_once (Channel_eof channel) a b call h k = cc

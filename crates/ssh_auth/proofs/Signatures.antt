@@ -3,7 +3,7 @@ use Rattle.std.proofs.Common.{◌≡◌, ◌⊎◌, ℕ, ◌-◌, List, [], ◌�
 use Rattle.std.proofs.Math.Seq.{take-append_seam}
 use Rattle.ssh_wire.specs.declared.error.WireError.{WireError}
 use Rattle.ssh_wire.specs.declared.error.WireError.TheVariants.{Trailing}
-use Rattle.ssh_wire.specs.Field.{Field, Bytes, Values, SpellsAll}
+use Rattle.ssh_wire.specs.Field.{Field, Bytes, Value, Values, SpellsAll}
 use Rattle.ssh_wire.specs.Reading.{Reading, Reads}
 use Rattle.ssh_keys.specs.declared.error.KeyError.{KeyError}
 use Rattle.ssh_keys.specs.declared.error.KeyError.TheVariants.{Blob, NoMemory}
@@ -15,9 +15,9 @@ use Rattle.ssh_auth.specs.Failure.{auth_error_of, auth_error_of_key}
 use Rattle.ssh_auth.specs.Publickey.{MisfitsSignature}
 use Rattle.ssh_auth.specs.Read.{SignatureFails}
 
--- a string that was read from the front of these bytes
-pub string_first : (old new : Reading) (bytes text : List ℕ) → old.left ≡ bytes → Reads Bytes old new text → SpellsAll (Bytes ∷ []) (text, tt) bytes new.left
-string_first old new bytes text is read = subst (λ b. SpellsAll (Bytes ∷ []) (text, tt) b new.left) is (read.0, new.left, read.1, read.2.0, refl)
+-- a field that was read from the front of these bytes
+pub field_first : (field : Field) (old new : Reading) (bytes : List ℕ) (value : Value field) → old.left ≡ bytes → Reads field old new value → SpellsAll (field ∷ []) (value, tt) bytes new.left
+field_first field old new bytes value is read = subst (λ b. SpellsAll (field ∷ []) (value, tt) b new.left) is (read.0, new.left, read.1, read.2.0, refl)
 
 -- a signature field that holds no signature
 pub no_signature : {E : Type 0} (result : Result Signature (AuthError E)) (e : KeyError) (bytes inner after : List ℕ) → IsErrAnd result (λ x. x ≡ auth_error_of_key e) →

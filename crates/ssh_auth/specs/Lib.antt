@@ -1,10 +1,12 @@
 pub mod Failure
 pub mod Layout
 pub mod Plan
+pub mod Prompts
 pub mod Proven
 pub mod Publickey
 pub mod Read
 pub mod Request
+pub mod Response
 pub mod Said
 pub mod Serve
 pub mod Verdict

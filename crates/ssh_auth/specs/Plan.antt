@@ -10,7 +10,7 @@ use Rattle.ssh_link.specs.declared.outcome.CommandOutcome.{CommandOutcome}
 use Rattle.ssh_link.specs.declared.link.TraceEntry.{TraceEntry}
 use Rattle.ssh_auth.specs.declared.auth.Auth.{Auth}
 use Rattle.ssh_auth.specs.declared.call.Call.{Call}
-use Rattle.ssh_auth.specs.declared.call.Call.TheVariants.{AuthenticationBanner, AuthNone, AuthPassword, AuthPublickeyOffered, AuthPublickey, AuthOpensshCertificate, AuthSucceeded, ChannelOpenSession, ChannelEof, ChannelClose, WindowAdjusted, CommandDone}
+use Rattle.ssh_auth.specs.declared.call.Call.TheVariants.{AuthenticationBanner, AuthNone, AuthPassword, AuthPublickeyOffered, AuthPublickey, AuthOpensshCertificate, AuthKeyboardInteractive, AuthSucceeded, ChannelOpenSession, ChannelEof, ChannelClose, WindowAdjusted, CommandDone}
 
 -- what a handler is asked, or is told
 pub data Question : Type 0 where
@@ -26,6 +26,9 @@ pub data Question : Type 0 where
   Auth_publickey : (user : List ℕ) → (public_key : PublicKey) → (algorithm : Algorithm) → Question
   -- whether this user is let in by this certificate, whose key has signed (OpenSSH PROTOCOL.certkeys)
   Auth_openssh_certificate : (user : List ℕ) → (certificate : Certificate) → Question
+  -- whether this user is let in by these responses, or what to prompt for; there are none before the first prompt
+  -- (RFC 4256)
+  Auth_keyboard_interactive : (user submethods : List ℕ) → (response : Option (List (List ℕ))) → Question
   -- that the user is authenticated (RFC 4252 section 5.1)
   Auth_succeeded : Question
   -- for the answer to a session channel that the peer opens under this number (RFC 4254 section 6.1)
@@ -47,6 +50,7 @@ Answer (Auth_password user password) = Auth
 Answer (Auth_publickey_offered user public_key algorithm) = Auth
 Answer (Auth_publickey user public_key algorithm) = Auth
 Answer (Auth_openssh_certificate user certificate) = Auth
+Answer (Auth_keyboard_interactive user submethods response) = Auth
 Answer Auth_succeeded = List Command
 Answer (Channel_open_session channel) = List Command
 Answer (Channel_eof channel) = List Command
@@ -67,6 +71,7 @@ Answered (Auth_password user password) answer call = call ≡ AuthPassword user 
 Answered (Auth_publickey_offered user public_key algorithm) answer call = call ≡ AuthPublickeyOffered user public_key algorithm answer
 Answered (Auth_publickey user public_key algorithm) answer call = call ≡ AuthPublickey user public_key algorithm answer
 Answered (Auth_openssh_certificate user certificate) answer call = call ≡ AuthOpensshCertificate user certificate answer
+Answered (Auth_keyboard_interactive user submethods response) answer call = call ≡ AuthKeyboardInteractive user submethods response answer
 Answered Auth_succeeded answer call = Recorded answer AuthSucceeded call
 Answered (Channel_open_session channel) answer call = Recorded answer (ChannelOpenSession channel) call
 Answered (Channel_eof channel) answer call = Recorded answer (ChannelEof channel) call

@@ -51,6 +51,14 @@ abbrev pub is_probed : Option CurrentRequest → (name blob : List ℕ) → Bool
 is_probed (Some (round.PublicKey key algo sent_pk_ok)) name blob = sent_pk_ok && (bytes_eq key blob && bytes_eq algo name)
 is_probed _ name blob = false
 
+-- the user whom prompts wait for, who is the bound one, and the submethods of their round
+abbrev pub prompt_in : Option CurrentRequest → Option Principal → Option (List ℕ × List ℕ)
+prompt_in (Some (round.KeyboardInteractive submethods)) (Some principal) = Some (principal.user, submethods)
+prompt_in _ _ = None
+
+abbrev pub prompt_of : AuthRequest → Option (List ℕ × List ℕ)
+prompt_of auth = prompt_in auth.current auth.bound
+
 -- the count of rejections after one more: a partial success is none
 abbrev pub count_after : Bool → ℕ → ℕ
 count_after partial count = if partial then count else min (count + 1) (2 ^ 64 - 1)

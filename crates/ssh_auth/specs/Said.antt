@@ -29,10 +29,10 @@ pub data Method : Type 0 where
   Misnamed_method : Method
   -- a signature by that algorithm, and whether the verifier accepts it, where it was asked
   Signed_method : (offer : Offer) → (accepted : Option Bool) → Method
+  -- prompts, by one of these submethods (RFC 4256 section 3.1)
+  Interactive_method : (submethods : List ℕ) → Method
   -- a method that the server does not have
   Other_method : Method
-  -- a method that is not built
-  Unbuilt_method : Method
   -- its fields do not fit
   Unfit_method : (why : WireError) → Method
 
@@ -84,12 +84,18 @@ SaysPublickey given all fields (Unfit_method why) =
     ⊎ ((offer : Offer) × (rest : List ℕ) × Offers given true offer fields rest × MisfitsSignature rest why)
 SaysPublickey given all fields _ = ⊥
 
--- the methods whose fields are read, those that are not built, and the others, whose fields stay unread
+-- string language tag, string submethods (RFC 4256 section 3.1)
+abbrev pub SaysInteractive : List ℕ → Method → Type 0
+SaysInteractive fields (Interactive_method submethods) = (language : List ℕ) × SpellsWhole (Text ∷ Text ∷ []) (language, (submethods, tt)) fields
+SaysInteractive fields (Unfit_method why) = MisfitsWhole (Text ∷ Text ∷ []) fields why
+SaysInteractive fields _ = ⊥
+
+-- the methods whose fields are read, and the others, whose fields stay unread
 pub data Named : Type 0 where
   Is_none : Named
   Is_password : Named
   Is_publickey : Named
-  Is_unbuilt : Named
+  Is_interactive : Named
   Is_other : Named
 
 abbrev pub named_by : List ℕ → Named
@@ -97,13 +103,13 @@ named_by name =
     if bytes_eq name (codes "none") then Is_none
     else (if bytes_eq name (codes "password") then Is_password
     else (if bytes_eq name (codes "publickey") then Is_publickey
-    else (if bytes_eq name (codes "keyboard-interactive") then Is_unbuilt else Is_other)))
+    else (if bytes_eq name (codes "keyboard-interactive") then Is_interactive else Is_other)))
 
 abbrev pub SaysMethod : Circumstances → (all : List ℕ) → Named → (fields : List ℕ) → Method → Type 0
 SaysMethod given all Is_none fields method = SaysNone fields method
 SaysMethod given all Is_password fields method = SaysPassword fields method
 SaysMethod given all Is_publickey fields method = SaysPublickey given all fields method
-SaysMethod given all Is_unbuilt fields method = method ≡ Unbuilt_method
+SaysMethod given all Is_interactive fields method = SaysInteractive fields method
 SaysMethod given all Is_other fields method = method ≡ Other_method
 
 -- under these circumstances the fields after the number say this

@@ -9,7 +9,7 @@ use Rattle.ssh_auth.specs.declared.error.AuthError.{AuthError}
 use Rattle.ssh_auth.specs.declared.error.AuthError.TheVariants as error
 use Rattle.ssh_auth.specs.Plan.{Plan, Finish, Event, Called, Follows, Begins, Breaks}
 use Rattle.ssh_auth.specs.Said.{Method}
-use Rattle.ssh_auth.specs.Verdict.{Outcome, Replies, Fails, Encoding, Inconsistent, Key, Starved, Not_built, method_verdict}
+use Rattle.ssh_auth.specs.Verdict.{Outcome, Replies, Fails, Encoding, Inconsistent, Key, Unsupported, Starved, method_verdict}
 
 -- the payload has this number
 abbrev pub IsNumbered : ℕ → List ℕ → Type 0
@@ -23,7 +23,7 @@ Answers plan events auth (Err (error.Encoding why)) = Follows plan events (Fails
 Answers plan events auth (Err error.Inconsistent) = Follows plan events (Fails Inconsistent)
 Answers plan events auth (Err (error.Key why)) = (why ≡ Blob) × Follows plan events (Fails Key)
 Answers plan events auth (Err (error.Handler e)) = Breaks plan events e
-Answers plan events auth (Err error.NotBuilt) = Follows plan events (Fails Not_built)
+Answers plan events auth (Err error.UnsupportedAuthMethod) = Follows plan events (Fails Unsupported)
 
 -- the handler was told these calls; after one that answered an error it may tell nothing
 abbrev pub ToldBy : {T E : Type 0} → Result T (AuthError E) → Option (List (Call E)) → Option (List (Call E)) → List (Call E) → Type 0

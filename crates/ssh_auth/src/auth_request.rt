@@ -1,7 +1,7 @@
 // The state of authentication between requests.
 ghost use Rattle.std.specs.Prelude.{◌≡◌, None, true, false, not, IfOk, IfErr, OnOk, OnErr};
 ghost use Rattle.ssh_wire.specs.declared.error.WireError.TheVariants.{NoMemory};
-ghost use Rattle.ssh_auth.specs.Request.{server_request, client_request, principal_of, pair_of, initial_of, is_bound, bound_to, is_probed, count_after};
+ghost use Rattle.ssh_auth.specs.Request.{server_request, client_request, principal_of, pair_of, initial_of, is_bound, bound_to, is_probed, prompt_of, count_after};
 
 use crate::Method;
 use bytes::Bytes;
@@ -151,6 +151,18 @@ impl AuthRequest {
                 },
             ) => *sent_pk_ok && key.as_slice() == blob && algo.as_str() == name,
             _ => false,
+        }
+    }
+
+    /// The user whom prompts wait for, and the submethods of their round.
+    pub(crate) fn prompt(&self) -> Option<(&str, &str)>
+        ensures { pair_of result ≡ prompt_of self.now }
+    {
+        match (&self.current, &self.bound) {
+            (Some(CurrentRequest::KeyboardInteractive { submethods }), Some(principal)) => {
+                Some((principal.user.as_str(), submethods.as_str()))
+            }
+            _ => None,
         }
     }
 

@@ -2,7 +2,7 @@
 use crate::Auth;
 use ssh_keys::{Algorithm, Certificate, PublicKey};
 use ssh_link::{CommandList, CommandOutcome};
-use ssh_wire::{ChannelId, Text};
+use ssh_wire::{Blobs, ChannelId, Text};
 
 /// One call of a callback of a handler: its arguments, what it answered, and the commands that it
 /// recorded where it could.
@@ -57,6 +57,17 @@ pub enum Call<E> {
         user: Text,
         /// The certificate, which holds and is validly signed.
         certificate: Certificate,
+        /// The verdict.
+        answer: Result<Auth, E>,
+    },
+    /// A user asked to be let in by prompts, or responded to them.
+    AuthKeyboardInteractive {
+        /// The user's name.
+        user: Text,
+        /// The submethods that the user would like, joined by commas.
+        submethods: Text,
+        /// The responses to the last prompts, in order; none before the first prompts.
+        response: Option<Blobs>,
         /// The verdict.
         answer: Result<Auth, E>,
     },

@@ -1,16 +1,17 @@
-// Why a request of authentication gets no reply.
+// Why a request of authentication, or a response, gets no reply.
 ghost use Rattle.std.specs.Prelude.{◌≡◌};
 ghost use Rattle.ssh_auth.specs.Failure.{auth_error_of, auth_error_of_key};
 
 use ssh_keys::KeyError;
 use ssh_wire::WireError;
 
-/// Why a request of authentication gets no reply. `E` is the handler's error.
+/// Why a request of authentication, or a response to prompts, gets no reply. `E` is the handler's error.
 #[derive(Debug, Drop)]
 pub enum AuthError<E> {
     /// There was no memory.
     NoMemory,
-    /// A field of the payload does not fit its layout.
+    /// A field of the payload does not fit its layout; or it is `TooLong`, and the reply that the
+    /// handler's answer asks for would have more than 2^32 - 1 bytes.
     Encoding(WireError),
     /// The request names another service than `ssh-connection`.
     Inconsistent,
@@ -19,8 +20,8 @@ pub enum AuthError<E> {
     Key(KeyError),
     /// The handler answered this error.
     Handler(E),
-    /// The request is by a method that is not built yet: publickey or keyboard-interactive.
-    NotBuilt,
+    /// The handler answered `Auth::UnsupportedMethod` to a user of keyboard-interactive.
+    UnsupportedAuthMethod,
 }
 
 impl<E> From<WireError> for AuthError<E> {

@@ -2,9 +2,9 @@
 ghost use Rattle.std.specs.Prelude.{◌≡◌, List, Option, None, Result};
 ghost use Rattle.ssh_link.specs.Told.{Tells, IsUntold};
 ghost use Rattle.ssh_auth.specs.declared.call.Call.{Call};
-ghost use Rattle.ssh_auth.specs.declared.call.Call.TheVariants.{AuthenticationBanner, AuthNone, AuthPassword, AuthPublickeyOffered, AuthPublickey, AuthOpensshCertificate};
+ghost use Rattle.ssh_auth.specs.declared.call.Call.TheVariants.{AuthenticationBanner, AuthNone, AuthPassword, AuthPublickeyOffered, AuthPublickey, AuthOpensshCertificate, AuthKeyboardInteractive};
 
-use crate::{Auth, PublicKeyOffer, VerifiedPublicKey};
+use crate::{Auth, PublicKeyOffer, Response, VerifiedPublicKey};
 use ssh_keys::Certificate;
 use ssh_wire::Text;
 
@@ -98,6 +98,21 @@ pub trait AuthHandler {
         certificate: &Certificate,
     ) -> Result<Auth, Self::Error>
         ensures { Tells (told self.old) (told self.new) result (AuthOpensshCertificate user.now certificate.now result) }
+    {
+        self.untold(Unwritten::new())?;
+        Ok(Auth::reject())
+    }
+
+    /// A user asks to be let in by prompts, with no response yet, or responds to those of the last
+    /// answer, which was `Auth::Partial` (RFC 4256). `submethods` are those that the user would
+    /// like, joined by commas. Refused where it is not written.
+    fn auth_keyboard_interactive(
+        &mut self,
+        user: &str,
+        submethods: &str,
+        response: Option<Response<'_>>,
+    ) -> Result<Auth, Self::Error>
+        ensures { Tells (told self.old) (told self.new) result (AuthKeyboardInteractive user.now submethods.now response.entry result) }
     {
         self.untold(Unwritten::new())?;
         Ok(Auth::reject())

@@ -1,7 +1,8 @@
-//! Authentication of users (RFC 4252): what a handler is asked, and the verdict on one request.
+//! Authentication of users (RFC 4252, RFC 4256): what a handler is asked, and the verdict on one
+//! request or response.
 //!
-//! What the crates above rely on is the contract of [`serve_request`]: one payload comes to its
-//! calls, its reply, its verdict and the changed state of authentication, line by line as
+//! What the crates above rely on are the contracts of [`serve_request`] and [`serve_response`]: one
+//! payload comes to its calls, its reply, its verdict and the changed state of authentication, line by line as
 //! `specs/Verdict.antt` says.
 #![tactic(auto)]
 
@@ -11,14 +12,18 @@ mod auth_result;
 mod auth_step;
 mod call;
 mod error;
+mod gssapi;
 mod handler;
+mod interactive;
 mod key_request;
 mod message;
 mod method;
 mod offer;
+mod prompts;
 mod publickey;
 mod reply;
 mod request;
+mod response;
 
 pub use auth::Auth;
 pub use auth_request::{AuthRequest, CurrentRequest};
@@ -26,8 +31,12 @@ pub use auth_result::AuthResult;
 pub use auth_step::{AuthStep, AuthVerdict};
 pub use call::Call;
 pub use error::AuthError;
+pub use gssapi::{GssapiError, GssapiStep};
 pub use handler::{AuthHandler, Unwritten};
+pub use interactive::serve_response;
 pub use message::fields_of;
 pub use method::Method;
 pub use offer::{PublicKeyOffer, VerifiedPublicKey};
+pub use prompts::Prompts;
 pub use request::serve_request;
+pub use response::Response;

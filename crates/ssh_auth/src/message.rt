@@ -1,11 +1,14 @@
-// The fields of a USERAUTH_REQUEST, one after another.
-ghost use Rattle.std.specs.Prelude.{◌≡◌, [], ◌∷◌, List, ℕ, MatchResult, IfOk, IfErr, drop};
+// The fields of a USERAUTH_REQUEST, or of a response to prompts, one after another.
+ghost use Rattle.std.specs.Prelude.{◌≡◌, ◌⊎◌, [], ◌∷◌, List, ℕ, MatchResult, IfOk, IfErr, drop, map};
 ghost use Rattle.ssh_wire.specs.Field.{Flag, Text, SpellsAll, SpellsWhole, Misfits, MisfitsAll, MisfitsWhole};
 ghost use Rattle.ssh_wire.specs.Reading.{Reads};
-ghost use Rattle.ssh_auth.specs.Said.{head_fields, SaysPassword, Change_method, Unfit_method};
+ghost use Rattle.ssh_wire.specs.declared.error.WireError.TheVariants.{NoMemory};
+ghost use Rattle.ssh_auth.specs.Said.{head_fields, SaysPassword, SaysInteractive, Change_method, Interactive_method, Unfit_method};
+ghost use Rattle.ssh_auth.specs.Response.{SaysResponses, Responses, Unfit_responses};
 ghost use Rattle.ssh_auth.specs.Read.{password_method};
 
 use ssh_wire::{Reader, WireError};
+use std::alloc::Global;
 
 /// The fields that each USERAUTH_REQUEST begins with (RFC 4252 section 5), and what follows them.
 #[derive(Clone, Copy)]
@@ -116,4 +119,34 @@ pub(crate) fn read_password(fields: &[u8]) -> Result<PasswordRequest<'_>, WireEr
     }
     let password = read_plain(reader)?;
     Ok(PasswordRequest::Password { password })
+}
+
+/// The submethods of a request of method keyboard-interactive; its language is not looked at (RFC
+/// 4256 section 3.1).
+pub(crate) fn read_interactive(fields: &[u8]) -> Result<&str, WireError>
+    ensures { MatchResult result
+        (λ submethods. SaysInteractive fields.now (Interactive_method submethods.now))
+        (λ why. SaysInteractive fields.now (Unfit_method why)) }
+{
+    let mut reader = Reader::new(fields);
+    reader.text()?;
+    let submethods = reader.text()?;
+    reader.end()?;
+    Ok(submethods)
+}
+
+/// The responses of a USERAUTH_INFO_RESPONSE, as many as it announces (RFC 4256 section 3.4).
+pub(crate) fn read_responses(alloc: Global, fields: &[u8]) -> Result<Vec<&[u8]>, WireError>
+    ensures { MatchResult result
+        (λ responses. SaysResponses fields.now (Responses (map (λ text. text.now) responses.items)))
+        (λ why. (why ≡ NoMemory) ⊎ SaysResponses fields.now (Unfit_responses why)) }
+{
+    let mut reader = Reader::new(fields);
+    let count = reader.u32()?;
+    let mut responses = Vec::new(alloc);
+    for _ in 0..count {
+        responses.push(reader.bytes()?)?;
+    }
+    reader.end()?;
+    Ok(responses)
 }

@@ -94,7 +94,7 @@ fn serve_probe<H: AuthHandler>(
     ensures { Serves (method_verdict auth.old user.now (Probe_method offer.now)) (H.told handler.old) (H.told handler.new) auth.new result }
 {
     match ask_offered(handler, user, offer) {
-        Ok(verdict) => Ok(answer_offer(alloc, auth, offer, verdict)?),
+        Ok(verdict) => Ok(answer_offer(alloc, auth, offer, &verdict)?),
         Err(e) => Err(AuthError::Handler(e)),
     }
 }
@@ -199,7 +199,7 @@ fn serve_key<H: AuthHandler>(
         algorithm,
     };
     match handler.auth_publickey(user, key) {
-        Ok(verdict) => Ok(answer_proof(alloc, auth, verdict)?),
+        Ok(verdict) => Ok(answer_proof(alloc, auth, &verdict)?),
         Err(e) => Err(AuthError::Handler(e)),
     }
 }
@@ -215,7 +215,7 @@ fn serve_certificate<H: AuthHandler>(
     ensures { Serves (Ask (Auth_openssh_certificate user.now certificate.now) (λ answer. Finish (proven auth.old answer))) (H.told handler.old) (H.told handler.new) auth.new result }
 {
     match handler.auth_openssh_certificate(user, certificate) {
-        Ok(verdict) => Ok(answer_proof(alloc, auth, verdict)?),
+        Ok(verdict) => Ok(answer_proof(alloc, auth, &verdict)?),
         Err(e) => Err(AuthError::Handler(e)),
     }
 }

@@ -1,16 +1,18 @@
 // The replies that are written, and the state after them.
-ghost use Rattle.std.specs.Prelude.{◌≡◌, ◌≤◌, ◌<◌, ◌^◌, ◌⊎◌, length, IfOk, IfErr};
+ghost use Rattle.std.specs.Prelude.{◌≡◌, ◌≤◌, ◌<◌, ◌^◌, ◌⊎◌, ◌++◌, [], length, OnOk, IfOk, IfErr};
 ghost use Rattle.ssh_wire.specs.declared.error.WireError.TheVariants.{NoMemory, TooLong};
 ghost use Rattle.ssh_wire.specs.Methods.{without};
-ghost use Rattle.ssh_auth.specs.Layout.{failure, success, pk_ok};
-ghost use Rattle.ssh_auth.specs.Verdict.{Replies, Fails, Encoding, rejected, refused, answered, probed, proven};
+ghost use Rattle.ssh_auth.specs.Layout.{failure, success, pk_ok, prompts_fields, info_request};
+ghost use Rattle.ssh_auth.specs.Plan.{Finish};
+ghost use Rattle.ssh_auth.specs.Serve.{Answers};
+ghost use Rattle.ssh_auth.specs.Verdict.{Replies, Fails, Encoding, rejected, refused, answered, probed, proven, prompted};
 ghost use Rattle.ssh_auth.specs.declared.auth.Auth.TheVariants.{Accept, Reject};
 
 use crate::auth_request::count_after_rejection;
 use crate::key_request::Offer;
-use crate::{Auth, AuthRequest, AuthStep, AuthVerdict, CurrentRequest};
+use crate::{Auth, AuthError, AuthRequest, AuthStep, AuthVerdict, CurrentRequest, Prompts};
 use bytes::Bytes;
-use ssh_wire::{MethodKind, MethodSet, Text, WireError, put_bytes, put_text, put_u8};
+use ssh_wire::{MethodKind, MethodSet, Text, WireError, put_bytes, put_text, put_u8, put_u32};
 use std::alloc::Global;
 
 const USERAUTH_FAILURE: u8 = 51;
@@ -18,6 +20,8 @@ const USERAUTH_FAILURE: u8 = 51;
 const USERAUTH_SUCCESS: u8 = 52;
 
 const USERAUTH_PK_OK: u8 = 60;
+
+const USERAUTH_INFO_REQUEST: u8 = 60;
 
 /// USERAUTH_FAILURE with the methods that can continue (RFC 4252 section 5.1).
 fn failure_payload(
@@ -130,18 +134,18 @@ pub(crate) fn answer_offer(
     alloc: Global,
     auth: &mut AuthRequest,
     offer: &Offer<'_>,
-    answer: Auth,
+    answer: &Auth,
 ) -> Result<AuthStep, WireError>
-    ensures ok { IfOk result (λ step. probed auth.old offer.now answer ≡ Replies step.reply step.verdict auth.new) }
-    ensures refused { IfErr result (λ e. (e ≡ NoMemory) ⊎ ((e ≡ TooLong) × (probed auth.old offer.now answer ≡ Fails (Encoding TooLong)))) }
+    ensures ok { IfOk result (λ step. probed auth.old offer.now answer.now ≡ Replies step.reply step.verdict auth.new) }
+    ensures refused { IfErr result (λ e. (e ≡ NoMemory) ⊎ ((e ≡ TooLong) × (probed auth.old offer.now answer.now ≡ Fails (Encoding TooLong)))) }
 {
     match answer {
         Auth::Accept => permit(alloc, auth, offer),
         Auth::Reject {
             proceed_with_methods,
             partial_success,
-        } => refuse_naming(alloc, auth, proceed_with_methods, partial_success),
-        Auth::UnsupportedMethod => refuse(alloc, auth),
+        } => refuse_naming(alloc, auth, *proceed_with_methods, *partial_success),
+        Auth::UnsupportedMethod | Auth::Partial { .. } => refuse(alloc, auth),
     }
 }
 
@@ -149,9 +153,9 @@ pub(crate) fn answer_offer(
 pub(crate) fn answer_proof(
     alloc: Global,
     auth: &mut AuthRequest,
-    answer: Auth,
+    answer: &Auth,
 ) -> Result<AuthStep, WireError>
-    ensures ok { IfOk result (λ step. proven auth.old answer ≡ Replies step.reply step.verdict auth.new) }
+    ensures ok { IfOk result (λ step. proven auth.old answer.now ≡ Replies step.reply step.verdict auth.new) }
     ensures memory { IfErr result (λ e. e ≡ NoMemory) }
 {
     match answer {
@@ -162,8 +166,8 @@ pub(crate) fn answer_proof(
         Auth::Reject {
             proceed_with_methods,
             partial_success,
-        } => refuse_naming(alloc, auth, proceed_with_methods, partial_success),
-        Auth::UnsupportedMethod => refuse(alloc, auth),
+        } => refuse_naming(alloc, auth, *proceed_with_methods, *partial_success),
+        Auth::UnsupportedMethod | Auth::Partial { .. } => refuse(alloc, auth),
     }
 }
 
@@ -182,9 +186,9 @@ pub(crate) fn answer(
     auth: &mut AuthRequest,
     method: MethodKind,
     none_method: bool,
-    answer: Auth,
+    answer: &Auth,
 ) -> Result<AuthStep, WireError>
-    ensures ok { IfOk result (λ step. answered auth.old method none_method answer ≡ Replies step.reply step.verdict auth.new) }
+    ensures ok { IfOk result (λ step. answered auth.old method none_method answer.now ≡ Replies step.reply step.verdict auth.new) }
     ensures memory { IfErr result (λ e. e ≡ NoMemory) }
 {
     match answer {
@@ -195,17 +199,86 @@ pub(crate) fn answer(
         Auth::Reject {
             proceed_with_methods: Some(methods),
             partial_success,
-        } => reject(alloc, auth, none_method, methods, partial_success),
+        } => reject(alloc, auth, none_method, *methods, *partial_success),
         Auth::Reject {
             proceed_with_methods: None,
             partial_success,
         } => {
             let methods = methods_without(auth.methods, method);
-            reject(alloc, auth, none_method, methods, partial_success)
+            reject(alloc, auth, none_method, methods, *partial_success)
         }
-        Auth::UnsupportedMethod => {
+        Auth::UnsupportedMethod | Auth::Partial { .. } => {
             let methods = methods_without(auth.methods, method);
             reject(alloc, auth, none_method, methods, false)
         }
+    }
+}
+
+/// How many prompts there are, and then each with its echo flag (RFC 4256 section 3.2). `TooLong`
+/// only where that is more than 2^32 - 1 bytes, and no other error but `NoMemory`.
+fn put_prompts(out: &mut Vec<u8>, prompts: &[(Text, bool)]) -> Result<(), WireError>
+    ensures ok { OnOk result (out.new.items ≡ out.old.items ++ prompts_fields prompts.now) }
+    ensures refused { IfErr result (λ e. (e ≡ NoMemory) ⊎ ((e ≡ TooLong) × (2 ^ 32 ≤ length (prompts_fields prompts.now)))) }
+{
+    let Ok(count) = u32::try_from(prompts.len()) else {
+        return Err(WireError::TooLong);
+    };
+    put_u32(out, count)?;
+    for (text, echo) in prompts {
+        put_text(out, text.as_str())?;
+        put_u8(out, u8::from(*echo))?;
+    }
+    Ok(())
+}
+
+/// USERAUTH_INFO_REQUEST (RFC 4256 section 3.2). `TooLong` exactly where it has more than 2^32 - 1
+/// bytes, and no other error but `NoMemory`.
+fn info_request_payload(
+    alloc: Global,
+    name: &str,
+    instructions: &str,
+    prompts: &Prompts,
+) -> Result<Bytes, WireError>
+    ensures ok { IfOk result (λ payload. (payload ≡ info_request name.now instructions.now prompts.now) × (length payload < 2 ^ 32)) }
+    ensures refused { IfErr result (λ e. (e ≡ NoMemory) ⊎ ((e ≡ TooLong) × (2 ^ 32 ≤ length (info_request name.now instructions.now prompts.now)))) }
+{
+    let mut payload = Vec::new(alloc);
+    put_u8(&mut payload, USERAUTH_INFO_REQUEST)?;
+    put_text(&mut payload, name)?;
+    put_text(&mut payload, instructions)?;
+    put_text(&mut payload, "")?;
+    put_prompts(&mut payload, prompts.as_slice())?;
+    if u32::try_from(payload.len()).is_err() {
+        return Err(WireError::TooLong);
+    }
+    Ok(Bytes::from_vec(payload)?)
+}
+
+/// What the answer in a round of keyboard-interactive means: prompts keep the round.
+pub(crate) fn answer_prompted<E>(
+    alloc: Global,
+    auth: &mut AuthRequest,
+    answer: &Auth,
+) -> Result<AuthStep, AuthError<E>>
+    ensures { Answers (Finish (prompted auth.old answer.now)) [] auth.new result }
+{
+    match answer {
+        Auth::Accept => Ok(AuthStep {
+            reply: success_payload(alloc)?,
+            verdict: AuthVerdict::Accepted,
+        }),
+        Auth::Reject {
+            proceed_with_methods,
+            partial_success,
+        } => Ok(refuse_naming(alloc, auth, *proceed_with_methods, *partial_success)?),
+        Auth::UnsupportedMethod => Err(AuthError::UnsupportedAuthMethod),
+        Auth::Partial {
+            name,
+            instructions,
+            prompts,
+        } => Ok(AuthStep {
+            reply: info_request_payload(alloc, name.as_str(), instructions.as_str(), prompts)?,
+            verdict: AuthVerdict::Continued,
+        }),
     }
 }

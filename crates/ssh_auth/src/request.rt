@@ -5,6 +5,7 @@ ghost use Rattle.ssh_auth.specs.Verdict.{verdict, method_verdict};
 ghost use Rattle.ssh_auth.specs.Serve.{IsNumbered, Serves, ServesMethod};
 ghost use Rattle.ssh_auth.specs.Read.{password_method, circumstances, all_fields, IsWhole};
 
+use crate::interactive::serve_interactive;
 use crate::message::{PasswordRequest, fields_of, read_none, read_password, read_request_head};
 use crate::publickey::serve_publickey;
 use crate::reply::{answer, methods_without, refuse, reject};
@@ -81,7 +82,7 @@ fn serve_method<H: AuthHandler, V: Verifier>(
         return serve_publickey(alloc, auth, handler, verifier, request);
     }
     if name == "keyboard-interactive" {
-        return Err(AuthError::NotBuilt);
+        return serve_interactive(alloc, auth, handler, request.user, request.fields);
     }
     Ok(refuse(alloc, auth)?)
 }
@@ -110,7 +111,7 @@ fn ask_none<H: AuthHandler>(
     ensures { Serves (method_verdict auth.old user.now None_method) (H.told handler.old) (H.told handler.new) auth.new result }
 {
     match handler.auth_none(user) {
-        Ok(verdict) => Ok(answer(alloc, auth, MethodKind::None, true, verdict)?),
+        Ok(verdict) => Ok(answer(alloc, auth, MethodKind::None, true, &verdict)?),
         Err(e) => Err(AuthError::Handler(e)),
     }
 }
@@ -161,7 +162,7 @@ fn ask_password<H: AuthHandler>(
     ensures { Serves (method_verdict auth.old user.now (Password_method password.now)) (H.told handler.old) (H.told handler.new) auth.new result }
 {
     match handler.auth_password(user, password) {
-        Ok(verdict) => Ok(answer(alloc, auth, MethodKind::Password, false, verdict)?),
+        Ok(verdict) => Ok(answer(alloc, auth, MethodKind::Password, false, &verdict)?),
         Err(e) => Err(AuthError::Handler(e)),
     }
 }

@@ -1,19 +1,8 @@
-use Rattle.std.proofs.Common.{◌≡◌, rules, true, false}
+use Rattle.std.proofs.Common.{◌≡◌, rules, false}
 use Rattle.std.specs.Prelude.{bytes_eq, codes}
 use Rattle.ssh_auth.specs.Read.{circumstances, all_fields}
-use Rattle.ssh_auth.proofs.Asks.{other_method, unbuilt_method}
+use Rattle.ssh_auth.proofs.Asks.{other_method}
 use Rattle.ssh_auth.proofs.request.serve_method.Goals as goal
-
-pub returns-then-eq-4 : goal.returns-then-eq-4
-returns-then-eq-4 g c =
-    let name = c.args.name.now in
-    let request = c.args.request.now in
-    let none : bytes_eq name (codes "none") ≡ false = search rules in
-    let password : bytes_eq name (codes "password") ≡ false = search rules in
-    let publickey : bytes_eq name (codes "publickey") ≡ false = search rules in
-    let interactive : bytes_eq name (codes "keyboard-interactive") ≡ true = search rules in
-    unbuilt_method (circumstances (g.V.Verifier.accepts c.args.verifier.now) request) (all_fields request) name request.fields.now c.args.auth.now request.user.now
-    (g.H.AuthHandler.told c.args.handler.now) c.args.auth.now none password publickey interactive
 
 pub returns : goal.returns
 returns g c =

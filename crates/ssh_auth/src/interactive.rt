@@ -1,0 +1,70 @@
+// Requests by keyboard-interactive, and the responses to prompts.
+ghost use Rattle.std.specs.Prelude.{drop};
+ghost use Rattle.ssh_auth.specs.Response.{Responded, SaysResponses};
+ghost use Rattle.ssh_auth.specs.Said.{SaysInteractive, Interactive_method};
+ghost use Rattle.ssh_auth.specs.Verdict.{method_verdict, response_verdict};
+ghost use Rattle.ssh_auth.specs.Serve.{IsNumbered, Serves, ServesMethod};
+
+use crate::message::{fields_of, read_interactive, read_responses};
+use crate::reply::{answer_prompted, refuse};
+use crate::{AuthError, AuthHandler, AuthRequest, AuthStep, CurrentRequest, Response};
+use ssh_wire::Text;
+use std::alloc::Global;
+
+/// A request of method keyboard-interactive (RFC 4256 section 3.1).
+pub(crate) fn serve_interactive<H: AuthHandler>(
+    alloc: Global,
+    auth: &mut AuthRequest,
+    handler: &mut H,
+    user: &str,
+    fields: &[u8],
+) -> Result<AuthStep, AuthError<H::Error>>
+    ensures { ServesMethod (SaysInteractive fields.now) auth.old user.now (H.told handler.old) (H.told handler.new) auth.new result }
+{
+    let submethods = read_interactive(fields)?;
+    begin_round(alloc, auth, handler, user, submethods)
+}
+
+/// A round begins: the handler is asked what to prompt for.
+fn begin_round<H: AuthHandler>(
+    alloc: Global,
+    auth: &mut AuthRequest,
+    handler: &mut H,
+    user: &str,
+    submethods: &str,
+) -> Result<AuthStep, AuthError<H::Error>>
+    ensures { Serves (method_verdict auth.old user.now (Interactive_method submethods.now)) (H.told handler.old) (H.told handler.new) auth.new result }
+{
+    auth.current = Some(CurrentRequest::KeyboardInteractive {
+        submethods: Text::new(alloc, submethods)?,
+    });
+    match handler.auth_keyboard_interactive(user, submethods, None) {
+        Ok(verdict) => answer_prompted(alloc, auth, &verdict),
+        Err(e) => Err(AuthError::Handler(e)),
+    }
+}
+
+/// Serves a USERAUTH_INFO_RESPONSE (RFC 4256 section 3.4): makes the call that it owes, and gives
+/// its reply and its verdict. Where no prompts wait it is refused, and not read. After an error the
+/// state is not used again.
+pub fn serve_response<H: AuthHandler>(
+    alloc: Global,
+    auth: &mut AuthRequest,
+    handler: &mut H,
+    payload: &[u8],
+) -> Result<AuthStep, AuthError<H::Error>>
+    requires numbered { IsNumbered 61 payload.now }
+    ensures { (said : Responded) × SaysResponses (drop 1 payload.now) said
+        × Serves (response_verdict auth.old said) (H.told handler.old) (H.told handler.new) auth.new result }
+{
+    auth.partial_success = false;
+    let Some((user, submethods)) = auth.prompt() else {
+        return Ok(refuse(alloc, auth)?);
+    };
+    let responses = read_responses(alloc, fields_of(payload))?;
+    let response = Response::new(responses.as_slice());
+    match handler.auth_keyboard_interactive(user, submethods, Some(response)) {
+        Ok(verdict) => answer_prompted(alloc, auth, &verdict),
+        Err(e) => Err(AuthError::Handler(e)),
+    }
+}
