@@ -1,21 +1,42 @@
 // The calls as they are recorded.
 ghost use Rattle.std.specs.Prelude.{◌≡◌, IfOk};
-ghost use Rattle.ssh_auth.specs.declared.call.Call.TheVariants.{AuthenticationBanner, AuthNone, AuthPassword, AuthPublickeyOffered, AuthPublickey, AuthOpensshCertificate, AuthSucceeded, ChannelOpenSession, ChannelEof, ChannelClose, WindowAdjusted};
+ghost use Rattle.ssh_auth.specs.declared.call.Call.TheVariants.{AuthenticationBanner, AuthNone, AuthPassword, AuthPublickeyOffered, AuthPublickey, AuthOpensshCertificate, AuthKeyboardInteractive, AuthSucceeded, ChannelOpenSession, ChannelEof, ChannelClose, WindowAdjusted};
 
 use crate::Commands;
-use ssh_auth::{Auth, Call};
+use bytes::Bytes;
+use ssh_auth::{Auth, Call, Response};
 use ssh_keys::{Algorithm, Certificate, PublicKey};
-use ssh_wire::{ChannelId, Text, WireError};
+use ssh_wire::{Blobs, ChannelId, Text, WireError};
 use std::alloc::Global;
 
-// A copy of an answer to an authentication request.
-fn copied_auth<E: Copy>(answer: &Result<Auth, E>) -> Result<Auth, E>
-    ensures { result ≡ answer.now }
+// A copy of an answer to a request of authentication.
+fn copied_auth<E: Copy>(
+    alloc: Global,
+    answer: &Result<Auth, E>,
+) -> Result<Result<Auth, E>, WireError>
+    ensures { IfOk result (λ copied. copied ≡ answer.now) }
 {
     match answer {
-        Ok(auth) => Ok(auth.copy()),
-        Err(e) => Err(*e),
+        Ok(auth) => Ok(Ok(auth.copy(alloc)?)),
+        Err(e) => Ok(Err(*e)),
     }
+}
+
+// Copies of the responses to prompts.
+fn copied_response(
+    alloc: Global,
+    response: Option<Response<'_>>,
+) -> Result<Option<Blobs>, WireError>
+    ensures { IfOk result (λ copied. copied ≡ response.entry) }
+{
+    let Some(response) = response else {
+        return Ok(None);
+    };
+    let mut copies = Blobs::new(alloc);
+    for text in response {
+        copies.push(Bytes::copy_from_slice(alloc, text)?)?;
+    }
+    Ok(Some(copies))
 }
 
 pub(crate) fn made_authentication_banner<E: Copy>(
@@ -40,7 +61,7 @@ pub(crate) fn made_auth_none<E: Copy>(
 {
     Ok(Call::AuthNone {
         user: Text::new(alloc, user)?,
-        answer: copied_auth(answer),
+        answer: copied_auth(alloc, answer)?,
     })
 }
 
@@ -55,7 +76,7 @@ pub(crate) fn made_auth_password<E: Copy>(
     Ok(Call::AuthPassword {
         user: Text::new(alloc, user)?,
         password: Text::new(alloc, password)?,
-        answer: copied_auth(answer),
+        answer: copied_auth(alloc, answer)?,
     })
 }
 
@@ -72,7 +93,7 @@ pub(crate) fn made_auth_publickey_offered<E: Copy>(
         user: Text::new(alloc, user)?,
         public_key: public_key.copy()?,
         algorithm,
-        answer: copied_auth(answer),
+        answer: copied_auth(alloc, answer)?,
     })
 }
 
@@ -89,7 +110,7 @@ pub(crate) fn made_auth_publickey<E: Copy>(
         user: Text::new(alloc, user)?,
         public_key: public_key.copy()?,
         algorithm,
-        answer: copied_auth(answer),
+        answer: copied_auth(alloc, answer)?,
     })
 }
 
@@ -104,7 +125,24 @@ pub(crate) fn made_auth_openssh_certificate<E: Copy>(
     Ok(Call::AuthOpensshCertificate {
         user: Text::new(alloc, user)?,
         certificate: certificate.copy()?,
-        answer: copied_auth(answer),
+        answer: copied_auth(alloc, answer)?,
+    })
+}
+
+pub(crate) fn made_auth_keyboard_interactive<E: Copy>(
+    alloc: Global,
+    user: &str,
+    submethods: &str,
+    response: Option<Response<'_>>,
+    answer: &Result<Auth, E>,
+) -> Result<Call<E>, WireError>
+    ensures { IfOk result (λ call. call ≡ AuthKeyboardInteractive user.now submethods.now response.entry answer.now) }
+{
+    Ok(Call::AuthKeyboardInteractive {
+        user: Text::new(alloc, user)?,
+        submethods: Text::new(alloc, submethods)?,
+        response: copied_response(alloc, response)?,
+        answer: copied_auth(alloc, answer)?,
     })
 }
 

@@ -3,15 +3,16 @@ ghost use Rattle.std.specs.Prelude.{◌≡◌, [], ◌∷◌, ◌++◌, Some, No
 ghost use Rattle.ssh_link.specs.Told.{AddsOne, Tells};
 ghost use Rattle.ssh_handler.specs.declared.recorded.RecordError.TheVariants.{NoMemory};
 ghost use Rattle.ssh_handler.specs.Recording.{Passes, Records, passed_on};
-ghost use Rattle.ssh_auth.specs.declared.call.Call.TheVariants.{AuthenticationBanner, AuthNone, AuthPassword, AuthPublickeyOffered, AuthPublickey, AuthOpensshCertificate, AuthSucceeded, ChannelOpenSession, ChannelEof, ChannelClose, WindowAdjusted, CommandDone};
+ghost use Rattle.ssh_auth.specs.declared.call.Call.TheVariants.{AuthenticationBanner, AuthNone, AuthPassword, AuthPublickeyOffered, AuthPublickey, AuthOpensshCertificate, AuthKeyboardInteractive, AuthSucceeded, ChannelOpenSession, ChannelEof, ChannelClose, WindowAdjusted, CommandDone};
 
 use crate::made::{
-    made_auth_none, made_auth_openssh_certificate, made_auth_password, made_auth_publickey,
-    made_auth_publickey_offered, made_auth_succeeded, made_authentication_banner,
-    made_channel_close, made_channel_eof, made_channel_open_session, made_window_adjusted,
+    made_auth_keyboard_interactive, made_auth_none, made_auth_openssh_certificate,
+    made_auth_password, made_auth_publickey, made_auth_publickey_offered, made_auth_succeeded,
+    made_authentication_banner, made_channel_close, made_channel_eof, made_channel_open_session,
+    made_window_adjusted,
 };
 use crate::{Commands, Handler};
-use ssh_auth::{Auth, AuthHandler, Call, PublicKeyOffer, Unwritten, VerifiedPublicKey};
+use ssh_auth::{Auth, AuthHandler, Call, PublicKeyOffer, Response, Unwritten, VerifiedPublicKey};
 use ssh_keys::Certificate;
 use ssh_link::{ChannelOpenHandle, CommandOutcome};
 use ssh_wire::{ChannelId, Text, WireError};
@@ -207,6 +208,29 @@ where
     {
         let answer = passed(self.inner.auth_openssh_certificate(user, certificate));
         self.keep(made_auth_openssh_certificate(self.alloc, user, certificate, &answer))?;
+        answer
+    }
+
+    fn auth_keyboard_interactive(
+        &mut self,
+        user: &str,
+        submethods: &str,
+        response: Option<Response<'_>>,
+    ) -> Result<Auth, RecordError<H::Error>>
+        ensures tells { Tells self.old.told self.new.told result (AuthKeyboardInteractive user.now submethods.now response.entry result) }
+        ensures records { Records self.old.told self.new.told result (AuthKeyboardInteractive user.now submethods.now response.entry result) }
+        ensures passes { Passes (H.told self.old.inner) (H.told self.new.inner) result (AuthKeyboardInteractive user.now submethods.now response.entry) }
+    {
+        let told = match &response {
+            Some(response) => Some(response.copy()),
+            None => None,
+        };
+        let answer = passed(
+            self.inner
+                .auth_keyboard_interactive(user, submethods, response),
+        );
+        let call = made_auth_keyboard_interactive(self.alloc, user, submethods, told, &answer);
+        self.keep(call)?;
         answer
     }
 }

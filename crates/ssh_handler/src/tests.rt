@@ -1,8 +1,8 @@
 // Handlers by example, through the trait alone.
 use crate::{Commands, Config, Handler, RecordError, Recorded};
-use ssh_auth::{Auth, AuthHandler, Call, Unwritten};
+use ssh_auth::{Auth, AuthHandler, Call, Prompts, Response, Unwritten};
 use ssh_link::{ChannelOpenHandle, Command, CommandOutcome, Refusal};
-use ssh_wire::{ChannelId, Text};
+use ssh_wire::{ChannelId, Text, WireError};
 use std::alloc::Global;
 use std::test::Fail;
 
@@ -79,6 +79,34 @@ impl AuthHandler for Greeter {
         } else {
             Ok(Auth::UnsupportedMethod)
         }
+    }
+
+    fn auth_keyboard_interactive(
+        &mut self,
+        _user: &str,
+        _submethods: &str,
+        response: Option<Response<'_>>,
+    ) -> Result<Auth, Late> {
+        let Some(mut response) = response else {
+            return self.prompt().or(Err(Late));
+        };
+        match (response.next(), response.next()) {
+            (Some(b"1234"), None) => Ok(Auth::Accept),
+            _ => Ok(Auth::reject()),
+        }
+    }
+}
+
+impl Greeter {
+    // Asks for a code, which is not shown.
+    fn prompt(&self) -> Result<Auth, WireError> {
+        let mut prompts = Prompts::new(self.alloc);
+        prompts.push(Text::new(self.alloc, "Code: ")?, false)?;
+        Ok(Auth::Partial {
+            name: Text::new(self.alloc, "")?,
+            instructions: Text::new(self.alloc, "")?,
+            prompts,
+        })
     }
 }
 
@@ -180,4 +208,32 @@ fn an_open_is_told_with_the_answer_that_was_recorded(rt: HostRuntime) {
     let last =
         matches!(handler.calls().last(), Some(Call::CommandDone { place: 0, outcome, answer: Ok(()) }) if *outcome == refused);
     assert_eq!(rt; last, true);
+}
+
+#[test]
+fn prompts_and_responses_are_told(rt: HostRuntime) -> Result<(), Fail> {
+    let alloc = rt.alloc();
+    let mut handler = Recorded::new(alloc, Greeter { alloc });
+    let prompted = handler.auth_keyboard_interactive("anna", "pam", None);
+    assert_eq!(rt;
+        matches!(&prompted, Ok(Auth::Partial { prompts, .. }) if prompts.as_slice().len() == 1),
+        true
+    );
+    let right = [b"1234".as_slice()];
+    let accepted = handler.auth_keyboard_interactive("anna", "pam", Some(Response::new(&right)));
+    assert_eq!(rt; matches!(accepted, Ok(Auth::Accept)), true);
+    let more = [b"1234".as_slice(), b"".as_slice()];
+    let refused = handler.auth_keyboard_interactive("anna", "pam", Some(Response::new(&more)));
+    assert_eq!(rt; matches!(refused, Ok(Auth::Reject { .. })), true);
+    let mut responses = Vec::new(alloc);
+    for call in handler.calls() {
+        if let Call::AuthKeyboardInteractive { response, .. } = call {
+            responses.push(match response {
+                Some(texts) => texts.as_slice().len(),
+                None => 9,
+            })?;
+        }
+    }
+    assert_eq!(rt; responses.as_slice(), [9, 1, 2].as_slice());
+    Ok(())
 }
