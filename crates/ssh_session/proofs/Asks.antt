@@ -29,6 +29,7 @@ answers_reached settings plan rest rose xs ys staged staged' session (Err (error
 answers_reached settings plan rest rose xs ys staged staged' session (Err error.Inconsistent) r h = reaches_follows plan rest xs ys _ r h
 answers_reached settings plan rest rose xs ys staged staged' session (Err (error.Key why)) r h = (h.0, reaches_follows plan rest xs ys _ r h.1)
 answers_reached settings plan rest rose xs ys staged staged' session (Err (error.Handler e)) r h = reaches_breaks plan rest xs ys e r h
+answers_reached settings plan rest rose xs ys staged staged' session (Err error.UnsupportedAuthMethod) r h = reaches_follows plan rest xs ys _ r h
 answers_reached settings plan rest rose xs ys staged staged' session (Err error.NotBuilt) r h = reaches_follows plan rest xs ys _ r h
 
 -- a rise that began earlier, or ended later
@@ -44,6 +45,7 @@ answers_rose settings plan rose rose' events staged staged' session (Err (error.
 answers_rose settings plan rose rose' events staged staged' session (Err error.Inconsistent) f h = h
 answers_rose settings plan rose rose' events staged staged' session (Err (error.Key why)) f h = h
 answers_rose settings plan rose rose' events staged staged' session (Err (error.Handler e)) f h = h
+answers_rose settings plan rose rose' events staged staged' session (Err error.UnsupportedAuthMethod) f h = h
 answers_rose settings plan rose rose' events staged staged' session (Err error.NotBuilt) f h = h
 
 -- what was told, and then this by the answer
@@ -56,6 +58,7 @@ told_then (Err (error.Encoding why)) a b c xs ys h k = adds_both a b c xs ys h k
 told_then (Err error.Inconsistent) a b c xs ys h k = adds_both a b c xs ys h k
 told_then (Err (error.Key why)) a b c xs ys h k = adds_both a b c xs ys h k
 told_then (Err (error.Handler e)) a b c xs ys h k = adds_then a b c xs ys (adds_weak a b xs h) k
+told_then (Err error.UnsupportedAuthMethod) a b c xs ys h k = adds_both a b c xs ys h k
 told_then (Err error.NotBuilt) a b c xs ys h k = adds_both a b c xs ys h k
 
 pub told_all : {T E : Type 0} (result : Result T (RunError E)) (a b : Option (List (Call E))) (xs : List (Call E)) → Adds a b xs → ToldBy result a b xs
@@ -67,6 +70,7 @@ told_all (Err (error.Encoding why)) a b xs h = h
 told_all (Err error.Inconsistent) a b xs h = h
 told_all (Err (error.Key why)) a b xs h = h
 told_all (Err (error.Handler e)) a b xs h = adds_weak a b xs h
+told_all (Err error.UnsupportedAuthMethod) a b xs h = h
 told_all (Err error.NotBuilt) a b xs h = h
 
 -- what was told before, all of it, and what was told then

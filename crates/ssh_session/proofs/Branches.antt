@@ -1,9 +1,12 @@
 -- The branches of a row.
-use Rattle.std.proofs.Common.{◌≡◌, List, [], ℕ, Option, Result, true, false, refl, ap, subst}
-use Rattle.std.specs.Prelude.{bytes_eq, codes}
+use Rattle.std.proofs.Common.{◌≡◌, ◌<◌, List, [], ◌∷◌, ℕ, Option, Some, Result, true, false, refl, ap, subst}
+use Rattle.std.specs.Prelude.{◌^◌, bytes_eq, codes, length}
+use Rattle.std.proofs.lemmas.Bool.{lt-ltb}
 use Rattle.ssh_wire.specs.declared.channel_id.ChannelId.{ChannelId}
 use Rattle.ssh_auth.specs.Plan.{Finish, Ask, Authentication_banner, Channel_open_session}
 use Rattle.ssh_session.specs.World.{Settings, World, next_number, has_no_channel}
+use Rattle.ssh_session.specs.declared.phase.Phase.TheVariants.{Authentication}
+use Rattle.ssh_session.specs.Layout.{service_accept, banner, at_once}
 use Rattle.ssh_session.specs.Outcome.{Goes, Fails, Not_built}
 use Rattle.ssh_session.specs.Commanded.{done_all}
 use Rattle.ssh_link.specs.declared.command.Command.{Command}
@@ -16,6 +19,11 @@ service_known w name h = rw h refl
 
 pub service_unknown : (w : World) (name : List ℕ) → bytes_eq name (codes "ssh-userauth") ≡ false → service_row w name ≡ Finish (Goes [] w)
 service_unknown w name h = rw h refl
+
+-- a banner that is short enough goes out
+pub banner_short : (w : World) (message : List ℕ) → length (banner message) < 2 ^ 32 →
+    accept_row w (Some message) ≡ Finish (Goes (at_once service_accept ∷ at_once (banner message) ∷ []) (record w { phase = Authentication }))
+banner_short w message h = rw (lt-ltb (length (banner message)) (2 ^ 32) h) refl
 
 pub open_alone : (settings : Settings) (w : World) (peer window packet : ℕ) → has_no_channel w ≡ true →
     open_session_row settings w peer window packet ≡ Ask (Channel_open_session (own (next_number w))) (done_all settings (drawn w peer window packet) [] 0)

@@ -1,6 +1,6 @@
 -- A frame closes a channel only where the peer closes it, or a command does once all that was accepted is due.
 use Rattle.std.proofs.Common.{◌≡◌, ◌<◌, ◌≤◌, ◌⊎◌, ℕ, List, [], ◌∷◌, ◌++◌, map, Option, Some, None, Result, Ok, Err, Bool, true, false, refl, sym, ◌∙◌, subst, inl, inr, arith}
-use Rattle.std.specs.Prelude.{◌+◌, ◌-◌, ◌^◌, nat_le, bytes_eq, codes, length, drop, option_to_list, if◌then◌else◌}
+use Rattle.std.specs.Prelude.{◌+◌, ◌-◌, ◌^◌, nat_le, nat_lt, bytes_eq, codes, length, drop, option_to_list, if◌then◌else◌}
 use Rattle.std.proofs.lemmas.Bool.{eqb-true, ltb-false}
 use Rattle.ssh_wire.specs.declared.open_failure.ChannelOpenFailure.{ChannelOpenFailure}
 use Rattle.ssh_wire.specs.Field.{SpellsWhole}
@@ -19,7 +19,7 @@ use Rattle.ssh_auth.specs.Publickey.{Acceptance, Circumstances}
 use Rattle.ssh_auth.specs.Plan.{Plan, Finish, Ask, Tell, after, Question, Answer, Answered, Authentication_banner, Auth_succeeded, Channel_open_session, Channel_eof, Channel_close, Window_adjusted, Event, Called, Told, calls_in, Follows}
 use Rattle.ssh_auth.specs.declared.auth_step.AuthVerdict.{AuthVerdict}
 use Rattle.ssh_auth.specs.declared.auth_step.AuthVerdict.TheVariants as verdict
-use Rattle.ssh_auth.specs.Verdict.{verdict as verdict_on, Outcome as Reply, Replies}
+use Rattle.ssh_auth.specs.Verdict.{verdict as verdict_on, response_verdict, Outcome as Reply, Replies}
 use Rattle.ssh_auth.specs.Verdict as auth
 use Rattle.ssh_session.specs.declared.error.RunError.{RunError}
 use Rattle.ssh_session.specs.declared.error.RunError.TheVariants as error
@@ -27,9 +27,9 @@ use Rattle.ssh_session.specs.declared.gate.Gate.{Gate}
 use Rattle.ssh_session.specs.declared.gate.Gate.TheVariants as gate
 use Rattle.ssh_session.specs.World.{Settings, World, circumstances, opening_world, has_no_channel}
 use Rattle.ssh_session.specs.Gate.{gate_of}
-use Rattle.ssh_session.specs.Said.{Said, Nothing, Disconnect, Over_cap, Service, Request, Open_session, Open_other, Open_without_packets, Grant, Peer_eof, Peer_close, Unfit, Unbuilt, Fits, Says, channel_field}
+use Rattle.ssh_session.specs.Said.{Said, Nothing, Disconnect, Over_cap, Service, Request, Response, Open_session, Open_other, Open_without_packets, Grant, Peer_eof, Peer_close, Unfit, Unbuilt, Fits, Says, channel_field}
 use Rattle.ssh_session.specs.Outcome.{Outcome, Goes, Ends, Fails}
-use Rattle.ssh_session.specs.Layout.{at_once, held, service_accept, too_many_attempts}
+use Rattle.ssh_session.specs.Layout.{at_once, held, service_accept, banner, too_many_attempts}
 use Rattle.ssh_session.specs.ChannelLayout.{data_frame, close_frame, on_channel}
 use Rattle.ssh_session.specs.Cut.{cut, left_of}
 use Rattle.ssh_session.specs.Entry.{Entry, accepted, accepting, granting, flush_out, piece_limit, waits}
@@ -65,6 +65,11 @@ on_channel_closes_not own number n rest other h =
 
 no_channel_closes_not : (own : ℕ) (frame : Frame) → frame.channel ≡ None → SendsClose own (frame ∷ []) → ⊥
 no_channel_closes_not own frame is h = frame_closes_not own frame (λ c. untagged own frame is c) h
+
+-- nor does such a frame before others that close nothing
+untagged_first : (own : ℕ) (frame : Frame) (frames : List Frame) → frame.channel ≡ None → (SendsClose own frames → ⊥) → SendsClose own (frame ∷ frames) → ⊥
+untagged_first own frame frames is none (inl h) = untagged own frame is h
+untagged_first own frame frames is none (inr h) = none h
 
 -- a close frame is one of its own channel
 close_tag : (own number peer : ℕ) → SendsClose own (close_frame number peer ∷ []) → number ≡ own
@@ -228,33 +233,35 @@ command_does own settings w ticket (command.Answer answer) = none_does _ own _ (
 
 -- ---- payloads
 
+first_row : (may : Type 0) (own : ℕ) (b : Bool) (x y : Plan Outcome) → ClosesWhere may own x → ClosesWhere may own y → ClosesWhere may own (if b then x else y)
+first_row may own true x y h k = h
+first_row may own false x y h k = k
+
 accept_closes : (may : Type 0) (own : ℕ) (w : World) (banner : Option (List ℕ)) → ClosesWhere may own (accept_row w banner)
 accept_closes may own w None = λ h. absurd (no_channel_closes_not own (at_once service_accept) refl h)
-accept_closes may own w (Some text) = tt
+accept_closes may own w (Some text) =
+    first_row may own (nat_lt (length (banner text)) (2 ^ 32)) _ _
+    (λ h. absurd (untagged_first own (at_once service_accept) (at_once (banner text) ∷ []) refl (no_channel_closes_not own (at_once (banner text)) refl) h)) tt
 
 service_closes : (may : Type 0) (own : ℕ) (b : Bool) (w : World) → ClosesWhere may own (if b then Ask Authentication_banner (accept_row w) else Finish (Goes [] w))
 service_closes may own true w = λ banner only. accept_closes may own w banner
 service_closes may own false w = λ h. absurd h
 
-reply_closes : (may : Type 0) (own : ℕ) (settings : Settings) (moment : ℕ) (w : World) (reply : List ℕ) (v : AuthVerdict) → ClosesWhere may own (reply_row settings moment w reply v)
-reply_closes may own settings moment w reply verdict.Accepted =
+reply_closes : (may : Type 0) (own : ℕ) (settings : Settings) (moment : ℕ) (w : World) (requested : Bool) (reply : List ℕ) (v : AuthVerdict) → ClosesWhere may own (reply_row settings moment w requested reply v)
+reply_closes may own settings moment w requested reply verdict.Accepted =
     λ commands only. all_close may own settings _ _ 0 commands only (λ h. absurd (no_channel_closes_not own (at_once reply) refl h))
-reply_closes may own settings moment w reply (verdict.Rejected none_method) =
+reply_closes may own settings moment w requested reply (verdict.Rejected none_method) =
     λ h. absurd (no_channel_closes_not own (held reply (moment_after moment (rejection_hold settings.config none_method w.requested))) refl h)
-reply_closes may own settings moment w reply verdict.Continued = λ h. absurd (no_channel_closes_not own (at_once reply) refl h)
+reply_closes may own settings moment w requested reply verdict.Continued = λ h. absurd (no_channel_closes_not own (at_once reply) refl h)
 
-finished_closes : (may : Type 0) (own : ℕ) (settings : Settings) (moment : ℕ) (w : World) (reply : Reply) → ClosesWhere may own (finished settings moment w reply)
-finished_closes may own settings moment w (Replies reply v state) = reply_closes may own settings moment (record w { auth = state }) reply v
-finished_closes may own settings moment w (auth.Fails fault) = tt
+finished_closes : (may : Type 0) (own : ℕ) (settings : Settings) (moment : ℕ) (w : World) (requested : Bool) (reply : Reply) → ClosesWhere may own (finished settings moment w requested reply)
+finished_closes may own settings moment w requested (Replies reply v state) = reply_closes may own settings moment (record w { auth = state }) requested reply v
+finished_closes may own settings moment w requested (auth.Fails fault) = tt
 
-after_closes : (may : Type 0) (own : ℕ) (settings : Settings) (moment : ℕ) (w : World) (plan : Plan Reply) → ClosesWhere may own (after plan (finished settings moment w))
-after_closes may own settings moment w (Finish reply) = finished_closes may own settings moment w reply
-after_closes may own settings moment w (Ask question next) = λ answer only. after_closes may own settings moment w (next answer)
-after_closes may own settings moment w (Tell entry next) = after_closes may own settings moment w next
-
-first_row : (may : Type 0) (own : ℕ) (b : Bool) (x y : Plan Outcome) → ClosesWhere may own x → ClosesWhere may own y → ClosesWhere may own (if b then x else y)
-first_row may own true x y h k = h
-first_row may own false x y h k = k
+after_closes : (may : Type 0) (own : ℕ) (settings : Settings) (moment : ℕ) (w : World) (requested : Bool) (plan : Plan Reply) → ClosesWhere may own (after plan (finished settings moment w requested))
+after_closes may own settings moment w requested (Finish reply) = finished_closes may own settings moment w requested reply
+after_closes may own settings moment w requested (Ask question next) = λ answer only. after_closes may own settings moment w requested (next answer)
+after_closes may own settings moment w requested (Tell entry next) = after_closes may own settings moment w requested next
 
 open_closes : (may : Type 0) (own : ℕ) (settings : Settings) (w : World) (peer window packet : ℕ) → ClosesWhere may own (open_session_row settings w peer window packet)
 open_closes may own settings w peer window packet = first_row may own (has_no_channel w) _ _ (λ commands only. all_close may own settings _ _ 0 commands only (λ h. absurd h)) tt
@@ -298,7 +305,8 @@ row_closes given own settings moment w payload Nothing says = λ h. absurd h
 row_closes given own settings moment w payload Disconnect says = λ h. absurd h
 row_closes given own settings moment w payload Over_cap says = λ h. absurd (no_channel_closes_not own (at_once too_many_attempts) refl h)
 row_closes given own settings moment w payload (Service name) says = service_closes _ own (bytes_eq name (codes "ssh-userauth")) w
-row_closes given own settings moment w payload (Request asked) says = after_closes _ own settings moment w (verdict_on w.auth asked)
+row_closes given own settings moment w payload (Request asked) says = after_closes _ own settings moment w true (verdict_on w.auth asked)
+row_closes given own settings moment w payload (Response responded) says = after_closes _ own settings moment w w.requested (response_verdict w.auth responded)
 row_closes given own settings moment w payload (Open_session peer window packet) says = open_closes _ own settings w peer window packet
 row_closes given own settings moment w payload Open_other says = tt
 row_closes given own settings moment w payload Open_without_packets says = tt
@@ -349,6 +357,7 @@ stops_closes may own plan events sent rose (error.Encoding why) c r h s = none_s
 stops_closes may own plan events sent rose error.Inconsistent c r h s = none_sent may own sent h.0 s
 stops_closes may own plan events sent rose (error.Key why) c r h s = none_sent may own sent h.0 s
 stops_closes may own plan events sent rose (error.Handler e) c r h s = none_sent may own sent h.0 s
+stops_closes may own plan events sent rose error.UnsupportedAuthMethod c r h s = none_sent may own sent h.0 s
 stops_closes may own plan events sent rose error.NotBuilt c r h s = none_sent may own sent h.0 s
 
 -- so does the one that ended a run or was not finished

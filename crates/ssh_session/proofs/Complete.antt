@@ -1,6 +1,6 @@
 -- A valid input is finished, and an input that ends a run is one of three kinds.
 use Rattle.std.proofs.Common.{◌≡◌, ◌<◌, ◌⊎◌, ℕ, List, [], ◌∷◌, ◌++◌, map, Option, Some, None, Result, Ok, Err, Bool, true, false, refl, sym, subst, inl, inr, arith}
-use Rattle.std.specs.Prelude.{◌+◌, bytes_eq, codes, length, drop, IfSome, IsSomeAnd, OnOk, if◌then◌else◌}
+use Rattle.std.specs.Prelude.{◌+◌, ◌^◌, nat_lt, bytes_eq, codes, length, drop, IfSome, IsSomeAnd, OnOk, if◌then◌else◌}
 use Rattle.ssh_link.specs.declared.command.Command.{Command as Commanded}
 use Rattle.ssh_link.specs.declared.command.Command.TheVariants as command
 use Rattle.ssh_link.specs.declared.frame.Frame.{Frame}
@@ -15,7 +15,7 @@ use Rattle.ssh_auth.specs.Publickey.{Acceptance, Circumstances}
 use Rattle.ssh_auth.specs.Plan.{Plan, Finish, Ask, Tell, after, Answer, Authentication_banner, Event, Called, Told, Follows}
 use Rattle.ssh_auth.specs.declared.auth_step.AuthVerdict.{AuthVerdict}
 use Rattle.ssh_auth.specs.declared.auth_step.AuthVerdict.TheVariants as verdict
-use Rattle.ssh_auth.specs.Verdict.{verdict as verdict_on, Outcome as Reply, Replies}
+use Rattle.ssh_auth.specs.Verdict.{verdict as verdict_on, response_verdict, Outcome as Reply, Replies}
 use Rattle.ssh_auth.specs.Verdict as auth
 use Rattle.ssh_session.specs.declared.error.RunError.{RunError}
 use Rattle.ssh_session.specs.declared.error.RunError.TheVariants as error
@@ -23,8 +23,9 @@ use Rattle.ssh_session.specs.declared.gate.Gate.{Gate}
 use Rattle.ssh_session.specs.declared.gate.Gate.TheVariants as gate
 use Rattle.ssh_session.specs.World.{Settings, World, circumstances, has_no_channel}
 use Rattle.ssh_session.specs.Gate.{gate_of}
-use Rattle.ssh_session.specs.Said.{Said, Nothing, Disconnect, Over_cap, Service, Request, Open_session, Open_other, Open_without_packets, Grant, Peer_eof, Peer_close, Unfit, Unbuilt, Fits, Says}
-use Rattle.ssh_session.specs.Outcome.{Outcome, Goes, Ends, Fails, Encoding, Inconsistent, Key, Not_built}
+use Rattle.ssh_session.specs.Layout.{banner}
+use Rattle.ssh_session.specs.Said.{Said, Nothing, Disconnect, Over_cap, Service, Request, Response, Open_session, Open_other, Open_without_packets, Grant, Peer_eof, Peer_close, Unfit, Unbuilt, Fits, Says}
+use Rattle.ssh_session.specs.Outcome.{Outcome, Goes, Ends, Fails, Encoding, Inconsistent, Key, Unsupported, Not_built}
 use Rattle.ssh_session.specs.Entry.{Entry}
 use Rattle.ssh_session.specs.Entries.{find}
 use Rattle.ssh_session.specs.Effect.{Effect, Does, effect}
@@ -49,6 +50,8 @@ closes_fine accepts settings w turn rose error.Inconsistent r v plan o s t =
 closes_fine accepts settings w turn rose (error.Key why) r v plan o s t =
     follows_faultless turn.input.kind plan turn.events Key (λ e. cc) (owed_faultless accepts settings w turn.input.moment turn.commands turn.input.kind plan t.0 t.1 v.0 o) v.1 s.2
 closes_fine accepts settings w turn rose (error.Handler e) r v plan o s t = fine_not_broken turn.input.kind plan turn.events e v.1 s.1
+closes_fine accepts settings w turn rose error.UnsupportedAuthMethod r v plan o s t =
+    follows_faultless turn.input.kind plan turn.events Unsupported (λ e. cc) (owed_faultless accepts settings w turn.input.moment turn.commands turn.input.kind plan t.0 t.1 v.0 o) v.1 s.1
 closes_fine accepts settings w turn rose error.NotBuilt r v plan o s t =
     follows_faultless turn.input.kind plan turn.events Not_built (λ e. cc) (owed_faultless accepts settings w turn.input.moment turn.commands turn.input.kind plan t.0 t.1 v.0 o) v.1 s.1
 
@@ -63,6 +66,7 @@ closed_fine accepts settings w count max None rose (Err (error.Encoding why)) r 
 closed_fine accepts settings w count max None rose (Err error.Inconsistent) r v c = c
 closed_fine accepts settings w count max None rose (Err (error.Key why)) r v c = c
 closed_fine accepts settings w count max None rose (Err (error.Handler e)) r v c = c
+closed_fine accepts settings w count max None rose (Err error.UnsupportedAuthMethod) r v c = c
 closed_fine accepts settings w count max None rose (Err error.NotBuilt) r v c = c
 
 -- where no fault rose and the last input was valid, the run was complete
@@ -126,32 +130,32 @@ command_endless : (settings : Settings) (w : World) (ticket : ℕ) (commanded : 
 command_endless settings w ticket commanded =
     done_endless (effect settings w commanded) (λ result frames world. Tell (traced.Answered ticket result) (Finish (Goes frames world))) (λ result frames world. tt)
 
+first_endless : (b : Bool) (x y : Plan Outcome) → IsEndless x → IsEndless y → IsEndless (if b then x else y)
+first_endless true x y h k = h
+first_endless false x y h k = k
+
 accept_endless : (w : World) (banner : Option (List ℕ)) → IsEndless (accept_row w banner)
 accept_endless w None = tt
-accept_endless w (Some text) = tt
+accept_endless w (Some text) = first_endless (nat_lt (length (banner text)) (2 ^ 32)) _ _ tt tt
 
 service_endless : (b : Bool) (w : World) → IsEndless (if b then Ask Authentication_banner (accept_row w) else Finish (Goes [] w))
 service_endless false w = tt
 service_endless true w = λ banner. accept_endless w banner
 
-reply_endless : (settings : Settings) (moment : ℕ) (w : World) (reply : List ℕ) (v : AuthVerdict) → IsEndless (reply_row settings moment w reply v)
-reply_endless settings moment w reply verdict.Accepted = λ commands. all_endless settings _ _ 0 commands
-reply_endless settings moment w reply (verdict.Rejected none_method) = tt
-reply_endless settings moment w reply verdict.Continued = tt
+reply_endless : (settings : Settings) (moment : ℕ) (w : World) (requested : Bool) (reply : List ℕ) (v : AuthVerdict) → IsEndless (reply_row settings moment w requested reply v)
+reply_endless settings moment w requested reply verdict.Accepted = λ commands. all_endless settings _ _ 0 commands
+reply_endless settings moment w requested reply (verdict.Rejected none_method) = tt
+reply_endless settings moment w requested reply verdict.Continued = tt
 
-finished_endless : (settings : Settings) (moment : ℕ) (w : World) (reply : Reply) → IsEndless (finished settings moment w reply)
-finished_endless settings moment w (Replies reply v state) = reply_endless settings moment (record w { auth = state }) reply v
-finished_endless settings moment w (auth.Fails fault) = tt
+finished_endless : (settings : Settings) (moment : ℕ) (w : World) (requested : Bool) (reply : Reply) → IsEndless (finished settings moment w requested reply)
+finished_endless settings moment w requested (Replies reply v state) = reply_endless settings moment (record w { auth = state }) requested reply v
+finished_endless settings moment w requested (auth.Fails fault) = tt
 
 -- whatever authentication asks
-after_endless : (settings : Settings) (moment : ℕ) (w : World) (plan : Plan Reply) → IsEndless (after plan (finished settings moment w))
-after_endless settings moment w (Finish reply) = finished_endless settings moment w reply
-after_endless settings moment w (Ask question next) = λ answer. after_endless settings moment w (next answer)
-after_endless settings moment w (Tell entry next) = after_endless settings moment w next
-
-first_endless : (b : Bool) (x y : Plan Outcome) → IsEndless x → IsEndless y → IsEndless (if b then x else y)
-first_endless true x y h k = h
-first_endless false x y h k = k
+after_endless : (settings : Settings) (moment : ℕ) (w : World) (requested : Bool) (plan : Plan Reply) → IsEndless (after plan (finished settings moment w requested))
+after_endless settings moment w requested (Finish reply) = finished_endless settings moment w requested reply
+after_endless settings moment w requested (Ask question next) = λ answer. after_endless settings moment w requested (next answer)
+after_endless settings moment w requested (Tell entry next) = after_endless settings moment w requested next
 
 open_endless : (settings : Settings) (w : World) (peer window packet : ℕ) → IsEndless (open_session_row settings w peer window packet)
 open_endless settings w peer window packet = first_endless (has_no_channel w) _ _ (λ commands. all_endless settings _ _ 0 commands) tt
@@ -174,7 +178,8 @@ row_ends settings moment w Nothing = inr tt
 row_ends settings moment w Disconnect = inl (inl refl)
 row_ends settings moment w Over_cap = inl (inr refl)
 row_ends settings moment w (Service name) = inr (service_endless (bytes_eq name (codes "ssh-userauth")) w)
-row_ends settings moment w (Request asked) = inr (after_endless settings moment w (verdict_on w.auth asked))
+row_ends settings moment w (Request asked) = inr (after_endless settings moment w true (verdict_on w.auth asked))
+row_ends settings moment w (Response responded) = inr (after_endless settings moment w w.requested (response_verdict w.auth responded))
 row_ends settings moment w (Open_session peer window packet) = inr (open_endless settings w peer window packet)
 row_ends settings moment w Open_other = inr tt
 row_ends settings moment w Open_without_packets = inr tt

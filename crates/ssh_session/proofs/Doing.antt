@@ -75,6 +75,7 @@ not_done settings does next a base staged staged' session (error.Encoding why) h
 not_done settings does next a base staged staged' session error.Inconsistent h = absurd h
 not_done settings does next a base staged staged' session (error.Key why) h = absurd h
 not_done settings does next a base staged staged' session (error.Handler e) h = absurd h
+not_done settings does next a base staged staged' session error.UnsupportedAuthMethod h = absurd h
 not_done settings does next a base staged staged' session error.NotBuilt h =
     subst (λ d. Serves settings (done d next) a a base staged' session (Err error.NotBuilt)) (sym h) ([], hears_nothing {T = Flow} (Err error.NotBuilt) a, refl)
 
@@ -132,6 +133,7 @@ done_told settings plan mid next a x y trace faults events base staged' frames w
   hears_then {T = Flow} (Err (error.Handler e)) a (heard x trace faults) (heard y trace faults) events (map Called calls) h (hears_calls {T = Flow} (Err (error.Handler e)) x y trace faults calls t),
   reaches_breaks plan mid events (map Called calls) e r p,
 )
+done_told settings plan mid next a x y trace faults events base staged' frames world session (Err error.UnsupportedAuthMethod) calls h r t p is refines = absurd p
 done_told settings plan mid next a x y trace faults events base staged' frames world session (Err error.NotBuilt) calls h r t p is refines = absurd p
 
 -- the command was done, and what the handler was told of it

@@ -1,5 +1,5 @@
 -- Where an input is valid and its calls are fine, it comes to no fault.
-use Rattle.std.proofs.Common.{◌≡◌, ◌≢◌, ℕ, List, [], ◌∷◌, ◌++◌, map, Option, Some, None, Ok, Err, Bool, true, false, refl, sym, ◌∙◌, ap, subst, inl, inr}
+use Rattle.std.proofs.Common.{◌≡◌, ◌≢◌, ◌⊎◌, ◌<◌, ℕ, List, [], ◌∷◌, ◌++◌, map, Option, Some, None, Ok, Err, Bool, true, false, refl, sym, ◌∙◌, ap, subst, inl, inr}
 use Rattle.std.specs.Prelude.{◌+◌, ◌^◌, nat_le, nat_lt, bytes_eq, codes, length, drop, unwrap_or, if◌then◌else◌}
 use Rattle.std.proofs.lemmas.Bool.{le-ltb, lt-ltb}
 use Rattle.ssh_wire.specs.declared.error.WireError.{WireError}
@@ -28,25 +28,27 @@ use Rattle.ssh_link.specs.declared.outcome.CommandOutcome.{CommandOutcome}
 use Rattle.ssh_link.specs.declared.outcome.CommandOutcome.TheVariants.{Accepted, Opened, Refused}
 use Rattle.ssh_link.specs.Asked.{IsAsked}
 use Rattle.ssh_auth.specs.declared.auth.Auth.{Auth}
-use Rattle.ssh_auth.specs.declared.auth.Auth.TheVariants.{Reject, Accept, UnsupportedMethod}
+use Rattle.ssh_auth.specs.declared.auth.Auth.TheVariants.{Reject, Accept, UnsupportedMethod, Partial}
 use Rattle.ssh_auth.specs.declared.call.Call.{Call}
-use Rattle.ssh_auth.specs.Plan.{Plan, Finish, Ask, Tell, after, Question, Answer, Answered, Authentication_banner, Auth_none, Auth_password, Auth_publickey_offered, Auth_publickey, Auth_openssh_certificate, Auth_succeeded, Channel_open_session, Channel_eof, Channel_close, Window_adjusted, Command_done, Event, Called, Told, calls_in, Follows, Breaks}
+use Rattle.ssh_auth.specs.Plan.{Plan, Finish, Ask, Tell, after, Question, Answer, Answered, Authentication_banner, Auth_none, Auth_password, Auth_publickey_offered, Auth_publickey, Auth_openssh_certificate, Auth_keyboard_interactive, Auth_succeeded, Channel_open_session, Channel_eof, Channel_close, Window_adjusted, Command_done, Event, Called, Told, calls_in, Follows, Breaks}
 use Rattle.ssh_auth.specs.declared.auth_step.AuthVerdict.{AuthVerdict}
 use Rattle.ssh_auth.specs.declared.auth_step.AuthVerdict.TheVariants as verdict
 use Rattle.ssh_auth.specs.Publickey.{Acceptance, Circumstances, Offer}
 use Rattle.ssh_auth.specs.declared.auth_request.CurrentRequest.TheVariants as round
-use Rattle.ssh_auth.specs.Said.{Said as Asked, Other_service, Method, None_method, Password_method, Change_method, Unusable_method, Broken_method, Probe_method, Misnamed_method, Signed_method, Other_method, Unbuilt_method, Unfit_method, named_by, head_fields, Says as Asks}
+use Rattle.ssh_auth.specs.Said.{Said as Asked, Other_service, Method, None_method, Password_method, Change_method, Unusable_method, Broken_method, Probe_method, Misnamed_method, Signed_method, Interactive_method, Other_method, Unfit_method, named_by, head_fields, Says as Asks}
 use Rattle.ssh_auth.specs.Said as asks
-use Rattle.ssh_auth.specs.Request.{begun, count_after, is_probed}
-use Rattle.ssh_auth.specs.Layout.{failure, success, pk_ok}
-use Rattle.ssh_auth.specs.Verdict.{method_verdict, answered, rejected, probed, proven, proof, signed, permitted, Replies}
+use Rattle.ssh_auth.specs.Request.{begun, count_after, is_probed, prompt_of}
+use Rattle.ssh_auth.specs.Response.{Responded, Responses, Unfit_responses, Unread_responses, SaysResponses}
+use Rattle.ssh_auth.specs.Layout.{failure, success, pk_ok, info_request}
+use Rattle.ssh_auth.specs.Verdict.{method_verdict, answered, rejected, probed, proven, prompted, proof, signed, permitted, responded, Replies}
 use Rattle.ssh_auth.specs.Verdict as auth
 use Rattle.ssh_session.specs.declared.gate.Gate.{Gate}
 use Rattle.ssh_session.specs.declared.gate.Gate.TheVariants as gate
 use Rattle.ssh_auth.specs.declared.auth_request.AuthRequest.{AuthRequest}
 use Rattle.ssh_session.specs.World.{Settings, World, circumstances, has_no_channel}
 use Rattle.ssh_session.specs.Gate.{gate_of}
-use Rattle.ssh_session.specs.Said.{Said, Nothing, Disconnect, Over_cap, Service, Request, Open_session, Open_other, Open_without_packets, Grant, Peer_eof, Peer_close, Unfit, Fits, Says, MisfitsSession, grant_fields, channel_field}
+use Rattle.ssh_session.specs.Layout.{banner}
+use Rattle.ssh_session.specs.Said.{Said, Nothing, Disconnect, Over_cap, Service, Request, Response, Open_session, Open_other, Open_without_packets, Grant, Peer_eof, Peer_close, Unfit, Fits, Says, MisfitsSession, grant_fields, channel_field}
 use Rattle.ssh_session.specs.Outcome.{Outcome, Goes, Ends, Fails, Fault, Starved}
 use Rattle.ssh_session.specs.Entry.{Entry, accepted, waits}
 use Rattle.ssh_session.specs.Entries.{find, nothing_waits}
@@ -58,21 +60,30 @@ use Rattle.ssh_session.specs.Run.{OwesKind}
 use Rattle.ssh_session.specs.Valid.{AreValidMethodFields, AreValidFields, IsValidKind, HasShortReply, AreAnswers, IsFine, AreFine}
 use Rattle.ssh_session.proofs.Listed.{all_sent}
 use Rattle.ssh_session.proofs.Methods.{IsServed, ShortensProbe, served, shortened}
+use Rattle.ssh_session.proofs.Responses.{IsRead, response_read}
 
 -- ---- plans that come to no fault
 
--- the answer of a call that is fine: no banner, no acceptance of a probe whose reply is too long, and of commands nothing
--- but answers to opens
+-- keyboard-interactive is had, and the prompts are not too long
+abbrev pub IsFinePrompt : Auth → Type 0
+IsFinePrompt UnsupportedMethod = ⊥
+IsFinePrompt (Partial name instructions prompts) = length (info_request name instructions prompts) < 2 ^ 32
+IsFinePrompt _ = Unit {0}
+
+-- the answer of a call that is fine: no banner and no prompts that are too long, no acceptance of a probe whose reply is,
+-- and of commands nothing but answers to opens
 abbrev pub IsFineAnswer : InputKind → (question : Question) → Answer question → Type 0
 IsFineAnswer kind Authentication_banner None = Unit {0}
-IsFineAnswer kind Authentication_banner (Some text) = ⊥
+IsFineAnswer kind Authentication_banner (Some text) = length (banner text) < 2 ^ 32
 IsFineAnswer kind (Auth_none user) answer = Unit {0}
 IsFineAnswer kind (Auth_password user password) answer = Unit {0}
 IsFineAnswer kind (Auth_publickey_offered user key algorithm) Accept = HasShortReply kind
 IsFineAnswer kind (Auth_publickey_offered user key algorithm) (Reject methods partial) = Unit {0}
 IsFineAnswer kind (Auth_publickey_offered user key algorithm) UnsupportedMethod = Unit {0}
+IsFineAnswer kind (Auth_publickey_offered user key algorithm) (Partial name instructions prompts) = Unit {0}
 IsFineAnswer kind (Auth_publickey user key algorithm) answer = Unit {0}
 IsFineAnswer kind (Auth_openssh_certificate user certificate) answer = Unit {0}
+IsFineAnswer kind (Auth_keyboard_interactive user submethods response) answer = IsFinePrompt answer
 IsFineAnswer kind Auth_succeeded commands = AreAnswers commands
 IsFineAnswer kind (Channel_open_session channel) commands = AreAnswers commands
 IsFineAnswer kind (Channel_eof channel) commands = AreAnswers commands
@@ -97,6 +108,14 @@ offered_answer : {E : Type 0} (kind : InputKind) (user : List ℕ) (key : Public
 offered_answer kind user key algorithm Accept call is fine = let f = subst (IsFine kind) is fine in f
 offered_answer kind user key algorithm (Reject methods partial) call is fine = tt
 offered_answer kind user key algorithm UnsupportedMethod call is fine = tt
+offered_answer kind user key algorithm (Partial name instructions prompts) call is fine = tt
+
+prompt_answer : {E : Type 0} (kind : InputKind) (user submethods : List ℕ) (response : Option (List (List ℕ))) (answer : Auth) (call : Call E) →
+    Answered (Auth_keyboard_interactive user submethods response) (Ok answer) call → IsFine kind call → IsFinePrompt answer
+prompt_answer kind user submethods response Accept call is fine = tt
+prompt_answer kind user submethods response (Reject methods partial) call is fine = tt
+prompt_answer kind user submethods response UnsupportedMethod call is fine = let f = subst (IsFine kind) is fine in f
+prompt_answer kind user submethods response (Partial name instructions prompts) call is fine = let f = subst (IsFine kind) is fine in f
 
 fine_answer : {E : Type 0} (kind : InputKind) (question : Question) (answer : Answer question) (call : Call E) → Answered question (Ok answer) call → IsFine kind call → IsFineAnswer kind question answer
 fine_answer kind Authentication_banner answer call is fine = banner_answer kind answer call is fine
@@ -105,6 +124,7 @@ fine_answer kind (Auth_password user password) answer call is fine = tt
 fine_answer kind (Auth_publickey_offered user key algorithm) answer call is fine = offered_answer kind user key algorithm answer call is fine
 fine_answer kind (Auth_publickey user key algorithm) answer call is fine = tt
 fine_answer kind (Auth_openssh_certificate user certificate) answer call is fine = tt
+fine_answer kind (Auth_keyboard_interactive user submethods response) answer call is fine = prompt_answer kind user submethods response answer call is fine
 fine_answer kind Auth_succeeded answer call is fine = subst (IsFine kind) is fine
 fine_answer kind (Channel_open_session channel) answer call is fine = subst (IsFine kind) is fine
 fine_answer kind (Channel_eof channel) answer call is fine = subst (IsFine kind) is fine
@@ -131,6 +151,7 @@ error_not_fine kind (Auth_password user password) e call is fine = let f = subst
 error_not_fine kind (Auth_publickey_offered user key algorithm) e call is fine = let f = subst (IsFine kind) is fine in f
 error_not_fine kind (Auth_publickey user key algorithm) e call is fine = let f = subst (IsFine kind) is fine in f
 error_not_fine kind (Auth_openssh_certificate user certificate) e call is fine = let f = subst (IsFine kind) is fine in f
+error_not_fine kind (Auth_keyboard_interactive user submethods response) e call is fine = let f = subst (IsFine kind) is fine in f
 error_not_fine kind Auth_succeeded e call is fine = let f = subst (IsFine kind) is.1 fine in f
 error_not_fine kind (Channel_open_session channel) e call is fine = let f = subst (IsFine kind) is.1 fine in f
 error_not_fine kind (Channel_eof channel) e call is fine = let f = subst (IsFine kind) is.1 fine in f
@@ -228,89 +249,112 @@ command_faultless kind settings w ticket commanded built =
 
 -- ---- payloads
 
+first_faultless : (kind : InputKind) (b : Bool) (x y : Plan Outcome) → b ≡ true → IsFaultless kind x → IsFaultless kind (if b then x else y)
+first_faultless kind true x y e h = h
+first_faultless kind false x y e h = absurd (cc)
+
 accept_faultless : (kind : InputKind) (w : World) (banner : Option (List ℕ)) → IsFineAnswer kind Authentication_banner banner → IsFaultless kind (accept_row w banner)
 accept_faultless kind w None fine = tt
-accept_faultless kind w (Some text) fine = absurd fine
+accept_faultless kind w (Some text) fine = first_faultless kind (nat_lt (length (banner text)) (2 ^ 32)) _ _ (lt-ltb (length (banner text)) (2 ^ 32) fine) tt
 
 service_faultless : (kind : InputKind) (b : Bool) (w : World) → IsFaultless kind (if b then Ask Authentication_banner (accept_row w) else Finish (Goes [] w))
 service_faultless kind true w = λ banner fine. accept_faultless kind w banner fine
 service_faultless kind false w = tt
 
 -- a reply comes to no fault
-reply_faultless : (kind : InputKind) (settings : Settings) (moment : ℕ) (w : World) (reply : List ℕ) (v : AuthVerdict) → IsFaultless kind (reply_row settings moment w reply v)
-reply_faultless kind settings moment w reply verdict.Accepted = λ commands fine. all_faultless kind settings _ _ 0 commands fine
-reply_faultless kind settings moment w reply (verdict.Rejected none_method) = tt
-reply_faultless kind settings moment w reply verdict.Continued = tt
+reply_faultless : (kind : InputKind) (settings : Settings) (moment : ℕ) (w : World) (requested : Bool) (reply : List ℕ) (v : AuthVerdict) → IsFaultless kind (reply_row settings moment w requested reply v)
+reply_faultless kind settings moment w requested reply verdict.Accepted = λ commands fine. all_faultless kind settings _ _ 0 commands fine
+reply_faultless kind settings moment w requested reply (verdict.Rejected none_method) = tt
+reply_faultless kind settings moment w requested reply verdict.Continued = tt
 
-rejected_faultless : (kind : InputKind) (settings : Settings) (moment : ℕ) (w : World) (state : AuthRequest) (none_method : Bool) (methods : List MethodKind) (partial : Bool) →
-    IsFaultless kind (finished settings moment w (rejected state none_method methods partial))
-rejected_faultless kind settings moment w state none_method methods partial =
-    reply_faultless kind settings moment (record w { auth = record state { methods = methods; partial_success = partial; current = None; rejection_count = count_after partial state.rejection_count } }) (failure methods partial) (verdict.Rejected none_method)
+rejected_faultless : (kind : InputKind) (settings : Settings) (moment : ℕ) (w : World) (requested : Bool) (state : AuthRequest) (none_method : Bool) (methods : List MethodKind) (partial : Bool) →
+    IsFaultless kind (finished settings moment w requested (rejected state none_method methods partial))
+rejected_faultless kind settings moment w requested state none_method methods partial =
+    reply_faultless kind settings moment (record w { auth = record state { methods = methods; partial_success = partial; current = None; rejection_count = count_after partial state.rejection_count } }) requested (failure methods partial) (verdict.Rejected none_method)
 
-answered_faultless : (kind : InputKind) (settings : Settings) (moment : ℕ) (w : World) (state : AuthRequest) (method : MethodKind) (none_method : Bool) (answer : Auth) →
-    IsFaultless kind (finished settings moment w (answered state method none_method answer))
-answered_faultless kind settings moment w state method none_method Accept = reply_faultless kind settings moment (record w { auth = state }) success verdict.Accepted
-answered_faultless kind settings moment w state method none_method (Reject methods partial) = rejected_faultless kind settings moment w state none_method (unwrap_or methods (without method state.methods)) partial
-answered_faultless kind settings moment w state method none_method UnsupportedMethod = rejected_faultless kind settings moment w state none_method (without method state.methods) false
+answered_faultless : (kind : InputKind) (settings : Settings) (moment : ℕ) (w : World) (requested : Bool) (state : AuthRequest) (method : MethodKind) (none_method : Bool) (answer : Auth) →
+    IsFaultless kind (finished settings moment w requested (answered state method none_method answer))
+answered_faultless kind settings moment w requested state method none_method Accept = reply_faultless kind settings moment (record w { auth = state }) requested success verdict.Accepted
+answered_faultless kind settings moment w requested state method none_method (Reject methods partial) = rejected_faultless kind settings moment w requested state none_method (unwrap_or methods (without method state.methods)) partial
+answered_faultless kind settings moment w requested state method none_method UnsupportedMethod = rejected_faultless kind settings moment w requested state none_method (without method state.methods) false
+answered_faultless kind settings moment w requested state method none_method (Partial name instructions prompts) = rejected_faultless kind settings moment w requested state none_method (without method state.methods) false
 
 -- the answer on a key or a certificate that has signed comes to no fault
-proven_faultless : (kind : InputKind) (settings : Settings) (moment : ℕ) (w : World) (state : AuthRequest) (answer : Auth) → IsFaultless kind (finished settings moment w (proven state answer))
-proven_faultless kind settings moment w state Accept = reply_faultless kind settings moment (record w { auth = state }) success verdict.Accepted
-proven_faultless kind settings moment w state (Reject methods partial) = rejected_faultless kind settings moment w state false (unwrap_or methods state.methods) partial
-proven_faultless kind settings moment w state UnsupportedMethod = rejected_faultless kind settings moment w state false state.methods false
+proven_faultless : (kind : InputKind) (settings : Settings) (moment : ℕ) (w : World) (requested : Bool) (state : AuthRequest) (answer : Auth) → IsFaultless kind (finished settings moment w requested (proven state answer))
+proven_faultless kind settings moment w requested state Accept = reply_faultless kind settings moment (record w { auth = state }) requested success verdict.Accepted
+proven_faultless kind settings moment w requested state (Reject methods partial) = rejected_faultless kind settings moment w requested state false (unwrap_or methods state.methods) partial
+proven_faultless kind settings moment w requested state UnsupportedMethod = rejected_faultless kind settings moment w requested state false state.methods false
+proven_faultless kind settings moment w requested state (Partial name instructions prompts) = rejected_faultless kind settings moment w requested state false state.methods false
 
-proof_faultless : (kind : InputKind) (settings : Settings) (moment : ℕ) (w : World) (state : AuthRequest) (user : List ℕ) (key : PublicKeyOrCertificate) (algorithm : Algorithm) →
-    IsFaultless kind (after (proof state user key algorithm) (finished settings moment w))
-proof_faultless kind settings moment w state user (Plain key hash) algorithm = λ answer fine. proven_faultless kind settings moment w state answer
-proof_faultless kind settings moment w state user (Certificate certificate) algorithm = λ answer fine. proven_faultless kind settings moment w state answer
+proof_faultless : (kind : InputKind) (settings : Settings) (moment : ℕ) (w : World) (requested : Bool) (state : AuthRequest) (user : List ℕ) (key : PublicKeyOrCertificate) (algorithm : Algorithm) →
+    IsFaultless kind (after (proof state user key algorithm) (finished settings moment w requested))
+proof_faultless kind settings moment w requested state user (Plain key hash) algorithm = λ answer fine. proven_faultless kind settings moment w requested state answer
+proof_faultless kind settings moment w requested state user (Certificate certificate) algorithm = λ answer fine. proven_faultless kind settings moment w requested state answer
 
-signed_faultless : (kind : InputKind) (settings : Settings) (moment : ℕ) (w : World) (state : AuthRequest) (user : List ℕ) (offer : Offer) (accepted : Option Bool) →
-    IsFaultless kind (after (signed state user offer accepted) (finished settings moment w))
-signed_faultless kind settings moment w state user offer None = refl
-signed_faultless kind settings moment w state user offer (Some false) = rejected_faultless kind settings moment w state false state.methods false
-signed_faultless kind settings moment w state user offer (Some true) = proof_faultless kind settings moment w state user offer.key offer.algorithm
+signed_faultless : (kind : InputKind) (settings : Settings) (moment : ℕ) (w : World) (requested : Bool) (state : AuthRequest) (user : List ℕ) (offer : Offer) (accepted : Option Bool) →
+    IsFaultless kind (after (signed state user offer accepted) (finished settings moment w requested))
+signed_faultless kind settings moment w requested state user offer None = refl
+signed_faultless kind settings moment w requested state user offer (Some false) = rejected_faultless kind settings moment w requested state false state.methods false
+signed_faultless kind settings moment w requested state user offer (Some true) = proof_faultless kind settings moment w requested state user offer.key offer.algorithm
 
-permitted_faultless : (kind : InputKind) (settings : Settings) (moment : ℕ) (w : World) (state : AuthRequest) (user : List ℕ) (offer : Offer) (accepted : Option Bool) (answer : Auth) →
-    IsFaultless kind (after (permitted state answer (signed state user offer accepted)) (finished settings moment w))
-permitted_faultless kind settings moment w state user offer accepted Accept = signed_faultless kind settings moment w state user offer accepted
-permitted_faultless kind settings moment w state user offer accepted (Reject methods partial) = rejected_faultless kind settings moment w state false state.methods false
-permitted_faultless kind settings moment w state user offer accepted UnsupportedMethod = rejected_faultless kind settings moment w state false state.methods false
+permitted_faultless : (kind : InputKind) (settings : Settings) (moment : ℕ) (w : World) (requested : Bool) (state : AuthRequest) (user : List ℕ) (offer : Offer) (accepted : Option Bool) (answer : Auth) →
+    IsFaultless kind (after (permitted state answer (signed state user offer accepted)) (finished settings moment w requested))
+permitted_faultless kind settings moment w requested state user offer accepted Accept = signed_faultless kind settings moment w requested state user offer accepted
+permitted_faultless kind settings moment w requested state user offer accepted (Reject methods partial) = rejected_faultless kind settings moment w requested state false state.methods false
+permitted_faultless kind settings moment w requested state user offer accepted UnsupportedMethod = rejected_faultless kind settings moment w requested state false state.methods false
+permitted_faultless kind settings moment w requested state user offer accepted (Partial name instructions prompts) = rejected_faultless kind settings moment w requested state false state.methods false
 
-asked_first_faultless : (kind : InputKind) (settings : Settings) (moment : ℕ) (w : World) (state : AuthRequest) (user : List ℕ) (offer : Offer) (accepted : Option Bool) (is_asked : Bool) →
+asked_first_faultless : (kind : InputKind) (settings : Settings) (moment : ℕ) (w : World) (requested : Bool) (state : AuthRequest) (user : List ℕ) (offer : Offer) (accepted : Option Bool) (is_asked : Bool) →
     IsFaultless kind (after (if is_asked then signed state user offer accepted
-    else Ask (Auth_publickey_offered user (offered_key offer.key) offer.algorithm) (λ answer. permitted state answer (signed state user offer accepted))) (finished settings moment w))
-asked_first_faultless kind settings moment w state user offer accepted true = signed_faultless kind settings moment w state user offer accepted
-asked_first_faultless kind settings moment w state user offer accepted false = λ answer fine. permitted_faultless kind settings moment w state user offer accepted answer
+    else Ask (Auth_publickey_offered user (offered_key offer.key) offer.algorithm) (λ answer. permitted state answer (signed state user offer accepted))) (finished settings moment w requested))
+asked_first_faultless kind settings moment w requested state user offer accepted true = signed_faultless kind settings moment w requested state user offer accepted
+asked_first_faultless kind settings moment w requested state user offer accepted false = λ answer fine. permitted_faultless kind settings moment w requested state user offer accepted answer
 
 -- PK_OK comes to no fault where it is short enough
-pk_ok_faultless : (kind : InputKind) (settings : Settings) (moment : ℕ) (w : World) (state : AuthRequest) (offer : Offer) (fits : Bool) → fits ≡ true →
-    IsFaultless kind (finished settings moment w (if fits then Replies (pk_ok offer.name offer.blob) verdict.Continued (record state { current = Some (round.PublicKey offer.blob offer.name true) })
+pk_ok_faultless : (kind : InputKind) (settings : Settings) (moment : ℕ) (w : World) (requested : Bool) (state : AuthRequest) (offer : Offer) (fits : Bool) → fits ≡ true →
+    IsFaultless kind (finished settings moment w requested (if fits then Replies (pk_ok offer.name offer.blob) verdict.Continued (record state { current = Some (round.PublicKey offer.blob offer.name true) })
     else auth.Fails (auth.Encoding TooLong)))
-pk_ok_faultless kind settings moment w state offer true fits =
-    reply_faultless kind settings moment (record w { auth = record state { current = Some (round.PublicKey offer.blob offer.name true) } }) (pk_ok offer.name offer.blob) verdict.Continued
-pk_ok_faultless kind settings moment w state offer false fits = absurd (cc)
+pk_ok_faultless kind settings moment w requested state offer true fits =
+    reply_faultless kind settings moment (record w { auth = record state { current = Some (round.PublicKey offer.blob offer.name true) } }) requested (pk_ok offer.name offer.blob) verdict.Continued
+pk_ok_faultless kind settings moment w requested state offer false fits = absurd (cc)
 
-probed_faultless : (kind : InputKind) (settings : Settings) (moment : ℕ) (w : World) (state : AuthRequest) (user : List ℕ) (offer : Offer) (answer : Auth) → ShortensProbe kind (Probe_method offer) →
-    IsFineAnswer kind (Auth_publickey_offered user (offered_key offer.key) offer.algorithm) answer → IsFaultless kind (finished settings moment w (probed state offer answer))
-probed_faultless kind settings moment w state user offer Accept short fine =
-    pk_ok_faultless kind settings moment w state offer (nat_lt (length (pk_ok offer.name offer.blob)) (2 ^ 32)) (lt-ltb (length (pk_ok offer.name offer.blob)) (2 ^ 32) (short fine))
-probed_faultless kind settings moment w state user offer (Reject methods partial) short fine = rejected_faultless kind settings moment w state false (unwrap_or methods state.methods) partial
-probed_faultless kind settings moment w state user offer UnsupportedMethod short fine = rejected_faultless kind settings moment w state false state.methods false
+probed_faultless : (kind : InputKind) (settings : Settings) (moment : ℕ) (w : World) (requested : Bool) (state : AuthRequest) (user : List ℕ) (offer : Offer) (answer : Auth) → ShortensProbe kind (Probe_method offer) →
+    IsFineAnswer kind (Auth_publickey_offered user (offered_key offer.key) offer.algorithm) answer → IsFaultless kind (finished settings moment w requested (probed state offer answer))
+probed_faultless kind settings moment w requested state user offer Accept short fine =
+    pk_ok_faultless kind settings moment w requested state offer (nat_lt (length (pk_ok offer.name offer.blob)) (2 ^ 32)) (lt-ltb (length (pk_ok offer.name offer.blob)) (2 ^ 32) (short fine))
+probed_faultless kind settings moment w requested state user offer (Reject methods partial) short fine = rejected_faultless kind settings moment w requested state false (unwrap_or methods state.methods) partial
+probed_faultless kind settings moment w requested state user offer UnsupportedMethod short fine = rejected_faultless kind settings moment w requested state false state.methods false
+probed_faultless kind settings moment w requested state user offer (Partial name instructions prompts) short fine = rejected_faultless kind settings moment w requested state false state.methods false
 
-method_faultless : (kind : InputKind) (settings : Settings) (moment : ℕ) (w : World) (state : AuthRequest) (user : List ℕ) (method : Method) → IsServed method → ShortensProbe kind method →
-    IsFaultless kind (after (method_verdict state user method) (finished settings moment w))
-method_faultless kind settings moment w state user None_method s short = λ answer fine. answered_faultless kind settings moment w state method_kind.None true answer
-method_faultless kind settings moment w state user (Password_method password) s short = λ answer fine. answered_faultless kind settings moment w state method_kind.Password false answer
-method_faultless kind settings moment w state user (Change_method password new_password) s short = rejected_faultless kind settings moment w state false (without method_kind.Password state.methods) false
-method_faultless kind settings moment w state user Unusable_method s short = rejected_faultless kind settings moment w state false state.methods false
-method_faultless kind settings moment w state user Broken_method s short = absurd s
-method_faultless kind settings moment w state user (Probe_method offer) s short = λ answer fine. probed_faultless kind settings moment w state user offer answer short fine
-method_faultless kind settings moment w state user Misnamed_method s short = rejected_faultless kind settings moment w state false state.methods false
-method_faultless kind settings moment w state user (Signed_method offer accepted) s short =
-    asked_first_faultless kind settings moment w state user offer accepted (is_probed state.current offer.name offer.blob)
-method_faultless kind settings moment w state user Other_method s short = rejected_faultless kind settings moment w state false state.methods false
-method_faultless kind settings moment w state user Unbuilt_method s short = absurd s
-method_faultless kind settings moment w state user (Unfit_method why) s short = absurd s
+-- prompts come to no fault where they are not too long
+prompts_faultless : (kind : InputKind) (settings : Settings) (moment : ℕ) (w : World) (requested : Bool) (state : AuthRequest) (payload : List ℕ) (fits : Bool) → fits ≡ true →
+    IsFaultless kind (finished settings moment w requested (if fits then Replies payload verdict.Continued state else auth.Fails (auth.Encoding TooLong)))
+prompts_faultless kind settings moment w requested state payload true fits = reply_faultless kind settings moment (record w { auth = state }) requested payload verdict.Continued
+prompts_faultless kind settings moment w requested state payload false fits = absurd (cc)
+
+prompted_faultless : (kind : InputKind) (settings : Settings) (moment : ℕ) (w : World) (requested : Bool) (state : AuthRequest) (answer : Auth) → IsFinePrompt answer →
+    IsFaultless kind (finished settings moment w requested (prompted state answer))
+prompted_faultless kind settings moment w requested state Accept fine = reply_faultless kind settings moment (record w { auth = state }) requested success verdict.Accepted
+prompted_faultless kind settings moment w requested state (Reject methods partial) fine = rejected_faultless kind settings moment w requested state false (unwrap_or methods state.methods) partial
+prompted_faultless kind settings moment w requested state UnsupportedMethod fine = absurd fine
+prompted_faultless kind settings moment w requested state (Partial name instructions prompts) fine =
+    let payload = info_request name instructions prompts in
+    prompts_faultless kind settings moment w requested state payload (nat_lt (length payload) (2 ^ 32)) (lt-ltb (length payload) (2 ^ 32) fine)
+
+method_faultless : (kind : InputKind) (settings : Settings) (moment : ℕ) (w : World) (requested : Bool) (state : AuthRequest) (user : List ℕ) (method : Method) → IsServed method → ShortensProbe kind method →
+    IsFaultless kind (after (method_verdict state user method) (finished settings moment w requested))
+method_faultless kind settings moment w requested state user None_method s short = λ answer fine. answered_faultless kind settings moment w requested state method_kind.None true answer
+method_faultless kind settings moment w requested state user (Password_method password) s short = λ answer fine. answered_faultless kind settings moment w requested state method_kind.Password false answer
+method_faultless kind settings moment w requested state user (Change_method password new_password) s short = rejected_faultless kind settings moment w requested state false (without method_kind.Password state.methods) false
+method_faultless kind settings moment w requested state user Unusable_method s short = rejected_faultless kind settings moment w requested state false state.methods false
+method_faultless kind settings moment w requested state user Broken_method s short = absurd s
+method_faultless kind settings moment w requested state user (Probe_method offer) s short = λ answer fine. probed_faultless kind settings moment w requested state user offer answer short fine
+method_faultless kind settings moment w requested state user Misnamed_method s short = rejected_faultless kind settings moment w requested state false state.methods false
+method_faultless kind settings moment w requested state user (Signed_method offer accepted) s short =
+    asked_first_faultless kind settings moment w requested state user offer accepted (is_probed state.current offer.name offer.blob)
+method_faultless kind settings moment w requested state user Other_method s short = rejected_faultless kind settings moment w requested state false state.methods false
+method_faultless kind settings moment w requested state user (Interactive_method submethods) s short = λ answer fine. prompted_faultless kind settings moment w requested _ answer fine
+method_faultless kind settings moment w requested state user (Unfit_method why) s short = absurd s
 
 -- a valid request comes to no fault
 request_faultless : (given : Circumstances) (settings : Settings) (moment : ℕ) (w : World) (payload : List ℕ) (asked : Asked) → AreValidFields given w gate.UserauthRequest (drop 1 payload) →
@@ -320,7 +364,7 @@ request_faultless given settings moment w payload (asks.Request user method) v s
     let name : v.1 ≡ s.0 = ap (λ x. x.1.1.0) once.0 in
     let valid : AreValidMethodFields given (named_by s.0) s.1 =
     subst (λ r. AreValidMethodFields given (named_by s.0) r) once.1 (subst (λ n. AreValidMethodFields given (named_by n) v.2) name v.4) in
-    method_faultless (Payload payload) settings moment w (begun w.auth user (codes "ssh-connection")) user method (served given (drop 1 payload) (named_by s.0) s.1 method valid s.3)
+    method_faultless (Payload payload) settings moment w true (begun w.auth user (codes "ssh-connection")) user method (served given (drop 1 payload) (named_by s.0) s.1 method valid s.3)
     (shortened given payload user s.0 s.1 method (named_by s.0) refl s.2 s.3)
 request_faultless given settings moment w payload asks.Unread v s = refl
 request_faultless given settings moment w payload Other_service v s =
@@ -329,11 +373,21 @@ request_faultless given settings moment w payload Other_service v s =
 request_faultless given settings moment w payload (asks.Unfit why) v s =
     absurd (misfits_all_not_spells head_fields (v.0, (codes "ssh-connection", (v.1, tt))) (drop 1 payload) v.2 why s v.3)
 
--- the only channel is opened with no fault
-first_faultless : (kind : InputKind) (b : Bool) (x y : Plan Outcome) → b ≡ true → IsFaultless kind x → IsFaultless kind (if b then x else y)
-first_faultless kind true x y e h = h
-first_faultless kind false x y e h = absurd (cc)
+-- so does a response that is read
+responded_faultless : (kind : InputKind) (settings : Settings) (moment : ℕ) (w : World) (requested : Bool) (state : AuthRequest) (prompt : Option (List ℕ × List ℕ)) (said : Responded) →
+    (prompt ≡ None) ⊎ IsRead said → IsFaultless kind (after (responded state prompt said) (finished settings moment w requested))
+responded_faultless kind settings moment w requested state None said v = rejected_faultless kind settings moment w requested state false state.methods false
+responded_faultless kind settings moment w requested state (Some prompt) (Responses responses) v = λ answer fine. prompted_faultless kind settings moment w requested state answer fine
+responded_faultless kind settings moment w requested state (Some prompt) (Unfit_responses why) (inl v) = absurd (cc)
+responded_faultless kind settings moment w requested state (Some prompt) (Unfit_responses why) (inr v) = absurd v
+responded_faultless kind settings moment w requested state (Some prompt) Unread_responses v = refl
 
+-- a valid response is read, or no prompts wait for it
+valid_response : (given : Circumstances) (w : World) (fields : List ℕ) (said : Responded) → AreValidFields given w gate.InfoResponse fields → SaysResponses fields said → (prompt_of w.auth ≡ None) ⊎ IsRead said
+valid_response given w fields said (inl none) s = inl none
+valid_response given w fields said (inr v) s = inr (response_read fields v.0 said v.1 s)
+
+-- the only channel is opened with no fault
 session_faultless : (kind : InputKind) (settings : Settings) (w : World) (peer window packet : ℕ) → has_no_channel w ≡ true → IsFaultless kind (open_session_row settings w peer window packet)
 session_faultless kind settings w peer window packet none = first_faultless kind (has_no_channel w) _ _ none (λ commands fine. all_faultless kind settings _ _ 0 commands fine)
 
@@ -376,6 +430,8 @@ fields_faultless given settings moment w gate.OverCap payload Over_cap valid say
 fields_faultless given settings moment w gate.ServiceRequest payload (Service name) valid says = service_faultless (Payload payload) (bytes_eq name (codes "ssh-userauth")) w
 fields_faultless given settings moment w gate.ServiceRequest payload (Unfit why) valid says = absurd (misfits_whole_not_spells (Text ∷ []) (valid.0, tt) (drop 1 payload) why says valid.1)
 fields_faultless given settings moment w gate.UserauthRequest payload (Request asked) valid says = request_faultless given settings moment w payload asked valid says
+fields_faultless given settings moment w gate.InfoResponse payload (Response said) valid says =
+    responded_faultless (Payload payload) settings moment w w.requested (record w.auth { partial_success = false }) (prompt_of w.auth) said (valid_response given w (drop 1 payload) said valid says)
 fields_faultless given settings moment w gate.ChannelOpen payload (Open_session peer window packet) valid says = session_faultless (Payload payload) settings w peer window packet valid.5
 fields_faultless given settings moment w gate.ChannelOpen payload Open_other valid says = absurd (no_other_open (drop 1 payload) valid.0 valid.1 valid.2 valid.3 valid.4 says)
 fields_faultless given settings moment w gate.ChannelOpen payload Open_without_packets valid says = absurd (no_empty_open (drop 1 payload) valid.0 valid.1 valid.2 valid.3 valid.4 says)

@@ -1,5 +1,5 @@
 -- What a gate says of the payload's number, and of the phase.
-use Rattle.std.proofs.Common.{◌≡◌, ℕ, List, [], ◌∷◌, Bool, true, false, refl, subst}
+use Rattle.std.proofs.Common.{◌≡◌, ℕ, List, [], ◌∷◌, Bool, true, false, refl, sym, subst}
 use Rattle.std.specs.Prelude.{◌==◌, ◌||◌, drop, if◌then◌else◌}
 use Rattle.std.proofs.lemmas.Bool.{eqb-true}
 use Rattle.ssh_auth.specs.Publickey.{Circumstances}
@@ -14,7 +14,8 @@ use Rattle.ssh_session.specs.Gate.{gate_of, phase_gate, authentication_gate, con
 -- what a payload of this number, read in this phase, is to a session
 abbrev pub Meets : Phase → ℕ → Gate → Type 0
 Meets phase n gate.Ends = n ≡ 1
-Meets phase n gate.UserauthRequest = n ≡ 50
+Meets phase n gate.UserauthRequest = (n ≡ 50) × (phase ≡ Authentication)
+Meets phase n gate.InfoResponse = n ≡ 61
 Meets phase n gate.ChannelOpen = (n ≡ 90) × (phase ≡ Accepted)
 Meets phase n gate.WindowAdjust = (n ≡ 93) × (phase ≡ Accepted)
 Meets phase n gate.ChannelEof = (n ≡ 96) × (phase ≡ Accepted)
@@ -26,11 +27,15 @@ chosen : (b : Bool) (P : Gate → Type 0) (at other : Gate) → (b ≡ true → 
 chosen true P at other h k = h refl
 chosen false P at other h k = k
 
+-- of the two numbers that are read it is 50, or else 61
+read_meets : (n : ℕ) (b : Bool) → (n == 50) ≡ b → ((n == 50) || (n == 61)) ≡ true → Meets Authentication n (if b then gate.UserauthRequest else gate.InfoResponse)
+read_meets n true is read = (eqb-true n 50 is, refl)
+read_meets n false is read = eqb-true n 61 (subst (λ c. (c || (n == 61)) ≡ true) is read)
+
 authentication_meets : (settings : Settings) (w : World) (n : ℕ) → Meets Authentication n (authentication_gate settings w n)
 authentication_meets settings w n =
-    chosen ((n == 50) || (n == 61)) (Meets Authentication n) (if is_over_cap settings w then gate.OverCap else (if n == 50 then gate.UserauthRequest else gate.NotBuilt)) gate.Nothing
-    (λ read. chosen (is_over_cap settings w) (Meets Authentication n) gate.OverCap (if n == 50 then gate.UserauthRequest else gate.NotBuilt) (λ over. tt)
-    (chosen (n == 50) (Meets Authentication n) gate.UserauthRequest gate.NotBuilt (eqb-true n 50) tt)) tt
+    chosen ((n == 50) || (n == 61)) (Meets Authentication n) (if is_over_cap settings w then gate.OverCap else (if n == 50 then gate.UserauthRequest else gate.InfoResponse)) gate.Nothing
+    (λ read. chosen (is_over_cap settings w) (Meets Authentication n) gate.OverCap (if n == 50 then gate.UserauthRequest else gate.InfoResponse) (λ over. tt) (read_meets n (n == 50) refl read)) tt
 
 other_meets : (n : ℕ) → Meets Accepted n (if is_connection_number n then gate.NotBuilt else gate.Nothing)
 other_meets n = chosen (is_connection_number n) (Meets Accepted n) gate.NotBuilt gate.Nothing (λ is. tt) tt
@@ -56,7 +61,31 @@ meets settings w n fields =
 -- a payload that is read as a request of authentication is numbered 50
 pub is_userauth : (settings : Settings) (w : World) (payload : List ℕ) → gate_of settings w payload ≡ gate.UserauthRequest → payload ≡ 50 ∷ drop 1 payload
 is_userauth settings w [] e = cc
-is_userauth settings w (n ∷ fields) e = let is : n ≡ 50 = subst (Meets w.phase n) e (meets settings w n fields) in cc
+is_userauth settings w (n ∷ fields) e = let is = subst (Meets w.phase n) e (meets settings w n fields) in let at : n ≡ 50 = is.0 in cc
+
+-- and it comes while requests of authentication are read
+pub is_authenticating : (settings : Settings) (w : World) (payload : List ℕ) → gate_of settings w payload ≡ gate.UserauthRequest → w.phase ≡ Authentication
+is_authenticating settings w [] e = absurd (cc)
+is_authenticating settings w (n ∷ fields) e = let is = subst (Meets w.phase n) e (meets settings w n fields) in is.1
+
+-- one that is read as a response to prompts is numbered 61
+pub is_response : (settings : Settings) (w : World) (payload : List ℕ) → gate_of settings w payload ≡ gate.InfoResponse → payload ≡ 61 ∷ drop 1 payload
+is_response settings w [] e = cc
+is_response settings w (n ∷ fields) e = let is : n ≡ 61 = subst (Meets w.phase n) e (meets settings w n fields) in cc
+
+-- the gates of a request of authentication
+abbrev pub IsForRequest : Gate → Type 0
+IsForRequest gate.OverCap = Unit {0}
+IsForRequest gate.UserauthRequest = Unit {0}
+IsForRequest _ = ⊥
+
+capped_or_read : (b : Bool) → IsForRequest (if b then gate.OverCap else gate.UserauthRequest)
+capped_or_read true = tt
+capped_or_read false = tt
+
+-- while requests of authentication are read, a payload that is numbered 50 is one
+pub is_for_request : (settings : Settings) (w : World) (fields : List ℕ) → w.phase ≡ Authentication → IsForRequest (gate_of settings w (50 ∷ fields))
+is_for_request settings w fields is = subst (λ phase. IsForRequest (phase_gate settings w phase 50)) (sym is) (capped_or_read (is_over_cap settings w))
 
 -- a payload that ends the run is numbered 1
 pub is_disconnect : (settings : Settings) (w : World) (payload : List ℕ) → gate_of settings w payload ≡ gate.Ends → payload ≡ 1 ∷ drop 1 payload

@@ -15,7 +15,7 @@ use Rattle.ssh_keys.specs.Signatures.{signature_fields, SpellsSignature, EndsInS
 use Rattle.ssh_keys.proofs.Agreement.{signature_once}
 use Rattle.ssh_keys.proofs.Offered.{algorithm_once, certified_algorithm_once, apart, offers_agree, offer_never_fails, offer_fails_once}
 use Rattle.ssh_auth.specs.Publickey.{Acceptance, Circumstances, Offer, IsOffered, IsUsable, OffersNothing, offer_fields, question, IsAnswer, MisfitsSignature, HoldsNoSignature}
-use Rattle.ssh_auth.specs.Said.{Method, None_method, Password_method, Change_method, Other_method, Unbuilt_method, Unusable_method, Broken_method, Probe_method, Misnamed_method, Signed_method, Unfit_method, SaysPublickey}
+use Rattle.ssh_auth.specs.Said.{Method, None_method, Password_method, Change_method, Other_method, Interactive_method, Unusable_method, Broken_method, Probe_method, Misnamed_method, Signed_method, Unfit_method, SaysPublickey}
 
 -- ---- what a name and a blob offer
 
@@ -199,7 +199,7 @@ itself a b e = subst (AreOneMethod a) e (one a)
     one (Probe_method offer) = refl
     one Misnamed_method = refl
     one Other_method = refl
-    one Unbuilt_method = refl
+    one (Interactive_method submethods) = refl
     one (Unfit_method why) = refl
 
 asks_once : (rest : List ℕ) (offer : Offer) (a b : Method) → Asks rest offer a → Asks rest offer b → a ≡ b

@@ -1,6 +1,6 @@
 -- By induction over a run: what was sent on each number is what has to be sent there.
 use Rattle.std.proofs.Common.{◌≡◌, ◌<◌, ◌==◌, ℕ, zero, suc, Bool, true, false, Option, Some, None, List, [], ◌∷◌, ◌++◌, map, length, refl, sym, ◌∙◌, ap, subst, arith, append_assoc}
-use Rattle.std.specs.Prelude.{◌+◌, ◌&&◌, ◌≢◌, if◌then◌else◌, bytes_eq, codes, flat_map, drop}
+use Rattle.std.specs.Prelude.{◌+◌, ◌^◌, nat_lt, ◌&&◌, ◌≢◌, if◌then◌else◌, bytes_eq, codes, flat_map, drop}
 use Rattle.std.proofs.lemmas.List.{append-nil}
 use Rattle.std.proofs.lemmas.Grind.{common_steps}
 use Rattle.ssh_wire.specs.declared.method.MethodKind.TheVariants as kind
@@ -23,17 +23,18 @@ use Rattle.ssh_keys.specs.declared.key_or_certificate.PublicKeyOrCertificate.{Pu
 use Rattle.ssh_keys.specs.declared.key_or_certificate.PublicKeyOrCertificate.TheVariants.{PublicKey as Plain, Certificate}
 use Rattle.ssh_keys.specs.Offers.{offered_key}
 use Rattle.ssh_auth.specs.declared.auth.Auth.{Auth}
-use Rattle.ssh_auth.specs.declared.auth.Auth.TheVariants.{Reject, Accept, UnsupportedMethod}
+use Rattle.ssh_auth.specs.declared.auth.Auth.TheVariants.{Reject, Accept, UnsupportedMethod, Partial}
 use Rattle.ssh_auth.specs.Publickey.{Acceptance, Circumstances, Offer}
 use Rattle.ssh_auth.specs.Plan.{Plan, Finish, Ask, Tell, after, Answer, Authentication_banner, Auth_publickey_offered, Event, Called, Told, told_in, Follows}
-use Rattle.ssh_auth.specs.Request.{begun, is_probed}
+use Rattle.ssh_auth.specs.Request.{begun, is_probed, prompt_of}
+use Rattle.ssh_auth.specs.Response.{Responded, Responses, Unfit_responses, Unread_responses}
 use Rattle.ssh_auth.specs.Said as asks
-use Rattle.ssh_auth.specs.Verdict.{method_verdict, answered as answer_of, rejected, probed, proven, proof, signed, permitted, Outcome as Reply, Replies}
+use Rattle.ssh_auth.specs.Verdict.{method_verdict, answered as answer_of, rejected, probed, proven, prompted, proof, signed, permitted, responded, Outcome as Reply, Replies}
 use Rattle.ssh_auth.specs.Verdict as auth
 use Rattle.ssh_session.specs.declared.gate.Gate.{Gate}
 use Rattle.ssh_session.specs.declared.gate.Gate.TheVariants as gate
 use Rattle.ssh_session.specs.declared.phase.Phase.TheVariants as phase
-use Rattle.ssh_session.specs.Layout.{service_accept, at_once, held}
+use Rattle.ssh_session.specs.Layout.{service_accept, banner, at_once, held}
 use Rattle.ssh_session.specs.ChannelLayout.{close_frame}
 use Rattle.ssh_session.specs.Entry.{Entry, granting, flushed, flush_out}
 use Rattle.ssh_session.specs.Entries.{find, put, without}
@@ -43,7 +44,7 @@ use Rattle.ssh_session.specs.World.{Settings, World, circumstances, opening_worl
 use Rattle.ssh_session.specs.Effect.{Effect, Does, Not_built, effect}
 use Rattle.ssh_session.specs.Outcome.{Outcome, Goes, Fails}
 use Rattle.ssh_session.specs.Commanded.{tell_all, done, tell_done, done_all, command_row}
-use Rattle.ssh_session.specs.Said.{Said, Nothing, Disconnect, Over_cap, Service, Request, Open_session, Open_other, Open_without_packets, Grant, Peer_eof, Peer_close, Unfit, Unbuilt, Fits, Says}
+use Rattle.ssh_session.specs.Said.{Said, Nothing, Disconnect, Over_cap, Service, Request, Response, Open_session, Open_other, Open_without_packets, Grant, Peer_eof, Peer_close, Unfit, Unbuilt, Fits, Says}
 use Rattle.ssh_session.specs.Gate.{gate_of}
 use Rattle.ssh_session.specs.Rows.{accept_row, moment_after, rejection_hold, own, reply_row, finished, drawn, open_session_row, grant_row, peer_eof_row, peer_close_row, row}
 use Rattle.ssh_session.specs.Run.{OwesKind, Turn, Turns, Run, entries}
@@ -135,66 +136,75 @@ unsent w past frames h silent = (settled_same w.entries past (map Sent frames) h
 -- authentication
 accept_keeps : (w : World) (past : List TraceEntry) (banner : Option (List ℕ)) → Ledgered w past → PlanKeeps past (accept_row w banner)
 accept_keeps w past None h = unsent w past (at_once service_accept ∷ []) h (λ n fs. refl)
-accept_keeps w past (Some text) h = tt
+accept_keeps w past (Some text) h =
+    either_keeps (nat_lt (length (banner text)) (2 ^ 32)) _ _ past (λ t. unsent w past (at_once service_accept ∷ at_once (banner text) ∷ []) h (λ n fs. refl)) (λ t. tt)
 
-reply_keeps : (settings : Settings) (moment : ℕ) (w : World) (past : List TraceEntry) (reply : List ℕ) (v : AuthVerdict) → Ledgered w past →
-    PlanKeeps past (reply_row settings moment w reply v)
-reply_keeps settings moment w past reply verdict.Accepted h =
-    let now = record w { phase = phase.Accepted; requested = true } in
+reply_keeps : (settings : Settings) (moment : ℕ) (w : World) (requested : Bool) (past : List TraceEntry) (reply : List ℕ) (v : AuthVerdict) → Ledgered w past →
+    PlanKeeps past (reply_row settings moment w requested reply v)
+reply_keeps settings moment w requested past reply verdict.Accepted h =
+    let now = record w { phase = phase.Accepted; requested = requested } in
     λ commands. done_all_keeps settings now past (at_once reply ∷ []) 0 commands (unsent now past (at_once reply ∷ []) h (λ n fs. refl))
-reply_keeps settings moment w past reply (verdict.Rejected none_method) h =
+reply_keeps settings moment w requested past reply (verdict.Rejected none_method) h =
     unsent w past (held reply (moment_after moment (rejection_hold settings.config none_method w.requested)) ∷ []) h (λ n fs. refl)
-reply_keeps settings moment w past reply verdict.Continued h = unsent w past (at_once reply ∷ []) h (λ n fs. refl)
+reply_keeps settings moment w requested past reply verdict.Continued h = unsent w past (at_once reply ∷ []) h (λ n fs. refl)
 
-finished_keeps : (settings : Settings) (moment : ℕ) (w : World) (past : List TraceEntry) (reply : Reply) → Ledgered w past → PlanKeeps past (finished settings moment w reply)
-finished_keeps settings moment w past (Replies reply v state) h = reply_keeps settings moment (record w { auth = state }) past reply v h
-finished_keeps settings moment w past (auth.Fails fault) h = tt
+finished_keeps : (settings : Settings) (moment : ℕ) (w : World) (requested : Bool) (past : List TraceEntry) (reply : Reply) → Ledgered w past → PlanKeeps past (finished settings moment w requested reply)
+finished_keeps settings moment w requested past (Replies reply v state) h = reply_keeps settings moment (record w { auth = state }) requested past reply v h
+finished_keeps settings moment w requested past (auth.Fails fault) h = tt
 
-proof_keeps : (settings : Settings) (moment : ℕ) (w : World) (past : List TraceEntry) (state : AuthRequest) (user : List ℕ) (key : PublicKeyOrCertificate) (algorithm : Algorithm) → Ledgered w past →
-    PlanKeeps past (after (proof state user key algorithm) (finished settings moment w))
-proof_keeps settings moment w past state user (Plain key hash) algorithm h = λ answer. finished_keeps settings moment w past (proven state answer) h
-proof_keeps settings moment w past state user (Certificate certificate) algorithm h = λ answer. finished_keeps settings moment w past (proven state answer) h
+proof_keeps : (settings : Settings) (moment : ℕ) (w : World) (requested : Bool) (past : List TraceEntry) (state : AuthRequest) (user : List ℕ) (key : PublicKeyOrCertificate) (algorithm : Algorithm) → Ledgered w past →
+    PlanKeeps past (after (proof state user key algorithm) (finished settings moment w requested))
+proof_keeps settings moment w requested past state user (Plain key hash) algorithm h = λ answer. finished_keeps settings moment w requested past (proven state answer) h
+proof_keeps settings moment w requested past state user (Certificate certificate) algorithm h = λ answer. finished_keeps settings moment w requested past (proven state answer) h
 
-signed_keeps : (settings : Settings) (moment : ℕ) (w : World) (past : List TraceEntry) (state : AuthRequest) (user : List ℕ) (offer : Offer) (accepted : Option Bool) → Ledgered w past →
-    PlanKeeps past (after (signed state user offer accepted) (finished settings moment w))
-signed_keeps settings moment w past state user offer None h = tt
-signed_keeps settings moment w past state user offer (Some false) h = finished_keeps settings moment w past (rejected state false state.methods false) h
-signed_keeps settings moment w past state user offer (Some true) h = proof_keeps settings moment w past state user offer.key offer.algorithm h
+signed_keeps : (settings : Settings) (moment : ℕ) (w : World) (requested : Bool) (past : List TraceEntry) (state : AuthRequest) (user : List ℕ) (offer : Offer) (accepted : Option Bool) → Ledgered w past →
+    PlanKeeps past (after (signed state user offer accepted) (finished settings moment w requested))
+signed_keeps settings moment w requested past state user offer None h = tt
+signed_keeps settings moment w requested past state user offer (Some false) h = finished_keeps settings moment w requested past (rejected state false state.methods false) h
+signed_keeps settings moment w requested past state user offer (Some true) h = proof_keeps settings moment w requested past state user offer.key offer.algorithm h
 
-permitted_keeps : (settings : Settings) (moment : ℕ) (w : World) (past : List TraceEntry) (state : AuthRequest) (user : List ℕ) (offer : Offer) (accepted : Option Bool) (answer : Auth) → Ledgered w past →
-    PlanKeeps past (after (permitted state answer (signed state user offer accepted)) (finished settings moment w))
-permitted_keeps settings moment w past state user offer accepted Accept h = signed_keeps settings moment w past state user offer accepted h
-permitted_keeps settings moment w past state user offer accepted (Reject methods partial) h = finished_keeps settings moment w past (rejected state false state.methods false) h
-permitted_keeps settings moment w past state user offer accepted UnsupportedMethod h = finished_keeps settings moment w past (rejected state false state.methods false) h
+permitted_keeps : (settings : Settings) (moment : ℕ) (w : World) (requested : Bool) (past : List TraceEntry) (state : AuthRequest) (user : List ℕ) (offer : Offer) (accepted : Option Bool) (answer : Auth) → Ledgered w past →
+    PlanKeeps past (after (permitted state answer (signed state user offer accepted)) (finished settings moment w requested))
+permitted_keeps settings moment w requested past state user offer accepted Accept h = signed_keeps settings moment w requested past state user offer accepted h
+permitted_keeps settings moment w requested past state user offer accepted (Reject methods partial) h = finished_keeps settings moment w requested past (rejected state false state.methods false) h
+permitted_keeps settings moment w requested past state user offer accepted UnsupportedMethod h = finished_keeps settings moment w requested past (rejected state false state.methods false) h
+permitted_keeps settings moment w requested past state user offer accepted (Partial name instructions prompts) h = finished_keeps settings moment w requested past (rejected state false state.methods false) h
 
-asked_first_keeps : (settings : Settings) (moment : ℕ) (w : World) (past : List TraceEntry) (state : AuthRequest) (user : List ℕ) (offer : Offer) (accepted : Option Bool) (is_asked : Bool) → Ledgered w past →
+asked_first_keeps : (settings : Settings) (moment : ℕ) (w : World) (requested : Bool) (past : List TraceEntry) (state : AuthRequest) (user : List ℕ) (offer : Offer) (accepted : Option Bool) (is_asked : Bool) → Ledgered w past →
     PlanKeeps past (after (if is_asked then signed state user offer accepted
-    else Ask (Auth_publickey_offered user (offered_key offer.key) offer.algorithm) (λ answer. permitted state answer (signed state user offer accepted))) (finished settings moment w))
-asked_first_keeps settings moment w past state user offer accepted true h = signed_keeps settings moment w past state user offer accepted h
-asked_first_keeps settings moment w past state user offer accepted false h = λ answer. permitted_keeps settings moment w past state user offer accepted answer h
+    else Ask (Auth_publickey_offered user (offered_key offer.key) offer.algorithm) (λ answer. permitted state answer (signed state user offer accepted))) (finished settings moment w requested))
+asked_first_keeps settings moment w requested past state user offer accepted true h = signed_keeps settings moment w requested past state user offer accepted h
+asked_first_keeps settings moment w requested past state user offer accepted false h = λ answer. permitted_keeps settings moment w requested past state user offer accepted answer h
 
-method_keeps : (settings : Settings) (moment : ℕ) (w : World) (past : List TraceEntry) (state : AuthRequest) (user : List ℕ) (method : asks.Method) → Ledgered w past →
-    PlanKeeps past (after (method_verdict state user method) (finished settings moment w))
-method_keeps settings moment w past state user asks.None_method h = λ answer. finished_keeps settings moment w past (answer_of state kind.None true answer) h
-method_keeps settings moment w past state user (asks.Password_method password) h = λ answer. finished_keeps settings moment w past (answer_of state kind.Password false answer) h
-method_keeps settings moment w past state user (asks.Change_method password new_password) h =
-    finished_keeps settings moment w past (rejected state false (without_method kind.Password state.methods) false) h
-method_keeps settings moment w past state user asks.Unusable_method h = finished_keeps settings moment w past (rejected state false state.methods false) h
-method_keeps settings moment w past state user asks.Broken_method h = tt
-method_keeps settings moment w past state user (asks.Probe_method offer) h = λ answer. finished_keeps settings moment w past (probed state offer answer) h
-method_keeps settings moment w past state user asks.Misnamed_method h = finished_keeps settings moment w past (rejected state false state.methods false) h
-method_keeps settings moment w past state user (asks.Signed_method offer accepted) h =
-    asked_first_keeps settings moment w past state user offer accepted (is_probed state.current offer.name offer.blob) h
-method_keeps settings moment w past state user asks.Other_method h = finished_keeps settings moment w past (rejected state false state.methods false) h
-method_keeps settings moment w past state user asks.Unbuilt_method h = tt
-method_keeps settings moment w past state user (asks.Unfit_method why) h = tt
+method_keeps : (settings : Settings) (moment : ℕ) (w : World) (requested : Bool) (past : List TraceEntry) (state : AuthRequest) (user : List ℕ) (method : asks.Method) → Ledgered w past →
+    PlanKeeps past (after (method_verdict state user method) (finished settings moment w requested))
+method_keeps settings moment w requested past state user asks.None_method h = λ answer. finished_keeps settings moment w requested past (answer_of state kind.None true answer) h
+method_keeps settings moment w requested past state user (asks.Password_method password) h = λ answer. finished_keeps settings moment w requested past (answer_of state kind.Password false answer) h
+method_keeps settings moment w requested past state user (asks.Change_method password new_password) h =
+    finished_keeps settings moment w requested past (rejected state false (without_method kind.Password state.methods) false) h
+method_keeps settings moment w requested past state user asks.Unusable_method h = finished_keeps settings moment w requested past (rejected state false state.methods false) h
+method_keeps settings moment w requested past state user asks.Broken_method h = tt
+method_keeps settings moment w requested past state user (asks.Probe_method offer) h = λ answer. finished_keeps settings moment w requested past (probed state offer answer) h
+method_keeps settings moment w requested past state user asks.Misnamed_method h = finished_keeps settings moment w requested past (rejected state false state.methods false) h
+method_keeps settings moment w requested past state user (asks.Signed_method offer accepted) h =
+    asked_first_keeps settings moment w requested past state user offer accepted (is_probed state.current offer.name offer.blob) h
+method_keeps settings moment w requested past state user asks.Other_method h = finished_keeps settings moment w requested past (rejected state false state.methods false) h
+method_keeps settings moment w requested past state user (asks.Interactive_method submethods) h = λ answer. finished_keeps settings moment w requested past (prompted _ answer) h
+method_keeps settings moment w requested past state user (asks.Unfit_method why) h = tt
 
 request_keeps : (settings : Settings) (moment : ℕ) (w : World) (past : List TraceEntry) (asked : asks.Said) → Ledgered w past →
     PlanKeeps past (row settings moment w (Request asked))
-request_keeps settings moment w past (asks.Request user method) h = method_keeps settings moment w past (begun w.auth user (codes "ssh-connection")) user method h
+request_keeps settings moment w past (asks.Request user method) h = method_keeps settings moment w true past (begun w.auth user (codes "ssh-connection")) user method h
 request_keeps settings moment w past asks.Other_service h = tt
 request_keeps settings moment w past asks.Unread h = tt
 request_keeps settings moment w past (asks.Unfit why) h = tt
+
+response_keeps : (settings : Settings) (moment : ℕ) (w : World) (requested : Bool) (past : List TraceEntry) (state : AuthRequest) (prompt : Option (List ℕ × List ℕ)) (said : Responded) → Ledgered w past →
+    PlanKeeps past (after (responded state prompt said) (finished settings moment w requested))
+response_keeps settings moment w requested past state None said h = finished_keeps settings moment w requested past (rejected state false state.methods false) h
+response_keeps settings moment w requested past state (Some prompt) (Responses responses) h = λ answer. finished_keeps settings moment w requested past (prompted state answer) h
+response_keeps settings moment w requested past state (Some prompt) (Unfit_responses why) h = tt
+response_keeps settings moment w requested past state (Some prompt) Unread_responses h = tt
 
 -- the peer opens a channel
 no_entries : (es : List Entry) (b : Bool) → ((length es == 0) && b) ≡ true → es ≡ []
@@ -264,6 +274,7 @@ row_keeps given settings moment w at payload (Service name) past s h =
     either_keeps (bytes_eq name (codes "ssh-userauth")) (Ask Authentication_banner (accept_row w)) (Finish (Goes [] w)) past
     (λ t banner. accept_keeps w past banner h) (λ t. nothing_sent w past h)
 row_keeps given settings moment w at payload (Request asked) past s h = request_keeps settings moment w past asked h
+row_keeps given settings moment w at payload (Response said) past s h = response_keeps settings moment w w.requested past (record w.auth { partial_success = false }) (prompt_of w.auth) said h
 row_keeps given settings moment w at payload (Open_session peer window packet) past s h = open_session_keeps settings w peer window packet past (read_packets at (drop 1 payload) peer window packet (fits_of given at payload (Open_session peer window packet) tt s)) h
 row_keeps given settings moment w at payload Open_other past s h = tt
 row_keeps given settings moment w at payload Open_without_packets past s h = tt

@@ -1,4 +1,5 @@
 mod Accepting
+mod Admitting
 mod Asks
 mod Branches
 mod Closing
@@ -9,6 +10,7 @@ pub mod Keeping
 pub mod Effects
 pub mod Flush
 mod Gates
+mod Guards
 pub mod Kept
 pub mod Ledger
 pub mod Listed
@@ -17,6 +19,7 @@ mod Methods
 mod Misfits
 pub mod Places
 mod Requests
+mod Responses
 pub mod Runs
 pub mod Settled
 mod Signing

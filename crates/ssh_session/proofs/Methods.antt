@@ -10,15 +10,14 @@ use Rattle.ssh_link.specs.declared.frame.InputKind.{InputKind}
 use Rattle.ssh_link.specs.declared.frame.InputKind.TheVariants.{Payload}
 use Rattle.ssh_auth.specs.Layout.{pk_ok}
 use Rattle.ssh_auth.specs.Publickey.{Circumstances, Offer, offer_fields}
-use Rattle.ssh_auth.specs.Said.{Method, Broken_method, Probe_method, Misnamed_method, Signed_method, Unbuilt_method, Unfit_method, Named, Is_none, Is_password, Is_publickey, Is_unbuilt, Is_other, named_by, head_fields, SaysPassword, SaysPublickey, SaysMethod}
+use Rattle.ssh_auth.specs.Said.{Method, Broken_method, Probe_method, Misnamed_method, Signed_method, Unfit_method, Named, Is_none, Is_password, Is_publickey, Is_interactive, Is_other, named_by, head_fields, SaysPassword, SaysPublickey, SaysMethod}
 use Rattle.ssh_session.specs.Valid.{AreValidKeyFields, AreValidMethodFields, HasShortReply}
 use Rattle.ssh_session.proofs.KeyFields.{Offering, Usable, Unusable, OffersSo, Asks, Signs, SaysNext, InTurn, in_turn, same_offer, signed_holds, signed_fits}
 use Rattle.ssh_session.proofs.Signing.{publickey_named, head_named}
 
--- the method fits its fields and is built
+-- the method fits its fields
 abbrev pub IsServed : Method → Type 0
 IsServed Broken_method = ⊥
-IsServed Unbuilt_method = ⊥
 IsServed (Unfit_method why) = ⊥
 IsServed _ = Unit {0}
 
@@ -87,17 +86,16 @@ key_served given all fields method (inr (inr v)) h =
 pub served : (given : Circumstances) (all : List ℕ) (named : Named) (fields : List ℕ) (method : Method) → AreValidMethodFields given named fields → SaysMethod given all named fields method → IsServed method
 served given all Is_publickey fields method v s = key_served given all fields method v s
 served given all Is_none fields (Unfit_method why) v s = s.0 v
-served given all Is_none fields Unbuilt_method v s = s
 served given all Is_none fields Broken_method v s = s
 served given all Is_password fields (Unfit_method why) v s = password_served given fields why v s
-served given all Is_password fields Unbuilt_method v s = s
 served given all Is_password fields Broken_method v s = s
-served given all Is_unbuilt fields method v s = absurd v
+served given all Is_interactive fields (Unfit_method why) v s = misfits_whole_not_spells (Text ∷ Text ∷ []) (v.0, (v.1, tt)) fields why s v.2
+served given all Is_interactive fields Broken_method v s = s
 served given all Is_other fields (Unfit_method why) v s = cc
-served given all Is_other fields Unbuilt_method v s = cc
 served given all Is_other fields Broken_method v s = cc
 served given all Is_none fields _ v s = tt
 served given all Is_password fields _ v s = tt
+served given all Is_interactive fields _ v s = tt
 served given all Is_other fields _ v s = tt
 
 -- a probe is the whole of its request's fields
@@ -107,6 +105,6 @@ shortened given payload user name rest (Probe_method offer) Is_publickey is head
     λ short. short user offer.name offer.blob rest (head_named (drop 1 payload) user name (codes "publickey") rest (publickey_named name is) head) h.0
 shortened given payload user name rest (Probe_method offer) Is_none is head h = absurd h
 shortened given payload user name rest (Probe_method offer) Is_password is head h = absurd h
-shortened given payload user name rest (Probe_method offer) Is_unbuilt is head h = cc
+shortened given payload user name rest (Probe_method offer) Is_interactive is head h = absurd h
 shortened given payload user name rest (Probe_method offer) Is_other is head h = cc
 shortened given payload user name rest _ named is head h = tt

@@ -130,6 +130,7 @@ stops_later plan events sent rose rose' (error.Encoding why) r h = h
 stops_later plan events sent rose rose' error.Inconsistent r h = h
 stops_later plan events sent rose rose' (error.Key why) r h = h
 stops_later plan events sent rose rose' (error.Handler e) r h = h
+stops_later plan events sent rose rose' error.UnsupportedAuthMethod r h = h
 stops_later plan events sent rose rose' error.NotBuilt r h = h
 
 -- an input was not finished

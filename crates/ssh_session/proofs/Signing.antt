@@ -11,7 +11,7 @@ use Rattle.ssh_link.specs.declared.frame.InputKind.TheVariants.{Payload}
 use Rattle.ssh_auth.specs.Plan.{Auth_publickey, Auth_openssh_certificate}
 use Rattle.ssh_auth.specs.Proven.{IsSignedBy}
 use Rattle.ssh_auth.specs.Publickey.{Circumstances, Offer}
-use Rattle.ssh_auth.specs.Said.{Method, Signed_method, Named, Is_none, Is_password, Is_publickey, Is_unbuilt, Is_other, named_by, head_fields, SaysMethod}
+use Rattle.ssh_auth.specs.Said.{Method, Signed_method, Named, Is_none, Is_password, Is_publickey, Is_interactive, Is_other, named_by, head_fields, SaysMethod}
 use Rattle.ssh_session.specs.Authorised.{IsProvenRequest}
 
 -- the question by which this key or certificate lets the user in is proven
@@ -25,7 +25,7 @@ Proves given kind user (Signed_method offer (Some true)) = ProvesKey given kind 
 Proves given kind user _ = Unit {0}
 
 -- the name publickey alone names it
-named_third : (a b c d : Bool) → (if a then Is_none else (if b then Is_password else (if c then Is_publickey else (if d then Is_unbuilt else Is_other)))) ≡ Is_publickey → c ≡ true
+named_third : (a b c d : Bool) → (if a then Is_none else (if b then Is_password else (if c then Is_publickey else (if d then Is_interactive else Is_other)))) ≡ Is_publickey → c ≡ true
 named_third a b true d h = refl
 named_third true b false d h = cc
 named_third false true false d h = cc
@@ -56,6 +56,6 @@ proves given payload user name rest (Signed_method offer (Some false)) named is 
 proves given payload user name rest (Signed_method offer None) named is numbered head h = tt
 proves given payload user name rest (Signed_method offer (Some true)) Is_none is numbered head h = absurd h
 proves given payload user name rest (Signed_method offer (Some true)) Is_password is numbered head h = absurd h
-proves given payload user name rest (Signed_method offer (Some true)) Is_unbuilt is numbered head h = cc
+proves given payload user name rest (Signed_method offer (Some true)) Is_interactive is numbered head h = absurd h
 proves given payload user name rest (Signed_method offer (Some true)) Is_other is numbered head h = cc
 proves given payload user name rest _ named is numbered head h = tt

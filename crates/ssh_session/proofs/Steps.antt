@@ -110,6 +110,7 @@ stops settings plan events staged session rose (error.Encoding why) h = (refl, h
 stops settings plan events staged session rose error.Inconsistent h = (refl, h)
 stops settings plan events staged session rose (error.Key why) h = (refl, h.0, h.1)
 stops settings plan events staged session rose (error.Handler e) h = (refl, h)
+stops settings plan events staged session rose error.UnsupportedAuthMethod h = (refl, h)
 stops settings plan events staged session rose error.NotBuilt h = (refl, h)
 
 -- the input was not served, and no frame was handed on

@@ -1,12 +1,12 @@
 -- Nothing of the connection is served before an accepted authentication.
-use Rattle.std.specs.Prelude.{◌≡◌, ◌≤◌, ◌⊎◌, ℕ, List, [], ◌∷◌, Ok}
+use Rattle.std.specs.Prelude.{◌≡◌, ◌≤◌, ◌⊎◌, ℕ, List, [], ◌∷◌, Some, None, Ok}
 use Rattle.ssh_wire.specs.Field.{Text, SpellsAll}
 use Rattle.ssh_link.specs.declared.frame.Frame.{Frame}
 use Rattle.ssh_link.specs.declared.frame.InputKind.{InputKind}
 use Rattle.ssh_link.specs.declared.frame.InputKind.TheVariants.{Payload, Command, OpenReply, End}
 use Rattle.ssh_auth.specs.declared.auth.Auth.TheVariants.{Accept}
 use Rattle.ssh_auth.specs.declared.call.Call.{Call}
-use Rattle.ssh_auth.specs.declared.call.Call.TheVariants.{AuthenticationBanner, AuthNone, AuthPassword, AuthPublickeyOffered, AuthPublickey, AuthOpensshCertificate}
+use Rattle.ssh_auth.specs.declared.call.Call.TheVariants.{AuthenticationBanner, AuthNone, AuthPassword, AuthPublickeyOffered, AuthPublickey, AuthOpensshCertificate, AuthKeyboardInteractive}
 use Rattle.ssh_auth.specs.Plan.{Question, Auth_publickey, Auth_openssh_certificate}
 use Rattle.ssh_auth.specs.Proven.{IsProven}
 use Rattle.ssh_auth.specs.Publickey.{Acceptance, Circumstances}
@@ -21,6 +21,17 @@ IsRequestOf user (OpenReply ticket answer) = ⊥
 IsRequestOf user (Payload payload) = (fields : List ℕ) × (service : List ℕ) × (method : List ℕ) × (rest : List ℕ) × (payload ≡ 50 ∷ fields) ×
     SpellsAll (Text ∷ Text ∷ Text ∷ []) (user, (service, (method, tt))) fields rest
 
+-- the input is a USERAUTH_INFO_RESPONSE, whose number is 61
+abbrev pub IsResponse : InputKind → Type 0
+IsResponse End = ⊥
+IsResponse (Command ticket command) = ⊥
+IsResponse (OpenReply ticket answer) = ⊥
+IsResponse (Payload payload) = (fields : List ℕ) × (payload ≡ 61 ∷ fields)
+
+-- the last USERAUTH_REQUEST named this user: this input, or where it is none, the last one before it
+abbrev pub NamesLast : (named : List ℕ → Type 0) → InputKind → List ℕ → Type 0
+NamesLast named kind user = IsRequestOf user kind ⊎ (((other : List ℕ) → IsRequestOf other kind → ⊥) × named user)
+
 -- the input is a USERAUTH_REQUEST by this key, or by this certificate, whose signature the verifier accepts: of the
 -- key, the certificate's own, by the algorithm that the request names, of the session id and the request up to its
 -- signature field; and where it is a certificate, the verifier accepts the certificate's own signature too
@@ -30,13 +41,16 @@ IsProvenRequest given (Command ticket command) question = ⊥
 IsProvenRequest given (OpenReply ticket answer) question = ⊥
 IsProvenRequest given (Payload payload) question = (fields : List ℕ) × (payload ≡ 50 ∷ fields) × IsProven given fields question
 
--- the call accepted the user of its input's request, and of one by a key or a certificate the signature was accepted
-abbrev pub IsAccepting : {E : Type 0} → Circumstances → InputKind → Call E → Type 0
-IsAccepting given kind (AuthNone user (Ok Accept)) = IsRequestOf user kind
-IsAccepting given kind (AuthPassword user password (Ok Accept)) = IsRequestOf user kind
-IsAccepting given kind (AuthPublickey user key algorithm (Ok Accept)) = IsProvenRequest given kind (Auth_publickey user key algorithm)
-IsAccepting given kind (AuthOpensshCertificate user certificate (Ok Accept)) = IsProvenRequest given kind (Auth_openssh_certificate user certificate)
-IsAccepting given kind _ = ⊥
+-- the call accepted the user of its input's request, and of one by a key or a certificate the signature was accepted; or
+-- the user whom the last request before a response named
+abbrev pub IsAccepting : {E : Type 0} → Circumstances → (named : List ℕ → Type 0) → InputKind → Call E → Type 0
+IsAccepting given named kind (AuthNone user (Ok Accept)) = IsRequestOf user kind
+IsAccepting given named kind (AuthPassword user password (Ok Accept)) = IsRequestOf user kind
+IsAccepting given named kind (AuthPublickey user key algorithm (Ok Accept)) = IsProvenRequest given kind (Auth_publickey user key algorithm)
+IsAccepting given named kind (AuthOpensshCertificate user certificate (Ok Accept)) = IsProvenRequest given kind (Auth_openssh_certificate user certificate)
+IsAccepting given named kind (AuthKeyboardInteractive user submethods None (Ok Accept)) = IsRequestOf user kind
+IsAccepting given named kind (AuthKeyboardInteractive user submethods (Some responses) (Ok Accept)) = IsResponse kind × named user
+IsAccepting given named kind _ = ⊥
 
 -- a callback of the connection: every one but those that authenticate
 abbrev pub IsOfConnection : {E : Type 0} → Call E → Type 0
@@ -46,6 +60,7 @@ IsOfConnection (AuthPassword user password answer) = ⊥
 IsOfConnection (AuthPublickeyOffered user key algorithm answer) = ⊥
 IsOfConnection (AuthPublickey user key algorithm answer) = ⊥
 IsOfConnection (AuthOpensshCertificate user certificate answer) = ⊥
+IsOfConnection (AuthKeyboardInteractive user submethods response answer) = ⊥
 IsOfConnection _ = Unit {0}
 
 -- a frame of a channel: its number is 90 to 100
@@ -53,15 +68,15 @@ abbrev pub IsOfChannel : Frame → Type 0
 IsOfChannel frame = (n : ℕ) × (rest : List ℕ) × (frame.payload ≡ n ∷ rest) × (90 ≤ n) × (n ≤ 100)
 
 -- one of an input's calls is accepting
-abbrev pub SomeAccepting : {E : Type 0} → Circumstances → InputKind → List (Call E) → Type 0
-SomeAccepting given kind [] = ⊥
-SomeAccepting given kind (call ∷ calls) = IsAccepting given kind call ⊎ SomeAccepting given kind calls
+abbrev pub SomeAccepting : {E : Type 0} → Circumstances → (named : List ℕ → Type 0) → InputKind → List (Call E) → Type 0
+SomeAccepting given named kind [] = ⊥
+SomeAccepting given named kind (call ∷ calls) = IsAccepting given named kind call ⊎ SomeAccepting given named kind calls
 
 -- each callback of the connection has an accepting call before it
-abbrev pub AuthorisedCalls : {E : Type 0} → Circumstances → Type 0 → InputKind → List (Call E) → Type 0
-AuthorisedCalls given accepted kind [] = Unit {0}
-AuthorisedCalls given accepted kind (call ∷ calls) =
-    (IsOfConnection call → accepted) × AuthorisedCalls given (accepted ⊎ IsAccepting given kind call) kind calls
+abbrev pub AuthorisedCalls : {E : Type 0} → Circumstances → (named : List ℕ → Type 0) → Type 0 → InputKind → List (Call E) → Type 0
+AuthorisedCalls given named accepted kind [] = Unit {0}
+AuthorisedCalls given named accepted kind (call ∷ calls) =
+    (IsOfConnection call → accepted) × AuthorisedCalls given named (accepted ⊎ IsAccepting given named kind call) kind calls
 
 -- each frame of a channel has an accepting call before it
 abbrev pub AuthorisedFrames : Type 0 → List Frame → Type 0
@@ -70,10 +85,15 @@ AuthorisedFrames accepted (frame ∷ frames) = (IsOfChannel frame → accepted) 
 
 -- after an accepting call, or none so far: each callback of the connection and each frame of a channel
 -- stands in an input that has an accepting call before it, in that input or in an earlier one; the verifier
--- accepts these signatures
-abbrev pub Authorised : {E : Type 0} → Acceptance → Settings → Type 0 → List (Turn E) → Type 0
-Authorised accepts settings accepted [] = Unit {0}
-Authorised accepts settings accepted (turn ∷ turns) =
-    AuthorisedCalls (circumstances accepts settings turn.input.moment) accepted turn.input.kind (calls_of turn)
-    × AuthorisedFrames (accepted ⊎ SomeAccepting (circumstances accepts settings turn.input.moment) turn.input.kind (calls_of turn)) turn.frames
-    × Authorised accepts settings (accepted ⊎ SomeAccepting (circumstances accepts settings turn.input.moment) turn.input.kind (calls_of turn)) turns
+-- accepts these signatures, and the last request so far named a user so
+abbrev pub Authorised : {E : Type 0} → Acceptance → Settings → (named : List ℕ → Type 0) → Type 0 → List (Turn E) → Type 0
+Authorised accepts settings named accepted [] = Unit {0}
+Authorised accepts settings named accepted (turn ∷ turns) =
+    AuthorisedCalls (circumstances accepts settings turn.input.moment) named accepted turn.input.kind (calls_of turn)
+    × AuthorisedFrames (accepted ⊎ SomeAccepting (circumstances accepts settings turn.input.moment) named turn.input.kind (calls_of turn)) turn.frames
+    × Authorised accepts settings (NamesLast named turn.input.kind)
+    (accepted ⊎ SomeAccepting (circumstances accepts settings turn.input.moment) named turn.input.kind (calls_of turn)) turns
+
+-- before the first input no request named anyone
+abbrev pub nobody : List ℕ → Type 0
+nobody user = ⊥

@@ -20,7 +20,7 @@ error_of_auth (auth.Encoding why) = error.Encoding why
 error_of_auth auth.Inconsistent = error.Inconsistent
 error_of_auth (auth.Key why) = error.Key why
 error_of_auth (auth.Handler e) = error.Handler e
-error_of_auth auth.NotBuilt = error.NotBuilt
+error_of_auth auth.UnsupportedAuthMethod = error.UnsupportedAuthMethod
 
 abbrev pub error_of_layout : {E : Type 0} → LayoutError → RunError E
 error_of_layout (layout.Wire why) = run_error_of why

@@ -15,11 +15,11 @@ is_over_cap settings w =
 abbrev pub is_connection_number : ℕ → Bool
 is_connection_number n = (nat_le 80 n && nat_le n 82) || (nat_le 90 n && nat_le n 98)
 
--- what a number means while requests of authentication are read: USERAUTH_REQUEST is 50, and 61 a response to prompts
+-- what a number means while requests of authentication are read: USERAUTH_REQUEST is 50, and USERAUTH_INFO_RESPONSE 61
 abbrev pub authentication_gate : Settings → World → ℕ → Gate
 authentication_gate settings w n =
     if (n == 50) || (n == 61)
-    then (if is_over_cap settings w then gate.OverCap else (if n == 50 then gate.UserauthRequest else gate.NotBuilt))
+    then (if is_over_cap settings w then gate.OverCap else (if n == 50 then gate.UserauthRequest else gate.InfoResponse))
     else gate.Nothing
 
 -- what a number means once a user is accepted: CHANNEL_OPEN is 90, CHANNEL_WINDOW_ADJUST 93, CHANNEL_EOF 96, CHANNEL_CLOSE 97

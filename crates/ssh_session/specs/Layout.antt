@@ -15,6 +15,10 @@ too_many_attempts = disconnect 14 (codes "Too many authentication attempts") []
 abbrev pub service_accept : List ℕ
 service_accept = 6 ∷ string (codes "ssh-userauth")
 
+-- BANNER: byte 53, string message, string language tag, which is empty (RFC 4252 section 5.4)
+abbrev pub banner : List ℕ → List ℕ
+banner message = 53 ∷ string message ++ string []
+
 -- a frame of no channel that may go out at once
 abbrev pub at_once : List ℕ → Frame
 at_once payload = record { payload = payload; hold_until = None; channel = None }

@@ -12,6 +12,8 @@ pub data Fault : Type 0 where
   Inconsistent : Fault
   -- the blob of a key or a certificate, or a signature, does not fit its layout
   Key : Fault
+  -- the handler does not have keyboard-interactive
+  Unsupported : Fault
   -- memory was wanting to go on, and nothing more is claimed: no answer but want of memory comes of it
   Starved : Fault
   -- what it asks for is not built

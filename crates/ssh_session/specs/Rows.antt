@@ -1,5 +1,6 @@
 -- The reply table: what each input owes, row by row.
-use Rattle.std.specs.Prelude.{ℕ, ◌+◌, ◌-◌, ◌^◌, min, List, [], ◌∷◌, ◌++◌, Bool, true, false, Option, Some, None, unwrap_or, if◌then◌else◌, bytes_eq, codes}
+use Rattle.std.specs.Prelude.{ℕ, ◌+◌, ◌-◌, ◌^◌, min, nat_lt, List, [], ◌∷◌, ◌++◌, length, Bool, true, false, Option, Some, None, unwrap_or, if◌then◌else◌, bytes_eq, codes}
+use Rattle.ssh_wire.specs.declared.error.WireError.TheVariants.{TooLong}
 use Rattle.ssh_wire.specs.declared.channel_id.ChannelId.{ChannelId}
 use Rattle.ssh_link.specs.declared.frame.Frame.{Frame}
 use Rattle.ssh_link.specs.declared.link.TraceEntry.TheVariants.{Noticed}
@@ -8,24 +9,28 @@ use Rattle.ssh_link.specs.declared.notice.Notice.TheVariants.{Channel, Granted}
 use Rattle.ssh_auth.specs.declared.auth_step.AuthVerdict.{AuthVerdict}
 use Rattle.ssh_auth.specs.declared.auth_step.AuthVerdict.TheVariants as verdict
 use Rattle.ssh_auth.specs.Plan.{Plan, Finish, Ask, Tell, after, Authentication_banner, Auth_succeeded, Channel_open_session, Channel_eof, Channel_close, Window_adjusted}
+use Rattle.ssh_auth.specs.Response.{Responded}
 use Rattle.ssh_auth.specs.Said.{Said as Asked}
-use Rattle.ssh_auth.specs.Verdict.{verdict as verdict_on, Outcome as Reply, Replies}
+use Rattle.ssh_auth.specs.Verdict.{verdict as verdict_on, response_verdict, Outcome as Reply, Replies}
 use Rattle.ssh_auth.specs.Verdict as auth
 use Rattle.ssh_handler.specs.declared.config.Config.{Config}
 use Rattle.ssh_session.specs.declared.phase.Phase.TheVariants.{Authentication, Accepted}
-use Rattle.ssh_session.specs.Layout.{service_accept, too_many_attempts, at_once, held}
+use Rattle.ssh_session.specs.Layout.{service_accept, banner, too_many_attempts, at_once, held}
 use Rattle.ssh_session.specs.ChannelLayout.{close_frame}
 use Rattle.ssh_session.specs.Entry.{Entry, granting, flushed, flush_out, credit_left}
 use Rattle.ssh_session.specs.Entries.{find, put, without}
 use Rattle.ssh_session.specs.World.{Settings, World, next_number, has_no_channel}
 use Rattle.ssh_session.specs.Commanded.{done_all}
-use Rattle.ssh_session.specs.Said.{Said, Nothing, Disconnect, Over_cap, Service, Request, Open_session, Open_other, Open_without_packets, Grant, Peer_eof, Peer_close, Unfit, Unbuilt}
-use Rattle.ssh_session.specs.Outcome.{Fault, Encoding, Inconsistent, Key, Starved, Not_built, Outcome, Goes, Ends, Fails}
+use Rattle.ssh_session.specs.Said.{Said, Nothing, Disconnect, Over_cap, Service, Request, Response, Open_session, Open_other, Open_without_packets, Grant, Peer_eof, Peer_close, Unfit, Unbuilt}
+use Rattle.ssh_session.specs.Outcome.{Fault, Encoding, Inconsistent, Key, Unsupported, Starved, Not_built, Outcome, Goes, Ends, Fails}
 
--- userauth service, with what the banner callback answered: SERVICE_ACCEPT; a banner is not built
+-- userauth service, with what the banner callback answered: SERVICE_ACCEPT, and BANNER where one was given
 abbrev pub accept_row : World → Option (List ℕ) → Plan Outcome
 accept_row w None = Finish (Goes (at_once service_accept ∷ []) (record w { phase = Authentication }))
-accept_row w (Some text) = Finish (Fails Not_built)
+accept_row w (Some message) =
+    if nat_lt (length (banner message)) (2 ^ 32)
+    then Finish (Goes (at_once service_accept ∷ at_once (banner message) ∷ []) (record w { phase = Authentication }))
+    else Finish (Fails (Encoding TooLong))
 
 -- userauth service asks for a banner; an unknown service does nothing
 abbrev pub service_row : World → List ℕ → Plan Outcome
@@ -43,13 +48,14 @@ rejection_hold config none_method requested = config.auth_rejection_time
 abbrev pub moment_after : ℕ → ℕ → ℕ
 moment_after moment time = min (moment + time) (2 ^ 64 - 1)
 
--- a request is finished with this reply: a rejection is held, and an accepted user is told to the handler
-abbrev pub reply_row : Settings → ℕ → World → List ℕ → AuthVerdict → Plan Outcome
-reply_row settings moment w reply verdict.Accepted =
-    Ask Auth_succeeded (done_all settings (record w { phase = Accepted; requested = true }) (at_once reply ∷ []) 0)
-reply_row settings moment w reply (verdict.Rejected none_method) =
-    Finish (Goes (held reply (moment_after moment (rejection_hold settings.config none_method w.requested)) ∷ []) (record w { requested = true }))
-reply_row settings moment w reply verdict.Continued = Finish (Goes (at_once reply ∷ []) (record w { requested = true }))
+-- this is the reply: a rejection is held, and an accepted user is told to the handler; from then on it counts as requested
+-- that a USERAUTH_REQUEST was finished
+abbrev pub reply_row : Settings → ℕ → World → (requested : Bool) → List ℕ → AuthVerdict → Plan Outcome
+reply_row settings moment w requested reply verdict.Accepted =
+    Ask Auth_succeeded (done_all settings (record w { phase = Accepted; requested = requested }) (at_once reply ∷ []) 0)
+reply_row settings moment w requested reply (verdict.Rejected none_method) =
+    Finish (Goes (held reply (moment_after moment (rejection_hold settings.config none_method w.requested)) ∷ []) (record w { requested = requested }))
+reply_row settings moment w requested reply verdict.Continued = Finish (Goes (at_once reply ∷ []) (record w { requested = requested }))
 
 -- a request that gets no reply
 abbrev pub fault_of : auth.Fault → Fault
@@ -57,16 +63,20 @@ fault_of (auth.Encoding why) = Encoding why
 fault_of auth.Inconsistent = Inconsistent
 fault_of auth.Key = Key
 fault_of auth.Starved = Starved
-fault_of auth.Not_built = Not_built
+fault_of auth.Unsupported = Unsupported
 
--- what the verdict on a request comes to
-abbrev pub finished : Settings → ℕ → World → Reply → Plan Outcome
-finished settings moment w (Replies reply verdict state) = reply_row settings moment (record w { auth = state }) reply verdict
-finished settings moment w (auth.Fails fault) = Finish (Fails (fault_of fault))
+-- what the verdict on a request or on a response comes to
+abbrev pub finished : Settings → ℕ → World → (requested : Bool) → Reply → Plan Outcome
+finished settings moment w requested (Replies reply verdict state) = reply_row settings moment (record w { auth = state }) requested reply verdict
+finished settings moment w requested (auth.Fails fault) = Finish (Fails (fault_of fault))
 
 -- authentication: the verdict on the request, and what it comes to
 abbrev pub request_row : Settings → ℕ → World → Asked → Plan Outcome
-request_row settings moment w asked = after (verdict_on w.auth asked) (finished settings moment w)
+request_row settings moment w asked = after (verdict_on w.auth asked) (finished settings moment w true)
+
+-- the same of a response to prompts, which is no request
+abbrev pub response_row : Settings → ℕ → World → Responded → Plan Outcome
+response_row settings moment w responded = after (response_verdict w.auth responded) (finished settings moment w w.requested)
 
 -- the channel of this number on this side
 abbrev pub own : ℕ → ChannelId
@@ -121,6 +131,7 @@ row settings moment w Disconnect = Finish (Ends [])
 row settings moment w Over_cap = Finish (Ends (at_once too_many_attempts ∷ []))
 row settings moment w (Service name) = service_row w name
 row settings moment w (Request asked) = request_row settings moment w asked
+row settings moment w (Response responded) = response_row settings moment w responded
 row settings moment w (Open_session peer window packet) = open_session_row settings w peer window packet
 -- the other types are not built
 row settings moment w Open_other = Finish (Fails Not_built)

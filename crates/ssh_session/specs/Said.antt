@@ -5,6 +5,7 @@ use Rattle.ssh_wire.specs.declared.error.LayoutError.TheVariants as layout
 use Rattle.ssh_wire.specs.Field.{Field, Number, Text, SpellsWhole, MisfitsAll, MisfitsWhole}
 use Rattle.ssh_wire.specs.Open.{leading_fields, Leads, MisfitsOpen}
 use Rattle.ssh_auth.specs.Publickey.{Circumstances}
+use Rattle.ssh_auth.specs.Response.{Responded, SaysResponses}
 use Rattle.ssh_auth.specs.Said.{Said as Asked, Says as Asks}
 use Rattle.ssh_session.specs.declared.gate.Gate.{Gate}
 use Rattle.ssh_session.specs.declared.gate.Gate.TheVariants as gate
@@ -18,6 +19,8 @@ pub data Said : Type 0 where
   Service : (name : List ℕ) → Said
   -- USERAUTH_REQUEST, or the field of it that does not fit
   Request : (asked : Asked) → Said
+  -- USERAUTH_INFO_RESPONSE, or the field of it that does not fit
+  Response : (responded : Responded) → Said
   -- CHANNEL_OPEN of a session: the peer's number, its window and its packet size
   Open_session : (peer window packet : ℕ) → Said
   -- CHANNEL_OPEN of another type, whose own fields are not read
@@ -55,6 +58,7 @@ Fits gate.Ends fields Disconnect = Unit {0}
 Fits gate.OverCap fields Over_cap = Unit {0}
 Fits gate.ServiceRequest fields (Service name) = SpellsWhole (Text ∷ []) (name, tt) fields
 Fits gate.ServiceRequest fields (Unfit why) = MisfitsWhole (Text ∷ []) fields why
+Fits gate.InfoResponse fields (Response responded) = SaysResponses fields responded
 Fits gate.ChannelOpen fields (Open_session peer window packet) = Leads (codes "session") peer window packet fields [] × (packet ≢ 0)
 Fits gate.ChannelOpen fields Open_other = (name : List ℕ) × (peer window packet : ℕ) × (after : List ℕ)
     × Leads name peer window packet fields after × (packet ≢ 0) × (name ≢ codes "session")

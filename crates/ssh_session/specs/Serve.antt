@@ -16,7 +16,7 @@ use Rattle.ssh_session.specs.declared.apply.Done.{Done}
 use Rattle.ssh_session.specs.Effect.{Effect, Does}
 use Rattle.ssh_session.specs.Effect as effect
 use Rattle.ssh_session.specs.World.{Settings, World}
-use Rattle.ssh_session.specs.Outcome.{Outcome, Goes, Ends, Fails, Encoding, Inconsistent, Key, Not_built}
+use Rattle.ssh_session.specs.Outcome.{Outcome, Goes, Ends, Fails, Encoding, Inconsistent, Key, Unsupported, Not_built}
 
 -- an input of the session ended it or failed: it serves nothing more
 abbrev pub is_spent : Session → Bool
@@ -63,6 +63,7 @@ Answers settings plan rose events staged staged' session (Err error.InputLimit) 
 Answers settings plan rose events staged staged' session (Err (error.Encoding why)) = Follows plan events (Fails (Encoding why))
 Answers settings plan rose events staged staged' session (Err error.Inconsistent) = Follows plan events (Fails Inconsistent)
 Answers settings plan rose events staged staged' session (Err (error.Key why)) = (why ≡ Blob) × Follows plan events (Fails Key)
+Answers settings plan rose events staged staged' session (Err error.UnsupportedAuthMethod) = Follows plan events (Fails Unsupported)
 Answers settings plan rose events staged staged' session (Err (error.Handler e)) = Breaks plan events e
 Answers settings plan rose events staged staged' session (Err error.NotBuilt) = Follows plan events (Fails Not_built)
 

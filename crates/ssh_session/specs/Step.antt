@@ -15,7 +15,7 @@ use Rattle.ssh_session.specs.declared.error.RunError.{RunError}
 use Rattle.ssh_session.specs.declared.error.RunError.TheVariants as error
 use Rattle.ssh_session.specs.declared.session.Session.{Session}
 use Rattle.ssh_session.specs.World.{Settings, World, opening_world}
-use Rattle.ssh_session.specs.Outcome.{Outcome, Goes, Ends, Fails, Encoding, Inconsistent, Key, Not_built}
+use Rattle.ssh_session.specs.Outcome.{Outcome, Goes, Ends, Fails, Encoding, Inconsistent, Key, Unsupported, Not_built}
 use Rattle.ssh_session.specs.Serve.{Refines, ToldBy}
 use Rattle.ssh_session.specs.Run.{Owes, Turn, Run, IsTaken, calls_of, entries}
 
@@ -36,6 +36,7 @@ Stops plan events sent rose error.InputLimit = ⊥
 Stops plan events sent rose (error.Encoding why) = (sent ≡ []) × Follows plan events (Fails (Encoding why))
 Stops plan events sent rose error.Inconsistent = (sent ≡ []) × Follows plan events (Fails Inconsistent)
 Stops plan events sent rose (error.Key why) = (sent ≡ []) × (why ≡ Blob) × Follows plan events (Fails Key)
+Stops plan events sent rose error.UnsupportedAuthMethod = (sent ≡ []) × Follows plan events (Fails Unsupported)
 Stops plan events sent rose (error.Handler e) = (sent ≡ []) × Breaks plan events e
 Stops plan events sent rose error.NotBuilt = (sent ≡ []) × Follows plan events (Fails Not_built)
 

@@ -1,25 +1,28 @@
 -- Which inputs a session can finish, said positively.
 use Rattle.std.specs.Prelude.{◌≡◌, ◌≢◌, ◌<◌, ◌^◌, ◌⊎◌, ℕ, List, [], ◌∷◌, length, Some, None, Bool, true, false, Result, Ok, Err, codes, drop}
-use Rattle.ssh_wire.specs.Field.{Flag, Text, SpellsAll, SpellsWhole}
+use Rattle.ssh_wire.specs.Field.{Flag, Number, Text, SpellsAll, SpellsWhole}
 use Rattle.ssh_wire.specs.Open.{Leads}
 use Rattle.ssh_link.specs.declared.command.Command.{Command as Commanded}
 use Rattle.ssh_link.specs.declared.command.Command.TheVariants as command
-use Rattle.ssh_auth.specs.Said.{Named, Is_none, Is_password, Is_publickey, Is_unbuilt, Is_other, named_by, head_fields}
+use Rattle.ssh_auth.specs.Said.{Named, Is_none, Is_password, Is_publickey, Is_interactive, Is_other, named_by, head_fields}
 use Rattle.ssh_link.specs.declared.frame.InputKind.{InputKind}
 use Rattle.ssh_link.specs.declared.frame.InputKind.TheVariants.{Payload, Command, OpenReply, End}
 use Rattle.ssh_keys.specs.declared.signature.Signature.{Signature}
 use Rattle.ssh_keys.specs.Signatures.{EndsInSignature}
-use Rattle.ssh_auth.specs.Layout.{pk_ok}
+use Rattle.ssh_auth.specs.Layout.{pk_ok, info_request}
+use Rattle.ssh_auth.specs.Request.{prompt_of}
+use Rattle.ssh_auth.specs.Response.{strings, values}
 use Rattle.ssh_auth.specs.Publickey.{Acceptance, Circumstances, Offer, OffersNothing, offer_fields, Offers}
-use Rattle.ssh_auth.specs.declared.auth.Auth.TheVariants.{Accept}
+use Rattle.ssh_auth.specs.declared.auth.Auth.TheVariants.{Accept, UnsupportedMethod, Partial}
 use Rattle.ssh_auth.specs.declared.call.Call.{Call}
-use Rattle.ssh_auth.specs.declared.call.Call.TheVariants.{AuthenticationBanner, AuthNone, AuthPassword, AuthPublickeyOffered, AuthPublickey, AuthOpensshCertificate, AuthSucceeded, ChannelOpenSession, ChannelEof, ChannelClose, WindowAdjusted, CommandDone}
+use Rattle.ssh_auth.specs.declared.call.Call.TheVariants.{AuthenticationBanner, AuthNone, AuthPassword, AuthPublickeyOffered, AuthPublickey, AuthOpensshCertificate, AuthKeyboardInteractive, AuthSucceeded, ChannelOpenSession, ChannelEof, ChannelClose, WindowAdjusted, CommandDone}
 use Rattle.ssh_session.specs.declared.error.RunError.{RunError}
 use Rattle.ssh_session.specs.declared.error.RunError.TheVariants as error
 use Rattle.ssh_session.specs.declared.gate.Gate.{Gate}
 use Rattle.ssh_session.specs.declared.gate.Gate.TheVariants as gate
 use Rattle.ssh_session.specs.World.{Settings, World, circumstances, has_no_channel}
 use Rattle.ssh_session.specs.Gate.{gate_of}
+use Rattle.ssh_session.specs.Layout.{banner}
 use Rattle.ssh_session.specs.Said.{grant_fields, channel_field}
 use Rattle.ssh_session.specs.Run.{Turn, calls_of}
 
@@ -32,14 +35,14 @@ AreValidKeyFields given fields =
     ⊎ ((offer : Offer) × Offers given false offer fields [])
     ⊎ ((offer : Offer) × (rest : List ℕ) × (signature : Signature) × Offers given true offer fields rest × EndsInSignature signature rest)
 
--- the fields of a request's method fit their layout, and the method is built
+-- the fields of a request's method fit their layout
 abbrev pub AreValidMethodFields : Circumstances → Named → List ℕ → Type 0
 AreValidMethodFields given Is_none fields = fields ≡ []
 AreValidMethodFields given Is_password fields =
     ((password : List ℕ) × SpellsWhole (Flag ∷ Text ∷ []) (false, (password, tt)) fields)
     ⊎ ((password new_password : List ℕ) × SpellsWhole (Flag ∷ Text ∷ Text ∷ []) (true, (password, (new_password, tt))) fields)
 AreValidMethodFields given Is_publickey fields = AreValidKeyFields given fields
-AreValidMethodFields given Is_unbuilt fields = ⊥
+AreValidMethodFields given Is_interactive fields = (language submethods : List ℕ) × SpellsWhole (Text ∷ Text ∷ []) (language, (submethods, tt)) fields
 -- of a method that the server does not have nothing is read
 AreValidMethodFields given Is_other fields = Unit {0}
 
@@ -52,6 +55,9 @@ AreValidFields given w gate.ServiceRequest fields = (name : List ℕ) × SpellsW
 -- a request for the service ssh-connection
 AreValidFields given w gate.UserauthRequest fields = (user name rest : List ℕ)
     × SpellsAll head_fields (user, (codes "ssh-connection", (name, tt))) fields rest × AreValidMethodFields given (named_by name) rest
+-- a response to prompts; where none wait it is not read
+AreValidFields given w gate.InfoResponse fields = (prompt_of w.auth ≡ None)
+    ⊎ ((responses : List (List ℕ)) × SpellsWhole (Number ∷ strings responses) (length responses, values responses) fields)
 -- an open of a session channel, the only one, with a packet size that is not 0
 AreValidFields given w gate.ChannelOpen fields = (peer window packet : ℕ)
     × Leads (codes "session") peer window packet fields [] × (packet ≢ 0) × (has_no_channel w ≡ true)
@@ -86,10 +92,11 @@ abbrev pub IsDone : {E : Type 0} → Result (Unit {0}) E → List Commanded → 
 IsDone (Ok done) commands = AreAnswers commands
 IsDone (Err e) commands = ⊥
 
--- the call answered no error, no banner, and no acceptance of a probe whose reply is too long
+-- the call answered no error, no banner and no prompts that are too long, and no acceptance of a probe whose reply is; and
+-- the handler has keyboard-interactive
 abbrev pub IsFine : {E : Type 0} → InputKind → Call E → Type 0
 IsFine kind (AuthenticationBanner (Ok None)) = Unit {0}
-IsFine kind (AuthenticationBanner (Ok (Some text))) = ⊥
+IsFine kind (AuthenticationBanner (Ok (Some message))) = length (banner message) < 2 ^ 32
 IsFine kind (AuthenticationBanner (Err e)) = ⊥
 IsFine kind (AuthNone user (Ok auth)) = Unit {0}
 IsFine kind (AuthNone user (Err e)) = ⊥
@@ -102,6 +109,10 @@ IsFine kind (AuthPublickey user key algorithm (Ok auth)) = Unit {0}
 IsFine kind (AuthPublickey user key algorithm (Err e)) = ⊥
 IsFine kind (AuthOpensshCertificate user certificate (Ok auth)) = Unit {0}
 IsFine kind (AuthOpensshCertificate user certificate (Err e)) = ⊥
+IsFine kind (AuthKeyboardInteractive user submethods response (Ok UnsupportedMethod)) = ⊥
+IsFine kind (AuthKeyboardInteractive user submethods response (Ok (Partial name instructions prompts))) = length (info_request name instructions prompts) < 2 ^ 32
+IsFine kind (AuthKeyboardInteractive user submethods response (Ok auth)) = Unit {0}
+IsFine kind (AuthKeyboardInteractive user submethods response (Err e)) = ⊥
 IsFine kind (AuthSucceeded answer commands) = IsDone answer commands
 IsFine kind (ChannelOpenSession channel answer commands) = IsDone answer commands
 IsFine kind (ChannelEof channel answer commands) = IsDone answer commands

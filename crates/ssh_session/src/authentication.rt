@@ -1,11 +1,11 @@
-// Requests of authentication.
-ghost use Rattle.std.specs.Prelude.{◌≡◌, [], ◌∷◌, ℕ, None, true};
+// Requests of authentication, and responses to prompts.
+ghost use Rattle.std.specs.Prelude.{◌≡◌, [], ◌∷◌, ℕ, None, drop};
 ghost use Rattle.ssh_auth.specs.Serve.{IsNumbered};
 ghost use Rattle.ssh_auth.specs.Plan.{Finish};
 ghost use Rattle.ssh_auth.specs.declared.auth_step.AuthVerdict.TheVariants as verdict;
 ghost use Rattle.ssh_session.specs.declared.gate.Gate.TheVariants as gate;
 ghost use Rattle.ssh_session.specs.World.{Settings, World, circumstances};
-ghost use Rattle.ssh_session.specs.Said.{Said, Says, Over_cap};
+ghost use Rattle.ssh_session.specs.Said.{Said, Says, Fits, Over_cap};
 ghost use Rattle.ssh_session.specs.Outcome.{Goes};
 ghost use Rattle.ssh_session.specs.Rows.{row, reply_row, rejection_hold};
 ghost use Rattle.ssh_session.specs.Serve.{Refines, Serves, Answers, heard};
@@ -14,7 +14,7 @@ use crate::frames::too_many_attempts_frame;
 use crate::phase::Phase;
 use crate::{Flow, RunError, Session};
 use bytes::Bytes;
-use ssh_auth::{AuthStep, AuthVerdict, serve_request};
+use ssh_auth::{AuthStep, AuthVerdict, serve_request, serve_response};
 use ssh_handler::Handler;
 use ssh_keys::Verifier;
 use ssh_link::{Frame, Link};
@@ -44,32 +44,55 @@ impl Session {
             moment,
             payload,
         ) {
-            Ok(step) => self.finish_request(handler, link, moment, step, staged),
+            Ok(step) => self.finish_request(handler, link, moment, true, step, staged),
             Err(e) => Err(RunError::from(e)),
         }
     }
 
-    /// A request is finished with its reply.
+    /// USERAUTH_INFO_RESPONSE (RFC 4256 section 3.4), which is no request.
+    pub(crate) fn serve_info_response<H: Handler, L: Link>(
+        &mut self,
+        handler: &mut H,
+        link: &mut L,
+        moment: u64,
+        payload: &[u8],
+        staged: &mut Vec<Frame>,
+    ) -> Result<Flow, RunError<H::Error>>
+        requires { IsNumbered 61 payload.now }
+        ensures { (settings : Settings) (w : World) → Refines settings self.old w →
+            (said : Said) × Fits gate.InfoResponse (drop 1 payload.now) said × Serves settings (row settings moment w said)
+            (heard (H.AuthHandler.told handler.old) (L.trace link.old) (L.faults link.old)) (heard (H.AuthHandler.told handler.new) (L.trace link.new) (L.faults link.new)) staged.old.items staged.new.items self.new result }
+    {
+        let requested = self.requested;
+        match serve_response(self.alloc, &mut self.auth, handler, payload) {
+            Ok(step) => self.finish_request(handler, link, moment, requested, step, staged),
+            Err(e) => Err(RunError::from(e)),
+        }
+    }
+
+    /// A request, or a response, is finished with its reply; `requested` says whether a
+    /// USERAUTH_REQUEST was finished from then on.
     fn finish_request<H: Handler, L: Link>(
         &mut self,
         handler: &mut H,
         link: &mut L,
         moment: u64,
+        requested: bool,
         step: AuthStep,
         staged: &mut Vec<Frame>,
     ) -> Result<Flow, RunError<H::Error>>
         ensures { (settings : Settings) (w : World) → Refines settings self.old w →
-            Serves settings (reply_row settings moment w step.reply step.verdict)
+            Serves settings (reply_row settings moment w requested step.reply step.verdict)
             (heard (H.AuthHandler.told handler.old) (L.trace link.old) (L.faults link.old)) (heard (H.AuthHandler.told handler.new) (L.trace link.new) (L.faults link.new)) staged.old.items staged.new.items self.new result }
     {
         let AuthStep { reply, verdict } = step;
         match verdict {
-            AuthVerdict::Accepted => self.accept(handler, link, reply, staged),
+            AuthVerdict::Accepted => self.accept(handler, link, requested, reply, staged),
             AuthVerdict::Rejected { none_method } => {
                 let hold_until = moment.saturating_add(self.rejection_hold(none_method));
-                self.reply(reply, Some(hold_until), staged)
+                self.reply(requested, reply, Some(hold_until), staged)
             }
-            AuthVerdict::Continued => self.reply(reply, None, staged),
+            AuthVerdict::Continued => self.reply(requested, reply, None, staged),
         }
     }
 
@@ -86,15 +109,16 @@ impl Session {
         self.config.auth_rejection_time
     }
 
-    /// A reply to a request, held until a moment where one is given.
+    /// A reply, held until a moment where one is given.
     fn reply<E>(
         &mut self,
+        requested: bool,
         payload: Bytes,
         hold_until: Option<u64>,
         staged: &mut Vec<Frame>,
     ) -> Result<Flow, RunError<E>>
         ensures { (settings : Settings) (w : World) → Refines settings self.old w →
-            Answers settings (Finish (Goes (record { payload = payload; hold_until = hold_until; channel = None } ∷ []) (record w { requested = true }))) ⊥ []
+            Answers settings (Finish (Goes (record { payload = payload; hold_until = hold_until; channel = None } ∷ []) (record w { requested = requested }))) ⊥ []
             staged.old.items staged.new.items self.new result }
     {
         staged.push(Frame {
@@ -102,7 +126,7 @@ impl Session {
             hold_until,
             channel: None,
         })?;
-        self.requested = true;
+        self.requested = requested;
         Ok(Flow::Continue)
     }
 
@@ -112,11 +136,12 @@ impl Session {
         &mut self,
         handler: &mut H,
         link: &mut L,
+        requested: bool,
         reply: Bytes,
         staged: &mut Vec<Frame>,
     ) -> Result<Flow, RunError<H::Error>>
         ensures { (settings : Settings) (w : World) (moment : ℕ) → Refines settings self.old w →
-            Serves settings (reply_row settings moment w reply verdict.Accepted)
+            Serves settings (reply_row settings moment w requested reply verdict.Accepted)
             (heard (H.AuthHandler.told handler.old) (L.trace link.old) (L.faults link.old)) (heard (H.AuthHandler.told handler.new) (L.trace link.new) (L.faults link.new)) staged.old.items staged.new.items self.new result }
     {
         staged.push(Frame {
@@ -127,7 +152,7 @@ impl Session {
         match self.ask_succeeded(handler) {
             Ok(commands) => {
                 self.phase = Phase::Accepted;
-                self.requested = true;
+                self.requested = requested;
                 self.finish_commands(handler, link, commands, staged)
             }
             Err(e) => Err(RunError::Handler(e)),

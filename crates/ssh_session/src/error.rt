@@ -25,7 +25,8 @@ pub enum RunError<HE> {
     LinkFault,
     /// As many inputs as were allowed were finished, and none ended the run.
     InputLimit,
-    /// A field of the payload does not fit its layout.
+    /// A field of the payload does not fit its layout; or it is `TooLong`, and a banner or a reply
+    /// that the handler's answer asks for would have more than 2^32 - 1 bytes.
     Encoding(WireError),
     /// A request of authentication names another service than `ssh-connection`, an open has a
     /// packet size of 0, or the session is spent.
@@ -33,12 +34,13 @@ pub enum RunError<HE> {
     /// The blob of a key or a certificate in a request does not fit its layout, or a signature
     /// does not: always `KeyError::Blob`.
     Key(KeyError),
+    /// The handler answered `Auth::UnsupportedMethod` to a user of keyboard-interactive.
+    UnsupportedAuthMethod,
     /// The handler answered this error.
     Handler(HE),
     /// The input asks for what is not built yet: a key exchange, a message of the connection but
-    /// those on a session channel that the peer opens, a second channel, an end of file or a close
-    /// behind data that wait, a request by keyboard-interactive, a response to prompts, or a
-    /// banner.
+    /// those on a session channel that the peer opens, a second channel, or an end of file or a
+    /// close behind data that wait.
     NotBuilt,
 }
 
@@ -101,7 +103,7 @@ impl<HE> From<AuthError<HE>> for RunError<HE> {
             AuthError::Inconsistent => RunError::Inconsistent,
             AuthError::Key(why) => RunError::Key(why),
             AuthError::Handler(e) => RunError::Handler(e),
-            AuthError::NotBuilt => RunError::NotBuilt,
+            AuthError::UnsupportedAuthMethod => RunError::UnsupportedAuthMethod,
         }
     }
 }

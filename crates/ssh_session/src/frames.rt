@@ -1,7 +1,7 @@
 // The frames that a session writes by itself.
-ghost use Rattle.std.specs.Prelude.{◌≡◌, IfOk, IfErr};
-ghost use Rattle.ssh_wire.specs.declared.error.WireError.TheVariants.{NoMemory};
-ghost use Rattle.ssh_session.specs.Layout.{at_once, service_accept, too_many_attempts};
+ghost use Rattle.std.specs.Prelude.{◌≡◌, ◌≤◌, ◌<◌, ◌^◌, ◌⊎◌, length, IfOk, IfErr};
+ghost use Rattle.ssh_wire.specs.declared.error.WireError.TheVariants.{NoMemory, TooLong};
+ghost use Rattle.ssh_session.specs.Layout.{at_once, service_accept, banner, too_many_attempts};
 
 use bytes::Bytes;
 use ssh_link::Frame;
@@ -11,6 +11,8 @@ use std::alloc::Global;
 const DISCONNECT: u8 = 1;
 
 const SERVICE_ACCEPT: u8 = 6;
+
+const USERAUTH_BANNER: u8 = 53;
 
 /// A frame of no channel with this payload, which may go out at once.
 fn frame_at_once(payload: Vec<u8>) -> Result<Frame, WireError>
@@ -32,6 +34,22 @@ pub(crate) fn service_accept_frame(alloc: Global) -> Result<Frame, WireError>
     let mut payload = Vec::new(alloc);
     put_u8(&mut payload, SERVICE_ACCEPT)?;
     put_text(&mut payload, "ssh-userauth")?;
+    frame_at_once(payload)
+}
+
+/// BANNER with no language tag (RFC 4252 section 5.4). `TooLong` exactly where it has more than
+/// 2^32 - 1 bytes, and no other error but `NoMemory`.
+pub(crate) fn banner_frame(alloc: Global, message: &str) -> Result<Frame, WireError>
+    ensures ok { IfOk result (λ f. (f ≡ at_once (banner message.now)) × (length (banner message.now) < 2 ^ 32)) }
+    ensures refused { IfErr result (λ e. (e ≡ NoMemory) ⊎ ((e ≡ TooLong) × (2 ^ 32 ≤ length (banner message.now)))) }
+{
+    let mut payload = Vec::new(alloc);
+    put_u8(&mut payload, USERAUTH_BANNER)?;
+    put_text(&mut payload, message)?;
+    put_text(&mut payload, "")?;
+    if u32::try_from(payload.len()).is_err() {
+        return Err(WireError::TooLong);
+    }
     frame_at_once(payload)
 }
 

@@ -21,6 +21,8 @@ pub enum Gate {
     ServiceRequest,
     /// It asks for authentication.
     UserauthRequest,
+    /// It responds to prompts.
+    InfoResponse,
     /// It opens a channel.
     ChannelOpen,
     /// It grants more on a channel.
@@ -55,7 +57,8 @@ impl Session {
     /// What this payload is to the session.
     pub(crate) fn gate(&self, payload: &[u8]) -> Gate
         ensures gate { (settings : Settings) (w : World) → Refines settings self.now w → result ≡ gate_of settings w payload.now }
-        ensures numbered { result ≡ Gate.UserauthRequest → IsNumbered 50 payload.now }
+        ensures request { result ≡ Gate.UserauthRequest → IsNumbered 50 payload.now }
+        ensures response { result ≡ Gate.InfoResponse → IsNumbered 61 payload.now }
     {
         let Some(number) = payload.first() else {
             return Gate::Nothing;
@@ -72,7 +75,8 @@ impl Session {
 
     /// What a message of this number is to the session's phase.
     fn phase_gate(&self, number: u8) -> Gate
-        ensures numbered { result ≡ Gate.UserauthRequest → number ≡ 50 }
+        ensures request { result ≡ Gate.UserauthRequest → number ≡ 50 }
+        ensures response { result ≡ Gate.InfoResponse → number ≡ 61 }
         ensures gate { (settings : Settings) (w : World) → Refines settings self.now w → result ≡ phase_gate settings w w.phase number }
     {
         match self.phase {
@@ -83,7 +87,8 @@ impl Session {
     }
 
     fn authentication_gate(&self, number: u8) -> Gate
-        ensures numbered { result ≡ Gate.UserauthRequest → number ≡ 50 }
+        ensures request { result ≡ Gate.UserauthRequest → number ≡ 50 }
+        ensures response { result ≡ Gate.InfoResponse → number ≡ 61 }
         ensures gate { (settings : Settings) (w : World) → Refines settings self.now w → result ≡ authentication_gate settings w number }
     {
         if number != USERAUTH_REQUEST && number != USERAUTH_INFO_RESPONSE {
@@ -95,7 +100,7 @@ impl Session {
         if number == USERAUTH_REQUEST {
             return Gate::UserauthRequest;
         }
-        Gate::NotBuilt
+        Gate::InfoResponse
     }
 
     /// Whether so many requests were rejected that no more are read.

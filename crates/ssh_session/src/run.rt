@@ -5,7 +5,7 @@ ghost use Rattle.ssh_session.specs.Run.{Turn, Run as RunOf, entries};
 ghost use Rattle.ssh_session.specs.Sent.{Settled};
 ghost use Rattle.ssh_session.specs.Closing.{ClosesRightly};
 ghost use Rattle.ssh_session.specs.Step.{Ran};
-ghost use Rattle.ssh_session.specs.Authorised.{Authorised};
+ghost use Rattle.ssh_session.specs.Authorised.{Authorised, nobody};
 ghost use Rattle.ssh_session.specs.Valid.{IsValid, IsComplete, IsEnding};
 
 use crate::{Flow, RunError, Session};
@@ -68,7 +68,7 @@ pub fn run_stream<H: Handler, V: Verifier, L: Link>(
     // Nothing of the connection is served before an accepted authentication.
     ensures authorised { (account : Ran (V.accepts verifier.now) (settings_of config.now session_id.now) (H.AuthHandler.told handler.old) (H.AuthHandler.told handler.new)
         (L.trace link.old) (L.trace link.new) (L.faults link.old) (L.faults link.new) max_inputs result) →
-        Authorised (V.accepts verifier.now) (settings_of config.now session_id.now) ⊥ (account.turns ++ option_to_list account.last) }
+        Authorised (V.accepts verifier.now) (settings_of config.now session_id.now) nobody ⊥ (account.turns ++ option_to_list account.last) }
     // Where no fault rose and the last input was valid, it ends well, or memory or the limit of inputs ends it.
     ensures complete { (account : Ran (V.accepts verifier.now) (settings_of config.now session_id.now) (H.AuthHandler.told handler.old) (H.AuthHandler.told handler.new)
         (L.trace link.old) (L.trace link.new) (L.faults link.old) (L.faults link.new) max_inputs result) →

@@ -7,7 +7,7 @@ ghost use Rattle.ssh_session.specs.Said.{Said, Fits};
 ghost use Rattle.ssh_session.specs.Rows.{row, service_row, accept_row};
 ghost use Rattle.ssh_session.specs.Serve.{Refines, Serves, Answers, heard};
 
-use crate::frames::service_accept_frame;
+use crate::frames::{banner_frame, service_accept_frame};
 use crate::message::read_service;
 use crate::phase::Phase;
 use crate::{Flow, RunError, Session};
@@ -50,7 +50,8 @@ impl Session {
         }
     }
 
-    /// SERVICE_ACCEPT, and requests of authentication are read from now on.
+    /// SERVICE_ACCEPT, and BANNER where there is one (RFC 4252 section 5.4). Requests of
+    /// authentication are read from now on.
     fn accept_service<E>(
         &mut self,
         banner: Option<Text>,
@@ -59,12 +60,14 @@ impl Session {
         ensures { (settings : Settings) (w : World) → Refines settings self.old w →
             Answers settings (accept_row w banner) ⊥ [] staged.old.items staged.new.items self.new result }
     {
-        let None = banner else {
-            return Err(RunError::NotBuilt);
-        };
         let accept = service_accept_frame(self.alloc)?;
         staged.push(accept)?;
         self.phase = Phase::Authentication;
+        let Some(message) = banner else {
+            return Ok(Flow::Continue);
+        };
+        let banner = banner_frame(self.alloc, message.as_str())?;
+        staged.push(banner)?;
         Ok(Flow::Continue)
     }
 }

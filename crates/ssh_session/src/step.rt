@@ -145,6 +145,9 @@ impl Session {
             Gate::UserauthRequest => {
                 self.serve_userauth_request(handler, verifier, link, moment, payload, staged)
             }
+            Gate::InfoResponse => {
+                self.serve_info_response(handler, link, moment, payload, staged)
+            }
             Gate::ChannelOpen => self.serve_channel_open(handler, link, fields, staged),
             Gate::WindowAdjust => self.serve_window_adjust(handler, link, fields, staged),
             Gate::ChannelEof => self.serve_channel_eof(handler, link, fields, staged),

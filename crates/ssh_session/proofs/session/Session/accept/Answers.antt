@@ -1,4 +1,4 @@
-use Rattle.std.proofs.Common.{[], ◌∷◌, true, refl}
+use Rattle.std.proofs.Common.{[], ◌∷◌, refl}
 use Rattle.ssh_auth.specs.Plan.{Auth_succeeded}
 use Rattle.ssh_session.specs.declared.phase.Phase.TheVariants.{Accepted}
 use Rattle.ssh_session.specs.Layout.{at_once}
@@ -8,7 +8,7 @@ use Rattle.ssh_session.proofs.session.Session.accept.Goals as goal
 
 pub returns-in-Ok : goal.returns-in-Ok
 returns-in-Ok g c = λ settings w moment r.
-    let accepted = record w { phase = Accepted; requested = true } in
+    let accepted = record w { phase = Accepted; requested = c.args.requested } in
     let f = c.finish_commands in
     asked settings Auth_succeeded (done_all settings accepted (at_once c.args.reply ∷ []) 0) c.in-Ok.commands _ _ _ _ _ c.args.staged.now.items f.new.staged.items f.new.self f.result
     c.in-Ok.ensures
@@ -18,5 +18,5 @@ returns-in-Ok g c = λ settings w moment r.
 
 pub returns-in-Err : goal.returns-in-Err
 returns-in-Err g c = λ settings w moment r.
-    let accepted = record w { phase = Accepted; requested = true } in
+    let accepted = record w { phase = Accepted; requested = c.args.requested } in
     asked_in_vain settings Auth_succeeded (done_all settings accepted (at_once c.args.reply ∷ []) 0) c.in-Err.e _ _ _ _ c.args.staged.now.items c.push.new.self.items c.args.self.now c.in-Err.ensures

@@ -25,6 +25,11 @@ returns-in-UserauthRequest g c = λ settings w r.
     let served = c.serve_userauth_request.ensures settings w r in
     (served.0, subst (λ at. Says (circumstances (g.V.Verifier.accepts c.args.verifier.now) settings c.args.moment) at c.args.payload.now served.0) (c.in-UserauthRequest.ensures.gate settings w r) served.1, served.2)
 
+pub returns-in-InfoResponse : goal.returns-in-InfoResponse
+returns-in-InfoResponse g c = λ settings w r.
+    let served = c.serve_info_response.ensures settings w r in
+    (served.0, subst (λ at. Says (circumstances (g.V.Verifier.accepts c.args.verifier.now) settings c.args.moment) at c.args.payload.now served.0) (c.in-InfoResponse.ensures.gate settings w r) served.1, served.2)
+
 pub returns-in-Nothing : goal.returns-in-Nothing
 returns-in-Nothing g c = λ settings w r. (
   Nothing,
