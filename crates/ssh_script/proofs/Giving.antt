@@ -1,5 +1,5 @@
 -- What a script's link gives and tells.
-use Rattle.std.proofs.Common.{◌≡◌, ℕ, List, [], ◌∷◌, ◌++◌, Option, Some, None, Result, Ok, Err, Bool, true, false, refl, sym, ◌∙◌, ap, append_assoc}
+use Rattle.std.proofs.Common.{◌≡◌, ℕ, List, [], ◌∷◌, ◌++◌, Some, Result, Ok, Err, Bool, true, false, refl, sym, ◌∙◌, ap, append_assoc}
 use Rattle.std.specs.Prelude.{IfOk, OnOk, OnErr, ◌↔◌, IsErrOf, IsTrue, ◌&&◌, ◌<◌}
 use Rattle.std.specs.List.{list_any}
 use Rattle.ssh_link.specs.declared.frame.Input.{Input}
@@ -8,7 +8,7 @@ use Rattle.ssh_link.specs.declared.link.LinkFault.TheVariants.{Failed}
 use Rattle.ssh_link.specs.declared.link.TraceEntry.{TraceEntry}
 use Rattle.ssh_link.specs.declared.link.TraceEntry.TheVariants.{Took}
 use Rattle.ssh_link.specs.Told.{Adds, AddsOne, AddsNothing}
-use Rattle.ssh_link.specs.Supply.{Supply, next_input, after_next}
+use Rattle.ssh_link.specs.Supply.{Supply, next_input}
 use Rattle.ssh_link.specs.Memory.{Failures, Remembered, is_numbered, fails_next, called, failed, finished, gave}
 use Rattle.ssh_link.proofs.Tellings.{adds_told}
 use Rattle.ssh_script.specs.Given.{given_as, after, as_given, left_after, heading, trace_of}

@@ -1,17 +1,19 @@
 -- What a script's handler and link tell first says what they answer and give.
 use Rattle.std.specs.Prelude.{◌==◌, if◌then◌else◌}
-use Rattle.std.proofs.Common.{◌≡◌, ℕ, List, [], ◌∷◌, ◌++◌, map, Option, Some, None, refl, sym, ◌∙◌, ap, append_assoc}
+use Rattle.std.proofs.Common.{◌≡◌, ℕ, List, [], ◌∷◌, ◌++◌, map, Option, Some, None, refl, sym, ◌∙◌, ap}
 use Rattle.ssh_link.specs.declared.frame.Input.{Input}
 use Rattle.ssh_link.specs.declared.link.TraceEntry.{TraceEntry}
 use Rattle.ssh_link.specs.declared.link.TraceEntry.TheVariants as entry
 use Rattle.ssh_auth.specs.declared.call.Call.{Call}
 use Rattle.ssh_wire.specs.declared.open_failure.ChannelOpenFailure.TheVariants.{AdministrativelyProhibited}
 use Rattle.ssh_script.specs.Opens.{own, accepting, rejecting}
+use Rattle.ssh_script.specs.declared.answers.InteractiveVerdict.{InteractiveVerdict}
+use Rattle.ssh_script.specs.declared.answers.InteractiveVerdict.TheVariants.{Plain, Unsupported, Ask}
 use Rattle.ssh_script.specs.declared.answers.OpenVerdict.{OpenVerdict}
 use Rattle.ssh_script.specs.declared.answers.OpenVerdict.TheVariants as opens
 use Rattle.ssh_script.specs.declared.answers.Verdict.{Verdict}
 use Rattle.ssh_script.specs.declared.answers.Verdict.TheVariants.{Accept, Reject, Fail}
-use Rattle.ssh_script.specs.Played.{Failure, Queues, verdict_number, told_queue, told_banners, told_opens, heading}
+use Rattle.ssh_script.specs.Played.{Failure, Queues, verdict_number, told_queue, interactive_number, told_interactive, told_banners, told_banner, told_opens, heading}
 use Rattle.ssh_script.specs.Given.{told_input, told_moment}
 use Rattle.ssh_script.specs.Given.{heading as input_heading}
 
@@ -30,6 +32,26 @@ queue_once : (q p : List Verdict) (xs ys : List (Call Failure)) → told_queue q
 queue_once q p xs ys e =
     let n : map verdict_number q ≡ map verdict_number p = cc in
     (sym (verdicts_back q) ∙ (ap (map verdict_in) n ∙ verdicts_back p), cc)
+
+interactive_in : ℕ → InteractiveVerdict
+interactive_in n = if n == 3 then Unsupported else if n == 4 then Ask else Plain (verdict_in n)
+
+interactives_back : (queue : List InteractiveVerdict) → map interactive_in (map interactive_number queue) ≡ queue
+unfolding interactive_in verdict_in
+interactives_back [] = refl
+interactives_back (Plain Accept ∷ queue) = ap (λ q. Plain Accept ∷ q) (interactives_back queue)
+interactives_back (Plain Reject ∷ queue) = ap (λ q. Plain Reject ∷ q) (interactives_back queue)
+interactives_back (Plain Fail ∷ queue) = ap (λ q. Plain Fail ∷ q) (interactives_back queue)
+interactives_back (Unsupported ∷ queue) = ap (λ q. Unsupported ∷ q) (interactives_back queue)
+interactives_back (Ask ∷ queue) = ap (λ q. Ask ∷ q) (interactives_back queue)
+
+interactive_once : (q p : List InteractiveVerdict) (xs ys : List (Call Failure)) → told_interactive q ∷ xs ≡ told_interactive p ∷ ys → (q ≡ p) × (xs ≡ ys)
+interactive_once q p xs ys e =
+    let n : map interactive_number q ≡ map interactive_number p = cc in
+    (sym (interactives_back q) ∙ (ap (map interactive_in) n ∙ interactives_back p), cc)
+
+banner_once : (b c : Option (List ℕ)) (xs ys : List (Call Failure)) → told_banner b ∷ xs ≡ told_banner c ∷ ys → (b ≡ c) × (xs ≡ ys)
+banner_once b c xs ys e = (cc, cc)
 
 banners_once : (m n : ℕ) (xs ys : List (Call Failure)) → told_banners m ∷ xs ≡ told_banners n ∷ ys → (m ≡ n) × (xs ≡ ys)
 banners_once m n xs ys e = (cc, cc)
@@ -54,9 +76,9 @@ told_opens_once : (v w : OpenVerdict) (xs ys : List (Call Failure)) → told_ope
 told_opens_once v w xs ys e = let a : told_opens v ≡ told_opens w = cc in (opens_once v w a, cc)
 
 queues_same : (q p : Queues) → q.none ≡ p.none → q.password ≡ p.password → q.offered ≡ p.offered → q.publickey ≡ p.publickey → q.certificate ≡ p.certificate →
-    q.banners ≡ p.banners → q.opens ≡ p.opens → q ≡ p
-queues_same q p a b c d e f g =
-    λ i. record { none = a i; password = b i; offered = c i; publickey = d i; certificate = e i; banners = f i; opens = g i }
+    q.interactive ≡ p.interactive → q.banners ≡ p.banners → q.banner ≡ p.banner → q.opens ≡ p.opens → q ≡ p
+queues_same q p a b c d e f g h j =
+    λ i. record { none = a i; password = b i; offered = c i; publickey = d i; certificate = e i; interactive = f i; banners = g i; banner = h i; opens = j i }
 
 -- the answers are told once
 pub heads : (q p : Queues) (xs ys : List (Call Failure)) → heading q ++ xs ≡ heading p ++ ys → (q ≡ p) × (xs ≡ ys)
@@ -66,9 +88,11 @@ heads q p xs ys e =
     let c = queue_once q.offered p.offered _ _ b.1 in
     let d = queue_once q.publickey p.publickey _ _ c.1 in
     let f = queue_once q.certificate p.certificate _ _ d.1 in
-    let g = banners_once q.banners p.banners _ _ f.1 in
-    let h = told_opens_once q.opens p.opens xs ys g.1 in
-    (queues_same q p a.0 b.0 c.0 d.0 f.0 g.0 h.0, h.1)
+    let g = interactive_once q.interactive p.interactive _ _ f.1 in
+    let h = banners_once q.banners p.banners _ _ g.1 in
+    let j = banner_once q.banner p.banner _ _ h.1 in
+    let k = told_opens_once q.opens p.opens xs ys j.1 in
+    (queues_same q p a.0 b.0 c.0 d.0 f.0 g.0 h.0 j.0 k.0, k.1)
 
 -- an entry's input, and the moment until which its frame is held
 input_in : Input → List TraceEntry → Input

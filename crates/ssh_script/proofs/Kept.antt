@@ -1,5 +1,5 @@
 -- What was kept in a run is what is owed.
-use Rattle.std.proofs.Common.{◌≡◌, ◌<◌, ◌+◌, ℕ, List, [], ◌∷◌, ◌++◌, length, Option, Some, None, Result, Ok, Err, Bool, true, false, arith, refl, sym, ◌∙◌, ap, subst}
+use Rattle.std.proofs.Common.{◌≡◌, ◌<◌, ℕ, List, [], ◌∷◌, ◌++◌, length, Option, Some, None, Result, Ok, Err, Bool, true, false, arith, refl, sym, ◌∙◌, ap, subst}
 use Rattle.std.specs.Prelude.{flat_map, option_to_list}
 use Rattle.std.proofs.lemmas.List.{append-nil}
 use Rattle.ssh_link.specs.declared.frame.Input.{Input}
@@ -33,6 +33,8 @@ is_answered queues (asked.AuthPassword user password ∷ all) = (refl, is_answer
 is_answered queues (asked.AuthPublickeyOffered user key algorithm ∷ all) = (refl, is_answered (after queues (asked.AuthPublickeyOffered user key algorithm)) all)
 is_answered queues (asked.AuthPublickey user key algorithm ∷ all) = (refl, is_answered (after queues (asked.AuthPublickey user key algorithm)) all)
 is_answered queues (asked.AuthOpensshCertificate user certificate ∷ all) = (refl, is_answered (after queues (asked.AuthOpensshCertificate user certificate)) all)
+is_answered queues (asked.AuthKeyboardInteractive user submethods response ∷ all) =
+    (refl, is_answered (after queues (asked.AuthKeyboardInteractive user submethods response)) all)
 is_answered queues (asked.AuthSucceeded ∷ all) = (refl, is_answered queues all)
 is_answered queues (asked.ChannelOpenSession channel ∷ all) = (refl, is_answered queues all)
 is_answered queues (asked.ChannelEof channel ∷ all) = (refl, is_answered queues all)
@@ -53,6 +55,8 @@ calls_print queues (asked.AuthPublickey user key algorithm ∷ all) =
     ap (λ t. asked_line (asked.AuthPublickey user key algorithm) ++ t) (calls_print (after queues (asked.AuthPublickey user key algorithm)) all)
 calls_print queues (asked.AuthOpensshCertificate user certificate ∷ all) =
     ap (λ t. asked_line (asked.AuthOpensshCertificate user certificate) ++ t) (calls_print (after queues (asked.AuthOpensshCertificate user certificate)) all)
+calls_print queues (asked.AuthKeyboardInteractive user submethods response ∷ all) =
+    ap (λ t. asked_line (asked.AuthKeyboardInteractive user submethods response) ++ t) (calls_print (after queues (asked.AuthKeyboardInteractive user submethods response)) all)
 calls_print queues (asked.AuthSucceeded ∷ all) = ap (λ t. asked_line asked.AuthSucceeded ++ t) (calls_print queues all)
 calls_print queues (asked.ChannelOpenSession channel ∷ all) = ap (λ t. asked_line (asked.ChannelOpenSession channel) ++ t) (calls_print queues all)
 calls_print queues (asked.ChannelEof channel ∷ all) = ap (λ t. asked_line (asked.ChannelEof channel) ++ t) (calls_print queues all)
@@ -77,6 +81,7 @@ told_some (Err error.InputLimit) old new calls h = let z : Some new ≡ Some (ol
 told_some (Err (error.Encoding why)) old new calls h = let z : Some new ≡ Some (old ++ calls) = h in cc
 told_some (Err error.Inconsistent) old new calls h = let z : Some new ≡ Some (old ++ calls) = h in cc
 told_some (Err (error.Key why)) old new calls h = let z : Some new ≡ Some (old ++ calls) = h in cc
+told_some (Err error.UnsupportedAuthMethod) old new calls h = let z : Some new ≡ Some (old ++ calls) = h in cc
 told_some (Err (error.Handler e)) old new calls h = h
 told_some (Err error.NotBuilt) old new calls h = let z : Some new ≡ Some (old ++ calls) = h in cc
 
@@ -116,6 +121,7 @@ without_faults accepts settings w count max (Some turn) rose (Err error.InputLim
 without_faults accepts settings w count max (Some turn) rose (Err (error.Encoding why)) n c = c
 without_faults accepts settings w count max (Some turn) rose (Err error.Inconsistent) n c = c
 without_faults accepts settings w count max (Some turn) rose (Err (error.Key why)) n c = c
+without_faults accepts settings w count max (Some turn) rose (Err error.UnsupportedAuthMethod) n c = c
 without_faults accepts settings w count max (Some turn) rose (Err (error.Handler e)) n c = c
 without_faults accepts settings w count max (Some turn) rose (Err error.NotBuilt) n c = c
 without_faults accepts settings w count max None rose (Err error.NoMemory) n c = c
@@ -124,6 +130,7 @@ without_faults accepts settings w count max None rose (Err error.InputLimit) n c
 without_faults accepts settings w count max None rose (Err (error.Encoding why)) n c = c
 without_faults accepts settings w count max None rose (Err error.Inconsistent) n c = c
 without_faults accepts settings w count max None rose (Err (error.Key why)) n c = c
+without_faults accepts settings w count max None rose (Err error.UnsupportedAuthMethod) n c = c
 without_faults accepts settings w count max None rose (Err (error.Handler e)) n c = c
 without_faults accepts settings w count max None rose (Err error.NotBuilt) n c = c
 

@@ -8,10 +8,12 @@ pub mod Giving
 pub mod Cutting
 pub mod LinesOnce
 pub mod Signatures
+pub mod Texts
 pub mod Heads
 pub mod Kept
 pub mod Endings
 pub mod ChannelsOnce
+pub mod ResponsesOnce
 pub mod SaysOnce
 pub mod PlansOnce
 pub mod Unasked

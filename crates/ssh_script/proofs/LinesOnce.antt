@@ -1,5 +1,5 @@
 -- A line says one thing, and so does a script.
-use Rattle.std.proofs.Common.{◌≡◌, ◌<◌, ◌^◌, ◌+◌, ℕ, arith, List, [], ◌∷◌, Bool, true, false, Option, Some, None, Result, Ok, Err, refl, sym, ◌∙◌, ap, subst, inl, inr}
+use Rattle.std.proofs.Common.{◌≡◌, ◌+◌, ℕ, arith, List, [], ◌∷◌, Bool, true, false, Option, Some, None, Result, Ok, Err, refl, sym, ◌∙◌, ap, subst, inl, inr}
 use Rattle.std.specs.Prelude.{codes, MatchOption}
 use Rattle.std.proofs.lemmas.Fmt.{decimal_injective}
 use Rattle.hex.specs.Hex.{decode_of}
@@ -12,7 +12,7 @@ use Rattle.ssh_keys.proofs.Offered.{algorithm_once}
 use Rattle.ssh_script.specs.declared.lines.Line.{Line}
 use Rattle.ssh_script.specs.declared.lines.Line.TheVariants as line
 use Rattle.ssh_script.specs.declared.lines.Setting.TheVariants as setting
-use Rattle.ssh_script.specs.Grammar.{IsNumber, IsSmall, IsHex, IsKeyHex, IsSignature, Form, No_form, Whole, Of_number, Of_bytes, Of_small, Of_signature, Fits, is_passed, ReadsWords, form_of, Reads}
+use Rattle.ssh_script.specs.Grammar.{IsNumber, IsSmall, IsHex, IsKeyHex, IsSignature, Form, No_form, Whole, Of_number, Of_bytes, Of_text, Of_small, Of_signature, Fits, is_passed, ReadsWords, form_of, Reads}
 use Rattle.ssh_script.specs.Scene.{Scene, with_line, Gives}
 
 number_once : (digits : List ℕ) (m n : ℕ) → IsNumber digits m → IsNumber digits n → m ≡ n
@@ -54,6 +54,10 @@ fits_once (Of_bytes says digits) None None h k = refl
 fits_once (Of_bytes says digits) None (Some b) h k = absurd (h k.0 k.1)
 fits_once (Of_bytes says digits) (Some a) None h k = absurd (k h.0 h.1)
 fits_once (Of_bytes says digits) (Some a) (Some b) h k = ap Some (h.2 ∙ (ap says (hex_once digits h.0 k.0 h.1 k.1) ∙ sym k.2))
+fits_once (Of_text says digits) None None h k = refl
+fits_once (Of_text says digits) None (Some b) h k = absurd (h k.0 k.1)
+fits_once (Of_text says digits) (Some a) None h k = absurd (k h.0 h.1)
+fits_once (Of_text says digits) (Some a) (Some b) h k = ap Some (h.2 ∙ (ap says (hex_once digits h.0 k.0 h.1.0 k.1.0) ∙ sym k.2))
 fits_once (Of_signature key algorithm message signature) None None h k = refl
 fits_once (Of_signature key algorithm message signature) None (Some b) h k = absurd (h k.0 k.1)
 fits_once (Of_signature key algorithm message signature) (Some a) None h k = absurd (k h.0 h.1)

@@ -2,13 +2,14 @@
 use Rattle.std.proofs.Common.{◌≡◌, ◌⊎◌, List, [], ◌∷◌, ◌++◌, Result, Ok, Err, refl, sym, ◌∙◌, ap, subst, inl, inr}
 use Rattle.ssh_link.specs.declared.link.TraceEntry.{TraceEntry}
 use Rattle.ssh_auth.specs.declared.call.Call.{Call}
-use Rattle.ssh_auth.specs.Plan.{Question, Authentication_banner, Auth_none, Auth_password, Auth_publickey_offered, Auth_publickey, Auth_openssh_certificate, Auth_succeeded, Channel_open_session, Channel_eof, Channel_close, Window_adjusted, Command_done, Answer, Answered, Plan, Finish, Ask, Tell, Event, Called, Told, calls_in, Follows, Breaks}
+use Rattle.ssh_auth.specs.Plan.{Question, Authentication_banner, Auth_none, Auth_password, Auth_publickey_offered, Auth_publickey, Auth_openssh_certificate, Auth_keyboard_interactive, Auth_succeeded, Channel_open_session, Channel_eof, Channel_close, Window_adjusted, Command_done, Answer, Answered, Plan, Finish, Ask, Tell, Event, Called, Told, calls_in, Follows, Breaks}
 use Rattle.ssh_session.specs.Outcome.{Outcome}
 use Rattle.ssh_script.specs.declared.asked.Asked.{Asked}
 use Rattle.ssh_script.specs.declared.asked.Asked.TheVariants as asked
+use Rattle.ssh_script.specs.declared.answers.InteractiveVerdict.TheVariants as interactive
 use Rattle.ssh_script.specs.declared.answers.Verdict.TheVariants as verdict
 use Rattle.ssh_script.specs.Opens.{open_answer, recorded}
-use Rattle.ssh_script.specs.Played.{Failure, Queues, first_verdict, verdict_answer, banner_answer, answered, after, asked_of, IsAnswered}
+use Rattle.ssh_script.specs.Played.{Failure, Queues, first_verdict, verdict_answer, interactive_answer, banner_answer, answered, after, asked_of, IsAnswered}
 
 -- these are all events of the plan, and this comes of them: its outcome, or the error of the last call
 abbrev pub Comes : Plan Outcome → List (Event Failure) → Result Outcome Failure → Type 0
@@ -17,12 +18,13 @@ Comes plan events (Err error) = Breaks plan events error
 
 -- what a question is answered by a script
 abbrev answer_to : Queues → (question : Question) → Result (Answer question) Failure
-answer_to queues Authentication_banner = banner_answer queues.banners
+answer_to queues Authentication_banner = banner_answer queues.banners queues.banner
 answer_to queues (Auth_none user) = verdict_answer (first_verdict verdict.Reject queues.none)
 answer_to queues (Auth_password user password) = verdict_answer (first_verdict verdict.Reject queues.password)
 answer_to queues (Auth_publickey_offered user key algorithm) = verdict_answer (first_verdict verdict.Accept queues.offered)
 answer_to queues (Auth_publickey user key algorithm) = verdict_answer (first_verdict verdict.Reject queues.publickey)
 answer_to queues (Auth_openssh_certificate user certificate) = verdict_answer (first_verdict verdict.Reject queues.certificate)
+answer_to queues (Auth_keyboard_interactive user submethods response) = interactive_answer (first_verdict (interactive.Plain verdict.Reject) queues.interactive)
 answer_to queues Auth_succeeded = Ok []
 answer_to queues (Channel_open_session channel) = Ok (recorded (open_answer queues.opens channel))
 answer_to queues (Channel_eof channel) = Ok []
@@ -37,6 +39,7 @@ asked_by (Auth_password user password) = asked.AuthPassword user password
 asked_by (Auth_publickey_offered user key algorithm) = asked.AuthPublickeyOffered user key algorithm
 asked_by (Auth_publickey user key algorithm) = asked.AuthPublickey user key algorithm
 asked_by (Auth_openssh_certificate user certificate) = asked.AuthOpensshCertificate user certificate
+asked_by (Auth_keyboard_interactive user submethods response) = asked.AuthKeyboardInteractive user submethods response
 asked_by Auth_succeeded = asked.AuthSucceeded
 asked_by (Channel_open_session channel) = asked.ChannelOpenSession channel
 asked_by (Channel_eof channel) = asked.ChannelEof channel
@@ -70,6 +73,10 @@ call_is (Auth_publickey user key algorithm) queues answer call h k =
 call_is (Auth_openssh_certificate user certificate) queues answer call h k =
     let a : asked_of call ≡ asked.AuthOpensshCertificate user certificate = ap asked_of h in
     let e : call ≡ answered queues (asked.AuthOpensshCertificate user certificate) = k ∙ ap (answered queues) a in
+    (let z = sym h ∙ e in cc, a, e)
+call_is (Auth_keyboard_interactive user submethods response) queues answer call h k =
+    let a : asked_of call ≡ asked.AuthKeyboardInteractive user submethods response = ap asked_of h in
+    let e : call ≡ answered queues (asked.AuthKeyboardInteractive user submethods response) = k ∙ ap (answered queues) a in
     (let z = sym h ∙ e in cc, a, e)
 call_is Auth_succeeded queues (Ok commands) call h k =
     let a : asked_of call ≡ asked.AuthSucceeded = ap asked_of h in

@@ -1,8 +1,7 @@
 -- A scene has one run.
-use Rattle.std.proofs.Common.{◌≡◌, ◌<◌, ◌≤◌, ◌+◌, ℕ, List, [], ◌∷◌, ◌++◌, length, map, Option, Some, None, Result, Ok, Err, true, arith, refl, sym, ◌∙◌, ap, subst}
+use Rattle.std.proofs.Common.{◌≡◌, ◌<◌, ◌≤◌, ◌+◌, ℕ, List, [], ◌∷◌, ◌++◌, length, Option, Some, None, Result, Ok, Err, true, arith, refl, sym, ◌∙◌, ap, subst}
 use Rattle.std.specs.Prelude.{flat_map, option_to_list, IfSome}
 use Rattle.ssh_link.specs.declared.frame.Frame.{Frame}
-use Rattle.ssh_link.specs.declared.frame.Input.{Input}
 use Rattle.ssh_link.specs.declared.frame.InputKind.{InputKind}
 use Rattle.ssh_link.specs.declared.frame.InputKind.TheVariants.{Payload, Command, OpenReply, End}
 use Rattle.ssh_link.specs.declared.link.TraceEntry.{TraceEntry}
@@ -16,7 +15,7 @@ use Rattle.ssh_session.specs.declared.error.RunError.{RunError}
 use Rattle.ssh_session.specs.declared.error.RunError.TheVariants as error
 use Rattle.ssh_session.specs.World.{Settings, World, circumstances}
 use Rattle.ssh_session.specs.Gate.{gate_of}
-use Rattle.ssh_session.specs.Outcome.{Outcome, Goes, Ends, Fails, Encoding, Inconsistent, Key, Starved, Not_built}
+use Rattle.ssh_session.specs.Outcome.{Outcome, Goes, Ends, Fails, Encoding, Inconsistent, Key, Unsupported, Starved, Not_built}
 use Rattle.ssh_session.specs.Run.{OwesKind, Owes, Turn, IsTaken, Turns, Run, calls_of, entries}
 use Rattle.ssh_session.specs.Step.{Closes}
 use Rattle.ssh_script.specs.Played.{Failure, Queues, IsAnswered}
@@ -54,6 +53,7 @@ Matches (Ok (Ends fs)) frames result = (frames ≡ fs) × (result ≡ Ok tt)
 Matches (Ok (Fails (Encoding why))) frames result = (frames ≡ []) × (result ≡ Err (error.Encoding why))
 Matches (Ok (Fails Inconsistent)) frames result = (frames ≡ []) × (result ≡ Err error.Inconsistent)
 Matches (Ok (Fails Key)) frames result = (frames ≡ []) × (result ≡ Err (error.Key Blob))
+Matches (Ok (Fails Unsupported)) frames result = (frames ≡ []) × (result ≡ Err error.UnsupportedAuthMethod)
 Matches (Ok (Fails Starved)) frames result = ⊥
 Matches (Ok (Fails Not_built)) frames result = (frames ≡ []) × (result ≡ Err error.NotBuilt)
 Matches (Err e) frames result = (frames ≡ []) × (result ≡ Err (error.Handler e))
@@ -64,6 +64,7 @@ matches_once (Ok (Ends fs)) f g r s h k = (h.0 ∙ sym k.0, h.1 ∙ sym k.1)
 matches_once (Ok (Fails (Encoding why))) f g r s h k = (h.0 ∙ sym k.0, h.1 ∙ sym k.1)
 matches_once (Ok (Fails Inconsistent)) f g r s h k = (h.0 ∙ sym k.0, h.1 ∙ sym k.1)
 matches_once (Ok (Fails Key)) f g r s h k = (h.0 ∙ sym k.0, h.1 ∙ sym k.1)
+matches_once (Ok (Fails Unsupported)) f g r s h k = (h.0 ∙ sym k.0, h.1 ∙ sym k.1)
 matches_once (Ok (Fails Starved)) f g r s h k = absurd h
 matches_once (Ok (Fails Not_built)) f g r s h k = (h.0 ∙ sym k.0, h.1 ∙ sym k.1)
 matches_once (Err e) f g r s h k = (h.0 ∙ sym k.0, h.1 ∙ sym k.1)
@@ -74,6 +75,7 @@ matches_fed (Ok (Ends fs)) frames r h = tt
 matches_fed (Ok (Fails (Encoding why))) frames r h = tt
 matches_fed (Ok (Fails Inconsistent)) frames r h = tt
 matches_fed (Ok (Fails Key)) frames r h = tt
+matches_fed (Ok (Fails Unsupported)) frames r h = tt
 matches_fed (Ok (Fails Starved)) frames r h = h
 matches_fed (Ok (Fails Not_built)) frames r h = tt
 matches_fed (Err e) frames r h = tt
@@ -94,6 +96,7 @@ closes_some accepts settings w n max turn (Err error.InputLimit) status c h = ab
 closes_some accepts settings w n max turn (Err (error.Encoding why)) status c h = (c.0, c.1, Ok (Fails (Encoding why)), c.2.1, (c.2.0, refl), c.3)
 closes_some accepts settings w n max turn (Err error.Inconsistent) status c h = (c.0, c.1, Ok (Fails Inconsistent), c.2.1, (c.2.0, refl), c.3)
 closes_some accepts settings w n max turn (Err (error.Key why)) status c h = (c.0, c.1, Ok (Fails Key), c.2.2, (c.2.0, ap (λ x. Err (error.Key x)) c.2.1), c.3)
+closes_some accepts settings w n max turn (Err error.UnsupportedAuthMethod) status c h = (c.0, c.1, Ok (Fails Unsupported), c.2.1, (c.2.0, refl), c.3)
 closes_some accepts settings w n max turn (Err (error.Handler e)) status c h = (c.0, c.1, Err e, c.2.1, (c.2.0, refl), c.3)
 closes_some accepts settings w n max turn (Err error.NotBuilt) status c h = (c.0, c.1, Ok (Fails Not_built), c.2.1, (c.2.0, refl), c.3)
 
@@ -106,6 +109,7 @@ closes_none accepts settings w n max (Err error.InputLimit) status c h = (c, ref
 closes_none accepts settings w n max (Err (error.Encoding why)) status c h = absurd c
 closes_none accepts settings w n max (Err error.Inconsistent) status c h = absurd c
 closes_none accepts settings w n max (Err (error.Key why)) status c h = absurd c
+closes_none accepts settings w n max (Err error.UnsupportedAuthMethod) status c h = absurd c
 closes_none accepts settings w n max (Err (error.Handler e)) status c h = absurd c
 closes_none accepts settings w n max (Err error.NotBuilt) status c h = absurd c
 

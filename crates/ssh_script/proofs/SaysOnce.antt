@@ -5,15 +5,17 @@ use Rattle.std.specs.Prelude.{codes, drop}
 use Rattle.ssh_wire.specs.declared.error.WireError.{WireError}
 use Rattle.ssh_wire.specs.Field.{Flag, Text, SpellsAll, SpellsWhole, MisfitsAll, MisfitsWhole}
 use Rattle.ssh_wire.proofs.Fields.{spells_all_once, spells_whole_once, misfits_all_not_spells, misfits_whole_not_spells, misfits_all_once, misfits_whole_once}
-use Rattle.ssh_auth.specs.Said.{head_fields, Method, None_method, Password_method, Change_method, Other_method, Unbuilt_method, Unfit_method, SaysNone, SaysPassword, Named, Is_none, Is_password, Is_publickey, Is_unbuilt, Is_other, named_by, SaysMethod, Other_service}
+use Rattle.ssh_auth.specs.Said.{head_fields, Method, None_method, Password_method, Change_method, Unfit_method, SaysNone, SaysPassword, Named, Is_none, Is_password, Is_publickey, Is_interactive, Is_other, named_by, SaysMethod, Other_service}
 use Rattle.ssh_auth.specs.Said.{Said as Asked, Says as Asks}
 use Rattle.ssh_auth.specs.Said as asks
 use Rattle.ssh_auth.specs.Publickey.{Circumstances}
+use Rattle.ssh_auth.specs.Response.{Responded, Responses, Unfit_responses, Unread_responses}
 use Rattle.ssh_session.proofs.KeyFields.{AreOneMethod, itself, publickey_once}
 use Rattle.ssh_session.specs.declared.gate.Gate.{Gate}
 use Rattle.ssh_session.specs.declared.gate.Gate.TheVariants as gate
-use Rattle.ssh_session.specs.Said.{Said, Nothing, Disconnect, Over_cap, Service, Request, Open_session, Open_other, Open_without_packets, Grant, Peer_eof, Peer_close, Unfit, Unbuilt, Fits, Says}
+use Rattle.ssh_session.specs.Said.{Said, Nothing, Disconnect, Over_cap, Service, Request, Response, Open_session, Open_other, Open_without_packets, Grant, Peer_eof, Peer_close, Unfit, Unbuilt, Fits, Says}
 use Rattle.ssh_script.proofs.ChannelsOnce.{open_said, grant_said, eof_said, close_said}
+use Rattle.ssh_script.proofs.ResponsesOnce.{interactive_once, AreOneResponse, responses_once}
 
 none_once : (rest : List ℕ) (a b : Method) → SaysNone rest a → SaysNone rest b → a ≡ b
 none_once rest None_method None_method h k = refl
@@ -81,7 +83,7 @@ method_once : (given : Circumstances) (all : List ℕ) (named : Named) (rest : L
 method_once given all Is_none rest a b h k = itself a b (none_once rest a b h k)
 method_once given all Is_password rest a b h k = itself a b (by_flag_once rest a b (by_flag rest a h) (by_flag rest b k))
 method_once given all Is_publickey rest a b h k = publickey_once given all rest a b h k
-method_once given all Is_unbuilt rest a b h k = itself a b (h ∙ sym k)
+method_once given all Is_interactive rest a b h k = itself a b (interactive_once rest a b h k)
 method_once given all Is_other rest a b h k = itself a b (h ∙ sym k)
 
 -- two readings of one request: they are the same where memory was not wanting, but for an answer of the verifier that was not asked for
@@ -93,6 +95,7 @@ AreOneRequest a b = a ≡ b
 
 abbrev pub AreOne : Said → Said → Type 0
 AreOne (Request a) (Request b) = AreOneRequest a b
+AreOne (Response a) (Response b) = AreOneResponse a b
 AreOne a b = a ≡ b
 
 -- the fields of a USERAUTH_REQUEST say one thing
@@ -152,6 +155,11 @@ userauth_said given payload (Request asked) (Request other) h k = asked_once giv
 userauth_said given payload (Request asked) _ h k = absurd k
 userauth_said given payload _ b h k = absurd h
 
+response_said : (fields : List ℕ) (a b : Said) → Fits gate.InfoResponse fields a → Fits gate.InfoResponse fields b → AreOne a b
+response_said fields (Response a) (Response b) h k = responses_once fields a b h k
+response_said fields (Response a) _ h k = absurd k
+response_said fields _ b h k = absurd h
+
 -- what is said is the same as itself
 one_said : (a b : Said) → a ≡ b → AreOne a b
 one_said a b e = subst (AreOne a) e (one a)
@@ -162,8 +170,14 @@ one_said a b e = subst (AreOne a) e (one a)
     one_request Other_service = refl
     one_request (asks.Unfit why) = refl
 
+    one_response : (x : Responded) → AreOneResponse x x
+    one_response Unread_responses = tt
+    one_response (Responses responses) = refl
+    one_response (Unfit_responses why) = refl
+
     one : (x : Said) → AreOne x x
     one (Request asked) = one_request asked
+    one (Response responded) = one_response responded
     one Nothing = refl
     one Disconnect = refl
     one Over_cap = refl
@@ -184,6 +198,7 @@ said_once given gate.Ends payload a b h k = one_said a b (ends_said (drop 1 payl
 said_once given gate.OverCap payload a b h k = one_said a b (over_cap_said (drop 1 payload) a h ∙ sym (over_cap_said (drop 1 payload) b k))
 said_once given gate.ServiceRequest payload a b h k = one_said a b (service_said (drop 1 payload) a b h k)
 said_once given gate.UserauthRequest payload a b h k = userauth_said given payload a b h k
+said_once given gate.InfoResponse payload a b h k = response_said (drop 1 payload) a b h k
 said_once given gate.ChannelOpen payload a b h k = one_said a b (open_said (drop 1 payload) a b h k)
 said_once given gate.WindowAdjust payload a b h k = one_said a b (grant_said (drop 1 payload) a b h k)
 said_once given gate.ChannelEof payload a b h k = one_said a b (eof_said (drop 1 payload) a b h k)

@@ -64,6 +64,10 @@ tells_call lost lost' queues left all new one result call l n k e =
     tells (told_of lost queues all) (told_of lost' queues new) result call
     (subst (λ b. Adds (told_of lost queues all) (told_of b queues new) (call ∷ [])) (sym k) i)
 
+-- what was made for an answer is it
+pub made_one : {T : Type 0} (made : Result T WireError) (value : T) (is : T → Type 0) → made ≡ Ok value → IfOk made is → is value
+made_one made value is e h = subst (λ r. IfOk r is) e h
+
 -- a callback that was made and kept
 pub kept_one : (made : Result Asked WireError) (one : Asked) (all new : List Asked) → IsOk made → IfOk made (λ x. x ≡ one) → IfOk made (λ x. new ≡ all ++ x ∷ []) → new ≡ all ++ one ∷ []
 kept_one (Ok x) one all new m e k = k ∙ ap (λ y. all ++ y ∷ []) e
@@ -93,6 +97,11 @@ pub after_certificate : (answers : Answers) (next : Places) (banners place : ℕ
     drop place answers.certificate.items ≡ rest (drop next.certificate answers.certificate.items) →
     after (queues_from answers next banners) (asked.AuthOpensshCertificate user certificate) ≡ queues_from answers (record next { certificate = place }) banners
 after_certificate answers next banners place user certificate h = ap (λ q. record (queues_from answers next banners) { certificate = q }) (sym h)
+
+pub after_interactive : (answers : Answers) (next : Places) (banners place : ℕ) (user submethods : List ℕ) (response : Option (List (List ℕ))) →
+    drop place answers.interactive.items ≡ rest (drop next.interactive answers.interactive.items) →
+    after (queues_from answers next banners) (asked.AuthKeyboardInteractive user submethods response) ≡ queues_from answers (record next { interactive = place }) banners
+after_interactive answers next banners place user submethods response h = ap (λ q. record (queues_from answers next banners) { interactive = q }) (sym h)
 
 -- a verdict that was found makes the answer
 pub verdict_answers : (default verdict : Verdict) (queue : List Verdict) (answer : Result Auth Failure) → answer ≡ verdict_answer verdict → verdict ≡ first_verdict default queue →

@@ -68,6 +68,7 @@ run_not_two (Err error.InputLimit) h = not_two 1 (omega arith) h
 run_not_two (Err (error.Encoding why)) h = not_two 1 (omega arith) h
 run_not_two (Err error.Inconsistent) h = not_two 1 (omega arith) h
 run_not_two (Err (error.Key why)) h = not_two 1 (omega arith) h
+run_not_two (Err error.UnsupportedAuthMethod) h = not_two 1 (omega arith) h
 run_not_two (Err (error.Handler record_error.NoMemory)) h = let z : None ≡ Some 2 = h in cc
 run_not_two (Err (error.Handler (record_error.Inner e))) h = not_two 1 (omega arith) h
 run_not_two (Err error.NotBuilt) h = not_two 1 (omega arith) h

@@ -1,5 +1,5 @@
 -- How the lines of a script are written: words with one space between each two.
-use Rattle.std.specs.Prelude.{◌≡◌, ◌≢◌, ◌<◌, ◌^◌, ◌⊎◌, ◌==◌, ℕ, List, [], ◌∷◌, length, codes, bytes_eq, Bool, true, false, nat_lt, if◌then◌else◌, Option, Some, None, Ok, IsUtf8}
+use Rattle.std.specs.Prelude.{◌≡◌, ◌≢◌, ◌<◌, ◌^◌, ◌⊎◌, ◌==◌, ℕ, List, [], ◌∷◌, length, codes, bytes_eq, Bool, true, false, nat_lt, if◌then◌else◌, Option, Some, None, option_map, Ok, IsUtf8}
 use Rattle.std.specs.List.{position_or_len, before_first, after_first}
 use Rattle.std.specs.Fmt.{decimal}
 use Rattle.hex.specs.Hex.{decode_of}
@@ -14,6 +14,8 @@ use Rattle.ssh_link.specs.declared.command.Command.{Command}
 use Rattle.ssh_link.specs.declared.command.Command.TheVariants as command
 use Rattle.ssh_link.specs.declared.open_answer.OpenAnswer.{OpenAnswer}
 use Rattle.ssh_script.specs.Opens.{own, accepting, rejecting}
+use Rattle.ssh_script.specs.declared.answers.InteractiveVerdict.{InteractiveVerdict}
+use Rattle.ssh_script.specs.declared.answers.InteractiveVerdict.TheVariants as interactive
 use Rattle.ssh_script.specs.declared.answers.OpenVerdict.{OpenVerdict}
 use Rattle.ssh_script.specs.declared.answers.OpenVerdict.TheVariants as open_verdict
 use Rattle.ssh_script.specs.declared.answers.Verdict.{Verdict}
@@ -53,6 +55,14 @@ abbrev pub IsHexIn : List ℕ → Option (List ℕ) → Type 0
 IsHexIn digits (Some bytes) = IsHex digits bytes
 IsHexIn digits None = (bytes : List ℕ) → IsHex digits bytes → ⊥
 
+-- a text is written by its bytes, which are UTF-8
+abbrev pub IsTextHex : List ℕ → List ℕ → Type 0
+IsTextHex digits text = IsHex digits text × IsUtf8 text
+
+abbrev pub IsTextIn : List ℕ → Option (List ℕ) → Type 0
+IsTextIn digits (Some text) = IsTextHex digits text
+IsTextIn digits None = (text : List ℕ) → IsTextHex digits text → ⊥
+
 -- a key is written by its blob
 abbrev pub IsKeyHex : List ℕ → PublicKey → Type 0
 IsKeyHex digits public = (blob : List ℕ) × IsHex digits blob × IsKey public blob
@@ -83,6 +93,8 @@ pub data Form : Type 0 where
   Of_number : (says : ℕ → Line) → (digits : List ℕ) → Form
   -- these digits write the bytes of which it speaks
   Of_bytes : (says : List ℕ → Line) → (digits : List ℕ) → Form
+  -- these digits write the text of which it speaks
+  Of_text : (says : List ℕ → Line) → (digits : List ℕ) → Form
   -- these words write the signature that it accepts
   Of_signature : (key algorithm message signature : List ℕ) → Form
   -- these digits write a number below 2^32, and by it this is what the line is
@@ -127,6 +139,21 @@ verdict_form name (Some one) = setting_form (answer_to name one)
 abbrev pub banner_form : List ℕ → Form
 banner_form word = if bytes_eq word (codes "fail") then Whole (line.Setting setting.FailBanner) else No_form
 
+-- accept, reject, fail, unsupported or ask
+abbrev pub interactive_verdict_of : List ℕ → Option InteractiveVerdict
+interactive_verdict_of word =
+    if bytes_eq word (codes "unsupported") then Some interactive.Unsupported
+    else if bytes_eq word (codes "ask") then Some interactive.Ask
+    else option_map interactive.Plain (verdict_of word)
+
+abbrev pub interactive_verdict_form : Option InteractiveVerdict → Form
+interactive_verdict_form None = No_form
+interactive_verdict_form (Some one) = Whole (line.Setting (setting.AnswerInteractive one))
+
+-- answer interactive, and one of these
+abbrev pub interactive_form : List ℕ → Form
+interactive_form word = interactive_verdict_form (interactive_verdict_of word)
+
 -- accept, reject or hold
 abbrev pub open_verdict_of : List ℕ → Option OpenVerdict
 open_verdict_of word =
@@ -148,6 +175,7 @@ abbrev pub answer_words : Option (List ℕ × List ℕ) → Form
 answer_words None = No_form
 answer_words (Some parts) =
     if bytes_eq parts.0 (codes "banner") then banner_form parts.1
+    else if bytes_eq parts.0 (codes "interactive") then interactive_form parts.1
     else if bytes_eq parts.0 (codes "open") then open_form parts.1
     else verdict_form parts.0 (verdict_of parts.1)
 
@@ -233,6 +261,7 @@ abbrev pub word_form : List ℕ → List ℕ → Form
 word_form word rest =
     if bytes_eq word (codes "session") then Of_bytes (λ id. line.Setting (setting.Session id)) rest
     else if bytes_eq word (codes "inputs") then Of_number (λ n. line.Setting (setting.Inputs n)) rest
+    else if bytes_eq word (codes "banner") then Of_text (λ text. line.Setting (setting.Banner text)) rest
     else if bytes_eq word (codes "config") then config_form rest
     else if bytes_eq word (codes "answer") then answer_form rest
     else if bytes_eq word (codes "sign") then sign_form rest
@@ -264,6 +293,8 @@ Fits (Of_number says digits) (Some said) = (n : ℕ) × IsNumber digits n × (sa
 Fits (Of_number says digits) None = (n : ℕ) → IsNumber digits n → ⊥
 Fits (Of_bytes says digits) (Some said) = (bytes : List ℕ) × IsHex digits bytes × (said ≡ says bytes)
 Fits (Of_bytes says digits) None = (bytes : List ℕ) → IsHex digits bytes → ⊥
+Fits (Of_text says digits) (Some said) = (text : List ℕ) × IsTextHex digits text × (said ≡ says text)
+Fits (Of_text says digits) None = (text : List ℕ) → IsTextHex digits text → ⊥
 Fits (Of_signature key algorithm message signature) (Some said) =
     (accepted : AcceptedSignature) × IsSignature key algorithm message signature accepted × (said ≡ line.Setting (setting.Sign accepted))
 Fits (Of_signature key algorithm message signature) None = (accepted : AcceptedSignature) → IsSignature key algorithm message signature accepted → ⊥

@@ -1,15 +1,18 @@
 -- What the handler of a script answers.
-use Rattle.std.specs.Prelude.{◌≡◌, ℕ, ◌-◌, ◌==◌, List, [], ◌∷◌, ◌++◌, map, drop, Bool, true, false, Option, Some, None, Result, Ok, Err, if◌then◌else◌}
+use Rattle.std.specs.Prelude.{◌≡◌, ℕ, ◌-◌, ◌==◌, List, [], ◌∷◌, ◌++◌, codes, map, drop, Bool, true, false, Option, Some, None, Result, Ok, Err, if◌then◌else◌}
 use Rattle.ssh_auth.specs.declared.auth.Auth.{Auth}
-use Rattle.ssh_auth.specs.declared.auth.Auth.TheVariants.{Reject, Accept}
+use Rattle.ssh_auth.specs.declared.auth.Auth.TheVariants.{Reject, Accept, UnsupportedMethod, Partial}
 use Rattle.ssh_auth.specs.declared.call.Call.{Call}
-use Rattle.ssh_auth.specs.declared.call.Call.TheVariants.{AuthenticationBanner, AuthNone, AuthPassword, AuthPublickeyOffered, AuthPublickey, AuthOpensshCertificate, AuthSucceeded, ChannelOpenSession, ChannelEof, ChannelClose, WindowAdjusted, CommandDone}
+use Rattle.ssh_auth.specs.declared.call.Call.TheVariants.{AuthenticationBanner, AuthNone, AuthPassword, AuthPublickeyOffered, AuthPublickey, AuthOpensshCertificate, AuthKeyboardInteractive, AuthSucceeded, ChannelOpenSession, ChannelEof, ChannelClose, WindowAdjusted, CommandDone}
+use Rattle.ssh_auth.specs.Prompts.{Prompt}
 use Rattle.ssh_handler.specs.declared.recorded.RecordError.{RecordError}
 use Rattle.ssh_handler.specs.declared.recorded.RecordError.TheVariants.{Inner}
 use Rattle.ssh_script.specs.Queue.{rest}
 use Rattle.ssh_script.specs.Opens.{own, open_answer, recorded}
 use Rattle.ssh_script.specs.declared.answers.Answers.{Answers}
 use Rattle.ssh_script.specs.declared.answers.Places.{Places}
+use Rattle.ssh_script.specs.declared.answers.InteractiveVerdict.{InteractiveVerdict}
+use Rattle.ssh_script.specs.declared.answers.InteractiveVerdict.TheVariants as interactive
 use Rattle.ssh_script.specs.declared.answers.OpenVerdict.{OpenVerdict}
 use Rattle.ssh_script.specs.declared.answers.Verdict.{Verdict}
 use Rattle.ssh_script.specs.declared.answers.Verdict.TheVariants as verdict
@@ -36,8 +39,12 @@ pub record Queues : Type 0 where
   pub publickey : List Verdict
   -- to requests that are signed by the key of a certificate
   pub certificate : List Verdict
+  -- to users of keyboard-interactive
+  pub interactive : List InteractiveVerdict
   -- how many banner callbacks fail
   pub banners : ℕ
+  -- the banner that the later ones give
+  pub banner : Option (List ℕ)
   -- to all channels that the peer opens
   pub opens : OpenVerdict
 
@@ -49,7 +56,9 @@ queues_in answers = record {
   offered = answers.offered.items;
   publickey = answers.publickey.items;
   certificate = answers.certificate.items;
+  interactive = answers.interactive.items;
   banners = answers.failing_banners;
+  banner = answers.banner;
   opens = answers.opens;
 }
 
@@ -61,12 +70,14 @@ queues_from answers next banners = record {
   offered = drop next.offered answers.offered.items;
   publickey = drop next.publickey answers.publickey.items;
   certificate = drop next.certificate answers.certificate.items;
+  interactive = drop next.interactive answers.interactive.items;
   banners = banners;
+  banner = answers.banner;
   opens = answers.opens;
 }
 
 -- the next verdict, and this one where there is none
-abbrev pub first_verdict : Verdict → List Verdict → Verdict
+abbrev pub first_verdict : {V : Type 0} → V → List V → V
 first_verdict default [] = default
 first_verdict default (one ∷ more) = one
 
@@ -75,18 +86,30 @@ verdict_answer verdict.Accept = Ok Accept
 verdict_answer verdict.Reject = Ok (Reject None false)
 verdict_answer verdict.Fail = fails
 
-abbrev pub banner_answer : ℕ → Result (Option (List ℕ)) Failure
-banner_answer left = if left == 0 then Ok None else fails
+-- the one prompt of a script, without echo
+abbrev pub code_prompt : Prompt
+code_prompt = (codes "Code: ", false)
+
+abbrev pub interactive_answer : InteractiveVerdict → Result Auth Failure
+interactive_answer (interactive.Plain one) = verdict_answer one
+interactive_answer interactive.Unsupported = Ok UnsupportedMethod
+interactive_answer interactive.Ask = Ok (Partial [] [] (code_prompt ∷ []))
+
+-- so many banner callbacks fail, and the later ones give this banner
+abbrev pub banner_answer : ℕ → Option (List ℕ) → Result (Option (List ℕ)) Failure
+banner_answer left banner = if left == 0 then Ok banner else fails
 
 -- the callback, and what it is answered: without a verdict an offer of a key is accepted, and all else is refused
 abbrev pub answered : Queues → Asked → Call Failure
-answered queues asked.AuthenticationBanner = AuthenticationBanner (banner_answer queues.banners)
+answered queues asked.AuthenticationBanner = AuthenticationBanner (banner_answer queues.banners queues.banner)
 answered queues (asked.AuthNone user) = AuthNone user (verdict_answer (first_verdict verdict.Reject queues.none))
 answered queues (asked.AuthPassword user password) = AuthPassword user password (verdict_answer (first_verdict verdict.Reject queues.password))
 answered queues (asked.AuthPublickeyOffered user key algorithm) = AuthPublickeyOffered user key algorithm (verdict_answer (first_verdict verdict.Accept queues.offered))
 answered queues (asked.AuthPublickey user key algorithm) = AuthPublickey user key algorithm (verdict_answer (first_verdict verdict.Reject queues.publickey))
 answered queues (asked.AuthOpensshCertificate user certificate) =
     AuthOpensshCertificate user certificate (verdict_answer (first_verdict verdict.Reject queues.certificate))
+answered queues (asked.AuthKeyboardInteractive user submethods response) =
+    AuthKeyboardInteractive user submethods response (interactive_answer (first_verdict (interactive.Plain verdict.Reject) queues.interactive))
 answered queues asked.AuthSucceeded = AuthSucceeded (Ok tt) []
 answered queues (asked.ChannelOpenSession channel) = ChannelOpenSession channel (Ok tt) (recorded (open_answer queues.opens channel))
 answered queues (asked.ChannelEof channel) = ChannelEof channel (Ok tt) []
@@ -102,6 +125,7 @@ after queues (asked.AuthPassword user password) = record queues { password = res
 after queues (asked.AuthPublickeyOffered user key algorithm) = record queues { offered = rest queues.offered }
 after queues (asked.AuthPublickey user key algorithm) = record queues { publickey = rest queues.publickey }
 after queues (asked.AuthOpensshCertificate user certificate) = record queues { certificate = rest queues.certificate }
+after queues (asked.AuthKeyboardInteractive user submethods response) = record queues { interactive = rest queues.interactive }
 after queues asked.AuthSucceeded = queues
 after queues (asked.ChannelOpenSession channel) = queues
 after queues (asked.ChannelEof channel) = queues
@@ -126,6 +150,7 @@ asked_of (AuthPassword user password answer) = asked.AuthPassword user password
 asked_of (AuthPublickeyOffered user key algorithm answer) = asked.AuthPublickeyOffered user key algorithm
 asked_of (AuthPublickey user key algorithm answer) = asked.AuthPublickey user key algorithm
 asked_of (AuthOpensshCertificate user certificate answer) = asked.AuthOpensshCertificate user certificate
+asked_of (AuthKeyboardInteractive user submethods response answer) = asked.AuthKeyboardInteractive user submethods response
 asked_of (AuthSucceeded answer commands) = asked.AuthSucceeded
 asked_of (ChannelOpenSession channel answer commands) = asked.ChannelOpenSession channel
 asked_of (ChannelEof channel answer commands) = asked.ChannelEof channel
@@ -139,8 +164,8 @@ IsAnswered queues [] = Unit {0}
 IsAnswered queues (call ∷ calls) =
     (call ≡ answered queues (asked_of call)) × IsAnswered (after queues (asked_of call)) calls
 
--- the answers as a handler tells them before its calls: a call for each queue, which names its verdicts by their numbers, one for the number of banners that fail, and
--- one for the opens
+-- the answers as a handler tells them before its calls: a call for each queue, which names its verdicts by their numbers, one for the number of banners that fail, one
+-- for the banner, and one for the opens
 abbrev pub verdict_number : Verdict → ℕ
 verdict_number verdict.Accept = 0
 verdict_number verdict.Reject = 1
@@ -149,8 +174,19 @@ verdict_number verdict.Fail = 2
 abbrev pub told_queue : List Verdict → Call Failure
 told_queue queue = AuthNone (map verdict_number queue) (Ok Accept)
 
+abbrev pub interactive_number : InteractiveVerdict → ℕ
+interactive_number (interactive.Plain one) = verdict_number one
+interactive_number interactive.Unsupported = 3
+interactive_number interactive.Ask = 4
+
+abbrev pub told_interactive : List InteractiveVerdict → Call Failure
+told_interactive queue = AuthNone (map interactive_number queue) (Ok Accept)
+
 abbrev pub told_banners : ℕ → Call Failure
 told_banners count = AuthenticationBanner (Ok (Some (count ∷ [])))
+
+abbrev pub told_banner : Option (List ℕ) → Call Failure
+told_banner banner = AuthenticationBanner (Ok banner)
 
 abbrev pub told_opens : OpenVerdict → Call Failure
 told_opens opens = ChannelOpenSession (own 0) (Ok tt) (recorded (open_answer opens (own 0)))
@@ -162,7 +198,9 @@ heading queues =
     ∷ told_queue queues.offered
     ∷ told_queue queues.publickey
     ∷ told_queue queues.certificate
+    ∷ told_interactive queues.interactive
     ∷ told_banners queues.banners
+    ∷ told_banner queues.banner
     ∷ told_opens queues.opens
     ∷ []
 

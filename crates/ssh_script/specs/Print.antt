@@ -34,6 +34,15 @@ hex_text (byte ∷ bytes) = encode_lower (byte ∷ bytes)
 abbrev pub key_text : PublicKey → Algorithm → List ℕ
 key_text key algorithm = hex_text (key_blob key) ++ codes " " ++ algorithm_name algorithm
 
+-- a response to a prompt
+abbrev pub response_word : List ℕ → List ℕ
+response_word text = codes " " ++ hex_text text
+
+-- the responses to prompts, and none where nothing was prompted for yet
+abbrev pub response_text : Option (List (List ℕ)) → List ℕ
+response_text None = codes " none"
+response_text (Some responses) = flat_map response_word responses
+
 -- how a refusal is named
 abbrev pub refusal_name : Refusal → List ℕ
 refusal_name refusal.UnknownChannel = codes "UnknownChannel"
@@ -68,6 +77,8 @@ asked_line (asked.AuthPublickey user key algorithm) = codes "call auth_publickey
 -- a certificate: its key id
 asked_line (asked.AuthOpensshCertificate user certificate) =
     codes "call auth_openssh_certificate " ++ hex_text user ++ codes " " ++ hex_text certificate.key_id ++ codes "\n"
+asked_line (asked.AuthKeyboardInteractive user submethods response) =
+    codes "call auth_keyboard_interactive " ++ hex_text user ++ codes " " ++ hex_text submethods ++ response_text response ++ codes "\n"
 asked_line asked.AuthSucceeded = codes "call auth_succeeded\n"
 asked_line (asked.ChannelOpenSession channel) = channel_line (codes "channel_open_session") channel
 asked_line (asked.ChannelEof channel) = channel_line (codes "channel_eof") channel
@@ -132,6 +143,7 @@ variant_name error.InputLimit = codes "InputLimit"
 variant_name (error.Encoding why) = codes "Encoding"
 variant_name error.Inconsistent = codes "Inconsistent"
 variant_name (error.Key why) = codes "Key"
+variant_name error.UnsupportedAuthMethod = codes "UnsupportedAuthMethod"
 variant_name (error.Handler e) = codes "Handler"
 variant_name error.NotBuilt = codes "NotBuilt"
 

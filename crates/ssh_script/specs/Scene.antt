@@ -44,7 +44,7 @@ opening_scene = record {
   max_inputs = 1000000;
   config = standard_config;
   accepted = [];
-  queues = record { none = []; password = []; offered = []; publickey = []; certificate = []; banners = 0; opens = Accept };
+  queues = record { none = []; password = []; offered = []; publickey = []; certificate = []; interactive = []; banners = 0; banner = None; opens = Accept };
   tickets = 0;
   inputs = [];
   moment = 0;
@@ -64,7 +64,9 @@ set (setting.AnswerPassword verdict) s = Some (record s { queues = record s.queu
 set (setting.AnswerOffered verdict) s = Some (record s { queues = record s.queues { offered = s.queues.offered ++ verdict ∷ [] } })
 set (setting.AnswerPublickey verdict) s = Some (record s { queues = record s.queues { publickey = s.queues.publickey ++ verdict ∷ [] } })
 set (setting.AnswerCertificate verdict) s = Some (record s { queues = record s.queues { certificate = s.queues.certificate ++ verdict ∷ [] } })
+set (setting.AnswerInteractive verdict) s = Some (record s { queues = record s.queues { interactive = s.queues.interactive ++ verdict ∷ [] } })
 set setting.FailBanner s = Some (record s { queues = record s.queues { banners = s.queues.banners + 1 } })
+set (setting.Banner text) s = Some (record s { queues = record s.queues { banner = Some text } })
 set (setting.AnswerOpen verdict) s = Some (record s { queues = record s.queues { opens = verdict } })
 
 -- settings come before the first input line

@@ -1,5 +1,7 @@
 // What the handler of a script answers.
 
+use ssh_wire::Text;
+
 /// What a script answers to a request of authentication.
 #[derive(Clone, Copy, Debug, PartialEq, Eq)]
 pub enum Verdict {
@@ -9,6 +11,17 @@ pub enum Verdict {
     Reject,
     /// The handler answers an error.
     Fail,
+}
+
+/// What a script answers to a user of keyboard-interactive.
+#[derive(Clone, Copy, Debug, PartialEq, Eq)]
+pub enum InteractiveVerdict {
+    /// What any other request could be answered.
+    Plain(Verdict),
+    /// The handler does not have the method.
+    Unsupported,
+    /// The user is prompted for a code, which is not shown.
+    Ask,
 }
 
 /// What a script answers to the channels that the peer opens.
@@ -35,8 +48,12 @@ pub struct Answers {
     pub publickey: Vec<Verdict>,
     /// To requests that are signed by the key of a certificate.
     pub certificate: Vec<Verdict>,
+    /// To users of keyboard-interactive.
+    pub interactive: Vec<InteractiveVerdict>,
     /// How many banner callbacks fail.
     pub failing_banners: u64,
+    /// The banner that the later ones give.
+    pub banner: Option<Text>,
     /// To all channels that the peer opens.
     pub opens: OpenVerdict,
 }
@@ -54,4 +71,6 @@ pub struct Places {
     pub publickey: usize,
     /// To requests that are signed by the key of a certificate.
     pub certificate: usize,
+    /// To users of keyboard-interactive.
+    pub interactive: usize,
 }

@@ -2,10 +2,11 @@
 ghost use Rattle.std.specs.Prelude.{◌≡◌, IfOk};
 ghost use Rattle.ssh_script.specs.declared.asked.Asked.TheVariants as asked;
 
-use ssh_auth::{PublicKeyOffer, VerifiedPublicKey};
+use bytes::Bytes;
+use ssh_auth::{PublicKeyOffer, Response, VerifiedPublicKey};
 use ssh_keys::{Algorithm, Certificate, PublicKey};
 use ssh_link::CommandOutcome;
-use ssh_wire::{ChannelId, Text, WireError};
+use ssh_wire::{Blobs, ChannelId, Text, WireError};
 use std::alloc::Global;
 
 /// A callback that was made, without its answer.
@@ -50,6 +51,15 @@ pub enum Asked {
         /// The certificate.
         certificate: Certificate,
     },
+    /// A user asked to be let in by prompts, or responded to them.
+    AuthKeyboardInteractive {
+        /// The user's name.
+        user: Text,
+        /// The submethods that the user would like, joined by commas.
+        submethods: Text,
+        /// The responses to the last prompts, in order; none before the first prompts.
+        response: Option<Blobs>,
+    },
     /// The user was authenticated.
     AuthSucceeded,
     /// The peer opens a session channel.
@@ -81,6 +91,23 @@ pub enum Asked {
         /// What came of it.
         outcome: CommandOutcome,
     },
+}
+
+// Copies of the responses to prompts.
+fn copied_response(
+    alloc: Global,
+    response: Option<Response<'_>>,
+) -> Result<Option<Blobs>, WireError>
+    ensures { IfOk result (λ copied. copied ≡ response.entry) }
+{
+    let Some(response) = response else {
+        return Ok(None);
+    };
+    let mut copies = Blobs::new(alloc);
+    for text in response {
+        copies.push(Bytes::copy_from_slice(alloc, text)?)?;
+    }
+    Ok(Some(copies))
 }
 
 impl Asked {
@@ -144,6 +171,22 @@ impl Asked {
         Ok(Asked::AuthOpensshCertificate {
             user: Text::new(alloc, user)?,
             certificate: certificate.copy()?,
+        })
+    }
+
+    /// A request by prompts, or a response to them.
+    pub(crate) fn interactive(
+        alloc: Global,
+        user: &str,
+        submethods: &str,
+        response: Option<Response<'_>>,
+    ) -> Result<Asked, WireError>
+        ensures { IfOk result (λ one. one ≡ asked.AuthKeyboardInteractive user.now submethods.now response.entry) }
+    {
+        Ok(Asked::AuthKeyboardInteractive {
+            user: Text::new(alloc, user)?,
+            submethods: Text::new(alloc, submethods)?,
+            response: copied_response(alloc, response)?,
         })
     }
 }

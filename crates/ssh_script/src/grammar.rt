@@ -1,13 +1,14 @@
 // How the lines of a script are written: words with one space between each two.
 ghost use Rattle.std.specs.Prelude.{◌≡◌, IfOk};
-ghost use Rattle.ssh_script.specs.Grammar.{IsNumberIn, IsHexIn, IsKeyIn, IsSignatureIn, Fits, Reads, word_form, config_form, answer_form, sign_form, lone_form, verdict_of, open_verdict_of, answer_to, verdict_form, banner_form, open_form};
+ghost use Rattle.ssh_script.specs.Grammar.{IsNumberIn, IsHexIn, IsTextIn, IsKeyIn, IsSignatureIn, Fits, Reads, word_form, config_form, answer_form, sign_form, lone_form, verdict_of, interactive_verdict_of, open_verdict_of, answer_to, verdict_form, banner_form, interactive_form, open_form};
 
-use crate::answers::{OpenVerdict, Verdict};
+use crate::answers::{InteractiveVerdict, OpenVerdict, Verdict};
 use crate::command_lines::{accept_line, close_line, data_line, eof_line, reject_line};
 use crate::lines::{InputLine, Line, Setting};
 use bytes::Bytes;
 use hex::FromHexError;
 use ssh_keys::{AcceptedSignature, Algorithm, KeyError, PublicKey};
+use ssh_wire::Text;
 use std::alloc::{AllocError, Global};
 
 /// The number that the digits write: decimal, without sign or leading zero, below 2^64.
@@ -38,6 +39,22 @@ pub(crate) fn bytes_in(alloc: Global, digits: &str) -> Result<Option<Bytes>, All
         Ok(bytes) => Ok(Some(Bytes::from_vec(bytes)?)),
         Err(FromHexError::OutOfMemory) => Err(AllocError),
         Err(_) => Ok(None),
+    }
+}
+
+/// The text whose bytes the digits write in hex, with `-` for none.
+fn text_in(alloc: Global, digits: &str) -> Result<Option<Text>, AllocError>
+    ensures { IfOk result (IsTextIn digits.now) }
+{
+    let Some(bytes) = bytes_in(alloc, digits)? else {
+        return Ok(None);
+    };
+    let Ok(text) = str::from_utf8(bytes.as_slice()) else {
+        return Ok(None);
+    };
+    match Text::new(alloc, text) {
+        Ok(text) => Ok(Some(text)),
+        Err(_) => Err(AllocError),
     }
 }
 
@@ -140,6 +157,23 @@ fn banner_line(word: &str) -> Option<Line>
     }
 }
 
+fn interactive_verdict_in(word: &str) -> Option<InteractiveVerdict>
+    ensures { result ≡ interactive_verdict_of word.now }
+{
+    match word {
+        "unsupported" => Some(InteractiveVerdict::Unsupported),
+        "ask" => Some(InteractiveVerdict::Ask),
+        _ => verdict_in(word).map(InteractiveVerdict::Plain),
+    }
+}
+
+fn interactive_line(word: &str) -> Option<Line>
+    ensures { Fits (interactive_form word.now) result }
+{
+    let verdict = interactive_verdict_in(word)?;
+    Some(Line::Setting(Setting::AnswerInteractive(verdict)))
+}
+
 fn open_verdict_in(word: &str) -> Option<OpenVerdict>
     ensures { result ≡ open_verdict_of word.now }
 {
@@ -164,6 +198,7 @@ fn answer_line(rest: &str) -> Option<Line>
 {
     match rest.split_once(' ') {
         Some(("banner", word)) => banner_line(word),
+        Some(("interactive", word)) => interactive_line(word),
         Some(("open", word)) => open_line(word),
         Some((name, word)) => verdict_line(name, word),
         None => None,
@@ -210,6 +245,7 @@ fn word_line(alloc: Global, word: &str, rest: &str) -> Result<Option<Line>, Allo
     match word {
         "session" => Ok(bytes_in(alloc, rest)?.map(|id| Line::Setting(Setting::Session(id)))),
         "inputs" => Ok(number_in(alloc, rest)?.map(|n| Line::Setting(Setting::Inputs(n)))),
+        "banner" => Ok(text_in(alloc, rest)?.map(|text| Line::Setting(Setting::Banner(text)))),
         "config" => config_line(alloc, rest),
         "answer" => Ok(answer_line(rest)),
         "sign" => sign_line(alloc, rest),

@@ -1,9 +1,10 @@
 // The lines of a script.
 
-use crate::answers::{OpenVerdict, Verdict};
+use crate::answers::{InteractiveVerdict, OpenVerdict, Verdict};
 use bytes::Bytes;
 use ssh_keys::AcceptedSignature;
 use ssh_link::{Command, OpenAnswer};
+use ssh_wire::Text;
 
 /// How a session is set up, and what its handler answers.
 #[derive(Debug, Drop)]
@@ -30,8 +31,12 @@ pub enum Setting {
     AnswerPublickey(Verdict),
     /// One more answer to the requests that are signed by the key of a certificate.
     AnswerCertificate(Verdict),
+    /// One more answer to a user of keyboard-interactive.
+    AnswerInteractive(InteractiveVerdict),
     /// One more banner callback fails.
     FailBanner,
+    /// The banner that is given where no banner callback fails; the last of these counts.
+    Banner(Text),
     /// The answer to the channels that the peer opens; the last of these counts.
     AnswerOpen(OpenVerdict),
 }

@@ -6,15 +6,16 @@ ghost use Rattle.ssh_keys.specs.Keys.{key_blob};
 ghost use Rattle.ssh_script.specs.Print.{hex_text, key_text, channel_text, hold_text, frame_line, channel_line, asked_line, window_line, command_line, entry_lines};
 
 use crate::asked::Asked;
+use crate::print_interactive::print_auth_keyboard_interactive;
 use crate::print_notice::{print_answer, print_notice, print_outcome};
 use bytes::Bytes;
 use ssh_keys::{Algorithm, PublicKey};
 use ssh_link::{CommandOutcome, Frame, TraceEntry};
-use ssh_wire::ChannelId;
+use ssh_wire::{ChannelId, Text};
 use std::alloc::{AllocError, Global};
 
 /// Bytes in hex, and `-` for none.
-fn print_hex(alloc: Global, out: &mut String, bytes: &[u8]) -> Result<(), AllocError>
+pub(crate) fn print_hex(alloc: Global, out: &mut String, bytes: &[u8]) -> Result<(), AllocError>
     ensures { OnOk result (string_bytes out.new ≡ string_bytes out.old ++ hex_text bytes.now) }
 {
     if bytes.is_empty() {
@@ -22,6 +23,13 @@ fn print_hex(alloc: Global, out: &mut String, bytes: &[u8]) -> Result<(), AllocE
     }
     let text = hex::encode(alloc, bytes)?;
     out.push_str(text.as_str())
+}
+
+/// A text in hex, and `-` for an empty one.
+pub(crate) fn print_text(alloc: Global, out: &mut String, text: &Text) -> Result<(), AllocError>
+    ensures { OnOk result (string_bytes out.new ≡ string_bytes out.old ++ hex_text text.now) }
+{
+    print_hex(alloc, out, text.as_str().as_bytes())
 }
 
 /// A number in decimal.
@@ -32,26 +40,26 @@ pub(crate) fn print_number(alloc: Global, out: &mut String, number: u64) -> Resu
     out.push_str(text.as_str())
 }
 
-fn print_auth_none(alloc: Global, out: &mut String, user: &[u8]) -> Result<(), AllocError>
+fn print_auth_none(alloc: Global, out: &mut String, user: &Text) -> Result<(), AllocError>
     ensures { OnOk result (string_bytes out.new ≡ string_bytes out.old ++ codes "call auth_none " ++ hex_text user.now ++ codes "\n") }
 {
     out.push_str("call auth_none ")?;
-    print_hex(alloc, out, user)?;
+    print_text(alloc, out, user)?;
     out.push_str("\n")
 }
 
 fn print_auth_password(
     alloc: Global,
     out: &mut String,
-    user: &[u8],
-    password: &[u8],
+    user: &Text,
+    password: &Text,
 ) -> Result<(), AllocError>
     ensures { OnOk result (string_bytes out.new ≡ string_bytes out.old ++ codes "call auth_password " ++ hex_text user.now ++ codes " " ++ hex_text password.now ++ codes "\n") }
 {
     out.push_str("call auth_password ")?;
-    print_hex(alloc, out, user)?;
+    print_text(alloc, out, user)?;
     out.push_str(" ")?;
-    print_hex(alloc, out, password)?;
+    print_text(alloc, out, password)?;
     out.push_str("\n")
 }
 
@@ -84,13 +92,13 @@ fn print_key(
 fn print_user_key(
     alloc: Global,
     out: &mut String,
-    user: &[u8],
+    user: &Text,
     key: &PublicKey,
     algorithm: Algorithm,
 ) -> Result<(), AllocError>
     ensures { OnOk result (string_bytes out.new ≡ string_bytes out.old ++ hex_text user.now ++ codes " " ++ key_text key.now algorithm ++ codes "\n") }
 {
-    print_hex(alloc, out, user)?;
+    print_text(alloc, out, user)?;
     out.push_str(" ")?;
     print_key(alloc, out, key, algorithm)?;
     out.push_str("\n")
@@ -99,7 +107,7 @@ fn print_user_key(
 fn print_auth_publickey_offered(
     alloc: Global,
     out: &mut String,
-    user: &[u8],
+    user: &Text,
     key: &PublicKey,
     algorithm: Algorithm,
 ) -> Result<(), AllocError>
@@ -112,7 +120,7 @@ fn print_auth_publickey_offered(
 fn print_auth_publickey(
     alloc: Global,
     out: &mut String,
-    user: &[u8],
+    user: &Text,
     key: &PublicKey,
     algorithm: Algorithm,
 ) -> Result<(), AllocError>
@@ -125,15 +133,15 @@ fn print_auth_publickey(
 fn print_auth_openssh_certificate(
     alloc: Global,
     out: &mut String,
-    user: &[u8],
-    key_id: &[u8],
+    user: &Text,
+    key_id: &Text,
 ) -> Result<(), AllocError>
     ensures { OnOk result (string_bytes out.new ≡ string_bytes out.old ++ codes "call auth_openssh_certificate " ++ hex_text user.now ++ codes " " ++ hex_text key_id.now ++ codes "\n") }
 {
     out.push_str("call auth_openssh_certificate ")?;
-    print_hex(alloc, out, user)?;
+    print_text(alloc, out, user)?;
     out.push_str(" ")?;
-    print_hex(alloc, out, key_id)?;
+    print_text(alloc, out, key_id)?;
     out.push_str("\n")
 }
 
@@ -185,31 +193,26 @@ fn print_asked(alloc: Global, out: &mut String, asked: &Asked) -> Result<(), All
 {
     match asked {
         Asked::AuthenticationBanner => out.push_str("call authentication_banner\n"),
-        Asked::AuthNone { user } => print_auth_none(alloc, out, user.as_str().as_bytes()),
-        Asked::AuthPassword { user, password } => {
-            let password = password.as_str().as_bytes();
-            print_auth_password(alloc, out, user.as_str().as_bytes(), password)
-        }
+        Asked::AuthNone { user } => print_auth_none(alloc, out, user),
+        Asked::AuthPassword { user, password } => print_auth_password(alloc, out, user, password),
         Asked::AuthPublickeyOffered {
             user,
             public_key,
             algorithm,
-        } => {
-            let user = user.as_str().as_bytes();
-            print_auth_publickey_offered(alloc, out, user, public_key, *algorithm)
-        }
+        } => print_auth_publickey_offered(alloc, out, user, public_key, *algorithm),
         Asked::AuthPublickey {
             user,
             public_key,
             algorithm,
-        } => {
-            let user = user.as_str().as_bytes();
-            print_auth_publickey(alloc, out, user, public_key, *algorithm)
-        }
+        } => print_auth_publickey(alloc, out, user, public_key, *algorithm),
         Asked::AuthOpensshCertificate { user, certificate } => {
-            let key_id = certificate.key_id.as_str().as_bytes();
-            print_auth_openssh_certificate(alloc, out, user.as_str().as_bytes(), key_id)
+            print_auth_openssh_certificate(alloc, out, user, &certificate.key_id)
         }
+        Asked::AuthKeyboardInteractive {
+            user,
+            submethods,
+            response,
+        } => print_auth_keyboard_interactive(alloc, out, user, submethods, response),
         Asked::AuthSucceeded => out.push_str("call auth_succeeded\n"),
         Asked::ChannelOpenSession { channel } => {
             print_of_channel(alloc, out, "channel_open_session", *channel)

@@ -49,6 +49,7 @@ fn variant_name(error: &RunError<RecordError<ScriptError>>) -> &'static str
         RunError::Encoding(_) => "Encoding",
         RunError::Inconsistent => "Inconsistent",
         RunError::Key(_) => "Key",
+        RunError::UnsupportedAuthMethod => "UnsupportedAuthMethod",
         RunError::Handler(_) => "Handler",
         RunError::NotBuilt => "NotBuilt",
     }

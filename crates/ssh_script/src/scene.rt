@@ -29,7 +29,9 @@ impl Script {
                 offered: Vec::new(alloc),
                 publickey: Vec::new(alloc),
                 certificate: Vec::new(alloc),
+                interactive: Vec::new(alloc),
                 failing_banners: 0,
+                banner: None,
                 opens: OpenVerdict::Accept,
             },
             tickets: 0,
@@ -60,10 +62,12 @@ impl Script {
             Setting::AnswerOffered(verdict) => self.answers.offered.push(verdict)?,
             Setting::AnswerPublickey(verdict) => self.answers.publickey.push(verdict)?,
             Setting::AnswerCertificate(verdict) => self.answers.certificate.push(verdict)?,
+            Setting::AnswerInteractive(verdict) => self.answers.interactive.push(verdict)?,
             Setting::FailBanner => {
                 let more = self.answers.failing_banners.checked_add(1);
                 self.answers.failing_banners = more.ok_or(AllocError)?;
             }
+            Setting::Banner(text) => self.answers.banner = Some(text),
             Setting::AnswerOpen(verdict) => self.answers.opens = verdict,
         }
         Ok(true)

@@ -1,13 +1,14 @@
 // A handler that answers by a script, and tells its calls.
-ghost use Rattle.std.specs.Prelude.{◌≡◌, ◌-◌, [], ◌∷◌, ◌++◌, None, Some, true, false, drop, OnOk, OnErr, IfOk, IsOk};
+ghost use Rattle.std.specs.Prelude.{◌≡◌, ◌-◌, [], ◌∷◌, ◌++◌, None, Some, Ok, true, false, drop, OnOk, OnErr, IfOk, IsOk};
 ghost use Rattle.ssh_handler.specs.declared.recorded.RecordError.TheVariants.{NoMemory};
 ghost use Rattle.ssh_script.specs.Played.{queues_in, queues_from, first_verdict, verdict_answer, banner_answer, left_after};
 ghost use Rattle.ssh_script.specs.Opens.{open_answer, recorded};
 
-use crate::answers::{Answers, OpenVerdict, Places, Verdict};
+use crate::answers::{Answers, InteractiveVerdict, OpenVerdict, Places, Verdict};
 use crate::asked::Asked;
+use crate::interactive::interactive_answer_of;
 use crate::queue::place_after;
-use ssh_auth::{Auth, AuthHandler, PublicKeyOffer, Unwritten, VerifiedPublicKey};
+use ssh_auth::{Auth, AuthHandler, PublicKeyOffer, Response, Unwritten, VerifiedPublicKey};
 use ssh_handler::{Commands, Handler, RecordError};
 use ssh_keys::Certificate;
 use ssh_link::{ChannelOpenHandle, CommandOutcome, OpenAnswer};
@@ -20,7 +21,7 @@ pub struct ScriptError;
 
 /// Answers the k-th request of a kind by the k-th verdict on that kind. Later offers of keys are
 /// accepted, and all other later requests are refused. The first banner callbacks fail, as many as
-/// the script says, and the later ones give no banner.
+/// the script says, and the later ones give the script's banner, where it has one.
 #[derive(Drop)]
 pub struct ScriptHandler {
     alloc: Global,
@@ -50,6 +51,7 @@ impl ScriptHandler {
                 offered: 0,
                 publickey: 0,
                 certificate: 0,
+                interactive: 0,
             },
             banners_left,
             lost: false,
@@ -68,6 +70,21 @@ impl ScriptHandler {
         ensures { result ≡ self.now.lost }
     {
         self.lost
+    }
+}
+
+// What was made, where there was memory for it.
+fn made<T>(lost: &mut bool, made: Result<T, WireError>) -> Result<T, RecordError<ScriptError>>
+    ensures made { IfOk result (λ value. made ≡ Ok value) }
+    ensures same { OnOk result (lost.new ≡ lost.old) }
+    ensures lost { OnErr result (lost.new ≡ true) }
+{
+    match made {
+        Ok(value) => Ok(value),
+        Err(_) => {
+            *lost = true;
+            Err(RecordError::NoMemory)
+        }
     }
 }
 
@@ -95,7 +112,7 @@ fn keep(
 }
 
 // The verdict of this number, and this one after the last.
-fn verdict_at(verdicts: &Vec<Verdict>, next: usize, default: Verdict) -> Verdict
+fn verdict_at<V: Copy>(verdicts: &Vec<V>, next: usize, default: V) -> V
     ensures { result ≡ first_verdict default (drop next verdicts.now.items) }
 {
     match verdicts.get(next) {
@@ -104,7 +121,7 @@ fn verdict_at(verdicts: &Vec<Verdict>, next: usize, default: Verdict) -> Verdict
     }
 }
 
-fn answer_of(verdict: Verdict) -> Result<Auth, RecordError<ScriptError>>
+pub(crate) fn answer_of(verdict: Verdict) -> Result<Auth, RecordError<ScriptError>>
     ensures { result ≡ verdict_answer verdict }
 {
     match verdict {
@@ -114,11 +131,25 @@ fn answer_of(verdict: Verdict) -> Result<Auth, RecordError<ScriptError>>
     }
 }
 
-fn banner_of(banners_left: u64) -> Result<Option<Text>, RecordError<ScriptError>>
-    ensures { result ≡ banner_answer banners_left }
+// The same banner, where there is one.
+fn copied(banner: &Option<Text>) -> Result<Option<Text>, WireError>
+    ensures { IfOk result (λ copied. copied ≡ banner.now) }
+{
+    match banner {
+        Some(text) => Ok(Some(text.copy()?)),
+        None => Ok(None),
+    }
+}
+
+// This banner, once no more banner callbacks fail.
+fn banner_of(
+    banners_left: u64,
+    banner: Option<Text>,
+) -> Result<Option<Text>, RecordError<ScriptError>>
+    ensures { result ≡ banner_answer banners_left banner }
 {
     if banners_left == 0 {
-        Ok(None)
+        Ok(banner)
     } else {
         Err(RecordError::Inner(ScriptError))
     }
@@ -173,12 +204,13 @@ impl AuthHandler for ScriptHandler {
     }
 
     fn authentication_banner(&mut self) -> Result<Option<Text>, RecordError<ScriptError>> {
+        let banner = made(&mut self.lost, copied(&self.answers.banner))?;
         keep(
             &mut self.asked,
             &mut self.lost,
             Ok(Asked::AuthenticationBanner),
         )?;
-        let answer = banner_of(self.banners_left);
+        let answer = banner_of(self.banners_left, banner);
         self.banners_left = self.banners_left.saturating_sub(1);
         answer
     }
@@ -245,6 +277,21 @@ impl AuthHandler for ScriptHandler {
         keep(&mut self.asked, &mut self.lost, asked)?;
         self.next.certificate = place_after(&self.answers.certificate, self.next.certificate);
         answer_of(verdict)
+    }
+
+    fn auth_keyboard_interactive(
+        &mut self,
+        user: &str,
+        submethods: &str,
+        response: Option<Response<'_>>,
+    ) -> Result<Auth, RecordError<ScriptError>> {
+        let refusal = InteractiveVerdict::Plain(Verdict::Reject);
+        let verdict = verdict_at(&self.answers.interactive, self.next.interactive, refusal);
+        let answer = made(&mut self.lost, interactive_answer_of(self.alloc, verdict))?;
+        let asked = Asked::interactive(self.alloc, user, submethods, response);
+        keep(&mut self.asked, &mut self.lost, asked)?;
+        self.next.interactive = place_after(&self.answers.interactive, self.next.interactive);
+        answer
     }
 }
 

@@ -1,4 +1,4 @@
-use Rattle.std.proofs.Common.{rules, ◌≡◌, inl, refl, Some, None, ℕ, List}
+use Rattle.std.proofs.Common.{rules, ◌≡◌, inl, Some, None}
 use Rattle.ssh_script.specs.Grammar.{cut, IsHexIn, IsSmall}
 use Rattle.ssh_script.proofs.command_lines.data_line.Goals as goal
 
