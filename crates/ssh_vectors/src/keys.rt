@@ -149,7 +149,7 @@ fn keys(rt: HostRuntime) -> Result<(), Fail> {
 
 #[test]
 fn bad_lines(rt: HostRuntime) -> Result<(), Fail> {
-    let scripts: [&[u8]; 13] = [
+    let scripts: [&[u8]; 12] = [
         b"sign",
         b"sign 0000000b7373682d65643235353139000000201111111111111111111111111111111111111111111111111111111111111111",
         b"sign 0000000b7373682d65643235353139000000201111111111111111111111111111111111111111111111111111111111111111 ssh-ed25519 00",
@@ -162,7 +162,6 @@ fn bad_lines(rt: HostRuntime) -> Result<(), Fail> {
         b"answer publickey",
         b"answer offered hold",
         b"answer certificate Accept",
-        b"answer interactive accept",
     ];
     for script in &scripts {
         let (status, sink) = run(rt.alloc(), &["run"], *script, &[], &[])?;

@@ -9,6 +9,8 @@ mod channels;
 #[cfg(test)]
 mod keys;
 #[cfg(test)]
+mod prompts;
+#[cfg(test)]
 mod runs;
 #[cfg(test)]
 mod transcripts;
