@@ -65,7 +65,7 @@ impl ScriptHandler {
         &self.asked
     }
 
-    /// Whether a callback was not kept, for want of memory.
+    /// Whether a callback was not kept, or its answer not made, for want of memory.
     pub fn lost(&self) -> bool
         ensures { result ≡ self.now.lost }
     {
@@ -73,13 +73,13 @@ impl ScriptHandler {
     }
 }
 
-// What was made, where there was memory for it.
-fn made<T>(lost: &mut bool, made: Result<T, WireError>) -> Result<T, RecordError<ScriptError>>
-    ensures made { IfOk result (λ value. made ≡ Ok value) }
+// The answer to a callback, where there was memory for it.
+fn made<T>(lost: &mut bool, answer: Result<T, WireError>) -> Result<T, RecordError<ScriptError>>
+    ensures made { IfOk result (λ value. answer ≡ Ok value) }
     ensures same { OnOk result (lost.new ≡ lost.old) }
     ensures lost { OnErr result (lost.new ≡ true) }
 {
-    match made {
+    match answer {
         Ok(value) => Ok(value),
         Err(_) => {
             *lost = true;

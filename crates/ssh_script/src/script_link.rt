@@ -1,5 +1,6 @@
 // A link that gives the inputs of a script, and tells its calls.
-ghost use Rattle.std.specs.Prelude.{◌≡◌, [], IfOk};
+ghost use Rattle.std.specs.Prelude.{◌≡◌, [], IfOk, IfErr};
+ghost use Rattle.ssh_wire.specs.declared.error.WireError.TheVariants.{NoMemory};
 ghost use Rattle.ssh_link.specs.Supply.{left_until};
 ghost use Rattle.ssh_script.specs.Given.{as_given, left_after};
 
@@ -24,7 +25,8 @@ pub struct ScriptLink {
 
 // The same inputs.
 fn copied(alloc: Global, inputs: &[Input]) -> Result<Inputs, WireError>
-    ensures { IfOk result (λ copies. copies ≡ inputs.now) }
+    ensures ok { IfOk result (λ copies. copies ≡ inputs.now) }
+    ensures memory { IfErr result (λ e. e ≡ NoMemory) }
 {
     let mut copies = Inputs::new(alloc);
     for input in inputs {
@@ -39,6 +41,7 @@ impl ScriptLink {
         ensures inputs { IfOk result (λ link. link.inputs ≡ inputs) }
         ensures last_moment { IfOk result (λ link. link.last_moment ≡ last_moment) }
         ensures trace { IfOk result (λ link. link.memory.trace ≡ []) }
+        ensures memory { IfErr result (λ e. e ≡ NoMemory) }
     {
         let left = copied(alloc, inputs.as_slice())?;
         Ok(ScriptLink {
