@@ -39,14 +39,18 @@ pub enum ChannelType {
 pub struct TcpChannelInfo {
     /// The host to connect to, or the address that was connected to.
     pub host_to_connect: Text,
+    /// The port to connect to, or the one that was connected to.
     pub port_to_connect: u32,
+    /// The address that the connection comes from.
     pub originator_address: Text,
+    /// The port that the connection comes from.
     pub originator_port: u32,
 }
 
 /// The end of a connection to a Unix socket (OpenSSH PROTOCOL section 2.4).
 #[derive(Debug, Drop)]
 pub struct StreamLocalChannelInfo {
+    /// The path of the socket.
     pub socket_path: Text,
 }
 

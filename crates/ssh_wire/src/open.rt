@@ -17,6 +17,7 @@ const UNKNOWN_CHANNEL_TYPE: u8 = 3;
 /// A request for a channel (RFC 4254 section 5.1). The numbers are those of the side that asks.
 #[derive(Debug, Drop)]
 pub struct OpenChannelMessage {
+    /// The type of the channel, with the fields that are its own.
     pub typ: ChannelType,
     /// The number by which the peer names the channel: the recipient of each message to it.
     pub recipient_channel: u32,
