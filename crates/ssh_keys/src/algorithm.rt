@@ -16,15 +16,20 @@ pub enum Algorithm {
 /// A curve of elliptic curve keys (RFC 5656 section 10.1).
 #[derive(Clone, Copy, Debug, PartialEq, Eq)]
 pub enum EcdsaCurve {
+    /// The curve `nistp256`.
     NistP256,
+    /// The curve `nistp384`.
     NistP384,
+    /// The curve `nistp521`.
     NistP521,
 }
 
 /// A hash that an RSA signature names (RFC 8332 section 3).
 #[derive(Clone, Copy, Debug, PartialEq, Eq)]
 pub enum HashAlg {
+    /// SHA-256: the name `rsa-sha2-256`.
     Sha256,
+    /// SHA-512: the name `rsa-sha2-512`.
     Sha512,
 }
 

@@ -17,6 +17,7 @@ pub enum PublicKeyOrCertificate {
         key: PublicKey,
         hash_alg: Option<HashAlg>,
     },
+    /// A certificate of OpenSSH (PROTOCOL.certkeys).
     Certificate(Certificate),
 }
 

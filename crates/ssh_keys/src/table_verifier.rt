@@ -11,9 +11,13 @@ use std::marker::Model;
 /// A signature that is accepted.
 #[derive(Debug, Drop)]
 pub struct AcceptedSignature {
+    /// The key that signed.
     pub key: PublicKey,
+    /// The algorithm by which it signed.
     pub algorithm: Algorithm,
+    /// What was signed.
     pub message: Bytes,
+    /// The signature, without its length and name.
     pub signature: Bytes,
 }
 
