@@ -1,10 +1,11 @@
 -- Strings one after another, as many as a response announces.
-use Rattle.std.proofs.Common.{◌≡◌, ◌+◌, ◌-◌, ◌<◌, ℕ, suc, List, [], ◌∷◌, ◌++◌, length, map, Bor, Result, Ok, Err, IsErrAnd, MatchResult, inl, inr, refl, sym, subst, arith}
+use Rattle.std.proofs.Common.{◌≡◌, ◌+◌, ◌-◌, ◌<◌, ℕ, suc, List, [], ◌∷◌, ◌++◌, length, map, Bor, Result, Ok, Err, IsErrAnd, MatchResult, inl, inr, refl, sym, ap, subst, arith}
 use Rattle.std.specs.Prelude.{replicate}
 use Rattle.std.proofs.lemmas.List.{map-append}
 use Rattle.ssh_wire.specs.declared.error.WireError.{WireError}
-use Rattle.ssh_wire.specs.Field.{Bytes, SpellsAll, Misfits, MisfitsWhole}
-use Rattle.ssh_auth.specs.Response.{strings, values}
+use Rattle.ssh_wire.specs.Field.{Number, Bytes, SpellsAll, SpellsWhole, Misfits, MisfitsWhole}
+use Rattle.ssh_wire.proofs.Fields.{spells_all_once, misfits_all_not_spells, misfits_whole_not_spells}
+use Rattle.ssh_auth.specs.Response.{Unfit_responses, strings, values, SaysResponses}
 
 -- one more string
 spells_more : (texts : List (List ℕ)) (text bytes left after : List ℕ) → SpellsAll (strings texts) (values texts) bytes left →
@@ -43,6 +44,22 @@ misfits_next texts count bytes left why less h k =
 pub misfits_end : (texts : List (List ℕ)) (count : ℕ) (bytes left : List ℕ) (why : WireError) → length texts ≡ count →
     SpellsAll (strings texts) (values texts) bytes left → MisfitsWhole [] left why → MisfitsWhole (replicate count Bytes) bytes why
 misfits_end texts count bytes left why same h k = misfits_more texts count 0 bytes left why (omega (arith, same)) h k
+
+-- as many strings as were announced
+as_many : (texts : List (List ℕ)) → replicate (length texts) Bytes ≡ strings texts
+as_many [] = refl
+as_many (text ∷ texts) = ap (λ fields. Bytes ∷ fields) (as_many texts)
+
+-- fields that are responses do not misfit
+pub never_unfit : (fields : List ℕ) (responses : List (List ℕ)) (why : WireError) → SpellsWhole (Number ∷ strings responses) (length responses, values responses) fields →
+    SaysResponses fields (Unfit_responses why) → ⊥
+never_unfit fields responses why v (inl m) = misfits_all_not_spells (Number ∷ []) (length responses, tt) fields v.1 why m (v.0, v.1, v.2, v.3, refl)
+never_unfit fields responses why v (inr m) =
+    let once = spells_all_once (Number ∷ []) (length responses, tt) (m.0, tt) fields v.1 m.1 (v.0, v.1, v.2, v.3, refl) m.2 in
+    let count : length responses ≡ m.0 = ap (λ x. x.0) once.0 in
+    let here : MisfitsWhole (replicate m.0 Bytes) v.1 why = subst (λ rest. MisfitsWhole (replicate m.0 Bytes) rest why) (sym once.1) m.3 in
+    let same : MisfitsWhole (replicate (length responses) Bytes) v.1 why = subst (λ n. MisfitsWhole (replicate n Bytes) v.1 why) (sym count) here in
+    misfits_whole_not_spells (strings responses) (values responses) v.1 why (subst (λ l. MisfitsWhole l v.1 why) (as_many responses) same) v.4
 
 -- an error for this reason
 pub fails_as : {T E : Type 0} (result : Result T E) (P : T → Type 0) (Q : E → Type 0) (why : E) → IsErrAnd result (λ e. e ≡ why) → Q why → MatchResult result P Q

@@ -11,7 +11,9 @@ use std::alloc::Global;
 /// The user and the service that a request named (RFC 4252 section 5).
 #[derive(Drop)]
 pub struct Principal {
+    /// The user's name.
     pub user: Text,
+    /// The service that is to start once the user is authenticated.
     pub service: Text,
 }
 

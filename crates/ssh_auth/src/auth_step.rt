@@ -20,5 +20,6 @@ pub enum AuthVerdict {
 pub struct AuthStep {
     /// One payload: success, failure, or what the method goes on with.
     pub reply: Bytes,
+    /// What the request means.
     pub verdict: AuthVerdict,
 }

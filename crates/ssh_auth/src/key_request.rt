@@ -37,6 +37,7 @@ pub(crate) struct Offer<'a> {
     pub name: &'a str,
     /// The blob, as it stands in the request.
     pub blob: &'a [u8],
+    /// The key or the certificate that the blob holds.
     pub key: PublicKeyOrCertificate,
     /// The algorithm that has to sign.
     pub algorithm: Algorithm,
@@ -53,9 +54,11 @@ impl<'a> Model for Offer<'a> {
 /// The signature that ends a request, and what it covers.
 #[derive(Drop)]
 pub(crate) struct SignedRequest<'a> {
+    /// The session id of the key exchange (RFC 4253 section 7.2).
     pub session_id: &'a [u8],
     /// The payload up to the signature.
     pub unsigned: &'a [u8],
+    /// The signature in the request.
     pub signature: Signature,
 }
 

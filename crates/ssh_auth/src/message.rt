@@ -13,8 +13,11 @@ use std::alloc::Global;
 /// The fields that each USERAUTH_REQUEST begins with (RFC 4252 section 5), and what follows them.
 #[derive(Clone, Copy)]
 pub(crate) struct RequestHead<'a> {
+    /// The user's name.
     pub user: &'a str,
+    /// The service that is to start once the user is authenticated.
     pub service: &'a str,
+    /// The name of the method.
     pub method: &'a str,
     /// The fields of the method, unread.
     pub rest: &'a [u8],

@@ -13,6 +13,7 @@ pub struct PublicKeyOffer<'a> {
 /// A key that has signed the request: the verifier accepted its signature.
 #[derive(Clone, Copy, Debug)]
 pub struct VerifiedPublicKey<'a> {
+    /// The key.
     pub public_key: &'a PublicKey,
     /// The algorithm by which it signed.
     pub algorithm: Algorithm,

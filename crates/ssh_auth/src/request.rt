@@ -17,10 +17,13 @@ use std::alloc::Global;
 /// A request, once its user is known.
 #[derive(Clone, Copy)]
 pub(crate) struct Request<'a> {
+    /// The session id of the key exchange (RFC 4253 section 7.2).
     pub session_id: &'a [u8],
     /// The time in milliseconds since 1970.
     pub moment: u64,
+    /// The whole request.
     pub payload: &'a [u8],
+    /// The user's name.
     pub user: &'a str,
     /// The fields of the method, which end the payload.
     pub fields: &'a [u8],

@@ -1,7 +1,11 @@
 // The responses of a round of keyboard-interactive, as a handler is given them.
-ghost use Rattle.std.specs.Prelude.{◌≡◌, map};
+ghost use Rattle.std.specs.Prelude.{◌≡◌, IfOk, IfErr, map};
 ghost use Rattle.std.specs.Iterator.{YieldsFirstRef, item_count};
+ghost use Rattle.ssh_wire.specs.declared.error.WireError.TheVariants.{NoMemory};
 
+use bytes::Bytes;
+use ssh_wire::{Blobs, WireError};
+use std::alloc::Global;
 use std::marker::Model;
 
 /// The responses to the last prompts, in their order. A client that keeps to RFC 4256 section 3.4
@@ -33,6 +37,18 @@ impl<'a> Response<'a> {
         ensures { result ≡ self.now }
     {
         Response { left: self.left }
+    }
+
+    /// Copies of the responses that are left, in their order, to keep. `NoMemory` is the only error.
+    pub fn into_blobs(self, alloc: Global) -> Result<Blobs, WireError>
+        ensures ok { IfOk result (λ blobs. blobs ≡ self.entry) }
+        ensures memory { IfErr result (λ e. e ≡ NoMemory) }
+    {
+        let mut blobs = Blobs::new(alloc);
+        for text in self {
+            blobs.push(Bytes::copy_from_slice(alloc, text)?)?;
+        }
+        Ok(blobs)
     }
 }
 
