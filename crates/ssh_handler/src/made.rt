@@ -3,10 +3,9 @@ ghost use Rattle.std.specs.Prelude.{◌≡◌, IfOk};
 ghost use Rattle.ssh_auth.specs.declared.call.Call.TheVariants.{AuthenticationBanner, AuthNone, AuthPassword, AuthPublickeyOffered, AuthPublickey, AuthOpensshCertificate, AuthKeyboardInteractive, AuthSucceeded, ChannelOpenSession, ChannelEof, ChannelClose, WindowAdjusted};
 
 use crate::Commands;
-use bytes::Bytes;
 use ssh_auth::{Auth, Call, Response};
 use ssh_keys::{Algorithm, Certificate, PublicKey};
-use ssh_wire::{Blobs, ChannelId, Text, WireError};
+use ssh_wire::{ChannelId, Text, WireError};
 use std::alloc::Global;
 
 // A copy of an answer to a request of authentication.
@@ -20,23 +19,6 @@ fn copied_auth<E: Copy>(
         Ok(auth) => Ok(Ok(auth.copy(alloc)?)),
         Err(e) => Ok(Err(*e)),
     }
-}
-
-// Copies of the responses to prompts.
-fn copied_response(
-    alloc: Global,
-    response: Option<Response<'_>>,
-) -> Result<Option<Blobs>, WireError>
-    ensures { IfOk result (λ copied. copied ≡ response.entry) }
-{
-    let Some(response) = response else {
-        return Ok(None);
-    };
-    let mut copies = Blobs::new(alloc);
-    for text in response {
-        copies.push(Bytes::copy_from_slice(alloc, text)?)?;
-    }
-    Ok(Some(copies))
 }
 
 pub(crate) fn made_authentication_banner<E: Copy>(
@@ -141,7 +123,10 @@ pub(crate) fn made_auth_keyboard_interactive<E: Copy>(
     Ok(Call::AuthKeyboardInteractive {
         user: Text::new(alloc, user)?,
         submethods: Text::new(alloc, submethods)?,
-        response: copied_response(alloc, response)?,
+        response: match response {
+            Some(response) => Some(response.into_blobs(alloc)?),
+            None => None,
+        },
         answer: copied_auth(alloc, answer)?,
     })
 }
