@@ -140,11 +140,11 @@ not_below h = absurd (omega (arith, h))
 pub kept : (scene : Scene) (status : ℕ) (result : Result (Unit {0}) (RunError Failure)) (lost lost' : Bool) (queues queues' : Queues) (old all : List Asked)
     (inputs inputs' : List Input) (moment moment' : ℕ) (trace trace' : List TraceEntry) (id text : List ℕ) → lost ≡ false → lost' ≡ false → queues ≡ scene.queues → old ≡ [] →
     inputs ≡ scene.inputs → moment ≡ scene.moment → trace ≡ [] → as_given (left_until moment' inputs') trace' ≡ trace' → status_of result ≡ Some status → id ≡ scene.session_id →
-    Ran (scene_accepts scene) (settings_of scene.config id) (told_of lost queues old) (told_of lost' queues' all) (trace_of inputs moment trace) (trace_of inputs' moment' trace') 0 0 scene.max_inputs result →
+    Ran (scene_accepts scene) (settings_of scene.config id []) (told_of lost queues old) (told_of lost' queues' all) (trace_of inputs moment trace) (trace_of inputs' moment' trace') 0 0 scene.max_inputs result →
     text ≡ flat_map asked_line all ++ entry_lines 0 trace' ++ last_line result → IsRun scene status text
 kept scene status result lost lost' queues queues' old all inputs inputs' moment moment' trace trace' id text l m qe oe ie me te given h de given_ran texts =
     let ran : Ran (scene_accepts scene) (scene_settings scene) (told_of lost queues old) (told_of lost' queues' all) (trace_of inputs moment trace) (trace_of inputs' moment' trace') 0 0 scene.max_inputs result =
-    subst (λ x. Ran (scene_accepts scene) (settings_of scene.config x) (told_of lost queues old) (told_of lost' queues' all) (trace_of inputs moment trace) (trace_of inputs' moment' trace') 0 0 scene.max_inputs result)
+    subst (λ x. Ran (scene_accepts scene) (settings_of scene.config x []) (told_of lost queues old) (told_of lost' queues' all) (trace_of inputs moment trace) (trace_of inputs' moment' trace') 0 0 scene.max_inputs result)
     de given_ran in
     let calls = flat_map (calls_of {E = Failure}) (ran.turns ++ option_to_list ran.last) in
     let told = flat_map (entries {E = Failure}) (ran.turns ++ option_to_list ran.last) in

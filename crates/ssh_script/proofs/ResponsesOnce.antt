@@ -5,6 +5,7 @@ use Rattle.ssh_wire.specs.declared.error.WireError.{WireError}
 use Rattle.ssh_wire.specs.Field.{Number, Bytes, Text, SpellsAll, MisfitsWhole}
 use Rattle.ssh_wire.proofs.Fields.{spells_once, spells_all_once, spells_whole_once, misfits_all_not_spells, misfits_whole_not_spells, misfits_all_once, misfits_whole_once}
 use Rattle.ssh_auth.specs.Response.{Responded, Responses, Unfit_responses, Unread_responses, strings, values, SaysResponses}
+use Rattle.ssh_auth.proofs.Responses.{never_unfit}
 use Rattle.ssh_auth.specs.Said.{Method, Interactive_method, Unfit_method, SaysInteractive}
 
 pub interactive_once : (rest : List ℕ) (a b : Method) → SaysInteractive rest a → SaysInteractive rest b → a ≡ b
@@ -40,20 +41,6 @@ read_once : (fields : List ℕ) (xs ys : List (List ℕ)) → SaysResponses fiel
 read_once fields xs ys h k =
     let count = spells_once Number (length xs) (length ys) h.0 k.0 h.1 k.1 h.2 k.2 (sym h.3 ∙ k.3) in
     strings_once xs ys h.1 count.0 h.4 (subst (λ after. SpellsAll (strings ys) (values ys) after []) (sym count.2) k.4)
-
--- as many strings as were announced
-as_many : (texts : List (List ℕ)) → replicate (length texts) Bytes ≡ strings texts
-as_many [] = refl
-as_many (text ∷ texts) = ap (λ fields. Bytes ∷ fields) (as_many texts)
-
-never_unfit : (fields : List ℕ) (xs : List (List ℕ)) (why : WireError) → SaysResponses fields (Responses xs) → SaysResponses fields (Unfit_responses why) → ⊥
-never_unfit fields xs why h (inl k) = misfits_all_not_spells (Number ∷ []) (length xs, tt) fields h.1 why k (h.0, h.1, h.2, h.3, refl)
-never_unfit fields xs why h (inr k) =
-    let once = spells_all_once (Number ∷ []) (length xs, tt) (k.0, tt) fields h.1 k.1 (h.0, h.1, h.2, h.3, refl) k.2 in
-    let count : length xs ≡ k.0 = ap (λ v. v.0) once.0 in
-    let here : MisfitsWhole (replicate k.0 Bytes) h.1 why = subst (λ rest. MisfitsWhole (replicate k.0 Bytes) rest why) (sym once.1) k.3 in
-    let same : MisfitsWhole (replicate (length xs) Bytes) h.1 why = subst (λ n. MisfitsWhole (replicate n Bytes) h.1 why) (sym count) here in
-    misfits_whole_not_spells (strings xs) (values xs) h.1 why (subst (λ fields. MisfitsWhole fields h.1 why) (as_many xs) same) h.4
 
 unfit_once : (fields : List ℕ) (why other : WireError) → SaysResponses fields (Unfit_responses why) → SaysResponses fields (Unfit_responses other) → why ≡ other
 unfit_once fields why other (inl h) (inl k) = misfits_all_once (Number ∷ []) fields why other h k

@@ -24,8 +24,9 @@ status_of (Err error.NoMemory) = None
 status_of (Err (error.Handler record_error.NoMemory)) = None
 status_of (Err e) = Some 1
 
+-- a script does not name the software of its peer
 abbrev pub scene_settings : Scene → Settings
-scene_settings scene = settings_of scene.config scene.session_id
+scene_settings scene = settings_of scene.config scene.session_id []
 
 -- the signatures that are accepted are those of the scene
 abbrev pub scene_accepts : Scene → Acceptance

@@ -2,7 +2,6 @@
 ghost use Rattle.std.specs.Prelude.{◌≡◌, IfOk};
 ghost use Rattle.ssh_script.specs.declared.asked.Asked.TheVariants as asked;
 
-use bytes::Bytes;
 use ssh_auth::{PublicKeyOffer, Response, VerifiedPublicKey};
 use ssh_keys::{Algorithm, Certificate, PublicKey};
 use ssh_link::CommandOutcome;
@@ -93,23 +92,6 @@ pub enum Asked {
     },
 }
 
-// Copies of the responses to prompts.
-fn copied_response(
-    alloc: Global,
-    response: Option<Response<'_>>,
-) -> Result<Option<Blobs>, WireError>
-    ensures { IfOk result (λ copied. copied ≡ response.entry) }
-{
-    let Some(response) = response else {
-        return Ok(None);
-    };
-    let mut copies = Blobs::new(alloc);
-    for text in response {
-        copies.push(Bytes::copy_from_slice(alloc, text)?)?;
-    }
-    Ok(Some(copies))
-}
-
 impl Asked {
     /// A request of method none.
     pub(crate) fn none(alloc: Global, user: &str) -> Result<Asked, WireError>
@@ -186,7 +168,10 @@ impl Asked {
         Ok(Asked::AuthKeyboardInteractive {
             user: Text::new(alloc, user)?,
             submethods: Text::new(alloc, submethods)?,
-            response: copied_response(alloc, response)?,
+            response: match response {
+                Some(response) => Some(response.into_blobs(alloc)?),
+                None => None,
+            },
         })
     }
 }

@@ -68,6 +68,7 @@ pub waits_no_longer : (settings : Settings) (old new : Session) (w : World) (n :
 waits_no_longer settings old new w n r k a = record {
   config = ap (λ s. s.config) k ∙ r.config;
   session_id = ap (λ s. s.session_id) k ∙ r.session_id;
+  remote_sshid = ap (λ s. s.remote_sshid) k ∙ r.remote_sshid;
   phase = ap (λ s. s.phase) k ∙ r.phase;
   auth = ap (λ s. s.auth) k ∙ r.auth;
   requested = ap (λ s. s.requested) k ∙ r.requested;

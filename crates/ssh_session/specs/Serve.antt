@@ -26,6 +26,7 @@ is_spent session = session.spent
 pub record Refines (settings : Settings) (session : Session) (w : World) : Type 0 where
   pub config : session.config ≡ settings.config
   pub session_id : session.session_id ≡ settings.session_id
+  pub remote_sshid : session.remote_sshid ≡ settings.remote_sshid
   pub phase : session.phase ≡ w.phase
   pub auth : session.auth ≡ w.auth
   pub requested : session.requested ≡ w.requested

@@ -2,6 +2,7 @@
 -- has what it needs of it, and the relation `Refines` ties the two.
 use Rattle.std.specs.Prelude.{◌+◌, ◌%◌, ◌^◌, ◌==◌, ◌&&◌, ℕ, List, [], length, Bool, false}
 use Rattle.ssh_handler.specs.declared.config.Config.{Config}
+use Rattle.ssh_handler.specs.Lent.{Lent}
 use Rattle.ssh_session.specs.declared.phase.Phase.{Phase}
 use Rattle.ssh_session.specs.declared.phase.Phase.TheVariants.{ServiceRequest}
 use Rattle.ssh_session.specs.Pending.{Pending}
@@ -13,11 +14,18 @@ use Rattle.ssh_session.specs.Entry.{Entry}
 -- what is fixed in a run
 pub record Settings : Type 0 where
   pub config : Config
+  -- the exchange hash of the first key exchange (RFC 4253 section 7.2)
   pub session_id : List ℕ
+  -- the line by which the peer's software named itself (RFC 4253 section 4.2)
+  pub remote_sshid : List ℕ
 
--- a run of a server that is set up so, over a key exchange with this session id
-abbrev pub settings_of : Config → List ℕ → Settings
-settings_of config session_id = record { config = config; session_id = session_id }
+-- a run of a server that is set up so, over a key exchange with this session id, for a peer of this name
+abbrev pub settings_of : Config → List ℕ → List ℕ → Settings
+settings_of config session_id remote_sshid = record { config = config; session_id = session_id; remote_sshid = remote_sshid }
+
+-- what a callback is lent before it records a command
+abbrev pub lent : Settings → Lent
+lent settings = record { recorded = []; config = settings.config; remote_sshid = settings.remote_sshid }
 
 -- what a request at this moment is judged by, where the verifier accepts these signatures
 abbrev pub circumstances : Acceptance → Settings → (moment : ℕ) → Circumstances

@@ -101,7 +101,7 @@ impl Session {
         if entry.eof {
             return Ok(Done::refused(Refusal::SendingEnded));
         }
-        if !entry.waiting.is_empty() {
+        if entry.waits() {
             return Err(RunError::NotBuilt);
         }
         let frame = eof_frame(self.alloc, channel, entry.peer)?;
@@ -119,7 +119,7 @@ impl Session {
             return Ok(Done::refused(Refusal::UnknownChannel));
         };
         let entry = &self.channels[place];
-        if !entry.waiting.is_empty() {
+        if entry.waits() {
             return Err(RunError::NotBuilt);
         }
         let peer = entry.peer;

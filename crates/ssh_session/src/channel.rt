@@ -31,7 +31,7 @@ pub(crate) struct Channel {
 impl Channel {
     ghost use Rattle.std.specs.Prelude.{◌≡◌, ◌++◌, ◌<◌, length, min, IfOk, OnOk, IfErr};
     ghost use Rattle.ssh_wire.specs.declared.error.WireError.TheVariants.{NoMemory};
-    ghost use Rattle.ssh_session.specs.Entry.{Entry, opened, accepted, granting, accepting, flushed, flush_out, credit_left};
+    ghost use Rattle.ssh_session.specs.Entry.{Entry, opened, accepted, waits, granting, accepting, flushed, flush_out, credit_left};
     ghost use Rattle.ssh_session.specs.Held.{Holds};
 
     /// A channel at its opening. `peer`, `window` and `packet` are the peer's number, window and
@@ -74,6 +74,13 @@ impl Channel {
         self.waiting = left;
         self.credit = credit;
         Ok(())
+    }
+
+    /// Whether accepted bytes wait for the peer to grant them.
+    pub(crate) fn waits(&self) -> bool
+        ensures { (e : Entry) → Holds self.now e → e.framed ≡ min (length (accepted e)) e.granted → result ≡ waits e }
+    {
+        !self.waiting.is_empty()
     }
 
     /// The peer grants so many bytes more (RFC 4254 section 5.2). Answers the credit that is left.

@@ -12,7 +12,9 @@ use std::alloc::{AllocError, AllocFailed};
 /// Whether a session takes another input.
 #[derive(Clone, Copy, Debug, PartialEq, Eq)]
 pub enum Flow {
+    /// It takes the next one.
     Continue,
+    /// This input ended the run, well: the end, a DISCONNECT, or a request over the cap on attempts.
     Ended,
 }
 

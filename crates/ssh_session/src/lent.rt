@@ -1,7 +1,8 @@
 // The callbacks that are lent commands, one by one.
 ghost use Rattle.std.specs.Prelude.{◌≡◌, []};
 ghost use Rattle.ssh_auth.specs.Plan.{Auth_succeeded, Channel_open_session, Channel_eof, Channel_close, Window_adjusted};
-ghost use Rattle.ssh_session.specs.Serve.{Puts};
+ghost use Rattle.ssh_session.specs.Serve.{Puts, Refines};
+ghost use Rattle.ssh_session.specs.World.{Settings, World, lent};
 
 use crate::Session;
 use ssh_handler::{Commands, Handler};
@@ -9,9 +10,10 @@ use ssh_link::{ChannelOpenHandle, CommandList};
 use ssh_wire::ChannelId;
 
 impl Session {
-    /// Nothing is recorded yet.
+    /// What a callback is lent. Nothing is recorded yet.
     fn lend(&self) -> Commands<'_>
-        ensures { result.recorded ≡ [] }
+        ensures fresh { result.recorded ≡ [] }
+        ensures lent { (settings : Settings) (w : World) → Refines settings self.now w → result ≡ lent settings }
     {
         Commands::new(self.alloc, &self.config, self.remote_sshid.as_slice())
     }

@@ -1,20 +1,10 @@
 // The messages that a session reads, field by field.
-ghost use Rattle.std.specs.Prelude.{◌≡◌, [], ◌∷◌, MatchResult, drop};
+ghost use Rattle.std.specs.Prelude.{[], ◌∷◌, MatchResult};
 ghost use Rattle.ssh_wire.specs.Field.{Text, SpellsWhole, MisfitsWhole};
 ghost use Rattle.ssh_session.specs.Said.{grant_fields, channel_field};
 ghost use Rattle.ssh_session.specs.OpenRead.{SaysOpen, MisfitsRead};
 
 use ssh_wire::{ChannelId, LayoutError, Reader, WireError};
-
-/// What follows a payload's number.
-pub(crate) fn fields_of(payload: &[u8]) -> &[u8]
-    ensures { result.now ≡ drop 1 payload.now }
-{
-    if payload.is_empty() {
-        return payload;
-    }
-    &payload[1..]
-}
 
 /// The name of the service that a SERVICE_REQUEST asks for (RFC 4253 section 10).
 pub(crate) fn read_service(fields: &[u8]) -> Result<&str, WireError>

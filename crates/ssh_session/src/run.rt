@@ -26,7 +26,7 @@ fn run_inputs<H: Handler, V: Verifier, L: Link>(
     max_inputs: u64,
 ) -> Result<(), RunError<H::Error>>
     requires { length session_id.now < 2 ^ 32 }
-    ensures { Ran (V.accepts verifier.now) (settings_of config.now session_id.now) (H.AuthHandler.told handler.old) (H.AuthHandler.told handler.new)
+    ensures { Ran (V.accepts verifier.now) (settings_of config.now session_id.now remote_sshid.now) (H.AuthHandler.told handler.old) (H.AuthHandler.told handler.new)
         (L.trace link.old) (L.trace link.new) (L.faults link.old) (L.faults link.new) max_inputs result }
 {
     let mut session = Session::new(alloc, config, session_id, remote_sshid)?;
@@ -59,32 +59,32 @@ pub fn run_stream<H: Handler, V: Verifier, L: Link>(
 ) -> Result<(), RunError<H::Error>>
     requires { length session_id.now < 2 ^ 32 }
     // The calls, the frames and the answer are those that the inputs owe, row by row.
-    ensures run { Ran (V.accepts verifier.now) (settings_of config.now session_id.now) (H.AuthHandler.told handler.old) (H.AuthHandler.told handler.new)
+    ensures run { Ran (V.accepts verifier.now) (settings_of config.now session_id.now remote_sshid.now) (H.AuthHandler.told handler.old) (H.AuthHandler.told handler.new)
         (L.trace link.old) (L.trace link.new) (L.faults link.old) (L.faults link.new) max_inputs result }
     // Ok comes only where the last input ended the run.
-    ensures ended { (account : Ran (V.accepts verifier.now) (settings_of config.now session_id.now) (H.AuthHandler.told handler.old) (H.AuthHandler.told handler.new)
+    ensures ended { (account : Ran (V.accepts verifier.now) (settings_of config.now session_id.now remote_sshid.now) (H.AuthHandler.told handler.old) (H.AuthHandler.told handler.new)
         (L.trace link.old) (L.trace link.new) (L.faults link.old) (L.faults link.new) max_inputs result) →
-        OnOk result (IsSomeAnd account.last (λ turn. IsEnding (settings_of config.now session_id.now) account.world turn.input.kind)) }
+        OnOk result (IsSomeAnd account.last (λ turn. IsEnding (settings_of config.now session_id.now remote_sshid.now) account.world turn.input.kind)) }
     // Nothing of the connection is served before an accepted authentication.
-    ensures authorised { (account : Ran (V.accepts verifier.now) (settings_of config.now session_id.now) (H.AuthHandler.told handler.old) (H.AuthHandler.told handler.new)
+    ensures authorised { (account : Ran (V.accepts verifier.now) (settings_of config.now session_id.now remote_sshid.now) (H.AuthHandler.told handler.old) (H.AuthHandler.told handler.new)
         (L.trace link.old) (L.trace link.new) (L.faults link.old) (L.faults link.new) max_inputs result) →
-        Authorised (V.accepts verifier.now) (settings_of config.now session_id.now) nobody ⊥ (account.turns ++ option_to_list account.last) }
+        Authorised (V.accepts verifier.now) (settings_of config.now session_id.now remote_sshid.now) nobody ⊥ (account.turns ++ option_to_list account.last) }
     // Where no fault rose and the last input was valid, it ends well, or memory or the limit of inputs ends it.
-    ensures complete { (account : Ran (V.accepts verifier.now) (settings_of config.now session_id.now) (H.AuthHandler.told handler.old) (H.AuthHandler.told handler.new)
+    ensures complete { (account : Ran (V.accepts verifier.now) (settings_of config.now session_id.now remote_sshid.now) (H.AuthHandler.told handler.old) (H.AuthHandler.told handler.new)
         (L.trace link.old) (L.trace link.new) (L.faults link.old) (L.faults link.new) max_inputs result) →
         L.faults link.new ≡ L.faults link.old →
-        IfSome account.last (IsValid (V.accepts verifier.now) (settings_of config.now session_id.now) account.world) → IsComplete result }
+        IfSome account.last (IsValid (V.accepts verifier.now) (settings_of config.now session_id.now remote_sshid.now) account.world) → IsComplete result }
     // After each finished input, what was sent on each channel is what is due on it: of the accepted bytes the first
     // that the peer granted, in frames that fit, with no data behind an end of file and nothing behind a close.
-    ensures ledger { (account : Ran (V.accepts verifier.now) (settings_of config.now session_id.now) (H.AuthHandler.told handler.old) (H.AuthHandler.told handler.new)
+    ensures ledger { (account : Ran (V.accepts verifier.now) (settings_of config.now session_id.now remote_sshid.now) (H.AuthHandler.told handler.old) (H.AuthHandler.told handler.new)
         (L.trace link.old) (L.trace link.new) (L.faults link.old) (L.faults link.new) max_inputs result) →
         (earlier later : List (Turn _)) → account.turns ≡ earlier ++ later →
-        (w : World) × RunOf (V.accepts verifier.now) (settings_of config.now session_id.now) (opening_world (settings_of config.now session_id.now)) earlier w
+        (w : World) × RunOf (V.accepts verifier.now) (settings_of config.now session_id.now remote_sshid.now) (opening_world (settings_of config.now session_id.now remote_sshid.now)) earlier w
         × Settled w.entries (flat_map entries earlier) }
     // A close goes out only as the answer to the peer's, or by a command once all accepted bytes of the channel are due.
-    ensures closing { (account : Ran (V.accepts verifier.now) (settings_of config.now session_id.now) (H.AuthHandler.told handler.old) (H.AuthHandler.told handler.new)
+    ensures closing { (account : Ran (V.accepts verifier.now) (settings_of config.now session_id.now remote_sshid.now) (H.AuthHandler.told handler.old) (H.AuthHandler.told handler.new)
         (L.trace link.old) (L.trace link.new) (L.faults link.old) (L.faults link.new) max_inputs result) →
-        ClosesRightly (V.accepts verifier.now) (settings_of config.now session_id.now) (account.turns ++ option_to_list account.last) }
+        ClosesRightly (V.accepts verifier.now) (settings_of config.now session_id.now remote_sshid.now) (account.turns ++ option_to_list account.last) }
     ensures link_fault { IsErrOf result RunError.LinkFault → L.faults link.old < L.faults link.new }
 {
     run_inputs(

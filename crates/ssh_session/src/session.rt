@@ -52,7 +52,7 @@ impl Session {
     ) -> Result<Session, WireError>
         requires { length session_id.now < 2 ^ 32 }
         ensures opens { IfOk result (λ session.
-            Refines (settings_of config.now session_id.now) session (opening_world (settings_of config.now session_id.now))) }
+            Refines (settings_of config.now session_id.now remote_sshid.now) session (opening_world (settings_of config.now session_id.now remote_sshid.now))) }
         ensures memory { IfErr result (λ e. e ≡ NoMemory) }
     {
         Ok(Session {

@@ -14,8 +14,8 @@ ghost use Rattle.ssh_session.specs.Serve.{Refines, Serves, heard, is_spent};
 ghost use Rattle.ssh_session.specs.Step.{Steps};
 
 use crate::gate::Gate;
-use crate::message::fields_of;
 use crate::{Flow, RunError, Session};
+use ssh_auth::fields_of;
 use ssh_handler::Handler;
 use ssh_keys::Verifier;
 use ssh_link::{Command, Frame, Input, InputKind, Link, LinkFault};

@@ -13,7 +13,7 @@ returns-in-Ok g c = λ settings w moment r.
     asked settings Auth_succeeded (done_all settings accepted (at_once c.args.reply ∷ []) 0) c.in-Ok.commands _ _ _ _ _ c.args.staged.now.items f.new.staged.items f.new.self f.result
     c.in-Ok.ensures
     (f.ensures settings accepted c.args.staged.now.items (at_once c.args.reply ∷ [])
-    (record { config = r.config; session_id = r.session_id; phase = refl; auth = r.auth; requested = refl; last = r.last; pending = r.pending; channels = r.channels; live = r.live })
+    (record { config = r.config; session_id = r.session_id; remote_sshid = r.remote_sshid; phase = refl; auth = r.auth; requested = refl; last = r.last; pending = r.pending; channels = r.channels; live = r.live })
     c.in_ok-push.ensures.items)
 
 pub returns-in-Err : goal.returns-in-Err

@@ -23,6 +23,7 @@ returns g c = λ settings w r.
       record {
         config = l.config;
         session_id = l.session_id;
+        remote_sshid = l.remote_sshid;
         phase = l.phase;
         auth = l.auth;
         requested = l.requested;

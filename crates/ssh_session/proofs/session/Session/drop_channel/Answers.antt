@@ -7,6 +7,7 @@ returns-clause-gone c = λ settings w r.
     record {
       config = r.config;
       session_id = r.session_id;
+      remote_sshid = r.remote_sshid;
       phase = r.phase;
       auth = r.auth;
       requested = r.requested;

@@ -39,6 +39,7 @@ returns g c = λ settings w r.
     (record {
       config = r.config;
       session_id = r.session_id;
+      remote_sshid = r.remote_sshid;
       phase = r.phase;
       auth = r.auth;
       requested = r.requested;

@@ -1,12 +1,13 @@
-use Rattle.std.proofs.Common.{◌≡◌, [], ◌∷◌, true, false, refl, sym, ◌∙◌, ap, rules}
-use Rattle.std.specs.Prelude.{Some, None, ◌==◌, length}
+use Rattle.std.proofs.Common.{◌≡◌, [], ◌∷◌, true, false, refl, sym, ◌∙◌, ap}
+use Rattle.std.specs.Prelude.{Some, None}
 use Rattle.ssh_link.specs.declared.outcome.Refusal.TheVariants.{UnknownChannel, SendingEnded}
 use Rattle.ssh_session.specs.ChannelLayout.{eof_frame}
+use Rattle.ssh_session.specs.Entry.{waits}
 use Rattle.ssh_session.specs.Entries.{find, put}
 use Rattle.ssh_session.specs.Effect.{eof_effect}
 use Rattle.ssh_session.proofs.Effects.{refused, accepted, one_frame}
 use Rattle.ssh_session.proofs.Listed.{found_number}
-use Rattle.ssh_session.proofs.Places.{read_at, none_at, same_wait}
+use Rattle.ssh_session.proofs.Places.{read_at, none_at}
 use Rattle.ssh_session.proofs.session.Session.send_eof.Goals as goal
 
 pub returns-in_default : goal.returns-in_default
@@ -23,13 +24,13 @@ returns-then-entry g c = λ settings w r.
     refused settings (eof_effect w (find n w.entries)) w SendingEnded c.refused-then-entry.result c.args.staged.now.items c.args.self.now
     (rw (k.0.is, t) refl) c.refused-then-entry.ensures r
 
-pub returns-then-not-is_empty : goal.returns-then-not-is_empty
-returns-then-not-is_empty g c = λ settings w r.
+pub returns-then-waits : goal.returns-then-waits
+returns-then-waits g c = λ settings w r.
     let n = c.args.channel.0 in
     let k = read_at n c.in-Some.place c.args.self.now.channels.items c.deref.result.now w.entries c.index-entry.result.now r.channels c.in-Some.ensures c.deref.ensures.value c.index-entry.ensures in
     let t : k.0.entry.eof ≡ false = sym k.1.eof ∙ c.if-entry.false in
-    let e : (length c.index-entry.result.now.waiting.items == 0) ≡ false = search rules in
-    rw (k.0.is, t, same_wait false c.index-entry.result.now k.0.entry k.1 k.0.framed e) refl
+    let s : waits k.0.entry ≡ true = sym (c.waits.ensures k.0.entry k.1 k.0.framed) ∙ c.if-waits.true in
+    rw (k.0.is, t, s) refl
 
 pub returns : goal.returns
 returns g c = λ settings w r.
@@ -39,8 +40,7 @@ returns g c = λ settings w r.
     let same : Some j.0.entry ≡ Some k.0.entry = sym j.0.is ∙ k.0.is in
     let one : j.0.entry ≡ k.0.entry = cc in
     let t : j.0.entry.eof ≡ false = sym j.1.eof ∙ c.if-entry.false in
-    let e : (length c.index-entry.result.now.waiting.items == 0) ≡ true = search rules in
-    let s = same_wait true c.index-entry.result.now j.0.entry j.1 j.0.framed e in
+    let s : waits j.0.entry ≡ false = sym (c.waits.ensures j.0.entry j.1 j.0.framed) ∙ c.if-waits.false in
     let a = k.0 in
     let h = k.1 in
     let m = found_number n w.entries a.entry a.is in
@@ -51,6 +51,7 @@ returns g c = λ settings w r.
     (record {
       config = r.config;
       session_id = r.session_id;
+      remote_sshid = r.remote_sshid;
       phase = r.phase;
       auth = r.auth;
       requested = r.requested;

@@ -16,7 +16,7 @@ returns-in-Ok g c = λ settings w r.
           _ _ _ state c.in-Ok.step c.args.staged.now.items f.new.staged.items f.new.self f.result r.auth said.2
           (flagged settings c.args.moment now c.args.self.now.requested w.requested c.in-Ok.step _ _ c.args.staged.now.items f.new.staged.items f.new.self f.result r.requested
           (f.ensures settings now
-          (record { config = r.config; session_id = r.session_id; phase = r.phase; auth = refl; requested = r.requested; last = r.last; pending = r.pending; channels = r.channels; live = r.live }))),
+          (record { config = r.config; session_id = r.session_id; remote_sshid = r.remote_sshid; phase = r.phase; auth = refl; requested = r.requested; last = r.last; pending = r.pending; channels = r.channels; live = r.live }))),
     )
 
 pub returns-in-Err : goal.returns-in-Err

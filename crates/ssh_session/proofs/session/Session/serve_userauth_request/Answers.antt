@@ -14,7 +14,7 @@ returns-in-Ok g c = λ settings w r.
           (c.as_slice.ensures ∙ r.session_id) asked.1,
       answered settings c.args.moment w true (λ auth. verdict auth asked.0) c.args.self.now.auth (g.H.AuthHandler.told c.args.handler.now) (g.H.AuthHandler.told c.serve_request.new.handler)
           _ _ _ state c.in-Ok.step c.args.staged.now.items c.finish_request.new.staged.items c.finish_request.new.self c.finish_request.result r.auth asked.2
-          (c.finish_request.ensures settings (record w { auth = state }) (record { config = r.config; session_id = r.session_id; phase = r.phase; auth = refl; requested = r.requested; last = r.last; pending = r.pending; channels = r.channels; live = r.live })),
+          (c.finish_request.ensures settings (record w { auth = state }) (record { config = r.config; session_id = r.session_id; remote_sshid = r.remote_sshid; phase = r.phase; auth = refl; requested = r.requested; last = r.last; pending = r.pending; channels = r.channels; live = r.live })),
     )
 
 pub returns-in-Err : goal.returns-in-Err
