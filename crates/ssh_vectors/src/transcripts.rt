@@ -14,8 +14,11 @@ const SERVICE: &[u8] = b"recv 050000000c7373682d7573657261757468\n";
 /// A script, and what comes of it.
 #[derive(Drop)]
 pub(crate) struct Case {
+    /// The script.
     pub script: &'static [u8],
+    /// The exit status of its run.
     pub status: u8,
+    /// The bytes that the run writes.
     pub written: &'static [u8],
 }
 
