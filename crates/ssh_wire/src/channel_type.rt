@@ -15,7 +15,9 @@ pub enum ChannelType {
     Session,
     /// A connection to the X server (RFC 4254 section 6.3.2).
     X11 {
+        /// The address that the connection comes from.
         originator_address: Text,
+        /// The port that the connection comes from.
         originator_port: u32,
     },
     /// A connection out of the server (RFC 4254 section 7.2).
@@ -30,6 +32,7 @@ pub enum ChannelType {
     AgentForward,
     /// A type that is not read, whose own fields stay unread.
     Unknown {
+        /// The name of the type.
         typ: Text,
     },
 }

@@ -17,7 +17,10 @@ pub enum WireError {
     NotUtf8,
     /// Bytes follow the last field.
     #[error("{left} bytes follow the last field")]
-    Trailing { left: usize },
+    Trailing {
+        /// How many bytes follow.
+        left: usize,
+    },
     /// The field is longer than a length of four bytes can say.
     #[error("the field is longer than 2^32 - 1 bytes")]
     TooLong,
