@@ -1,4 +1,5 @@
--- When a certificate holds (OpenSSH PROTOCOL.certkeys: valid after, valid before, signature).
+-- Whether a certificate's time and its own signature hold (OpenSSH PROTOCOL.certkeys: valid after, valid before, signature).
+-- Its type, its principals, its critical options and who signed it are not looked at.
 use Rattle.std.specs.Prelude.{◌≡◌, ◌≢◌, ◌-◌, ◌*◌, ◌^◌, ◌<◌, ◌⊎◌, ℕ, List}
 use Rattle.ssh_keys.specs.Algorithms.{algorithm_name}
 use Rattle.ssh_keys.specs.declared.algorithm.Algorithm.{Algorithm}
@@ -9,7 +10,7 @@ use Rattle.ssh_keys.specs.declared.public_key.PublicKey.{PublicKey}
 abbrev pub IsEarly : Certificate → (moment : ℕ) → Type 0
 IsEarly certificate moment = (certificate.valid_after ≢ 0) × (moment < certificate.valid_after * 1000)
 
--- after the second up to which it holds, where there is one
+-- after the first millisecond of the second before which it is valid, where there is one
 abbrev pub IsLate : Certificate → (moment : ℕ) → Type 0
 IsLate certificate moment = (certificate.valid_before ≢ 2 ^ 64 - 1) × (certificate.valid_before * 1000 < moment)
 

@@ -8,9 +8,15 @@ pub enum Algorithm {
     /// Edwards-curve signatures (RFC 8709).
     Ed25519,
     /// Elliptic curve signatures (RFC 5656).
-    Ecdsa { curve: EcdsaCurve },
+    Ecdsa {
+        /// The curve of its keys.
+        curve: EcdsaCurve,
+    },
     /// RSA signatures: with SHA-1 where no hash is named (RFC 4253 section 6.6, RFC 8332).
-    Rsa { hash: Option<HashAlg> },
+    Rsa {
+        /// The hash that is named.
+        hash: Option<HashAlg>,
+    },
 }
 
 /// A curve of elliptic curve keys (RFC 5656 section 10.1).

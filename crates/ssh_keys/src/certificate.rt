@@ -15,7 +15,8 @@ use bytes::Bytes;
 use ssh_wire::{Reader, Text, WireError};
 use std::alloc::Global;
 
-/// A key with what another key signed of it (OpenSSH PROTOCOL.certkeys).
+/// A key with what another key signed of it (OpenSSH PROTOCOL.certkeys). The signature is of
+/// `signed`, to which decoding alone ties the other fields.
 #[derive(Debug, Drop)]
 pub struct Certificate {
     /// Bytes that the signer chose, so that nobody could foresee what is signed.

@@ -1,4 +1,4 @@
-// When a certificate holds.
+// Whether a certificate's time and its own signature hold.
 ghost use Rattle.std.specs.Prelude.{◌≡◌, ◌⊎◌, ◌↔◌, IsTrue, IsOk, IfErr, IsErrOf};
 ghost use Rattle.ssh_keys.specs.Checks.{IsEarly, IsLate, IsOutOfTime, IsSigned};
 ghost use Rattle.ssh_keys.specs.declared.error.KeyError.TheVariants.{CertificateValidation, Time};
@@ -11,9 +11,11 @@ const FOREVER: u64 = u64::MAX;
 const MILLISECONDS_PER_SECOND: u128 = 1000;
 
 impl Certificate {
-    /// Checks the certificate at this moment, in milliseconds since 1970. `Time` exactly where it
-    /// does not hold then; and `CertificateValidation` exactly where it does, and its signature's
-    /// name is not known or the verifier refuses the signature. No other error.
+    /// Checks the time of a decoded certificate at this moment, in milliseconds since 1970, and its
+    /// own signature. `Time` exactly where the moment is not in its time; and `CertificateValidation`
+    /// exactly where it is, and the signature's name is not known or the verifier refuses the
+    /// signature. No other error. The certificate's type, its principals, its critical options and
+    /// whether its signature key is one to trust are for the caller to check.
     pub fn check<V: Verifier>(&self, moment: u64, verifier: &V) -> Result<(), KeyError>
         ensures ok { IsOk result ↔ ((IsOutOfTime self.now moment → ⊥) × IsSigned (V.accepts verifier.now) self.now) }
         ensures time { IsErrOf result KeyError.Time ↔ IsOutOfTime self.now moment }
@@ -41,7 +43,7 @@ impl Certificate {
         self.valid_after != 0 && u128::from(moment) < first
     }
 
-    /// Whether the moment is after the certificate's last second.
+    /// Whether the moment is past the first millisecond of `valid_before`.
     fn is_late(&self, moment: u64) -> bool
         ensures { IsTrue result ↔ IsLate self.now moment }
     {

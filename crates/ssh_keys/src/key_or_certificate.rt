@@ -14,7 +14,9 @@ use std::alloc::Global;
 pub enum PublicKeyOrCertificate {
     /// A key, with the hash that the name of the algorithm names.
     PublicKey {
+        /// The key.
         key: PublicKey,
+        /// The hash that it signs with, where the name says one.
         hash_alg: Option<HashAlg>,
     },
     /// A certificate of OpenSSH (PROTOCOL.certkeys).

@@ -1,8 +1,9 @@
 //! Public keys, certificates and signatures of SSH: what their blobs say (RFC 4253 section 6.6,
-//! RFC 5656, RFC 8332, RFC 8709, OpenSSH's PROTOCOL.certkeys), and when a certificate holds.
+//! RFC 5656, RFC 8332, RFC 8709, OpenSSH's PROTOCOL.certkeys), and whether a certificate's time and
+//! its own signature hold.
 //!
 //! What the crates above rely on: a blob is read exactly as its layout says, a refusal is of
-//! exactly one kind, and a certificate holds exactly where its time and its signature do.
+//! exactly one kind, and a check of a certificate passes exactly where its time and its signature do.
 #![tactic(auto)]
 
 mod algorithm;

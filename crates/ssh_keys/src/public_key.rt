@@ -18,11 +18,24 @@ use std::alloc::Global;
 #[derive(Debug, Drop, PartialEq, Eq)]
 pub enum PublicKey {
     /// RFC 8709 section 4.
-    Ed25519 { key: Bytes },
+    Ed25519 {
+        /// The key.
+        key: Bytes,
+    },
     /// RFC 5656 section 3.1.
-    Ecdsa { curve: EcdsaCurve, point: Bytes },
-    /// RFC 4253 section 6.6: the exponent and the modulus.
-    Rsa { e: Bytes, n: Bytes },
+    Ecdsa {
+        /// The curve.
+        curve: EcdsaCurve,
+        /// The point of the curve, as an octet string.
+        point: Bytes,
+    },
+    /// RFC 4253 section 6.6.
+    Rsa {
+        /// The public exponent.
+        e: Bytes,
+        /// The modulus.
+        n: Bytes,
+    },
 }
 
 impl PublicKey {
