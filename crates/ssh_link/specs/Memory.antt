@@ -4,6 +4,7 @@ use Rattle.std.specs.List.{list_any}
 use Rattle.ssh_link.specs.declared.frame.Input.{Input}
 use Rattle.ssh_link.specs.declared.link.TraceEntry.{TraceEntry}
 use Rattle.ssh_link.specs.declared.link.TraceEntry.TheVariants.{Took}
+use Rattle.ssh_link.specs.Io.{one_more}
 use Rattle.ssh_link.specs.Supply.{Supply, left_until, last_moment, next_input, after_next}
 
 pub record Failures : Type 0 where
@@ -82,6 +83,10 @@ pub record Written : Type 0 where
 -- after a call that failed as planned
 abbrev pub refused : Written → Written
 refused sink = record sink { failures = called sink.failures }
+
+-- after a call for whose piece there was no memory
+abbrev pub starved : Written → Written
+starved sink = record sink { failures = called sink.failures; starved = one_more sink.starved }
 
 -- after the whole piece was written
 abbrev pub wrote : Written → List ℕ → Written

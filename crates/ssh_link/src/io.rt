@@ -1,9 +1,9 @@
 // Where bytes come from, and where they go to.
-ghost use Rattle.std.specs.Prelude.{◌≡◌, ◌<◌, ◌≤◌, ℕ, List, Option, length, take, IfOk, OnErr};
+ghost use Rattle.std.specs.Prelude.{◌≡◌, ◌<◌, ◌≤◌, ℕ, List, Option, length, take, IfOk, OnOk, OnErr};
 ghost use Rattle.ssh_link.specs.Told.{Adds, AddsNothing};
 ghost use Rattle.ssh_link.specs.Io.{Takes, AtEnd, Rose};
 
-/// A read or a write failed: the count of faults of its source or sink rose.
+/// A read or a write failed: the count of faults of its source or sink rose, or is full.
 #[derive(Clone, Copy, Debug, PartialEq, Eq)]
 pub struct IoFailed;
 
@@ -24,6 +24,7 @@ pub trait Source {
         ensures end { IfOk result (λ n. n ≡ 0 → 0 < length buf.old → AtEnd (left self.old)) }
         ensures err { OnErr result (left self.new ≡ left self.old) }
         ensures cause { OnErr result (Rose (faults self.old) (faults self.new)) }
+        ensures quiet { OnOk result (faults self.new ≡ faults self.old) }
         ensures later { faults self.old ≤ faults self.new };
 }
 
@@ -43,5 +44,6 @@ pub trait Sink {
         ensures written { IfOk result (λ n. Adds (held self.old) (held self.new) (take n piece.now)) }
         ensures err { OnErr result (AddsNothing (held self.old) (held self.new)) }
         ensures cause { OnErr result (Rose (faults self.old) (faults self.new)) }
+        ensures quiet { OnOk result (faults self.new ≡ faults self.old) }
         ensures later { faults self.old ≤ faults self.new };
 }

@@ -1,8 +1,9 @@
 //! What a session sees of the outside: inputs come in and frames go out through a `Link`, the
 //! bytes of a program through a `Source` and a `Sink`.
 //!
-//! What the crates above rely on: an outside fails only where its count of faults rose, and
-//! whatever tells its calls goes on telling them.
+//! What the crates above rely on: an outside fails only where its count of faults rose (of a source
+//! or a sink: rose, or is full), which does not rise where a call is finished, and whatever tells its
+//! calls goes on telling them.
 #![tactic(auto)]
 
 mod command;

@@ -67,7 +67,7 @@ pub trait Link {
     /// The finished calls in order, where the link tells them.
     ghost trace: { Self → Option (List TraceEntry) };
 
-    /// How often the outside has failed.
+    /// How often the outside has failed: it rises where a call fails so, and not where one is finished.
     ghost faults: { Self → ℕ };
 
     /// The next input. A link gives a command only where `commands` asks for it, and a reply to
@@ -77,6 +77,7 @@ pub trait Link {
         ensures asked { IfOk result (λ input. IsAsked commands replies input.kind) }
         ensures err { OnErr result (AddsNothing (trace self.old) (trace self.new)) }
         ensures cause { IsErrOf result LinkFault.Failed → faults self.old < faults self.new }
+        ensures quiet { OnOk result (faults self.new ≡ faults self.old) }
         ensures later { faults self.old ≤ faults self.new };
 
     /// Hands a frame on to the peer.
@@ -84,6 +85,7 @@ pub trait Link {
         ensures sent { OnOk result (AddsOne (trace self.old) (trace self.new) (Sent frame)) }
         ensures err { OnErr result (AddsNothing (trace self.old) (trace self.new)) }
         ensures cause { IsErrOf result LinkFault.Failed → faults self.old < faults self.new }
+        ensures quiet { OnOk result (faults self.new ≡ faults self.old) }
         ensures later { faults self.old ≤ faults self.new };
 
     /// Tells the users of the channels what happened.
@@ -91,6 +93,7 @@ pub trait Link {
         ensures noticed { OnOk result (AddsOne (trace self.old) (trace self.new) (Noticed notice)) }
         ensures err { OnErr result (AddsNothing (trace self.old) (trace self.new)) }
         ensures cause { IsErrOf result LinkFault.Failed → faults self.old < faults self.new }
+        ensures quiet { OnOk result (faults self.new ≡ faults self.old) }
         ensures later { faults self.old ≤ faults self.new };
 
     /// Answers what came of the command or the reply with this ticket.
@@ -98,5 +101,6 @@ pub trait Link {
         ensures answered { OnOk result (AddsOne (trace self.old) (trace self.new) (Answered ticket outcome)) }
         ensures err { OnErr result (AddsNothing (trace self.old) (trace self.new)) }
         ensures cause { IsErrOf result LinkFault.Failed → faults self.old < faults self.new }
+        ensures quiet { OnOk result (faults self.new ≡ faults self.old) }
         ensures later { faults self.old ≤ faults self.new };
 }

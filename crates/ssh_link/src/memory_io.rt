@@ -1,8 +1,8 @@
 // A source and a sink in memory.
-ghost use Rattle.std.specs.Prelude.{◌≡◌, [], ◌<◌, ◌≤◌, ◌+◌, ◌++◌, ◌↔◌, Some, IfOk, OnOk, OnErr, IsErr, IsTrue, drop, take, length, min};
+ghost use Rattle.std.specs.Prelude.{◌≡◌, [], ◌<◌, ◌≤◌, ◌+◌, ◌++◌, ◌↔◌, ◌⊎◌, Some, IfOk, OnOk, OnErr, IsErr, IsTrue, drop, take, length, min};
 ghost use Rattle.ssh_link.specs.Told.{Adds, AddsNothing};
 ghost use Rattle.ssh_link.specs.Io.{Takes, AtEnd, Rose};
-ghost use Rattle.ssh_link.specs.Memory.{no_calls, called, fails_next, refused, wrote};
+ghost use Rattle.ssh_link.specs.Memory.{no_calls, called, fails_next, refused, starved, wrote};
 
 use crate::failures::PlannedFailures;
 use crate::{Calls, IoFailed, Sink, Source};
@@ -67,6 +67,7 @@ impl Source for MemorySource {
         ensures end { IfOk result (λ n. n ≡ 0 → 0 < length buf.old → AtEnd (Some self.old.left)) }
         ensures err { OnErr result (Some self.new.left ≡ Some self.old.left) }
         ensures cause { OnErr result (Rose self.old.failures.faults self.new.failures.faults) }
+        ensures quiet { OnOk result (self.new.failures.faults ≡ self.old.failures.faults) }
         ensures later { self.old.failures.faults ≤ self.new.failures.faults }
         ensures count { IfOk result (λ n. n ≡ min (length self.old.left) (length buf.old)) }
         ensures failures { self.new.failures ≡ called self.old.failures }
@@ -131,10 +132,11 @@ impl Sink for MemorySink {
         ensures written { IfOk result (λ n. Adds (Some self.old.held) (Some self.new.held) (take n piece.now)) }
         ensures err { OnErr result (AddsNothing (Some self.old.held) (Some self.new.held)) }
         ensures cause { OnErr result (Rose (self.old.failures.faults + self.old.starved) (self.new.failures.faults + self.new.starved)) }
+        ensures quiet { OnOk result (self.new.failures.faults + self.new.starved ≡ self.old.failures.faults + self.old.starved) }
         ensures later { self.old.failures.faults + self.old.starved ≤ self.new.failures.faults + self.new.starved }
         ensures count { IfOk result (λ n. n ≡ length piece.now) }
         ensures wrote { OnOk result (self.new ≡ wrote self.old piece.now) }
-        ensures failures { self.new.failures ≡ called self.old.failures }
+        ensures starved { OnErr result (IsTrue (fails_next self.old.failures) ⊎ (self.new ≡ starved self.old)) }
         ensures planned { IsTrue (fails_next self.old.failures) → IsErr result × (self.new ≡ refused self.old) }
     {
         if self.failures.next_fails() {

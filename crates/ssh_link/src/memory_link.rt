@@ -97,6 +97,7 @@ impl Link for MemoryLink {
         ensures asked { IfOk result (λ input. IsAsked commands replies input.kind) }
         ensures err { OnErr result (AddsNothing (Some self.old.trace) (Some self.new.trace)) }
         ensures cause { IsErrOf result LinkFault.Failed → self.old.failures.faults < self.new.failures.faults }
+        ensures quiet { OnOk result (self.new.failures.faults ≡ self.old.failures.faults) }
         ensures later { self.old.failures.faults ≤ self.new.failures.faults }
         ensures given { IfOk result (λ input. (input ≡ next_input commands replies self.old.supply) × (self.new ≡ gave commands replies self.old)) }
         ensures failed { OnErr result (self.new ≡ failed self.old) }
@@ -123,6 +124,7 @@ impl Link for MemoryLink {
         ensures sent { OnOk result (AddsOne (Some self.old.trace) (Some self.new.trace) (Sent frame)) }
         ensures err { OnErr result (AddsNothing (Some self.old.trace) (Some self.new.trace)) }
         ensures cause { IsErrOf result LinkFault.Failed → self.old.failures.faults < self.new.failures.faults }
+        ensures quiet { OnOk result (self.new.failures.faults ≡ self.old.failures.faults) }
         ensures later { self.old.failures.faults ≤ self.new.failures.faults }
         ensures finished { OnOk result (self.new ≡ finished self.old (Sent frame)) }
         ensures failed { OnErr result (self.new ≡ failed self.old) }
@@ -135,6 +137,7 @@ impl Link for MemoryLink {
         ensures noticed { OnOk result (AddsOne (Some self.old.trace) (Some self.new.trace) (Noticed notice)) }
         ensures err { OnErr result (AddsNothing (Some self.old.trace) (Some self.new.trace)) }
         ensures cause { IsErrOf result LinkFault.Failed → self.old.failures.faults < self.new.failures.faults }
+        ensures quiet { OnOk result (self.new.failures.faults ≡ self.old.failures.faults) }
         ensures later { self.old.failures.faults ≤ self.new.failures.faults }
         ensures finished { OnOk result (self.new ≡ finished self.old (Noticed notice)) }
         ensures failed { OnErr result (self.new ≡ failed self.old) }
@@ -147,6 +150,7 @@ impl Link for MemoryLink {
         ensures answered { OnOk result (AddsOne (Some self.old.trace) (Some self.new.trace) (Answered ticket outcome)) }
         ensures err { OnErr result (AddsNothing (Some self.old.trace) (Some self.new.trace)) }
         ensures cause { IsErrOf result LinkFault.Failed → self.old.failures.faults < self.new.failures.faults }
+        ensures quiet { OnOk result (self.new.failures.faults ≡ self.old.failures.faults) }
         ensures later { self.old.failures.faults ≤ self.new.failures.faults }
         ensures finished { OnOk result (self.new ≡ finished self.old (Answered ticket outcome)) }
         ensures failed { OnErr result (self.new ≡ failed self.old) }

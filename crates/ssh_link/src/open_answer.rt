@@ -38,7 +38,8 @@ impl OpenAnswer {
 }
 
 /// The duty to answer a channel that the peer opens. It cannot be dropped: whoever is handed one
-/// answers with it, or keeps its number to answer later. A clause sees the channel.
+/// makes an answer of it, or keeps its number to answer later. That the answer is sent is not owed.
+/// A clause sees the channel.
 #[derive(Debug)]
 pub struct ChannelOpenHandle {
     channel: ChannelId,

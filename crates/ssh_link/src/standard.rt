@@ -2,7 +2,7 @@
 ghost use Rattle.std.specs.Prelude.{◌≡◌, ◌<◌, ◌≤◌, ℕ, None, IfOk, OnOk, OnErr, length, take};
 ghost use Rattle.std.specs.Io.KnownBytes.{ReadConsumes, WriteAppends};
 ghost use Rattle.ssh_link.specs.Told.{Adds, AddsNothing};
-ghost use Rattle.ssh_link.specs.Io.{Takes, AtEnd, Rose};
+ghost use Rattle.ssh_link.specs.Io.{Takes, AtEnd, Rose, one_more};
 
 use crate::{IoFailed, Sink, Source};
 use std::io::{Read, Write};
@@ -47,6 +47,7 @@ impl<R: Read> Source for StdSource<R> {
         ensures cause { OnErr result (Rose self.old.faults self.new.faults) }
         ensures later { self.old.faults ≤ self.new.faults }
         ensures quiet { OnOk result (self.new.faults ≡ self.old.faults) }
+        ensures counts { OnErr result (self.new.faults ≡ one_more self.old.faults) }
         ensures bytes { ReadConsumes (R.remaining self.old.inner) (R.remaining self.new.inner) result buf.new }
     {
         match self.reader.read(buf) {
@@ -98,6 +99,7 @@ impl<W: Write> Sink for StdSink<W> {
         ensures cause { OnErr result (Rose self.old.faults self.new.faults) }
         ensures later { self.old.faults ≤ self.new.faults }
         ensures quiet { OnOk result (self.new.faults ≡ self.old.faults) }
+        ensures counts { OnErr result (self.new.faults ≡ one_more self.old.faults) }
         ensures bytes { WriteAppends (W.contents self.old.inner) (W.contents self.new.inner) result piece.now }
     {
         match self.writer.write(piece) {
