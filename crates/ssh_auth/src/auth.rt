@@ -12,7 +12,8 @@ use std::alloc::Global;
 pub enum Auth {
     /// The request is refused.
     Reject {
-        /// The methods that can continue from now on; None takes away the method that was refused.
+        /// The methods that can continue from now on. None takes none and password away where they
+        /// were refused, and leaves the list as it is after any other method.
         proceed_with_methods: Option<MethodSet>,
         /// Whether the request was right, and more is needed.
         partial_success: bool,

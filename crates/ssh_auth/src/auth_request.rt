@@ -47,7 +47,7 @@ pub struct AuthRequest {
     pub partial_success: bool,
     /// What was begun: the round that a request goes on with.
     pub current: Option<CurrentRequest>,
-    /// How many requests were rejected, partial successes left out.
+    /// How many requests and responses were rejected, partial successes left out.
     pub rejection_count: usize,
     bound: Option<Principal>,
     initial: MethodSet,

@@ -7,6 +7,7 @@ use ssh_wire::Text;
 pub enum GssapiStep {
     /// The peer is sent this token, and answers with one.
     Continue {
+        /// The token for the peer.
         token: Bytes,
     },
     /// The exchange is over.
@@ -21,10 +22,13 @@ pub enum GssapiStep {
 /// Why a GSS-API exchange failed.
 #[derive(Debug, Drop, PartialEq, Eq)]
 pub enum GssapiError {
-    /// The status codes of the mechanism, with a message for the user (RFC 4462 section 3.8).
+    /// The status codes, with a message for the user (RFC 4462 section 3.8).
     Status {
+        /// The error of the GSS-API (RFC 2743 section 1.2.1.1).
         major_status: u32,
+        /// The mechanism's own code for it.
         minor_status: u32,
+        /// What the user reads.
         message: Text,
     },
     /// A token that tells the peer of the error (RFC 4462 section 3.9).

@@ -31,8 +31,9 @@ pub trait AuthHandler {
     /// The calls so far in order, where the handler tells them.
     ghost told: { Self → Option (List (Call Self.Error)) } = { λ _. None };
 
-    /// Called by each body that the handler did not write. A handler that tells no calls answers
-    /// Ok; one that tells them cannot tell this one, and answers an error.
+    /// Called by each body that the handler did not write. A handler that tells no calls answers Ok
+    /// to have such a body answered; one that tells them cannot tell this one, and has to answer an
+    /// error and stop telling.
     fn untold(&mut self, by: Unwritten) -> Result<(), Self::Error>
         ensures { IsUntold (told self.old) (told self.new) result };
 
@@ -63,8 +64,9 @@ pub trait AuthHandler {
         Ok(Auth::reject())
     }
 
-    /// A user offers a key and has not signed with it yet (RFC 4252 section 7): it may sign where
-    /// this is not written. Nobody is let in by the answer, whatever it is.
+    /// A user offers a key (RFC 4252 section 7), in a probe, or in a signed request whose key was not
+    /// accepted in the probe before it: it may sign where this is not written. Nobody is let in by
+    /// the answer, whatever it is.
     fn auth_publickey_offered(
         &mut self,
         user: &str,
@@ -89,9 +91,10 @@ pub trait AuthHandler {
         Ok(Auth::reject())
     }
 
-    /// A user asks to be let in by a certificate (OpenSSH PROTOCOL.certkeys): it holds at this
-    /// moment, and the verifier accepted its own signature and the one of the request. Refused where
-    /// it is not written.
+    /// A user asks to be let in by a certificate (OpenSSH PROTOCOL.certkeys): this moment is in its
+    /// time, and the verifier accepted its own signature and the one of the request. Its type, its
+    /// principals, its critical options and whether its signature key is one to trust are for the
+    /// handler to check. Refused where it is not written.
     fn auth_openssh_certificate(
         &mut self,
         user: &str,

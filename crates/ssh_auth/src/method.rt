@@ -9,16 +9,19 @@ pub enum Method {
     None,
     /// A password (RFC 4252 section 8).
     Password {
+        /// The password.
         password: Text,
     },
     /// A key whose signature is made later (RFC 4252 section 7).
     FuturePublicKey {
+        /// The key that is offered.
         key: PublicKey,
         /// The hash that an RSA signature names.
         hash_alg: Option<HashAlg>,
     },
     /// A certificate whose key's signature is made later (OpenSSH PROTOCOL.certkeys).
     FutureCertificate {
+        /// The certificate that is offered.
         cert: Certificate,
         /// The hash that an RSA signature names.
         hash_alg: Option<HashAlg>,

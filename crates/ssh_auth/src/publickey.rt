@@ -130,7 +130,7 @@ fn serve_signed<H: AuthHandler, V: Verifier>(
 }
 
 /// A request that is signed by the algorithm that it names. A key without its probe is asked about
-/// before the signature is looked at.
+/// first.
 fn serve_signature<H: AuthHandler, V: Verifier>(
     alloc: Global,
     auth: &mut AuthRequest,
@@ -155,7 +155,7 @@ fn serve_signature<H: AuthHandler, V: Verifier>(
     }
 }
 
-/// A key that may sign: the verifier is asked about its signature, and then the handler.
+/// A key that may sign: the handler is asked where the verifier accepts its signature.
 fn serve_proof<H: AuthHandler, V: Verifier>(
     alloc: Global,
     auth: &mut AuthRequest,
