@@ -14,17 +14,18 @@ pub struct Config {
     /// How long the refusal of a first request by method none is held, in milliseconds; None
     /// holds it as any other.
     pub auth_rejection_time_initial: Option<u64>,
-    /// After how many bytes, or how long, keys are exchanged again.
+    /// After how many bytes, or how long, keys are exchanged again. Nothing reads it yet.
     pub limits: Limits,
     /// The window that each channel grants its peer, in bytes.
     pub window_size: u32,
     /// The largest packet that each channel takes from its peer, in bytes.
     pub maximum_packet_size: u32,
-    /// How many messages wait for the user of a channel.
+    /// How many messages wait for the user of a channel. Nothing reads it yet.
     pub channel_buffer_size: usize,
-    /// How many commands wait for the session.
+    /// How many commands wait for the session. Nothing reads it yet.
     pub event_buffer_size: usize,
-    /// After how many refusals the peer is disconnected; 0 sets no end.
+    /// After how many rejections the next request or response is answered by a DISCONNECT; 0 sets no
+    /// end.
     pub max_auth_attempts: usize,
     /// After how long without an input the link ends the connection, in milliseconds; told to
     /// whoever builds the link.
@@ -32,7 +33,7 @@ pub struct Config {
     /// How long the link waits between keepalive ticks, in milliseconds; told to whoever builds
     /// the link.
     pub keepalive_interval: Option<u64>,
-    /// How many keepalive requests may go unanswered; 0 sets no end.
+    /// How many keepalive requests may go unanswered; 0 sets no end. Nothing reads it yet.
     pub keepalive_max: usize,
     /// Whether the socket sends small packets at once; told to whoever builds the link.
     pub nodelay: bool,

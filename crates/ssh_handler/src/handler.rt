@@ -1,7 +1,8 @@
 // The callbacks of a session.
-ghost use Rattle.std.specs.Prelude.{◌≡◌, []};
+ghost use Rattle.std.specs.Prelude.{◌≡◌, ℕ, List, []};
 ghost use Rattle.ssh_link.specs.Told.{Tells};
 ghost use Rattle.ssh_auth.specs.declared.call.Call.TheVariants.{AuthSucceeded, ChannelOpenSession, ChannelEof, ChannelClose, WindowAdjusted, CommandDone};
+ghost use Rattle.ssh_handler.specs.declared.config.Config.{Config as ConfigOf};
 
 use crate::Commands;
 use ssh_auth::{AuthHandler, Unwritten};
@@ -12,9 +13,15 @@ use ssh_wire::ChannelId;
 /// its callbacks holds of these too. The commands that a callback records are done in their order
 /// once it has returned; after an error they are not.
 pub trait Handler: AuthHandler {
+    /// The servers, by their config, and the peers, by their identification line, for which the
+    /// callbacks that are lent commands may be called: all, where it is not written. What a callback
+    /// counts on of what it is lent stands here, and `run_stream` asks for it.
+    ghost suits: { ConfigOf → List ℕ → Type 0 } = { λ _ _. Unit {0} };
+
     /// The user is authenticated, and the success message is staged (RFC 4252 section 5.1).
     fn auth_succeeded(&mut self, session: &mut Commands<'_>) -> Result<(), Self::Error>
         requires fresh { session.old.recorded ≡ [] }
+        requires suits { Self.suits session.old.config session.old.remote_sshid }
         ensures { Tells (Self.told self.old) (Self.told self.new) result (AuthSucceeded result session.new.recorded) }
     {
         self.untold(Unwritten::new())?;
@@ -29,6 +36,7 @@ pub trait Handler: AuthHandler {
         session: &mut Commands<'_>,
     ) -> Result<(), Self::Error>
         requires fresh { session.old.recorded ≡ [] }
+        requires suits { Self.suits session.old.config session.old.remote_sshid }
         ensures { Tells (Self.told self.old) (Self.told self.new) result (ChannelClose channel result session.new.recorded) }
     {
         self.untold(Unwritten::new())?;
@@ -42,6 +50,7 @@ pub trait Handler: AuthHandler {
         session: &mut Commands<'_>,
     ) -> Result<(), Self::Error>
         requires fresh { session.old.recorded ≡ [] }
+        requires suits { Self.suits session.old.config session.old.remote_sshid }
         ensures { Tells (Self.told self.old) (Self.told self.new) result (ChannelEof channel result session.new.recorded) }
     {
         self.untold(Unwritten::new())?;
@@ -59,6 +68,7 @@ pub trait Handler: AuthHandler {
     ) -> Result<(), Self::Error>
         requires of { reply ≡ channel }
         requires fresh { session.old.recorded ≡ [] }
+        requires suits { Self.suits session.old.config session.old.remote_sshid }
         ensures { Tells (Self.told self.old) (Self.told self.new) result (ChannelOpenSession channel result session.new.recorded) };
 
     /// The peer lets more data through: `new_size` bytes may still be sent on the channel (RFC
@@ -70,6 +80,7 @@ pub trait Handler: AuthHandler {
         session: &mut Commands<'_>,
     ) -> Result<(), Self::Error>
         requires fresh { session.old.recorded ≡ [] }
+        requires suits { Self.suits session.old.config session.old.remote_sshid }
         ensures { Tells (Self.told self.old) (Self.told self.new) result (WindowAdjusted channel new_size result session.new.recorded) }
     {
         self.untold(Unwritten::new())?;

@@ -22,7 +22,7 @@ use std::marker::Model;
 /// Why a callback of a recording handler cannot go on.
 #[derive(Clone, Copy, Debug, Drop, PartialEq, Eq)]
 pub enum RecordError<E> {
-    /// There was no memory to record the call. From then on no call is told.
+    /// There was no memory to record the call, or `untold` was called. From then on no call is told.
     NoMemory,
     /// The inner handler answered this error.
     Inner(E),
@@ -62,7 +62,8 @@ where
         }
     }
 
-    /// The calls that are told, in order; once memory was wanting, those that were told before.
+    /// The calls that are told, in order. Once memory was wanting none is told, and some are missing
+    /// here.
     pub fn calls(&self) -> &[Call<RecordError<H::Error>>]
         ensures { IfSome self.now.told (λ calls. result.now ≡ calls) }
     {
@@ -239,8 +240,11 @@ impl<H: Handler> Handler for Recorded<H>
 where
     H::Error: Copy,
 {
+    ghost suits = { H.suits };
+
     fn auth_succeeded(&mut self, session: &mut Commands<'_>) -> Result<(), RecordError<H::Error>>
         requires fresh { session.old.recorded ≡ [] }
+        requires suits { H.suits session.old.config session.old.remote_sshid }
         ensures tells { Tells self.old.told self.new.told result (AuthSucceeded result session.new.recorded) }
         ensures records { Records self.old.told self.new.told result (AuthSucceeded result session.new.recorded) }
         ensures passes { Passes (H.AuthHandler.told self.old.inner) (H.AuthHandler.told self.new.inner) result (λ answer. AuthSucceeded answer session.new.recorded) }
@@ -256,6 +260,7 @@ where
         session: &mut Commands<'_>,
     ) -> Result<(), RecordError<H::Error>>
         requires fresh { session.old.recorded ≡ [] }
+        requires suits { H.suits session.old.config session.old.remote_sshid }
         ensures tells { Tells self.old.told self.new.told result (ChannelClose channel result session.new.recorded) }
         ensures records { Records self.old.told self.new.told result (ChannelClose channel result session.new.recorded) }
         ensures passes { Passes (H.AuthHandler.told self.old.inner) (H.AuthHandler.told self.new.inner) result (λ answer. ChannelClose channel answer session.new.recorded) }
@@ -271,6 +276,7 @@ where
         session: &mut Commands<'_>,
     ) -> Result<(), RecordError<H::Error>>
         requires fresh { session.old.recorded ≡ [] }
+        requires suits { H.suits session.old.config session.old.remote_sshid }
         ensures tells { Tells self.old.told self.new.told result (ChannelEof channel result session.new.recorded) }
         ensures records { Records self.old.told self.new.told result (ChannelEof channel result session.new.recorded) }
         ensures passes { Passes (H.AuthHandler.told self.old.inner) (H.AuthHandler.told self.new.inner) result (λ answer. ChannelEof channel answer session.new.recorded) }
@@ -288,6 +294,7 @@ where
     ) -> Result<(), RecordError<H::Error>>
         requires of { reply ≡ channel }
         requires fresh { session.old.recorded ≡ [] }
+        requires suits { H.suits session.old.config session.old.remote_sshid }
         ensures tells { Tells self.old.told self.new.told result (ChannelOpenSession channel result session.new.recorded) }
         ensures records { Records self.old.told self.new.told result (ChannelOpenSession channel result session.new.recorded) }
         ensures passes { Passes (H.AuthHandler.told self.old.inner) (H.AuthHandler.told self.new.inner) result (λ answer. ChannelOpenSession channel answer session.new.recorded) }
@@ -304,6 +311,7 @@ where
         session: &mut Commands<'_>,
     ) -> Result<(), RecordError<H::Error>>
         requires fresh { session.old.recorded ≡ [] }
+        requires suits { H.suits session.old.config session.old.remote_sshid }
         ensures tells { Tells self.old.told self.new.told result (WindowAdjusted channel new_size result session.new.recorded) }
         ensures records { Records self.old.told self.new.told result (WindowAdjusted channel new_size result session.new.recorded) }
         ensures passes { Passes (H.AuthHandler.told self.old.inner) (H.AuthHandler.told self.new.inner) result (λ answer. WindowAdjusted channel new_size answer session.new.recorded) }

@@ -1,6 +1,12 @@
 // Handlers by example, through the trait alone.
+ghost use Rattle.std.specs.Prelude.{codes};
+
 use crate::{Commands, Config, Handler, RecordError, Recorded};
-use ssh_auth::{Auth, AuthHandler, Call, Prompts, Response, Unwritten};
+use bytes::Bytes;
+use ssh_auth::{
+    Auth, AuthHandler, Call, Prompts, PublicKeyOffer, Response, Unwritten, VerifiedPublicKey,
+};
+use ssh_keys::{Algorithm, CertType, Certificate, PublicKey, Signature};
 use ssh_link::{ChannelOpenHandle, Command, CommandOutcome, Refusal};
 use ssh_wire::{ChannelId, Text, WireError};
 use std::alloc::Global;
@@ -13,7 +19,9 @@ fn answers<H: Handler>(
     handler: &mut H,
     user: &str,
     config: &Config,
-) -> (bool, bool, Option<H::Error>) {
+) -> (bool, bool, Option<H::Error>)
+    requires { H.suits config.now (codes "SSH-2.0-test") }
+{
     let banner = matches!(handler.authentication_banner(), Ok(Some(_)));
     let accepted = matches!(handler.auth_none(user), Ok(Auth::Accept));
     let mut session = Commands::new(alloc, config, b"SSH-2.0-test");
@@ -147,6 +155,71 @@ fn unwritten_callbacks_refuse_and_go_on(rt: HostRuntime) {
         assert_eq!(rt; session.recorded().len(), 0);
     }
     assert_eq!(rt; Silent.command_done(0, CommandOutcome::Accepted), Ok(()));
+}
+
+// A key of these bytes.
+fn key(alloc: Global, bytes: &[u8]) -> Result<PublicKey, Fail> {
+    Ok(PublicKey::Ed25519 {
+        key: Bytes::copy_from_slice(alloc, bytes)?,
+    })
+}
+
+// A certificate without a limit, for everyone.
+fn certificate(alloc: Global) -> Result<Certificate, Fail> {
+    Ok(Certificate {
+        nonce: Bytes::copy_from_slice(alloc, b"nonce")?,
+        public_key: key(alloc, b"certified")?,
+        serial: 1,
+        cert_type: CertType::User,
+        key_id: Text::new(alloc, "anna")?,
+        valid_principals: Bytes::copy_from_slice(alloc, b"")?,
+        valid_after: 0,
+        valid_before: u64::MAX,
+        critical_options: Bytes::copy_from_slice(alloc, b"")?,
+        extensions: Bytes::copy_from_slice(alloc, b"")?,
+        reserved: Bytes::copy_from_slice(alloc, b"")?,
+        signature_key: key(alloc, b"signer")?,
+        signature: Signature {
+            name: Text::new(alloc, "ssh-ed25519")?,
+            blob: Bytes::copy_from_slice(alloc, b"signature")?,
+        },
+        signed: Bytes::copy_from_slice(alloc, b"signed")?,
+    })
+}
+
+#[test]
+fn unwritten_callbacks_let_nobody_in(rt: HostRuntime) -> Result<(), Fail> {
+    let alloc = rt.alloc();
+    let public_key = &key(alloc, b"anna's")?;
+    let algorithm = Algorithm::Ed25519;
+    let offer = PublicKeyOffer {
+        public_key,
+        algorithm,
+    };
+    let verified = VerifiedPublicKey {
+        public_key,
+        algorithm,
+    };
+    let offered = Silent.auth_publickey_offered("anna", offer);
+    assert_eq!(rt; matches!(offered, Ok(Auth::Accept)), true);
+    let answers = [
+        Silent.auth_none("anna"),
+        Silent.auth_password("anna", "please"),
+        Silent.auth_publickey("anna", verified),
+        Silent.auth_openssh_certificate("anna", &certificate(alloc)?),
+        Silent.auth_keyboard_interactive("anna", "", None),
+    ];
+    for answer in answers {
+        let refused = matches!(
+            answer,
+            Ok(Auth::Reject {
+                proceed_with_methods: None,
+                partial_success: false,
+            })
+        );
+        assert_eq!(rt; refused, true);
+    }
+    Ok(())
 }
 
 #[test]

@@ -43,14 +43,14 @@ transcript_small : (words : List (List ℕ)) (bytes : List ℕ) (status : ℕ) (
 transcript_small words bytes status text (inl h) = omega (arith, h.1)
 transcript_small words bytes status text (inr h) = scripted_small bytes status text h.1
 
-pub shown : (words : List (List ℕ)) (left : Option (List ℕ)) (source_rose sink_rose : Type 0) (held held' : Option (List ℕ)) (status : ℕ) (text slice : List ℕ) →
-    Owed words left status text → slice ≡ text → Adds held held' slice → Ends (Owed words left) source_rose sink_rose held held' status
-shown words left source_rose sink_rose held held' status text slice o e a =
+pub shown : (words : List (List ℕ)) (left : Option (List ℕ)) (source_failed sink_failed : Type 0) (held held' : Option (List ℕ)) (status : ℕ) (text slice : List ℕ) →
+    Owed words left status text → slice ≡ text → Adds held held' slice → Ends (Owed words left) source_failed sink_failed held held' status
+shown words left source_failed sink_failed held held' status text slice o e a =
     Shown text (transcript_small words o.0 status text o.2) o (subst (Adds held held') e a)
 
-pub unwritten : (words : List (List ℕ)) (left : Option (List ℕ)) (source_rose sink_rose : Type 0) (held held' : Option (List ℕ)) (status : ℕ) (text slice : List ℕ) →
-    Owed words left status text → slice ≡ text → sink_rose → AddsPart held held' slice → Ends (Owed words left) source_rose sink_rose held held' 4
-unwritten words left source_rose sink_rose held held' status text slice o e r a =
+pub unwritten : (words : List (List ℕ)) (left : Option (List ℕ)) (source_failed sink_failed : Type 0) (held held' : Option (List ℕ)) (status : ℕ) (text slice : List ℕ) →
+    Owed words left status text → slice ≡ text → sink_failed → AddsPart held held' slice → Ends (Owed words left) source_failed sink_failed held held' 4
+unwritten words left source_failed sink_failed held held' status text slice o e r a =
     Unwritten refl r text (inl (status, o)) (subst (AddsPart held held') e a)
 
 owed_long : (words : List (List ℕ)) (left : Option (List ℕ)) (front : List ℕ) (status : ℕ) (text : List ℕ) → words ≡ run_words → IsFront left front → longest < length front →

@@ -125,7 +125,7 @@ without_faults accepts settings w count max (Some turn) rose (Err error.Unsuppor
 without_faults accepts settings w count max (Some turn) rose (Err (error.Handler e)) n c = c
 without_faults accepts settings w count max (Some turn) rose (Err error.NotBuilt) n c = c
 without_faults accepts settings w count max None rose (Err error.NoMemory) n c = c
-without_faults accepts settings w count max None rose (Err error.LinkFault) n c = n c
+without_faults accepts settings w count max None rose (Err error.LinkFault) n c = absurd (n c.0)
 without_faults accepts settings w count max None rose (Err error.InputLimit) n c = c
 without_faults accepts settings w count max None rose (Err (error.Encoding why)) n c = c
 without_faults accepts settings w count max None rose (Err error.Inconsistent) n c = c

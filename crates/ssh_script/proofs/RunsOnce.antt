@@ -104,7 +104,7 @@ closes_none : (accepts : Acceptance) (settings : Settings) (w : World) (n max : 
     Closes accepts settings w n max None ⊥ result → status_of result ≡ Some status → (n ≡ max) × (result ≡ Err error.InputLimit)
 closes_none accepts settings w n max (Ok done) status c h = absurd c
 closes_none accepts settings w n max (Err error.NoMemory) status c h = absurd (no_status status h)
-closes_none accepts settings w n max (Err error.LinkFault) status c h = absurd c
+closes_none accepts settings w n max (Err error.LinkFault) status c h = absurd c.0
 closes_none accepts settings w n max (Err error.InputLimit) status c h = (c, refl)
 closes_none accepts settings w n max (Err (error.Encoding why)) status c h = absurd c
 closes_none accepts settings w n max (Err error.Inconsistent) status c h = absurd c

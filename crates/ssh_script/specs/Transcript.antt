@@ -2,6 +2,7 @@
 use Rattle.std.specs.Prelude.{◌≡◌, ◌≢◌, ◌<◌, ◌≤◌, ◌⊎◌, ℕ, List, [], ◌∷◌, ◌++◌, codes, flat_map, length, Option, Some, None, option_to_list, IfSome, Result, Ok, Err}
 use Rattle.std.specs.Fmt.{decimal}
 use Rattle.ssh_link.specs.Told.{Adds}
+use Rattle.ssh_link.specs.Io.{Rose}
 use Rattle.ssh_keys.specs.Tables.{IsListed}
 use Rattle.ssh_link.specs.Supply.{Supply, left_until}
 use Rattle.ssh_auth.specs.Publickey.{Acceptance}
@@ -89,17 +90,21 @@ IsBadScript bytes = IsTooLong bytes ⊎ ((number : ℕ) × Gives 0 opening_scene
 abbrev pub Owed : List (List ℕ) → Option (List ℕ) → ℕ → List ℕ → Type 0
 Owed words left status text = (bytes : List ℕ) × IsAll left bytes × Transcript words bytes status text
 
+-- a script was asked for, and its source failed
+abbrev pub IsUnread : List (List ℕ) → ℕ → ℕ → Type 0
+IsUnread words faults faults' = (words ≡ run_words) × Rose faults faults'
+
 abbrev pub read_fault : List ℕ
 read_fault = codes "read fault\n"
 
--- how the program ends, by its status: what is owed, whether the source's faults rose and the sink's, and what the sink held before and after
-pub data Ends (owed : ℕ → List ℕ → Type 0) (source_rose sink_rose : Type 0) (held held' : Option (List ℕ)) (status : ℕ) : Type 0 where
+-- how the program ends, by its status: what is owed, that the source failed and that the sink did, and what the sink held before and after
+pub data Ends (owed : ℕ → List ℕ → Type 0) (source_failed sink_failed : Type 0) (held held' : Option (List ℕ)) (status : ℕ) : Type 0 where
   -- the whole text was written
-  Shown : (text : List ℕ) → status < 3 → owed status text → Adds held held' text → Ends owed source_rose sink_rose held held' status
+  Shown : (text : List ℕ) → status < 3 → owed status text → Adds held held' text → Ends owed source_failed sink_failed held held' status
   -- the source failed
-  Unread : status ≡ 3 → source_rose → Adds held held' read_fault → Ends owed source_rose sink_rose held held' status
+  Unread : status ≡ 3 → source_failed → Adds held held' read_fault → Ends owed source_failed sink_failed held held' status
   -- the sink failed, and a front of the text was written
-  Unwritten : status ≡ 4 → sink_rose → (text : List ℕ) → (((s : ℕ) × owed s text) ⊎ (source_rose × (text ≡ read_fault))) → AddsPart held held' text →
-      Ends owed source_rose sink_rose held held' status
+  Unwritten : status ≡ 4 → sink_failed → (text : List ℕ) → (((s : ℕ) × owed s text) ⊎ (source_failed × (text ≡ read_fault))) → AddsPart held held' text →
+      Ends owed source_failed sink_failed held held' status
   -- there was no memory, and nothing was written
-  Starved : status ≡ 5 → Adds held held' [] → Ends owed source_rose sink_rose held held' status
+  Starved : status ≡ 5 → Adds held held' [] → Ends owed source_failed sink_failed held held' status

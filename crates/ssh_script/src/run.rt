@@ -5,7 +5,7 @@ ghost use Rattle.std.specs.String.{string_bytes};
 ghost use Rattle.ssh_link.specs.Io.{Rose};
 ghost use Rattle.ssh_script.specs.Print.{variant_name, last_line};
 ghost use Rattle.ssh_script.specs.Scene.{scene_of};
-ghost use Rattle.ssh_script.specs.Transcript.{status_of, IsRun, Scripted, IsBadScript, Transcript, Owed, Ends, longest, run_words, usage};
+ghost use Rattle.ssh_script.specs.Transcript.{status_of, IsRun, Scripted, IsBadScript, Transcript, Owed, IsUnread, Ends, longest, run_words, usage};
 
 use crate::print::{print_calls, print_number, print_trace};
 use crate::scene::read_script;
@@ -176,7 +176,7 @@ fn is_run(words: &[&str]) -> bool
 /// What these words and the source's script come to.
 fn transcript<S: Source>(alloc: Global, words: &[&str], source: &mut S) -> Result<Report, ReadError>
     ensures owed { IfOk result (λ report. Owed (map (λ word. word.now) words.now) (S.left source.old) report.status (string_bytes report.text)) }
-    ensures cause { IsErrOf result ReadError.Failed → Rose (S.faults source.old) (S.faults source.new) }
+    ensures cause { IsErrOf result ReadError.Failed → IsUnread (map (λ word. word.now) words.now) (S.faults source.old) (S.faults source.new) }
     ensures later { S.faults source.old ≤ S.faults source.new }
 {
     if !is_run(words) {
@@ -196,7 +196,7 @@ pub fn run_script<S: Source, W: Sink>(
     source: &mut S,
     sink: &mut W,
 ) -> u8
-    ensures { Ends (Owed (map (λ word. word.now) words.now) (S.left source.old)) (Rose (S.faults source.old) (S.faults source.new))
+    ensures { Ends (Owed (map (λ word. word.now) words.now) (S.left source.old)) (IsUnread (map (λ word. word.now) words.now) (S.faults source.old) (S.faults source.new))
         (Rose (W.faults sink.old) (W.faults sink.new)) (W.held sink.old) (W.held sink.new) result }
 {
     match transcript(alloc, words, source) {

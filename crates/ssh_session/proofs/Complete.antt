@@ -61,7 +61,7 @@ closed_fine accepts settings w count max last rose (Ok x) r v c = tt
 closed_fine accepts settings w count max (Some turn) rose (Err e) r v c = closes_fine accepts settings w turn rose e r v c.0 c.1 c.2 c.3
 closed_fine accepts settings w count max None rose (Err error.NoMemory) r v c = tt
 closed_fine accepts settings w count max None rose (Err error.InputLimit) r v c = tt
-closed_fine accepts settings w count max None rose (Err error.LinkFault) r v c = absurd (r c)
+closed_fine accepts settings w count max None rose (Err error.LinkFault) r v c = absurd (r c.0)
 closed_fine accepts settings w count max None rose (Err (error.Encoding why)) r v c = c
 closed_fine accepts settings w count max None rose (Err error.Inconsistent) r v c = c
 closed_fine accepts settings w count max None rose (Err (error.Key why)) r v c = c
@@ -76,7 +76,7 @@ completes accepts settings before after trace trace' faults faults' max result a
     closed_fine accepts settings account.world (length account.turns) max account.last (faults < faults') result (λ r. omega arith) valid account.closes
 
 rose_of : {E : Type 0} (accepts : Acceptance) (settings : Settings) (w : World) (count max : ℕ) (last : Option (Turn E)) (rose : Type 0) → Closes {E = E} accepts settings w count max last rose (Err error.LinkFault) → rose
-rose_of accepts settings w count max None rose h = h
+rose_of accepts settings w count max None rose h = h.0
 rose_of accepts settings w count max (Some turn) rose h = h.2.0
 
 -- the link's fault is told only where it rose

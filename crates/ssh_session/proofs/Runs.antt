@@ -176,12 +176,12 @@ no_input accepts settings a b t u v f g h count max session e going took later c
 -- the link gave no further input
 pub link_left : {E : Type 0} (accepts : Acceptance) (settings : Settings) (a b : Option (List (Call E))) (t u v : Option (List TraceEntry)) (f g h count max : ℕ) (session : Session) (fault : LinkFault)
     (result : Result (Unit {0}) (RunError E)) → result ≡ Err (error_of_link fault) →
-    Going accepts settings a b t u f g count session → Adds u v [] → g ≤ h → (fault ≡ Failed → g < h) →
+    Going accepts settings a b t u f g count session → Adds u v [] → g ≤ h → (fault ≡ Failed → g < h) → count < max →
     Ran accepts settings a b t v f h max result
-link_left accepts settings a b t u v f g h count max session Failed result is going took later cause =
+link_left accepts settings a b t u v f g h count max session Failed result is going took later cause room =
     subst (Ran accepts settings a b t v f h max) (sym is)
-    (no_input accepts settings a b t u v f g h count max session error.LinkFault going took later (λ w. let rose = cause refl in let more = going.later in omega (arith, rose, more)))
-link_left accepts settings a b t u v f g h count max session NoMemory result is going took later cause =
+    (no_input accepts settings a b t u v f g h count max session error.LinkFault going took later (λ w. let rose = cause refl in let more = going.later in (omega (arith, rose, more), room)))
+link_left accepts settings a b t u v f g h count max session NoMemory result is going took later cause room =
     subst (Ran accepts settings a b t v f h max) (sym is) (no_input accepts settings a b t u v f g h count max session error.NoMemory going took later (λ w. tt))
 
 -- a run that could not begin

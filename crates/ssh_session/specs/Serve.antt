@@ -1,11 +1,13 @@
 -- What serving an input does, and how a session stands for a world.
-use Rattle.std.specs.Prelude.{◌≡◌, ◌<◌, ◌≤◌, ℕ, List, ◌++◌, Bool, false, Option, option_to_list, Result, Ok, Err}
+use Rattle.std.specs.Prelude.{◌≡◌, ◌<◌, ◌≤◌, ℕ, List, [], ◌++◌, Bool, false, Option, option_to_list, Result, Ok, Err}
 use Rattle.ssh_link.specs.Told.{Adds, AddsOrStops, Tells}
 use Rattle.ssh_link.specs.declared.frame.Frame.{Frame}
 use Rattle.ssh_link.specs.declared.link.TraceEntry.{TraceEntry}
 use Rattle.ssh_keys.specs.declared.error.KeyError.TheVariants.{Blob}
 use Rattle.ssh_auth.specs.declared.call.Call.{Call}
 use Rattle.ssh_auth.specs.Plan.{Plan, Question, Answer, Answered, Event, calls_in, told_in, Follows, Begins, Breaks, Reaches}
+use Rattle.ssh_handler.specs.declared.config.Config.{Config}
+use Rattle.ssh_handler.specs.Lent.{Lent}
 use Rattle.ssh_session.specs.declared.error.Flow.{Flow}
 use Rattle.ssh_session.specs.declared.error.Flow.TheVariants.{Continue, Ended}
 use Rattle.ssh_session.specs.declared.error.RunError.{RunError}
@@ -21,6 +23,14 @@ use Rattle.ssh_session.specs.Outcome.{Outcome, Goes, Ends, Fails, Encoding, Inco
 -- an input of the session ended it or failed: it serves nothing more
 abbrev pub is_spent : Session → Bool
 is_spent session = session.spent
+
+-- what a session lends to a callback, which has recorded no command yet
+abbrev pub lends : Session → Lent
+lends session = record { recorded = []; config = session.config; remote_sshid = session.remote_sshid }
+
+-- a handler that suits these servers and peers suits the session: it may be called with what the session lends
+abbrev pub IsSuited : (suits : Config → List ℕ → Type 0) → Session → Type 0
+IsSuited suits session = suits session.config session.remote_sshid
 
 -- the session, which is not spent, is in this world
 pub record Refines (settings : Settings) (session : Session) (w : World) : Type 0 where

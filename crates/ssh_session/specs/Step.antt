@@ -65,7 +65,7 @@ Closes accepts settings w count max None rose (Ok _) = ⊥
 Closes accepts settings w count max (Some turn) rose (Err e) =
     (plan : Plan Outcome) × Owes accepts settings w turn.input plan × Stops plan turn.events turn.frames rose e × IsTaken w turn
 Closes accepts settings w count max None rose (Err error.InputLimit) = count ≡ max
-Closes accepts settings w count max None rose (Err error.LinkFault) = rose
+Closes accepts settings w count max None rose (Err error.LinkFault) = rose × (count < max)
 Closes accepts settings w count max None rose (Err error.NoMemory) = Unit {0}
 Closes accepts settings w count max None rose (Err e) = ⊥
 

@@ -2,7 +2,6 @@
 -- has what it needs of it, and the relation `Refines` ties the two.
 use Rattle.std.specs.Prelude.{◌+◌, ◌%◌, ◌^◌, ◌==◌, ◌&&◌, ℕ, List, [], length, Bool, false}
 use Rattle.ssh_handler.specs.declared.config.Config.{Config}
-use Rattle.ssh_handler.specs.Lent.{Lent}
 use Rattle.ssh_session.specs.declared.phase.Phase.{Phase}
 use Rattle.ssh_session.specs.declared.phase.Phase.TheVariants.{ServiceRequest}
 use Rattle.ssh_session.specs.Pending.{Pending}
@@ -22,10 +21,6 @@ pub record Settings : Type 0 where
 -- a run of a server that is set up so, over a key exchange with this session id, for a peer of this name
 abbrev pub settings_of : Config → List ℕ → List ℕ → Settings
 settings_of config session_id remote_sshid = record { config = config; session_id = session_id; remote_sshid = remote_sshid }
-
--- what a callback is lent before it records a command
-abbrev pub lent : Settings → Lent
-lent settings = record { recorded = []; config = settings.config; remote_sshid = settings.remote_sshid }
 
 -- what a request at this moment is judged by, where the verifier accepts these signatures
 abbrev pub circumstances : Acceptance → Settings → (moment : ℕ) → Circumstances

@@ -263,6 +263,7 @@ impl Session {
         ensures gone { (settings : Settings) (w : World) → Refines settings self.old w →
             OnOk result (Refines settings self.new (record w { entries = without channel.0 w.entries })) }
         ensures closes { OnOk result (staged.new.items ≡ staged.old.items ++ layout.close_frame channel.0 peer ∷ []) }
+        ensures kept { OnOk result (self.new ≡ record self.old { channels = self.new.channels }) }
         ensures memory { IfErr result (λ e. e ≡ NoMemory) }
     {
         let frame = close_frame(self.alloc, channel, peer)?;

@@ -8,7 +8,7 @@ ghost use Rattle.ssh_session.specs.World.{Settings, World, circumstances};
 ghost use Rattle.ssh_session.specs.Said.{Said, Says, Fits, Over_cap};
 ghost use Rattle.ssh_session.specs.Outcome.{Goes};
 ghost use Rattle.ssh_session.specs.Rows.{row, reply_row, rejection_hold};
-ghost use Rattle.ssh_session.specs.Serve.{Refines, Serves, Answers, heard};
+ghost use Rattle.ssh_session.specs.Serve.{Refines, Serves, Answers, heard, IsSuited};
 
 use crate::frames::too_many_attempts_frame;
 use crate::phase::Phase;
@@ -30,7 +30,8 @@ impl Session {
         payload: &[u8],
         staged: &mut Vec<Frame>,
     ) -> Result<Flow, RunError<H::Error>>
-        requires { IsNumbered 50 payload.now }
+        requires suits { IsSuited H.suits self.old }
+        requires number { IsNumbered 50 payload.now }
         ensures { (settings : Settings) (w : World) → Refines settings self.old w →
             (said : Said) × Says (circumstances (V.accepts verifier.now) settings moment) gate.UserauthRequest payload.now said × Serves settings (row settings moment w said)
             (heard (H.AuthHandler.told handler.old) (L.trace link.old) (L.faults link.old)) (heard (H.AuthHandler.told handler.new) (L.trace link.new) (L.faults link.new)) staged.old.items staged.new.items self.new result }
@@ -58,7 +59,8 @@ impl Session {
         payload: &[u8],
         staged: &mut Vec<Frame>,
     ) -> Result<Flow, RunError<H::Error>>
-        requires { IsNumbered 61 payload.now }
+        requires suits { IsSuited H.suits self.old }
+        requires number { IsNumbered 61 payload.now }
         ensures { (settings : Settings) (w : World) → Refines settings self.old w →
             (said : Said) × Fits gate.InfoResponse (drop 1 payload.now) said × Serves settings (row settings moment w said)
             (heard (H.AuthHandler.told handler.old) (L.trace link.old) (L.faults link.old)) (heard (H.AuthHandler.told handler.new) (L.trace link.new) (L.faults link.new)) staged.old.items staged.new.items self.new result }
@@ -81,6 +83,7 @@ impl Session {
         step: AuthStep,
         staged: &mut Vec<Frame>,
     ) -> Result<Flow, RunError<H::Error>>
+        requires suits { IsSuited H.suits self.old }
         ensures { (settings : Settings) (w : World) → Refines settings self.old w →
             Serves settings (reply_row settings moment w requested step.reply step.verdict)
             (heard (H.AuthHandler.told handler.old) (L.trace link.old) (L.faults link.old)) (heard (H.AuthHandler.told handler.new) (L.trace link.new) (L.faults link.new)) staged.old.items staged.new.items self.new result }
@@ -140,6 +143,7 @@ impl Session {
         reply: Bytes,
         staged: &mut Vec<Frame>,
     ) -> Result<Flow, RunError<H::Error>>
+        requires suits { IsSuited H.suits self.old }
         ensures { (settings : Settings) (w : World) (moment : ℕ) → Refines settings self.old w →
             Serves settings (reply_row settings moment w requested reply verdict.Accepted)
             (heard (H.AuthHandler.told handler.old) (L.trace link.old) (L.faults link.old)) (heard (H.AuthHandler.told handler.new) (L.trace link.new) (L.faults link.new)) staged.old.items staged.new.items self.new result }

@@ -6,7 +6,7 @@ ghost use Rattle.ssh_session.specs.World.{Settings, World};
 ghost use Rattle.ssh_session.specs.Entries.{find};
 ghost use Rattle.ssh_session.specs.Said.{Said, Fits};
 ghost use Rattle.ssh_session.specs.Rows.{row, grant_row, window_told, peer_eof_row, peer_close_row};
-ghost use Rattle.ssh_session.specs.Serve.{Refines, Serves, heard};
+ghost use Rattle.ssh_session.specs.Serve.{Refines, Serves, heard, IsSuited};
 
 use crate::message::{read_channel, read_grant};
 use crate::table::place_of;
@@ -24,6 +24,7 @@ impl Session {
         fields: &[u8],
         staged: &mut Vec<Frame>,
     ) -> Result<Flow, RunError<H::Error>>
+        requires suits { IsSuited H.suits self.old }
         ensures { (settings : Settings) (w : World) (moment : ℕ) → Refines settings self.old w →
             (said : Said) × Fits gate.WindowAdjust fields.now said × Serves settings (row settings moment w said)
             (heard (H.AuthHandler.told handler.old) (L.trace link.old) (L.faults link.old)) (heard (H.AuthHandler.told handler.new) (L.trace link.new) (L.faults link.new)) staged.old.items staged.new.items self.new result }
@@ -40,6 +41,7 @@ impl Session {
         fields: &[u8],
         staged: &mut Vec<Frame>,
     ) -> Result<Flow, RunError<H::Error>>
+        requires suits { IsSuited H.suits self.old }
         ensures { (settings : Settings) (w : World) (moment : ℕ) → Refines settings self.old w →
             (said : Said) × Fits gate.ChannelEof fields.now said × Serves settings (row settings moment w said)
             (heard (H.AuthHandler.told handler.old) (L.trace link.old) (L.faults link.old)) (heard (H.AuthHandler.told handler.new) (L.trace link.new) (L.faults link.new)) staged.old.items staged.new.items self.new result }
@@ -56,6 +58,7 @@ impl Session {
         fields: &[u8],
         staged: &mut Vec<Frame>,
     ) -> Result<Flow, RunError<H::Error>>
+        requires suits { IsSuited H.suits self.old }
         ensures { (settings : Settings) (w : World) (moment : ℕ) → Refines settings self.old w →
             (said : Said) × Fits gate.ChannelClose fields.now said × Serves settings (row settings moment w said)
             (heard (H.AuthHandler.told handler.old) (L.trace link.old) (L.faults link.old)) (heard (H.AuthHandler.told handler.new) (L.trace link.new) (L.faults link.new)) staged.old.items staged.new.items self.new result }
@@ -73,6 +76,7 @@ impl Session {
         amount: u32,
         staged: &mut Vec<Frame>,
     ) -> Result<Flow, RunError<H::Error>>
+        requires suits { IsSuited H.suits self.old }
         ensures { (settings : Settings) (w : World) → Refines settings self.old w →
             Serves settings (grant_row settings w amount (find channel.0 w.entries))
             (heard (H.AuthHandler.told handler.old) (L.trace link.old) (L.faults link.old)) (heard (H.AuthHandler.told handler.new) (L.trace link.new) (L.faults link.new)) staged.old.items staged.new.items self.new result }
@@ -97,6 +101,7 @@ impl Session {
         new_size: u32,
         staged: &mut Vec<Frame>,
     ) -> Result<Flow, RunError<H::Error>>
+        requires suits { IsSuited H.suits self.old }
         ensures { (settings : Settings) (w : World) (base frames : List FrameOf) → Refines settings self.old w → staged.old.items ≡ base ++ frames →
             Serves settings (window_told settings w frames channel new_size)
             (heard (H.AuthHandler.told handler.old) (L.trace link.old) (L.faults link.old)) (heard (H.AuthHandler.told handler.new) (L.trace link.new) (L.faults link.new)) base staged.new.items self.new result }
@@ -119,6 +124,7 @@ impl Session {
         channel: ChannelId,
         staged: &mut Vec<Frame>,
     ) -> Result<Flow, RunError<H::Error>>
+        requires suits { IsSuited H.suits self.old }
         ensures { (settings : Settings) (w : World) → Refines settings self.old w →
             Serves settings (peer_eof_row settings w (find channel.0 w.entries))
             (heard (H.AuthHandler.told handler.old) (L.trace link.old) (L.faults link.old)) (heard (H.AuthHandler.told handler.new) (L.trace link.new) (L.faults link.new)) staged.old.items staged.new.items self.new result }
@@ -143,6 +149,7 @@ impl Session {
         channel: ChannelId,
         staged: &mut Vec<Frame>,
     ) -> Result<Flow, RunError<H::Error>>
+        requires suits { IsSuited H.suits self.old }
         ensures { (settings : Settings) (w : World) → Refines settings self.old w →
             Serves settings (peer_close_row settings w (find channel.0 w.entries))
             (heard (H.AuthHandler.told handler.old) (L.trace link.old) (L.faults link.old)) (heard (H.AuthHandler.told handler.new) (L.trace link.new) (L.faults link.new)) staged.old.items staged.new.items self.new result }

@@ -40,9 +40,9 @@ pub enum RunError<HE> {
     UnsupportedAuthMethod,
     /// The handler answered this error.
     Handler(HE),
-    /// The input asks for what is not built yet: a key exchange, a message of the connection but
-    /// those on a session channel that the peer opens, a second channel, or an end of file or a
-    /// close behind data that wait.
+    /// The input asks for what is not built yet: a key exchange, a message of the connection but the
+    /// open of a session channel and the grants, the end of file and the close of its peer, a second
+    /// channel, or an end of file or a close behind data that wait.
     NotBuilt,
 }
 

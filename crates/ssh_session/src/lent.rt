@@ -1,8 +1,7 @@
 // The callbacks that are lent commands, one by one.
-ghost use Rattle.std.specs.Prelude.{◌≡◌, []};
+ghost use Rattle.std.specs.Prelude.{◌≡◌};
 ghost use Rattle.ssh_auth.specs.Plan.{Auth_succeeded, Channel_open_session, Channel_eof, Channel_close, Window_adjusted};
-ghost use Rattle.ssh_session.specs.Serve.{Puts, Refines};
-ghost use Rattle.ssh_session.specs.World.{Settings, World, lent};
+ghost use Rattle.ssh_session.specs.Serve.{Puts, IsSuited, lends};
 
 use crate::Session;
 use ssh_handler::{Commands, Handler};
@@ -12,14 +11,14 @@ use ssh_wire::ChannelId;
 impl Session {
     /// What a callback is lent. Nothing is recorded yet.
     fn lend(&self) -> Commands<'_>
-        ensures fresh { result.recorded ≡ [] }
-        ensures lent { (settings : Settings) (w : World) → Refines settings self.now w → result ≡ lent settings }
+        ensures { result ≡ lends self.now }
     {
         Commands::new(self.alloc, &self.config, self.remote_sshid.as_slice())
     }
 
     /// Tells the handler that authentication succeeded.
     pub(crate) fn ask_succeeded<H: Handler>(&self, handler: &mut H) -> Result<CommandList, H::Error>
+        requires suits { IsSuited H.suits self.now }
         ensures { Puts Auth_succeeded (H.AuthHandler.told handler.old) (H.AuthHandler.told handler.new) result }
     {
         let mut commands = self.lend();
@@ -35,6 +34,7 @@ impl Session {
         handler: &mut H,
         channel: ChannelId,
     ) -> Result<CommandList, H::Error>
+        requires suits { IsSuited H.suits self.now }
         ensures { Puts (Channel_open_session channel) (H.AuthHandler.told handler.old) (H.AuthHandler.told handler.new) result }
     {
         let mut commands = self.lend();
@@ -54,6 +54,7 @@ impl Session {
         handler: &mut H,
         channel: ChannelId,
     ) -> Result<CommandList, H::Error>
+        requires suits { IsSuited H.suits self.now }
         ensures { Puts (Channel_eof channel) (H.AuthHandler.told handler.old) (H.AuthHandler.told handler.new) result }
     {
         let mut commands = self.lend();
@@ -69,6 +70,7 @@ impl Session {
         handler: &mut H,
         channel: ChannelId,
     ) -> Result<CommandList, H::Error>
+        requires suits { IsSuited H.suits self.now }
         ensures { Puts (Channel_close channel) (H.AuthHandler.told handler.old) (H.AuthHandler.told handler.new) result }
     {
         let mut commands = self.lend();
@@ -85,6 +87,7 @@ impl Session {
         channel: ChannelId,
         new_size: u32,
     ) -> Result<CommandList, H::Error>
+        requires suits { IsSuited H.suits self.now }
         ensures { Puts (Window_adjusted channel new_size) (H.AuthHandler.told handler.old) (H.AuthHandler.told handler.new) result }
     {
         let mut commands = self.lend();

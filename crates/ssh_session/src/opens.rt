@@ -5,7 +5,7 @@ ghost use Rattle.ssh_session.specs.declared.gate.Gate.TheVariants as gate;
 ghost use Rattle.ssh_session.specs.World.{Settings, World};
 ghost use Rattle.ssh_session.specs.Said.{Said, Fits};
 ghost use Rattle.ssh_session.specs.Rows.{row, open_session_row, drawn};
-ghost use Rattle.ssh_session.specs.Serve.{Refines, Serves, heard};
+ghost use Rattle.ssh_session.specs.Serve.{Refines, Serves, heard, IsSuited};
 
 use crate::message::{OpenRequest, read_open};
 use crate::pending::PendingOpen;
@@ -23,6 +23,7 @@ impl Session {
         fields: &[u8],
         staged: &mut Vec<Frame>,
     ) -> Result<Flow, RunError<H::Error>>
+        requires suits { IsSuited H.suits self.old }
         ensures { (settings : Settings) (w : World) (moment : ℕ) → Refines settings self.old w →
             (said : Said) × Fits gate.ChannelOpen fields.now said × Serves settings (row settings moment w said)
             (heard (H.AuthHandler.told handler.old) (L.trace link.old) (L.faults link.old)) (heard (H.AuthHandler.told handler.new) (L.trace link.new) (L.faults link.new)) staged.old.items staged.new.items self.new result }
@@ -51,7 +52,8 @@ impl Session {
         packet: u32,
         staged: &mut Vec<Frame>,
     ) -> Result<Flow, RunError<H::Error>>
-        requires { 0 < packet }
+        requires suits { IsSuited H.suits self.old }
+        requires packet_size { 0 < packet }
         ensures { (settings : Settings) (w : World) → Refines settings self.old w →
             Serves settings (open_session_row settings w peer window packet)
             (heard (H.AuthHandler.told handler.old) (L.trace link.old) (L.faults link.old)) (heard (H.AuthHandler.told handler.new) (L.trace link.new) (L.faults link.new)) staged.old.items staged.new.items self.new result }
@@ -71,6 +73,7 @@ impl Session {
     fn draw(&mut self, peer: u32, window: u32, packet: u32) -> Result<(), WireError>
         requires { 0 < packet }
         ensures drawn { (settings : Settings) (w : World) → Refines settings self.old w → OnOk result (Refines settings self.new (drawn w peer window packet)) }
+        ensures kept { OnOk result (self.new ≡ record self.old { last_channel = self.new.last_channel; pending = self.new.pending }) }
         ensures memory { IfErr result (λ e. e ≡ NoMemory) }
     {
         let number = self.next_number();

@@ -25,7 +25,8 @@ fn run_inputs<H: Handler, V: Verifier, L: Link>(
     link: &mut L,
     max_inputs: u64,
 ) -> Result<(), RunError<H::Error>>
-    requires { length session_id.now < 2 ^ 32 }
+    requires session_id { length session_id.now < 2 ^ 32 }
+    requires suits { H.suits config.now remote_sshid.now }
     ensures { Ran (V.accepts verifier.now) (settings_of config.now session_id.now remote_sshid.now) (H.AuthHandler.told handler.old) (H.AuthHandler.told handler.new)
         (L.trace link.old) (L.trace link.new) (L.faults link.old) (L.faults link.new) max_inputs result }
 {
@@ -47,6 +48,8 @@ fn run_inputs<H: Handler, V: Verifier, L: Link>(
 /// Serves one connection: takes inputs from the link until one ends the run (`Ok`), an error comes,
 /// or `max_inputs` of them were finished (`InputLimit`). `session_id` is that of the key exchange
 /// (RFC 4253 section 7.2), at most 2^32 - 1 bytes; `remote_sshid` is the peer's identification line.
+/// The handler has to suit the two (`Handler::suits`), as each does that does not say otherwise, and
+/// every callback that is lent commands is lent this config and this line.
 pub fn run_stream<H: Handler, V: Verifier, L: Link>(
     alloc: Global,
     config: &Config,
@@ -57,7 +60,8 @@ pub fn run_stream<H: Handler, V: Verifier, L: Link>(
     link: &mut L,
     max_inputs: u64,
 ) -> Result<(), RunError<H::Error>>
-    requires { length session_id.now < 2 ^ 32 }
+    requires session_id { length session_id.now < 2 ^ 32 }
+    requires suits { H.suits config.now remote_sshid.now }
     // The calls, the frames and the answer are those that the inputs owe, row by row.
     ensures run { Ran (V.accepts verifier.now) (settings_of config.now session_id.now remote_sshid.now) (H.AuthHandler.told handler.old) (H.AuthHandler.told handler.new)
         (L.trace link.old) (L.trace link.new) (L.faults link.old) (L.faults link.new) max_inputs result }
@@ -81,7 +85,8 @@ pub fn run_stream<H: Handler, V: Verifier, L: Link>(
         (earlier later : List (Turn _)) → account.turns ≡ earlier ++ later →
         (w : World) × RunOf (V.accepts verifier.now) (settings_of config.now session_id.now remote_sshid.now) (opening_world (settings_of config.now session_id.now remote_sshid.now)) earlier w
         × Settled w.entries (flat_map entries earlier) }
-    // A close goes out only as the answer to the peer's, or by a command once all accepted bytes of the channel are due.
+    // Where callbacks record answers to opens alone, a close goes out only as the answer to the peer's, or by a command
+    // once all accepted bytes of the channel are due.
     ensures closing { (account : Ran (V.accepts verifier.now) (settings_of config.now session_id.now remote_sshid.now) (H.AuthHandler.told handler.old) (H.AuthHandler.told handler.new)
         (L.trace link.old) (L.trace link.new) (L.faults link.old) (L.faults link.new) max_inputs result) →
         ClosesRightly (V.accepts verifier.now) (settings_of config.now session_id.now remote_sshid.now) (account.turns ++ option_to_list account.last) }

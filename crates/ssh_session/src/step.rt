@@ -10,7 +10,7 @@ ghost use Rattle.ssh_auth.specs.Plan.{Plan};
 ghost use Rattle.ssh_session.specs.Outcome.{Outcome};
 ghost use Rattle.ssh_session.specs.Rows.{row};
 ghost use Rattle.ssh_session.specs.Run.{OwesKind};
-ghost use Rattle.ssh_session.specs.Serve.{Refines, Serves, heard, is_spent};
+ghost use Rattle.ssh_session.specs.Serve.{Refines, Serves, heard, is_spent, IsSuited};
 ghost use Rattle.ssh_session.specs.Step.{Steps};
 
 use crate::gate::Gate;
@@ -36,7 +36,8 @@ fn send_all<L: Link>(link: &mut L, staged: Vec<Frame>) -> Result<(), LinkFault>
 impl Session {
     /// Takes one input and finishes it: makes the callbacks that it owes, and then hands its frames
     /// on. After an error or `Ended` the session is spent, and each later call answers
-    /// `Inconsistent`, calls nothing and hands nothing on.
+    /// `Inconsistent`, calls nothing and hands nothing on. The handler has to suit the config and
+    /// the peer of the session (`Handler::suits`).
     pub fn step<H: Handler, V: Verifier, L: Link>(
         &mut self,
         handler: &mut H,
@@ -44,6 +45,7 @@ impl Session {
         link: &mut L,
         input: Input,
     ) -> Result<Flow, RunError<H::Error>>
+        requires suits { is_spent self.old ≢ true → IsSuited H.suits self.old }
         ensures taken { (settings : Settings) (w : World) → Refines settings self.old w → Steps (V.accepts verifier.now) settings w input (H.AuthHandler.told handler.old) (H.AuthHandler.told handler.new)
             (L.trace link.old) (L.trace link.new) (L.faults link.old) (L.faults link.new) self.new result }
         ensures spends { is_spent self.old ≢ true → result ≢ Ok Flow.Continue → is_spent self.new ≡ true }
@@ -79,6 +81,7 @@ impl Session {
         link: &mut L,
         input: Input,
     ) -> Result<Flow, RunError<H::Error>>
+        requires suits { IsSuited H.suits self.old }
         ensures { (settings : Settings) (w : World) → Refines settings self.old w → Steps (V.accepts verifier.now) settings w input (H.AuthHandler.told handler.old) (H.AuthHandler.told handler.new)
             (L.trace link.old) (L.trace link.new) (L.faults link.old) (L.faults link.new) self.new result }
     {
@@ -104,6 +107,7 @@ impl Session {
         kind: InputKind,
         staged: &mut Vec<Frame>,
     ) -> Result<Flow, RunError<H::Error>>
+        requires suits { IsSuited H.suits self.old }
         ensures { (settings : Settings) (w : World) → Refines settings self.old w →
             (plan : Plan Outcome) × OwesKind (V.accepts verifier.now) settings w moment kind plan × Serves settings plan
             (heard (H.AuthHandler.told handler.old) (L.trace link.old) (L.faults link.old)) (heard (H.AuthHandler.told handler.new) (L.trace link.new) (L.faults link.new)) staged.old.items staged.new.items self.new result }
@@ -132,6 +136,7 @@ impl Session {
         payload: &[u8],
         staged: &mut Vec<Frame>,
     ) -> Result<Flow, RunError<H::Error>>
+        requires suits { IsSuited H.suits self.old }
         ensures { (settings : Settings) (w : World) → Refines settings self.old w →
             (said : Said) × Says (circumstances (V.accepts verifier.now) settings moment) (gate_of settings w payload.now) payload.now said × Serves settings (row settings moment w said)
             (heard (H.AuthHandler.told handler.old) (L.trace link.old) (L.faults link.old)) (heard (H.AuthHandler.told handler.new) (L.trace link.new) (L.faults link.new)) staged.old.items staged.new.items self.new result }

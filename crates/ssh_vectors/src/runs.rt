@@ -1,4 +1,6 @@
 // Runs over links in memory, with handlers of the tests' own.
+ghost use Rattle.std.specs.Prelude.{◌≤◌, length};
+
 use bytes::Bytes;
 use ssh_auth::{Auth, AuthHandler, Unwritten};
 use ssh_handler::{Commands, Config, Handler, RecordError, Recorded};
@@ -11,6 +13,9 @@ use std::test::Fail;
 
 // SERVICE_REQUEST for the service ssh-userauth.
 const SERVICE: &[u8] = b"\x05\x00\x00\x00\x0cssh-userauth";
+
+// USERAUTH_REQUEST of alice by method none.
+const NONE: &[u8] = b"\x32\x00\x00\x00\x05alice\x00\x00\x00\x0essh-connection\x00\x00\x00\x04none";
 
 // Why a handler of the tests fails.
 #[derive(Clone, Copy, Debug, Drop, PartialEq, Eq)]
@@ -72,6 +77,70 @@ impl Handler for Open {
         session: &mut Commands<'_>,
     ) -> Result<(), Tired> {
         session.answer_open(reply.accept()).map_err(|_| Tired)
+    }
+}
+
+// A handler that writes no callback that it need not write.
+#[derive(Drop)]
+struct Silent;
+
+impl AuthHandler for Silent {
+    type Error = Tired;
+
+    fn untold(&mut self, _by: Unwritten) -> Result<(), Tired> {
+        Ok(())
+    }
+}
+
+impl Handler for Silent {
+    fn channel_open_session(
+        &mut self,
+        _channel: ChannelId,
+        reply: ChannelOpenHandle,
+        _session: &mut Commands<'_>,
+    ) -> Result<(), Tired> {
+        let _number = reply.into_channel();
+        Err(Tired)
+    }
+}
+
+// A handler that lets everybody in, and keeps the name of the peer's software.
+#[derive(Drop)]
+struct Naming {
+    alloc: Global,
+    software: Bytes,
+}
+
+impl AuthHandler for Naming {
+    type Error = Tired;
+
+    fn untold(&mut self, _by: Unwritten) -> Result<(), Tired> {
+        Ok(())
+    }
+
+    fn auth_none(&mut self, _user: &str) -> Result<Auth, Tired> {
+        Ok(Auth::Accept)
+    }
+}
+
+impl Handler for Naming {
+    // The name stands behind `SSH-2.0-`.
+    ghost suits = { λ _ remote_sshid. 8 ≤ length remote_sshid };
+
+    fn auth_succeeded(&mut self, session: &mut Commands<'_>) -> Result<(), Tired> {
+        let (_, software) = session.remote_sshid().split_at(8);
+        self.software = Bytes::copy_from_slice(self.alloc, software).or(Err(Tired))?;
+        Ok(())
+    }
+
+    fn channel_open_session(
+        &mut self,
+        _channel: ChannelId,
+        reply: ChannelOpenHandle,
+        _session: &mut Commands<'_>,
+    ) -> Result<(), Tired> {
+        let _number = reply.into_channel();
+        Err(Tired)
     }
 }
 
@@ -170,5 +239,67 @@ fn a_session_that_is_spent(rt: HostRuntime) -> Result<(), Fail> {
     assert!(rt; matches!(later, Err(RunError::Inconsistent)));
     assert_eq!(rt; handler.calls().len(), 1);
     assert_eq!(rt; sent(&link), 1);
+    Ok(())
+}
+
+#[test]
+fn a_silent_handler_lets_nobody_in(rt: HostRuntime) -> Result<(), Fail> {
+    let alloc = rt.alloc();
+    let config = Config::standard();
+    let verifier = TableVerifier::new(alloc);
+    let mut inputs = Inputs::new(alloc);
+    inputs.push(input(alloc, SERVICE)?)?;
+    inputs.push(input(alloc, NONE)?)?;
+    let mut link = MemoryLink::new(alloc, inputs, Calls::new(alloc));
+    let run = run_stream(
+        alloc,
+        &config,
+        b"",
+        b"",
+        &mut Silent,
+        &verifier,
+        &mut link,
+        10,
+    );
+    assert!(rt; run.is_ok());
+    // SERVICE_ACCEPT, and FAILURE.
+    let mut numbers = Vec::new(alloc);
+    for entry in link.trace() {
+        if let TraceEntry::Sent(frame) = entry {
+            numbers.push(frame.payload.first().copied())?;
+        }
+    }
+    assert_eq!(rt; numbers.as_slice(), [Some(6u8), Some(51)].as_slice());
+    Ok(())
+}
+
+#[test]
+fn a_handler_counts_on_the_line_of_its_peer(rt: HostRuntime) -> Result<(), Fail> {
+    let alloc = rt.alloc();
+    let config = Config::standard();
+    let verifier = TableVerifier::new(alloc);
+    let mut inputs = Inputs::new(alloc);
+    inputs.push(input(alloc, SERVICE)?)?;
+    inputs.push(input(alloc, NONE)?)?;
+    let mut link = MemoryLink::new(alloc, inputs, Calls::new(alloc));
+    let mut handler = Naming {
+        alloc,
+        software: Bytes::copy_from_slice(alloc, b"")?,
+    };
+    let run = run_stream(
+        alloc,
+        &config,
+        b"",
+        b"SSH-2.0-PuTTY",
+        &mut handler,
+        &verifier,
+        &mut link,
+        10,
+    );
+    assert!(rt; run.is_ok());
+    assert_eq!(rt; handler.software.as_slice(), b"PuTTY".as_slice());
+    let mut session = Session::new(alloc, &config, b"", b"SSH-2.0-dropbear")?;
+    let step = session.step(&mut handler, &verifier, &mut link, input(alloc, SERVICE)?);
+    assert!(rt; matches!(step, Ok(Flow::Continue)));
     Ok(())
 }

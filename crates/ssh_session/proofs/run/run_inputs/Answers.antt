@@ -34,4 +34,4 @@ loop-init g c = starts g.row.H-Error.Denot (g.V.Verifier.accepts c.args.verifier
 pub returns-in-Err : goal.returns-in-Err
 returns-in-Err g c =
     link_left (g.V.Verifier.accepts c.args.verifier.now) (settings_of c.args.config.now c.args.session_id.now c.args.remote_sshid.now) _ _ _ _ _ _ _ _ c.loop.counter c.args.max_inputs c.loop.session c.in-Err.fault (Err c.from.result) (ap Err c.from.ensures)
-    c.loop.invariant c.in-Err.ensures.err c.next.ensures.later (λ i. c.in-Err.ensures.cause (ap Err i))
+    c.loop.invariant c.in-Err.ensures.err c.next.ensures.later (λ i. c.in-Err.ensures.cause (ap Err i)) c.loop-test.true
