@@ -1,9 +1,10 @@
 -- Bytes say at most one open or confirmation, or are none for one reason.
-use Rattle.std.proofs.Common.{◌≡◌, ◌≢◌, inl, inr, ℕ, List, ap, sym, subst, refl, ◌∙◌, Option, Some, None}
-use Rattle.ssh_wire.specs.Field.{SpellsAll, MisfitsAll}
-use Rattle.ssh_wire.specs.Open.{KnownType, type_named, leading_fields, confirmation_fields, Leads, SpellsType, MisfitsType, SpellsOpen, MisfitsOpen, MisfitsConfirmation}
+use Rattle.std.proofs.Common.{◌≡◌, inl, inr, ℕ, List, ap, sym, subst, refl, ◌∙◌, Option, Some, None}
+use Rattle.ssh_wire.specs.Field.{Values, MisfitsAll}
+use Rattle.ssh_wire.specs.Open.{KnownType, type_named, leading_fields, confirmation_fields, Leads, SpellsType, MisfitsType, SpellsOpen, MisfitsOpen, SpellsConfirmation, MisfitsConfirmation}
 use Rattle.ssh_wire.specs.declared.channel_type.ChannelType.{ChannelType}
 use Rattle.ssh_wire.specs.declared.open.OpenChannelMessage.{OpenChannelMessage}
+use Rattle.ssh_wire.specs.declared.open.ChannelOpenConfirmation.{ChannelOpenConfirmation}
 use Rattle.ssh_wire.specs.declared.error.WireError.{WireError}
 use Rattle.ssh_wire.specs.declared.error.LayoutError.{LayoutError}
 use Rattle.ssh_wire.specs.declared.error.LayoutError.TheVariants.{Wire, Inconsistent}
@@ -95,13 +96,29 @@ misfits_open_once bytes Inconsistent (Wire other) m n =
     ]
 misfits_open_once bytes Inconsistent Inconsistent m n = refl
 
--- a confirmation with a packet size is none of what does not fit
-pub misfits_confirmation_not_spells : (k l m n : ℕ) (bytes rest : List ℕ) (why : LayoutError) → MisfitsConfirmation bytes why
-    → SpellsAll confirmation_fields (k, (l, (m, (n, tt)))) bytes rest → n ≢ 0 → ⊥
-misfits_confirmation_not_spells k l m n bytes rest (Wire why) misfit s some = misfits_all_not_spells confirmation_fields (k, (l, (m, (n, tt)))) bytes rest why misfit s
-misfits_confirmation_not_spells k l m n bytes rest Inconsistent misfit s some =
-    let once = spells_all_once confirmation_fields (k, (l, (m, (n, tt)))) (misfit.0, (misfit.1, (misfit.2, (0, tt)))) bytes rest misfit.3 s misfit.4 in
-    some (ap (λ v. v.1.1.1.0) once.0)
+-- ---- confirmations
+
+said : ChannelOpenConfirmation → Values confirmation_fields
+said message = (message.recipient_channel, (message.sender_channel, (message.initial_window_size, (message.maximum_packet_size, tt))))
+
+confirmation_of : Values confirmation_fields → ChannelOpenConfirmation
+confirmation_of values =
+    record { recipient_channel = values.0; sender_channel = values.1.0; initial_window_size = values.1.1.0; maximum_packet_size = values.1.1.1.0 }
+
+pub spells_confirmation_once : (s t : ChannelOpenConfirmation) (bytes a b : List ℕ) → SpellsConfirmation s bytes a → SpellsConfirmation t bytes b
+    → (s ≡ t) × (a ≡ b)
+unfolding said confirmation_of
+spells_confirmation_once s t bytes a b p q =
+    let once = spells_all_once confirmation_fields (said s) (said t) bytes a b p.0 q.0 in
+    (ap confirmation_of once.0, once.1)
+
+pub misfits_confirmation_not_spells : (message : ChannelOpenConfirmation) (bytes rest : List ℕ) (why : LayoutError) → MisfitsConfirmation bytes why
+    → SpellsConfirmation message bytes rest → ⊥
+unfolding said
+misfits_confirmation_not_spells message bytes rest (Wire why) misfit s = misfits_all_not_spells confirmation_fields (said message) bytes rest why misfit s.0
+misfits_confirmation_not_spells message bytes rest Inconsistent misfit s =
+    let once = spells_all_once confirmation_fields (said message) (misfit.0, (misfit.1, (misfit.2, (0, tt)))) bytes rest misfit.3 s.0 misfit.4 in
+    s.1 (ap (λ v. v.1.1.1.0) once.0)
 
 pub misfits_confirmation_once : (bytes : List ℕ) (why other : LayoutError) → MisfitsConfirmation bytes why → MisfitsConfirmation bytes other → why ≡ other
 misfits_confirmation_once bytes (Wire why) (Wire other) m n = ap Wire (misfits_all_once confirmation_fields bytes why other m n)

@@ -3,6 +3,7 @@ pub mod Field
 pub mod MethodPlaces
 pub mod Methods
 pub mod Names
+pub mod OneReading
 pub mod Open
 pub mod OpenFailures
 pub mod Ptys

@@ -7,6 +7,7 @@ use Rattle.ssh_wire.specs.declared.error.LayoutError.TheVariants.{Wire, Inconsis
 use Rattle.ssh_wire.specs.declared.channel_type.ChannelType.{ChannelType}
 use Rattle.ssh_wire.specs.declared.channel_type.ChannelType.TheVariants.{Session, X11, DirectTcpip, DirectStreamLocal, ForwardedTcpIp, ForwardedStreamLocal, AgentForward, Unknown}
 use Rattle.ssh_wire.specs.declared.open.OpenChannelMessage.{OpenChannelMessage}
+use Rattle.ssh_wire.specs.declared.open.ChannelOpenConfirmation.{ChannelOpenConfirmation}
 
 -- the type's name, the sender's number, its window, its packet size (RFC 4254 section 5.1)
 abbrev pub leading_fields : List Field
@@ -105,6 +106,13 @@ MisfitsOpen bytes Inconsistent = (name : List ℕ) × (sender window : ℕ) × (
 -- the recipient's number, the sender's, the sender's window and packet size (RFC 4254 section 5.1)
 abbrev pub confirmation_fields : List Field
 confirmation_fields = Number ∷ Number ∷ Number ∷ Number ∷ []
+
+-- the bytes up to this rest are a confirmation that says this; a packet size of 0 would never let data through
+abbrev pub SpellsConfirmation : ChannelOpenConfirmation → (bytes rest : List ℕ) → Type 0
+SpellsConfirmation message bytes rest =
+    SpellsAll confirmation_fields
+    (message.recipient_channel, (message.sender_channel, (message.initial_window_size, (message.maximum_packet_size, tt)))) bytes rest
+    × (message.maximum_packet_size ≢ 0)
 
 -- the bytes are no confirmation, for this reason: the first field that does not fit, or a packet size of 0
 abbrev pub MisfitsConfirmation : List ℕ → LayoutError → Type 0

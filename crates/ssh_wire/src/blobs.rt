@@ -58,3 +58,6 @@ impl Blobs {
         })
     }
 }
+
+#[cfg(test)]
+mod tests;

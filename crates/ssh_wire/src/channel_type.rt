@@ -9,7 +9,7 @@ use crate::{Reader, Text, WireError};
 use std::alloc::Global;
 
 /// What an open asks for (RFC 4254 section 5.1).
-#[derive(Debug, Drop)]
+#[derive(Debug, Drop, PartialEq, Eq)]
 pub enum ChannelType {
     /// An interactive session (RFC 4254 section 6.1).
     Session,
@@ -38,7 +38,7 @@ pub enum ChannelType {
 }
 
 /// The two ends of a TCP connection (RFC 4254 section 7.2).
-#[derive(Debug, Drop)]
+#[derive(Debug, Drop, PartialEq, Eq)]
 pub struct TcpChannelInfo {
     /// The host to connect to, or the address that was connected to.
     pub host_to_connect: Text,
@@ -51,7 +51,7 @@ pub struct TcpChannelInfo {
 }
 
 /// The end of a connection to a Unix socket (OpenSSH PROTOCOL section 2.4).
-#[derive(Debug, Drop)]
+#[derive(Debug, Drop, PartialEq, Eq)]
 pub struct StreamLocalChannelInfo {
     /// The path of the socket.
     pub socket_path: Text,
@@ -186,3 +186,6 @@ impl ChannelType {
         }
     }
 }
+
+#[cfg(test)]
+mod tests;

@@ -45,3 +45,6 @@ impl Disconnect {
         self as u32
     }
 }
+
+#[cfg(test)]
+mod tests;

@@ -71,3 +71,6 @@ pub fn method_from_own_name(kind: MethodKind) -> Result<MethodKind, ()>
 {
     kind.name().parse()
 }
+
+#[cfg(test)]
+mod tests;

@@ -164,3 +164,6 @@ impl Eq for MethodSet {
 
     ghost laws = { are_same-laws };
 }
+
+#[cfg(test)]
+mod tests;

@@ -58,3 +58,6 @@ impl Modes {
         })
     }
 }
+
+#[cfg(test)]
+mod tests;

@@ -66,11 +66,13 @@ impl NameList {
         Ok(())
     }
 
-    /// The names with a comma between each two, as they stand on the wire.
-    pub fn to_text(&self, alloc: Global) -> Result<Text, WireError>
+    /// The names with a comma between each two, as they stand on the wire. The text takes its
+    /// memory from where the list has its own.
+    pub fn to_text(&self) -> Result<Text, WireError>
         ensures ok { IfOk result (λ text. text ≡ joined self.now) }
         ensures memory { IfErr result (λ e. e ≡ NoMemory) }
     {
+        let alloc = *self.names.allocator();
         let mut text = String::new(alloc);
         for (place, name) in self.names.iter().enumerate() {
             if place > 0 {

@@ -1,7 +1,8 @@
 // The messages that open a channel, confirm one, and refuse one.
 ghost use Rattle.std.specs.Prelude.{◌≡◌, ◌≢◌, ◌⊎◌, ◌↔◌, ◌<◌, ◌≤◌, ◌^◌, ◌++◌, ℕ, List, length, codes, IfOk, IfErr, OnOk, OnErr, IsErrOf};
-ghost use Rattle.ssh_wire.specs.Reading.{MovesOn, ReadsAll};
-ghost use Rattle.ssh_wire.specs.Open.{SpellsOpen, MisfitsOpen, confirmation_fields, MisfitsConfirmation, open_failure};
+ghost use Rattle.ssh_wire.specs.Reading.{MovesOn};
+ghost use Rattle.ssh_wire.specs.OneReading.{SaysOne, HasOneReason, NeverBoth};
+ghost use Rattle.ssh_wire.specs.Open.{SpellsOpen, MisfitsOpen, SpellsConfirmation, MisfitsConfirmation, open_failure};
 ghost use Rattle.ssh_wire.specs.declared.error.WireError.TheVariants.{NoMemory, TooLong};
 ghost use Rattle.ssh_wire.specs.declared.error.LayoutError.TheVariants.{Wire};
 
@@ -15,7 +16,7 @@ const OPEN_FAILURE: u8 = 92;
 const UNKNOWN_CHANNEL_TYPE: u8 = 3;
 
 /// A request for a channel (RFC 4254 section 5.1). The numbers are those of the side that asks.
-#[derive(Debug, Drop)]
+#[derive(Debug, Drop, PartialEq, Eq)]
 pub struct OpenChannelMessage {
     /// The type of the channel, with the fields that are its own.
     pub typ: ChannelType,
@@ -120,8 +121,8 @@ impl ChannelOpenConfirmation {
     /// `Inconsistent` at a packet size of 0, and `Wire` at the first number that is not there.
     /// A refusal leaves the reader as it was.
     pub fn parse(r: &mut Reader<'_>) -> Result<ChannelOpenConfirmation, LayoutError>
-        ensures ok { IfOk result (λ c. ReadsAll confirmation_fields r.old r.new (c.recipient_channel, (c.sender_channel, (c.initial_window_size, (c.maximum_packet_size, tt))))) }
-        ensures packet_size { IfOk result (λ c. c.maximum_packet_size ≢ 0) }
+        ensures ok { IfOk result (λ message. SpellsConfirmation message r.old.left r.new.left) }
+        ensures moves { OnOk result (MovesOn r.old r.new) }
         ensures misfit { IfErr result (MisfitsConfirmation r.old.left) }
         ensures err { OnErr result (r.new ≡ r.old) }
     {
@@ -142,6 +143,22 @@ impl ChannelOpenConfirmation {
         })
     }
 }
+
+/// Bytes say at most one request for a channel, with one rest after it, or are refused for one
+/// reason, and never both: so `parse` has one answer beside want of memory.
+pub fn one_open()
+    ensures value { SaysOne SpellsOpen }
+    ensures reason { HasOneReason MisfitsOpen }
+    ensures apart { NeverBoth SpellsOpen MisfitsOpen }
+{}
+
+/// Bytes say at most one confirmation, with one rest after it, or are refused for one reason, and
+/// never both: so `parse` has one answer.
+pub fn one_confirmation()
+    ensures value { SaysOne SpellsConfirmation }
+    ensures reason { HasOneReason MisfitsConfirmation }
+    ensures apart { NeverBoth SpellsConfirmation MisfitsConfirmation }
+{}
 
 #[cfg(test)]
 mod tests;

@@ -50,3 +50,6 @@ impl ChannelOpenFailure {
         }
     }
 }
+
+#[cfg(test)]
+mod tests;

@@ -199,3 +199,6 @@ impl Pty {
         })
     }
 }
+
+#[cfg(test)]
+mod tests;

@@ -8,7 +8,7 @@ use crate::{Text, WireError};
 use std::alloc::Global;
 
 /// A signal, by its name without "SIG" (RFC 4254 section 6.10).
-#[derive(Debug, Drop)]
+#[derive(Debug, Drop, PartialEq, Eq)]
 pub enum Sig {
     /// Aborts.
     ABRT,
