@@ -17,7 +17,7 @@ use std::alloc::Global;
 
 /// A key with what another key signed of it (OpenSSH PROTOCOL.certkeys). The signature is of
 /// `signed`, to which decoding alone ties the other fields.
-#[derive(Debug, Drop)]
+#[derive(Debug, Drop, PartialEq, Eq)]
 pub struct Certificate {
     /// Bytes that the signer chose, so that nobody could foresee what is signed.
     pub nonce: Bytes,

@@ -10,7 +10,7 @@ use crate::{Algorithm, Certificate, HashAlg, KeyError, PublicKey};
 use std::alloc::Global;
 
 /// A key that is offered, plain or in a certificate.
-#[derive(Debug, Drop)]
+#[derive(Debug, Drop, PartialEq, Eq)]
 pub enum PublicKeyOrCertificate {
     /// A key, with the hash that the name of the algorithm names.
     PublicKey {

@@ -12,7 +12,7 @@ use ssh_wire::{Reader, Text, WireError};
 use std::alloc::Global;
 
 /// A signature with the name of its algorithm (RFC 4253 section 6.6).
-#[derive(Debug, Drop)]
+#[derive(Debug, Drop, PartialEq, Eq)]
 pub struct Signature {
     /// The name of the algorithm, which need not be a known one.
     pub name: Text,
