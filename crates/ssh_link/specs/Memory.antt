@@ -4,7 +4,7 @@ use Rattle.std.specs.List.{list_any}
 use Rattle.ssh_link.specs.declared.frame.Input.{Input}
 use Rattle.ssh_link.specs.declared.link.TraceEntry.{TraceEntry}
 use Rattle.ssh_link.specs.declared.link.TraceEntry.TheVariants.{Took}
-use Rattle.ssh_link.specs.Io.{one_more}
+use Rattle.ssh_link.specs.Faults.{one_more}
 use Rattle.ssh_link.specs.Supply.{Supply, left_until, last_moment, next_input, after_next}
 
 pub record Failures : Type 0 where
@@ -62,7 +62,9 @@ finished link entry = record link { failures = called link.failures; trace = lin
 -- after the next input was given
 abbrev pub gave : Bool → Bool → Remembered → Remembered
 gave commands replies link =
-    record (finished link (Took commands replies (next_input commands replies link.supply))) { supply = after_next commands replies link.supply }
+    record (finished link (Took commands replies (next_input commands replies link.supply))) {
+      supply = after_next commands replies link.supply;
+    }
 
 -- what a source in memory has
 pub record Readable : Type 0 where

@@ -1,11 +1,14 @@
 // What this side asks of its session.
 ghost use Rattle.std.specs.Prelude.{◌≡◌, ◌==◌, [], ◌∷◌, ◌++◌, length, IfOk, IfErr, OnOk, OnErr, MatchOption};
+ghost use Rattle.std.specs.Option.{option_copied};
+ghost use Rattle.std.specs.List.{slice_get};
 ghost use Rattle.ssh_wire.specs.declared.error.WireError.TheVariants.{NoMemory};
 
 use crate::OpenAnswer;
 use bytes::Bytes;
 use ssh_wire::{ChannelId, WireError};
 use std::alloc::Global;
+use std::collections::VecDeque;
 use std::marker::Model;
 
 /// What the server asks of its session, from a callback or from outside. Channels go by this
@@ -54,7 +57,7 @@ impl Command {
 /// Commands, in the order in which they were given. A clause sees the list.
 #[derive(Debug, Drop)]
 pub struct CommandList {
-    items: Vec<Command>,
+    items: VecDeque<Command>,
 }
 
 impl Model for CommandList {
@@ -72,15 +75,15 @@ impl CommandList {
         ensures { result ≡ [] }
     {
         CommandList {
-            items: Vec::new(alloc),
+            items: VecDeque::new(alloc),
         }
     }
 
-    /// The commands, in order.
-    pub fn as_slice(&self) -> &[Command]
-        ensures { result.now ≡ self.now }
+    /// The command at this place, the first being at 0; none where the list is shorter.
+    pub fn get(&self, place: usize) -> Option<&Command>
+        ensures { option_copied result ≡ slice_get self.now place }
     {
-        self.items.as_slice()
+        self.items.get(place)
     }
 
     /// Adds a command at the end. `NoMemory` is the only error, and leaves the list as it was.
@@ -89,7 +92,7 @@ impl CommandList {
         ensures err { OnErr result (self.new ≡ self.old) }
         ensures memory { IfErr result (λ e. e ≡ NoMemory) }
     {
-        self.items.push(command)?;
+        self.items.push_back(command)?;
         Ok(())
     }
 
@@ -100,7 +103,7 @@ impl CommandList {
         ensures err { OnErr result (self.new ≡ self.old) }
         ensures back { IfErr result (λ e. e ≡ command) }
     {
-        match self.items.push(command) {
+        match self.items.push_back(command) {
             Ok(()) => Ok(()),
             Err(failed) => Err(failed.value),
         }
@@ -124,11 +127,7 @@ impl CommandList {
     pub fn take_first(&mut self) -> Option<Command>
         ensures { MatchOption result ((self.old ≡ []) × (self.new ≡ [])) (λ command. self.old ≡ command ∷ self.new) }
     {
-        if self.items.is_empty() {
-            None
-        } else {
-            Some(self.items.remove(0))
-        }
+        self.items.pop_front()
     }
 
     /// An equal list. `NoMemory` is the only error.

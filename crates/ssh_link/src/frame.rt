@@ -1,37 +1,238 @@
 // What goes out to the peer, and what comes in.
-ghost use Rattle.std.specs.Prelude.{◌≡◌, IfOk, IfErr};
+ghost use Rattle.std.specs.Prelude.{◌≡◌, ◌≤◌, ◌-◌, ◌+◌, ◌^◌, ◌++◌, None, Some, IfOk, IfErr, IsOk, bytes_eq, length, take, drop};
 ghost use Rattle.ssh_wire.specs.declared.error.WireError.TheVariants.{NoMemory};
+ghost use Rattle.ssh_link.specs.Frames.{channel_data, channel_extended_data};
 ghost use Rattle.ssh_link.specs.Asked.{is_asked};
 ghost use Rattle.ssh_link.specs.Supply.{is_reply};
 
 use crate::{Command, OpenAnswer};
 use bytes::Bytes;
 use ssh_wire::{ChannelId, WireError};
+use std::marker::Model;
 
-/// A payload for the peer (RFC 4253 section 6: what one binary packet carries).
-#[derive(Debug, Drop, PartialEq, Eq)]
+const CHANNEL_DATA: u8 = 94;
+
+const CHANNEL_EXTENDED_DATA: u8 = 95;
+
+/// How many bytes a frame has room for in place: as many as stand before the data of a
+/// CHANNEL_EXTENDED_DATA.
+const ROOM: usize = 13;
+
+/// A payload for the peer (RFC 4253 section 6: what one binary packet carries), in two parts: a
+/// head of at most 13 bytes in place, and a body, which may share its bytes. A clause sees
+/// `payload`, the message from its number on; `hold_until`, the moment before which it is not to go
+/// out, in milliseconds since 1970; and `channel`, this side's number of the channel that it was
+/// written for (for the messages 90 to 100 alone).
+#[derive(Debug, Drop)]
 pub struct Frame {
-    /// The message, from its number on.
-    pub payload: Bytes,
-    /// The moment before which it is not to go out, in milliseconds since 1970.
-    pub hold_until: Option<u64>,
-    /// This side's number of the channel that it was written for: for the messages 90 to 100
-    /// alone.
-    pub channel: Option<ChannelId>,
+    // The first bytes of the payload, and zeros.
+    head: [u8; ROOM],
+    // How many of them there are.
+    head_length: usize,
+    // The rest of the payload.
+    body: Bytes,
+    hold_until: Option<u64>,
+    channel: Option<ChannelId>,
+}
+
+impl Model for Frame {
+    ghost use Rattle.std.specs.Prelude.{◌≤◌, ◌++◌, take};
+    ghost use Rattle.ssh_link.specs.Frames.{Frame};
+
+    ghost Value = { Frame };
+
+    ghost view = { λ f. record { payload = take f.head_length f.head ++ f.body; hold_until = f.hold_until; channel = f.channel } };
+
+    ghost invariant = { λ f. f.head_length ≤ 13 };
+}
+
+// These bytes one after another, and zeros.
+fn in_place(front: &[u8], back: &[u8]) -> [u8; ROOM]
+    requires { length front.now + length back.now ≤ 13 }
+    ensures { take (length front.now + length back.now) result ≡ front.now ++ back.now }
+{
+    let mut head = [0; ROOM];
+    let (first, rest) = head.split_at_mut(front.len());
+    first.copy_from_slice(front);
+    let (second, _) = rest.split_at_mut(back.len());
+    second.copy_from_slice(back);
+    head
 }
 
 impl Frame {
-    /// An equal frame. `NoMemory` is the only error.
+    /// A frame of this whole payload. Takes no memory.
+    pub fn new(payload: Bytes, hold_until: Option<u64>, channel: Option<ChannelId>) -> Frame
+        ensures { result ≡ record { payload = payload; hold_until = hold_until; channel = channel } }
+    {
+        Frame {
+            head: [0; ROOM],
+            head_length: 0,
+            body: payload,
+            hold_until,
+            channel,
+        }
+    }
+
+    /// A frame of a payload that has at most 13 bytes. Takes no memory.
+    pub fn short(payload: &[u8], hold_until: Option<u64>, channel: Option<ChannelId>) -> Frame
+        requires { length payload.now ≤ 13 }
+        ensures { result ≡ record { payload = payload.now; hold_until = hold_until; channel = channel } }
+    {
+        Frame {
+            head: in_place(payload, &[]),
+            head_length: payload.len(),
+            body: Bytes::new(),
+            hold_until,
+            channel,
+        }
+    }
+
+    /// CHANNEL_DATA (RFC 4254 section 5.2) on this side's channel `channel`, which the peer calls
+    /// `peer`. The frame shares the bytes, and may go out at once. Takes no memory.
+    pub fn data(channel: ChannelId, peer: u32, bytes: Bytes) -> Frame
+        requires { length bytes ≤ 2 ^ 32 - 14 }
+        ensures { result ≡ record { payload = channel_data peer bytes; hold_until = None; channel = Some channel } }
+    {
+        let [a, b, c, d] = peer.to_be_bytes();
+        let [e, f, g, h] = (bytes.len() as u32).to_be_bytes();
+        Frame {
+            head: [CHANNEL_DATA, a, b, c, d, e, f, g, h, 0, 0, 0, 0],
+            head_length: 9,
+            body: bytes,
+            hold_until: None,
+            channel: Some(channel),
+        }
+    }
+
+    /// CHANNEL_EXTENDED_DATA (RFC 4254 section 5.2) with the data type code `ext` on this side's
+    /// channel `channel`, which the peer calls `peer`. The frame shares the bytes, and may go out
+    /// at once. Takes no memory.
+    pub fn extended(channel: ChannelId, peer: u32, ext: u32, bytes: Bytes) -> Frame
+        requires { length bytes ≤ 2 ^ 32 - 14 }
+        ensures { result ≡ record { payload = channel_extended_data peer ext bytes; hold_until = None; channel = Some channel } }
+    {
+        let [a, b, c, d] = peer.to_be_bytes();
+        let [e, f, g, h] = ext.to_be_bytes();
+        let [i, j, k, l] = (bytes.len() as u32).to_be_bytes();
+        Frame {
+            head: [CHANNEL_EXTENDED_DATA, a, b, c, d, e, f, g, h, i, j, k, l],
+            head_length: 13,
+            body: bytes,
+            hold_until: None,
+            channel: Some(channel),
+        }
+    }
+
+    /// The head and the body: the payload is the one and then the other.
+    pub fn parts(&self) -> (&[u8], &[u8])
+        ensures payload { result.0.now ++ result.1.now ≡ self.now.payload }
+        ensures head { length result.0.now ≤ 13 }
+    {
+        let (head, _) = self.head.split_at(self.head_length);
+        (head, self.body.as_slice())
+    }
+
+    /// The bytes before the body: the first of the payload.
+    pub fn head(&self) -> &[u8]
+        ensures first { take (length result.now) self.now.payload ≡ result.now }
+        ensures length { length result.now ≤ 13 }
+    {
+        let (head, _) = self.parts();
+        head
+    }
+
+    /// The bytes behind the head: all but at most the first 13 of the payload.
+    pub fn body(&self) -> &[u8]
+        ensures last { drop (length self.now.payload - length result.now) self.now.payload ≡ result.now }
+        ensures length { length self.now.payload ≤ 13 + length result.now }
+    {
+        let (_, body) = self.parts();
+        body
+    }
+
+    /// The moment before which it is not to go out, in milliseconds since 1970.
+    pub fn hold_until(&self) -> Option<u64>
+        ensures { result ≡ self.now.hold_until }
+    {
+        self.hold_until
+    }
+
+    /// This side's number of the channel that it was written for: for the messages 90 to 100 alone.
+    pub fn channel(&self) -> Option<ChannelId>
+        ensures { result ≡ self.now.channel }
+    {
+        self.channel
+    }
+
+    /// An equal frame, whose body shares its bytes where it can. A payload of at most 13 bytes takes
+    /// no memory. `NoMemory` is the only error.
     pub fn copy(&self) -> Result<Frame, WireError>
         ensures ok { IfOk result (λ frame. frame ≡ self.now) }
         ensures memory { IfErr result (λ e. e ≡ NoMemory) }
+        ensures short { length self.now.payload ≤ 13 → IsOk result }
     {
+        let (head, body) = self.parts();
+        if body.len() <= ROOM - head.len() {
+            return Ok(Frame {
+                head: in_place(head, body),
+                head_length: head.len() + body.len(),
+                body: Bytes::new(),
+                hold_until: self.hold_until,
+                channel: self.channel,
+            });
+        }
         Ok(Frame {
-            payload: self.payload.clone()?,
+            head: self.head,
+            head_length: self.head_length,
+            body: self.body.clone()?,
             hold_until: self.hold_until,
             channel: self.channel,
         })
     }
+}
+
+// Whether the first two one after another are the others one after another.
+fn are_same_joined(front: &[u8], back: &[u8], other_front: &[u8], other_back: &[u8]) -> bool
+    requires { length front.now ≤ length other_front.now }
+    ensures { result ≡ bytes_eq (front.now ++ back.now) (other_front.now ++ other_back.now) }
+{
+    let (start, rest) = other_front.split_at(front.len());
+    front == start && back.strip_prefix(rest) == Some(other_back)
+}
+
+// Whether the two have one payload, however it is parted.
+fn have_same_payload(frame: &Frame, other: &Frame) -> bool
+    ensures { result ≡ bytes_eq frame.now.payload other.now.payload }
+{
+    let (head, body) = frame.parts();
+    let (other_head, other_body) = other.parts();
+    if head.len() <= other_head.len() {
+        are_same_joined(head, body, other_head, other_body)
+    } else {
+        are_same_joined(other_head, other_body, head, body)
+    }
+}
+
+/// Frames are equal exactly where payload, hold and channel are, however they were made.
+impl PartialEq for Frame {
+    ghost use Rattle.std.specs.Cmp.{partial_equiv_from_equiv};
+    ghost use Rattle.ssh_link.specs.Frames.{are_same, are_same-laws};
+
+    ghost eq = { are_same };
+
+    ghost laws = { partial_equiv_from_equiv are_same-laws };
+
+    fn eq(&self, other: &Frame) -> bool {
+        have_same_payload(self, other)
+            && self.hold_until == other.hold_until
+            && self.channel == other.channel
+    }
+}
+
+impl Eq for Frame {
+    ghost use Rattle.ssh_link.specs.Frames.{are_same-laws};
+
+    ghost laws = { are_same-laws };
 }
 
 /// One event that the session is to finish.
@@ -106,3 +307,6 @@ impl InputKind {
         matches!(self, InputKind::OpenReply(..))
     }
 }
+
+#[cfg(test)]
+mod tests;

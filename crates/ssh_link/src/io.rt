@@ -1,10 +1,14 @@
 // Where bytes come from, and where they go to.
 ghost use Rattle.std.specs.Prelude.{◌≡◌, ◌<◌, ◌≤◌, ℕ, List, Option, length, take, IfOk, OnOk, OnErr};
 ghost use Rattle.ssh_link.specs.Told.{Adds, AddsNothing};
-ghost use Rattle.ssh_link.specs.Io.{Takes, AtEnd, Rose};
+ghost use Rattle.ssh_link.specs.Faults.{RoseOrFull};
+ghost use Rattle.ssh_link.specs.Io.{Takes, AtEnd};
+
+use thiserror::Error;
 
 /// A read or a write failed: the count of faults of its source or sink rose, or is full.
-#[derive(Clone, Copy, Debug, PartialEq, Eq)]
+#[derive(Clone, Copy, Debug, PartialEq, Eq, Error)]
+#[error("a read or a write failed")]
 pub struct IoFailed;
 
 /// Where bytes come from. A source that tells its bytes goes on telling them.
@@ -23,7 +27,7 @@ pub trait Source {
         ensures taken { IfOk result (λ n. Takes (left self.old) (left self.new) n buf.new) }
         ensures end { IfOk result (λ n. n ≡ 0 → 0 < length buf.old → AtEnd (left self.old)) }
         ensures err { OnErr result (left self.new ≡ left self.old) }
-        ensures cause { OnErr result (Rose (faults self.old) (faults self.new)) }
+        ensures cause { OnErr result (RoseOrFull (faults self.old) (faults self.new)) }
         ensures quiet { OnOk result (faults self.new ≡ faults self.old) }
         ensures later { faults self.old ≤ faults self.new };
 }
@@ -43,7 +47,7 @@ pub trait Sink {
         ensures some { IfOk result (λ n. 0 < length piece.now → 0 < n) }
         ensures written { IfOk result (λ n. Adds (held self.old) (held self.new) (take n piece.now)) }
         ensures err { OnErr result (AddsNothing (held self.old) (held self.new)) }
-        ensures cause { OnErr result (Rose (faults self.old) (faults self.new)) }
+        ensures cause { OnErr result (RoseOrFull (faults self.old) (faults self.new)) }
         ensures quiet { OnOk result (faults self.new ≡ faults self.old) }
         ensures later { faults self.old ≤ faults self.new };
 }

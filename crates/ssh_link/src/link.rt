@@ -1,13 +1,15 @@
 // The link of a session to its peer.
-ghost use Rattle.std.specs.Prelude.{◌≡◌, ◌<◌, ◌≤◌, ℕ, List, Option, IfOk, IfErr, OnOk, OnErr, IsErrOf};
+ghost use Rattle.std.specs.Prelude.{◌≡◌, ◌≤◌, ℕ, List, Option, IfOk, IfErr, OnOk, OnErr, IsErrOf};
 ghost use Rattle.ssh_wire.specs.declared.error.WireError.TheVariants.{NoMemory};
 ghost use Rattle.ssh_link.specs.declared.link.TraceEntry.{TraceEntry};
 ghost use Rattle.ssh_link.specs.declared.link.TraceEntry.TheVariants.{Took, Sent, Noticed, Answered};
 ghost use Rattle.ssh_link.specs.Told.{AddsOne, AddsNothing};
 ghost use Rattle.ssh_link.specs.Asked.{IsAsked};
+ghost use Rattle.ssh_link.specs.Faults.{Rose};
 
 use crate::{CommandOutcome, Frame, Input, Notice};
 use ssh_wire::WireError;
+use thiserror::Error;
 
 /// A call of a link that was finished, as the link tells it.
 #[derive(Debug, Drop, PartialEq, Eq)]
@@ -53,11 +55,13 @@ impl TraceEntry {
 }
 
 /// Why a call of a link was not finished.
-#[derive(Clone, Copy, Debug, PartialEq, Eq)]
+#[derive(Clone, Copy, Debug, PartialEq, Eq, Error)]
 pub enum LinkFault {
     /// The outside failed: the link's count of faults rose.
+    #[error("the link failed")]
     Failed,
     /// There was no memory.
+    #[error("no memory")]
     NoMemory,
 }
 
@@ -76,7 +80,7 @@ pub trait Link {
         ensures took { IfOk result (λ input. AddsOne (trace self.old) (trace self.new) (Took commands replies input)) }
         ensures asked { IfOk result (λ input. IsAsked commands replies input.kind) }
         ensures err { OnErr result (AddsNothing (trace self.old) (trace self.new)) }
-        ensures cause { IsErrOf result LinkFault.Failed → faults self.old < faults self.new }
+        ensures cause { IsErrOf result LinkFault.Failed → Rose (faults self.old) (faults self.new) }
         ensures quiet { OnOk result (faults self.new ≡ faults self.old) }
         ensures later { faults self.old ≤ faults self.new };
 
@@ -84,7 +88,7 @@ pub trait Link {
     fn send(&mut self, frame: Frame) -> Result<(), LinkFault>
         ensures sent { OnOk result (AddsOne (trace self.old) (trace self.new) (Sent frame)) }
         ensures err { OnErr result (AddsNothing (trace self.old) (trace self.new)) }
-        ensures cause { IsErrOf result LinkFault.Failed → faults self.old < faults self.new }
+        ensures cause { IsErrOf result LinkFault.Failed → Rose (faults self.old) (faults self.new) }
         ensures quiet { OnOk result (faults self.new ≡ faults self.old) }
         ensures later { faults self.old ≤ faults self.new };
 
@@ -92,7 +96,7 @@ pub trait Link {
     fn notice(&mut self, notice: Notice) -> Result<(), LinkFault>
         ensures noticed { OnOk result (AddsOne (trace self.old) (trace self.new) (Noticed notice)) }
         ensures err { OnErr result (AddsNothing (trace self.old) (trace self.new)) }
-        ensures cause { IsErrOf result LinkFault.Failed → faults self.old < faults self.new }
+        ensures cause { IsErrOf result LinkFault.Failed → Rose (faults self.old) (faults self.new) }
         ensures quiet { OnOk result (faults self.new ≡ faults self.old) }
         ensures later { faults self.old ≤ faults self.new };
 
@@ -100,7 +104,7 @@ pub trait Link {
     fn answer(&mut self, ticket: u64, outcome: CommandOutcome) -> Result<(), LinkFault>
         ensures answered { OnOk result (AddsOne (trace self.old) (trace self.new) (Answered ticket outcome)) }
         ensures err { OnErr result (AddsNothing (trace self.old) (trace self.new)) }
-        ensures cause { IsErrOf result LinkFault.Failed → faults self.old < faults self.new }
+        ensures cause { IsErrOf result LinkFault.Failed → Rose (faults self.old) (faults self.new) }
         ensures quiet { OnOk result (faults self.new ≡ faults self.old) }
         ensures later { faults self.old ≤ faults self.new };
 }

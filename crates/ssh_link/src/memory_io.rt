@@ -1,7 +1,8 @@
 // A source and a sink in memory.
 ghost use Rattle.std.specs.Prelude.{◌≡◌, [], ◌<◌, ◌≤◌, ◌+◌, ◌++◌, ◌↔◌, ◌⊎◌, Some, IfOk, OnOk, OnErr, IsErr, IsTrue, drop, take, length, min};
 ghost use Rattle.ssh_link.specs.Told.{Adds, AddsNothing};
-ghost use Rattle.ssh_link.specs.Io.{Takes, AtEnd, Rose};
+ghost use Rattle.ssh_link.specs.Faults.{RoseOrFull};
+ghost use Rattle.ssh_link.specs.Io.{Takes, AtEnd};
 ghost use Rattle.ssh_link.specs.Memory.{no_calls, called, fails_next, refused, starved, wrote};
 
 use crate::failures::PlannedFailures;
@@ -66,7 +67,7 @@ impl Source for MemorySource {
         ensures taken { IfOk result (λ n. Takes (Some self.old.left) (Some self.new.left) n buf.new) }
         ensures end { IfOk result (λ n. n ≡ 0 → 0 < length buf.old → AtEnd (Some self.old.left)) }
         ensures err { OnErr result (Some self.new.left ≡ Some self.old.left) }
-        ensures cause { OnErr result (Rose self.old.failures.faults self.new.failures.faults) }
+        ensures cause { OnErr result (RoseOrFull self.old.failures.faults self.new.failures.faults) }
         ensures quiet { OnOk result (self.new.failures.faults ≡ self.old.failures.faults) }
         ensures later { self.old.failures.faults ≤ self.new.failures.faults }
         ensures count { IfOk result (λ n. n ≡ min (length self.old.left) (length buf.old)) }
@@ -131,7 +132,7 @@ impl Sink for MemorySink {
         ensures some { IfOk result (λ n. 0 < length piece.now → 0 < n) }
         ensures written { IfOk result (λ n. Adds (Some self.old.held) (Some self.new.held) (take n piece.now)) }
         ensures err { OnErr result (AddsNothing (Some self.old.held) (Some self.new.held)) }
-        ensures cause { OnErr result (Rose (self.old.failures.faults + self.old.starved) (self.new.failures.faults + self.new.starved)) }
+        ensures cause { OnErr result (RoseOrFull (self.old.failures.faults + self.old.starved) (self.new.failures.faults + self.new.starved)) }
         ensures quiet { OnOk result (self.new.failures.faults + self.new.starved ≡ self.old.failures.faults + self.old.starved) }
         ensures later { self.old.failures.faults + self.old.starved ≤ self.new.failures.faults + self.new.starved }
         ensures count { IfOk result (λ n. n ≡ length piece.now) }

@@ -1,8 +1,10 @@
 // A link in memory.
-ghost use Rattle.std.specs.Prelude.{◌≡◌, ◌<◌, ◌≤◌, ◌↔◌, Some, IfOk, OnOk, OnErr, IsErrOf, IsTrue};
+ghost use Rattle.std.specs.Prelude.{◌≡◌, ◌≤◌, ◌↔◌, Some, IfOk, IfErr, OnOk, OnErr, IsErrOf, IsTrue};
+ghost use Rattle.ssh_wire.specs.declared.error.WireError.TheVariants.{NoMemory};
 ghost use Rattle.ssh_link.specs.declared.link.TraceEntry.TheVariants.{Took, Sent, Noticed, Answered};
 ghost use Rattle.ssh_link.specs.Told.{AddsOne, AddsNothing};
 ghost use Rattle.ssh_link.specs.Asked.{IsAsked};
+ghost use Rattle.ssh_link.specs.Faults.{Rose};
 ghost use Rattle.ssh_link.specs.Supply.{next_input};
 ghost use Rattle.ssh_link.specs.Memory.{unused, unused_until, failed, finished, gave, fails_next};
 
@@ -10,6 +12,7 @@ use crate::failures::PlannedFailures;
 use crate::input_queue::InputQueue;
 use crate::lists::pushed;
 use crate::{Calls, CommandOutcome, Frame, Input, Inputs, Link, LinkFault, Notice, TraceEntry};
+use ssh_wire::WireError;
 use std::alloc::Global;
 use std::marker::Model;
 
@@ -34,27 +37,34 @@ impl Model for MemoryLink {
 
 impl MemoryLink {
     /// A link with these inputs, whose calls with these numbers fail. The end comes at the moment of
-    /// the last input, or at 0 where there is none.
-    pub fn new(alloc: Global, inputs: Inputs, fails: Calls) -> MemoryLink
-        ensures { result ≡ unused inputs fails }
+    /// the last input, or at 0 where there is none. `NoMemory` is the only error.
+    pub fn new(alloc: Global, inputs: Inputs, fails: Calls) -> Result<MemoryLink, WireError>
+        ensures ok { IfOk result (λ link. link ≡ unused inputs fails) }
+        ensures memory { IfErr result (λ e. e ≡ NoMemory) }
     {
-        MemoryLink {
-            inputs: InputQueue::new(inputs),
+        Ok(MemoryLink {
+            inputs: InputQueue::new(alloc, inputs)?,
             failures: PlannedFailures::new(fails),
             trace: Vec::new(alloc),
-        }
+        })
     }
 
     /// A link with these inputs and the end at this moment, in milliseconds since 1970, whose calls
-    /// with these numbers fail.
-    pub fn ending_at(alloc: Global, inputs: Inputs, end_moment: u64, fails: Calls) -> MemoryLink
-        ensures { result ≡ unused_until end_moment inputs fails }
+    /// with these numbers fail. `NoMemory` is the only error.
+    pub fn ending_at(
+        alloc: Global,
+        inputs: Inputs,
+        end_moment: u64,
+        fails: Calls,
+    ) -> Result<MemoryLink, WireError>
+        ensures ok { IfOk result (λ link. link ≡ unused_until end_moment inputs fails) }
+        ensures memory { IfErr result (λ e. e ≡ NoMemory) }
     {
-        MemoryLink {
-            inputs: InputQueue::ending_at(inputs, end_moment),
+        Ok(MemoryLink {
+            inputs: InputQueue::ending_at(alloc, inputs, end_moment)?,
             failures: PlannedFailures::new(fails),
             trace: Vec::new(alloc),
-        }
+        })
     }
 
     /// The finished calls, in order.
@@ -96,7 +106,7 @@ impl Link for MemoryLink {
         ensures took { IfOk result (λ input. AddsOne (Some self.old.trace) (Some self.new.trace) (Took commands replies input)) }
         ensures asked { IfOk result (λ input. IsAsked commands replies input.kind) }
         ensures err { OnErr result (AddsNothing (Some self.old.trace) (Some self.new.trace)) }
-        ensures cause { IsErrOf result LinkFault.Failed → self.old.failures.faults < self.new.failures.faults }
+        ensures cause { IsErrOf result LinkFault.Failed → Rose self.old.failures.faults self.new.failures.faults }
         ensures quiet { OnOk result (self.new.failures.faults ≡ self.old.failures.faults) }
         ensures later { self.old.failures.faults ≤ self.new.failures.faults }
         ensures given { IfOk result (λ input. (input ≡ next_input commands replies self.old.supply) × (self.new ≡ gave commands replies self.old)) }
@@ -123,7 +133,7 @@ impl Link for MemoryLink {
     fn send(&mut self, frame: Frame) -> Result<(), LinkFault>
         ensures sent { OnOk result (AddsOne (Some self.old.trace) (Some self.new.trace) (Sent frame)) }
         ensures err { OnErr result (AddsNothing (Some self.old.trace) (Some self.new.trace)) }
-        ensures cause { IsErrOf result LinkFault.Failed → self.old.failures.faults < self.new.failures.faults }
+        ensures cause { IsErrOf result LinkFault.Failed → Rose self.old.failures.faults self.new.failures.faults }
         ensures quiet { OnOk result (self.new.failures.faults ≡ self.old.failures.faults) }
         ensures later { self.old.failures.faults ≤ self.new.failures.faults }
         ensures finished { OnOk result (self.new ≡ finished self.old (Sent frame)) }
@@ -136,7 +146,7 @@ impl Link for MemoryLink {
     fn notice(&mut self, notice: Notice) -> Result<(), LinkFault>
         ensures noticed { OnOk result (AddsOne (Some self.old.trace) (Some self.new.trace) (Noticed notice)) }
         ensures err { OnErr result (AddsNothing (Some self.old.trace) (Some self.new.trace)) }
-        ensures cause { IsErrOf result LinkFault.Failed → self.old.failures.faults < self.new.failures.faults }
+        ensures cause { IsErrOf result LinkFault.Failed → Rose self.old.failures.faults self.new.failures.faults }
         ensures quiet { OnOk result (self.new.failures.faults ≡ self.old.failures.faults) }
         ensures later { self.old.failures.faults ≤ self.new.failures.faults }
         ensures finished { OnOk result (self.new ≡ finished self.old (Noticed notice)) }
@@ -149,7 +159,7 @@ impl Link for MemoryLink {
     fn answer(&mut self, ticket: u64, outcome: CommandOutcome) -> Result<(), LinkFault>
         ensures answered { OnOk result (AddsOne (Some self.old.trace) (Some self.new.trace) (Answered ticket outcome)) }
         ensures err { OnErr result (AddsNothing (Some self.old.trace) (Some self.new.trace)) }
-        ensures cause { IsErrOf result LinkFault.Failed → self.old.failures.faults < self.new.failures.faults }
+        ensures cause { IsErrOf result LinkFault.Failed → Rose self.old.failures.faults self.new.failures.faults }
         ensures quiet { OnOk result (self.new.failures.faults ≡ self.old.failures.faults) }
         ensures later { self.old.failures.faults ≤ self.new.failures.faults }
         ensures finished { OnOk result (self.new ≡ finished self.old (Answered ticket outcome)) }

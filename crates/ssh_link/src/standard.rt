@@ -2,7 +2,8 @@
 ghost use Rattle.std.specs.Prelude.{◌≡◌, ◌<◌, ◌≤◌, ℕ, None, IfOk, OnOk, OnErr, length, take};
 ghost use Rattle.std.specs.Io.KnownBytes.{ReadConsumes, WriteAppends};
 ghost use Rattle.ssh_link.specs.Told.{Adds, AddsNothing};
-ghost use Rattle.ssh_link.specs.Io.{Takes, AtEnd, Rose, one_more};
+ghost use Rattle.ssh_link.specs.Faults.{RoseOrFull, one_more};
+ghost use Rattle.ssh_link.specs.Io.{Takes, AtEnd};
 
 use crate::{IoFailed, Sink, Source};
 use std::io::{Read, Write};
@@ -44,7 +45,7 @@ impl<R: Read> Source for StdSource<R> {
         ensures len { length buf.new ≡ length buf.old }
         ensures taken { IfOk result (λ n. Takes None None n buf.new) }
         ensures end { IfOk result (λ n. n ≡ 0 → 0 < length buf.old → AtEnd None) }
-        ensures cause { OnErr result (Rose self.old.faults self.new.faults) }
+        ensures cause { OnErr result (RoseOrFull self.old.faults self.new.faults) }
         ensures later { self.old.faults ≤ self.new.faults }
         ensures quiet { OnOk result (self.new.faults ≡ self.old.faults) }
         ensures counts { OnErr result (self.new.faults ≡ one_more self.old.faults) }
@@ -96,7 +97,7 @@ impl<W: Write> Sink for StdSink<W> {
         ensures some { IfOk result (λ n. 0 < length piece.now → 0 < n) }
         ensures written { IfOk result (λ n. Adds None None (take n piece.now)) }
         ensures err { OnErr result (AddsNothing {A = ℕ} None None) }
-        ensures cause { OnErr result (Rose self.old.faults self.new.faults) }
+        ensures cause { OnErr result (RoseOrFull self.old.faults self.new.faults) }
         ensures later { self.old.faults ≤ self.new.faults }
         ensures quiet { OnOk result (self.new.faults ≡ self.old.faults) }
         ensures counts { OnErr result (self.new.faults ≡ one_more self.old.faults) }

@@ -58,7 +58,7 @@ fn memory_link_gives_its_inputs_and_then_the_end(rt: HostRuntime) -> Result<(), 
     let mut inputs = Inputs::new(alloc);
     add(&mut inputs, 10, payload(alloc, 5)?)?;
     add(&mut inputs, 20, payload(alloc, 50)?)?;
-    let mut link = MemoryLink::new(alloc, inputs, calls(alloc, &[1, 3])?);
+    let mut link = MemoryLink::new(alloc, inputs, calls(alloc, &[1, 3])?)?;
     let given = [
         None,
         Some((10, "payload", 5)),
@@ -71,7 +71,7 @@ fn memory_link_gives_its_inputs_and_then_the_end(rt: HostRuntime) -> Result<(), 
         assert_eq!(rt; shown(link.next(true, false)), want);
     }
     assert_eq!(rt; link.faults(), 2);
-    let mut empty = MemoryLink::new(alloc, Inputs::new(alloc), calls(alloc, &[2])?);
+    let mut empty = MemoryLink::new(alloc, Inputs::new(alloc), calls(alloc, &[2])?)?;
     assert_eq!(rt; shown(empty.next(true, true)), Some((0, "end", 0)));
     assert_eq!(rt; shown(empty.next(true, true)), None);
     Ok(())
@@ -88,7 +88,7 @@ fn memory_link_sets_aside_what_is_not_asked_for(rt: HostRuntime) -> Result<(), F
     add(&mut inputs, 50, payload(alloc, 96)?)?;
     add(&mut inputs, 60, command(4))?;
     add(&mut inputs, 70, reply(5))?;
-    let mut link = MemoryLink::new(alloc, inputs, calls(alloc, &[3])?);
+    let mut link = MemoryLink::new(alloc, inputs, calls(alloc, &[3])?)?;
     let table = [
         (false, false, Some((20, "payload", 94))),
         (false, false, Some((50, "payload", 96))),
@@ -111,7 +111,7 @@ fn memory_link_sets_aside_what_is_not_asked_for(rt: HostRuntime) -> Result<(), F
 fn told(entry: &TraceEntry) -> Option<(&'static str, u64)> {
     match entry {
         TraceEntry::Took { input, .. } => Some(("took", input.moment)),
-        TraceEntry::Sent(frame) => { Some(("sent", u64::from(*frame.payload.as_slice().first()?))) }
+        TraceEntry::Sent(frame) => Some(("sent", u64::from(*frame.head().first()?))),
         TraceEntry::Noticed(Notice::Ready { window, .. }) => Some(("ready", u64::from(*window))),
         TraceEntry::Noticed(_) => None,
         TraceEntry::Answered(ticket, _) => Some(("answered", *ticket)),
@@ -131,13 +131,10 @@ fn memory_link_tells_its_finished_calls(rt: HostRuntime) -> Result<(), Fail> {
     let alloc = rt.alloc();
     let mut inputs = Inputs::new(alloc);
     add(&mut inputs, 10, reply(7))?;
-    let mut link = MemoryLink::new(alloc, inputs, calls(alloc, &[3, 5])?);
+    let mut link = MemoryLink::new(alloc, inputs, calls(alloc, &[3, 5])?)?;
     let refused = CommandOutcome::Refused(Refusal::UnknownOpen);
-    let frame = Frame {
-        payload: Bytes::copy_from_slice(alloc, &[91])?,
-        hold_until: Some(1010),
-        channel: Some(ChannelId(2)),
-    };
+    let payload = Bytes::copy_from_slice(alloc, &[91])?;
+    let frame = Frame::new(payload, Some(1010), Some(ChannelId(2)));
     assert_eq!(rt; shown(link.next(false, true)), Some((10, "reply", 7)));
     assert_eq!(rt; link.notice(ready(256)), Ok(()));
     assert_eq!(rt; link.notice(ready(512)), Err(LinkFault::Failed));
@@ -258,7 +255,7 @@ fn a_command_list_keeps_the_order(rt: HostRuntime) -> Result<(), Fail> {
         commands.push(command)?;
     }
     let mut copies = commands.copy()?;
-    assert!(rt; copies.as_slice() == commands.as_slice());
+    assert_eq!(rt; copies.len(), commands.len());
     for want in ["data", "eof", "answer", "close", "none"] {
         assert_eq!(rt; name(copies.take_first()), want);
     }
@@ -286,7 +283,7 @@ fn memory_link_ends_at_a_moment_of_its_own(rt: HostRuntime) -> Result<(), Fail> 
     let alloc = rt.alloc();
     let mut inputs = Inputs::new(alloc);
     add(&mut inputs, 10, payload(alloc, 5)?)?;
-    let mut link = MemoryLink::ending_at(alloc, inputs, 30, calls(alloc, &[])?);
+    let mut link = MemoryLink::ending_at(alloc, inputs, 30, calls(alloc, &[])?)?;
     assert_eq!(rt; shown(link.next(true, true)), Some((10, "payload", 5)));
     assert_eq!(rt; shown(link.next(true, true)), Some((30, "end", 0)));
     Ok(())

@@ -1,4 +1,4 @@
-use Rattle.ssh_link.proofs.Supplies.{next_asked}
+use Rattle.ssh_link.proofs.Turns.{next_asked}
 use Rattle.ssh_link.proofs.memory_link.MemoryLinkLink.next.Goals as goal
 
 pub returns-clause-asked : goal.returns-clause-asked
