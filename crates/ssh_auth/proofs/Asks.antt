@@ -1,12 +1,12 @@
 -- How a request is served: a call, and what its answer goes on to.
-use Rattle.std.proofs.Common.{◌≡◌, ◌≢◌, List, [], ◌∷◌, ◌++◌, map, ℕ, Option, Result, Ok, Err, IsErrAnd, true, false, refl, sym, ◌∙◌, ap, inl, inr, subst}
+use Rattle.std.proofs.Common.{◌≡◌, ◌≢◌, List, [], ◌∷◌, ◌++◌, map, ℕ, Bool, Option, Result, Ok, Err, IsErrAnd, true, false, refl, sym, ◌∙◌, ap, inl, inr, subst}
 use Rattle.std.specs.Prelude.{bytes_eq, codes}
 use Rattle.std.proofs.lemmas.Slice.Eq.{bytes_eq-Decides}
 use Rattle.ssh_wire.specs.declared.error.WireError.{WireError}
 use Rattle.ssh_wire.specs.declared.error.WireError.TheVariants as wire
 use Rattle.ssh_wire.specs.Field.{SpellsAll}
-use Rattle.ssh_link.specs.Told.{Adds}
-use Rattle.ssh_link.proofs.Tellings.{adds_both, adds_nil, adds_weak, adds_then}
+use Rattle.ssh_link.specs.Told.{Adds, ToldBy}
+use Rattle.ssh_link.proofs.Tellings.{adds_both, adds_nil, adds_none, adds_weak, adds_then}
 use Rattle.ssh_auth.specs.declared.call.Call.{Call}
 use Rattle.ssh_auth.specs.declared.auth_request.AuthRequest.{AuthRequest}
 use Rattle.ssh_auth.specs.declared.auth_step.AuthStep.{AuthStep}
@@ -16,17 +16,17 @@ use Rattle.ssh_auth.specs.Failure.{auth_error_of}
 use Rattle.ssh_auth.specs.Plan.{Plan, Finish, Ask, Question, Answer, Answered, Called}
 use Rattle.ssh_auth.specs.Request.{bound_to, begun}
 use Rattle.ssh_auth.specs.Publickey.{Circumstances}
-use Rattle.ssh_auth.specs.Said.{head_fields, Method, Other_method, Unfit_method, Said, Request, Unread, Is_other, named_by, SaysMethod, Says}
-use Rattle.ssh_auth.specs.Verdict.{Outcome, Replies, Fails, Encoding, refused, verdict}
-use Rattle.ssh_auth.specs.Serve.{Answers, ToldBy, Serves, ServesMethod}
+use Rattle.ssh_auth.specs.Requested.{head_fields, Method, Other_method, Unfit_method, Requested, Request, Unread, Is_other, named_by, SaysMethod, SaysRequest}
+use Rattle.ssh_auth.specs.Verdict.{AuthOutcome, Replies, Fails, Encoding, refused, verdict}
+use Rattle.ssh_auth.specs.Serve.{may_stop, Concludes, CarriesOut, CarriesOutMethod}
 use Rattle.ssh_auth.proofs.Plans.{breaks_more}
 
 -- ---- a call, and then the rest
 
 -- the events after a first call
-answers_then : {E : Type 0} (question : Question) (next : Answer question → Plan Outcome) (answer : Answer question) (call : Call E) (calls : List (Call E))
-    (auth : AuthRequest) (result : Result AuthStep (AuthError E)) → Answered question (Ok answer) call → Answers (next answer) (map Called calls) auth result →
-    Answers (Ask question next) (map Called (call ∷ calls)) auth result
+answers_then : {E : Type 0} (question : Question) (next : Answer question → Plan AuthOutcome) (answer : Answer question) (call : Call E) (calls : List (Call E))
+    (auth : AuthRequest) (result : Result AuthStep (AuthError E)) → Answered question (Ok answer) call → Concludes (next answer) (map Called calls) auth result →
+    Concludes (Ask question next) (map Called (call ∷ calls)) auth result
 answers_then question next answer call calls auth (Ok step) a h = (answer, a, h)
 answers_then question next answer call calls auth (Err error.NoMemory) a h = (answer, a, h)
 answers_then question next answer call calls auth (Err (error.Encoding why)) a h = (answer, a, h)
@@ -35,76 +35,66 @@ answers_then question next answer call calls auth (Err (error.Key why)) a h = (h
 answers_then question next answer call calls auth (Err (error.Handler e)) a h = breaks_more question next answer call (map Called calls) e a h
 answers_then question next answer call calls auth (Err error.UnsupportedAuthMethod) a h = (answer, a, h)
 
--- what was told, and then this by the answer
-told_then : {T E : Type 0} (result : Result T (AuthError E)) (a b c : Option (List (Call E))) (xs ys : List (Call E)) → Adds a b xs → ToldBy result b c ys → ToldBy result a c (xs ++ ys)
-told_then (Ok x) a b c xs ys h k = adds_both a b c xs ys h k
-told_then (Err error.NoMemory) a b c xs ys h k = adds_both a b c xs ys h k
-told_then (Err (error.Encoding why)) a b c xs ys h k = adds_both a b c xs ys h k
-told_then (Err error.Inconsistent) a b c xs ys h k = adds_both a b c xs ys h k
-told_then (Err (error.Key why)) a b c xs ys h k = adds_both a b c xs ys h k
-told_then (Err (error.Handler e)) a b c xs ys h k = adds_then a b c xs ys (adds_weak a b xs h) k
-told_then (Err error.UnsupportedAuthMethod) a b c xs ys h k = adds_both a b c xs ys h k
+-- what was told, and then what was told after it
+told_then : {A : Type 0} (stops : Bool) (a b c : Option (List A)) (xs ys : List A) → Adds a b xs → ToldBy stops b c ys → ToldBy stops a c (xs ++ ys)
+told_then true a b c xs ys h k = adds_then a b c xs ys (adds_weak a b xs h) k
+told_then false a b c xs ys h k = adds_both a b c xs ys h k
 
 -- the handler was asked, and what its answer goes on to was served
-pub asked : {E : Type 0} (question : Question) (next : Answer question → Plan Outcome) (answer : Answer question) (call : Call E)
+pub asked : {E : Type 0} (question : Question) (next : Answer question → Plan AuthOutcome) (answer : Answer question) (call : Call E)
     (a b c : Option (List (Call E))) (auth : AuthRequest) (result : Result AuthStep (AuthError E)) →
-    Answered question (Ok answer) call → Adds a b (call ∷ []) → Serves (next answer) b c auth result → Serves (Ask question next) a c auth result
+    Answered question (Ok answer) call → Adds a b (call ∷ []) → CarriesOut (next answer) b c auth result → CarriesOut (Ask question next) a c auth result
 asked question next answer call a b c auth result is h k = (
   call ∷ k.0,
-  told_then result a b c (call ∷ []) k.0 h k.1,
+  told_then (may_stop result) a b c (call ∷ []) k.0 h k.1,
   answers_then question next answer call k.0 auth result is k.2,
 )
 
-told_nothing : {T E : Type 0} (result : Result T (AuthError E)) (told : Option (List (Call E))) → ToldBy result told told []
-told_nothing (Ok x) told = adds_nil told
-told_nothing (Err error.NoMemory) told = adds_nil told
-told_nothing (Err (error.Encoding why)) told = adds_nil told
-told_nothing (Err error.Inconsistent) told = adds_nil told
-told_nothing (Err (error.Key why)) told = adds_nil told
-told_nothing (Err error.UnsupportedAuthMethod) told = adds_nil told
-told_nothing (Err (error.Handler e)) told = adds_weak told told [] (adds_nil told)
+told_nothing : {A : Type 0} (stops : Bool) (told : Option (List A)) → ToldBy stops told told []
+told_nothing true told = adds_none told
+told_nothing false told = adds_nil told
 
 -- the handler was asked, and this came of its answer
-pub asked_once : {E : Type 0} (question : Question) (next : Answer question → Outcome) (answer : Answer question) (call : Call E)
+pub asked_once : {E : Type 0} (question : Question) (next : Answer question → AuthOutcome) (answer : Answer question) (call : Call E)
     (a b : Option (List (Call E))) (auth : AuthRequest) (result : Result AuthStep (AuthError E)) →
-    Answered question (Ok answer) call → Adds a b (call ∷ []) → Answers (Finish (next answer)) [] auth result →
-    Serves (Ask question (λ answer. Finish (next answer))) a b auth result
+    Answered question (Ok answer) call → Adds a b (call ∷ []) → Concludes (Finish (next answer)) [] auth result →
+    CarriesOut (Ask question (λ answer. Finish (next answer))) a b auth result
 asked_once question next answer call a b auth result is h k =
-    asked question (λ answer. Finish (next answer)) answer call a b b auth result is h ([], told_nothing result b, k)
+    asked question (λ answer. Finish (next answer)) answer call a b b auth result is h ([], told_nothing (may_stop result) b, k)
 
 -- ---- no call, or none after it
 
 -- nothing more is asked, and this comes of it
-pub finished : {E : Type 0} (outcome : Outcome) (told : Option (List (Call E))) (auth : AuthRequest) (step : AuthStep) →
-    outcome ≡ Replies step.reply step.verdict auth → Serves (Finish outcome) told told auth (Ok step)
+pub finished : {E : Type 0} (outcome : AuthOutcome) (told : Option (List (Call E))) (auth : AuthRequest) (step : AuthStep) →
+    outcome ≡ Replies step.reply step.verdict auth → CarriesOut (Finish outcome) told told auth (Ok step)
 finished outcome told auth step is = ([], adds_nil told, sym is)
 
 -- memory was wanting before any call
-pub starved : {E : Type 0} (plan : Plan Outcome) (told : Option (List (Call E))) (auth : AuthRequest) (why : WireError) (result : Result AuthStep (AuthError E)) →
-    IsErrAnd result (λ e. e ≡ auth_error_of why) → why ≡ wire.NoMemory → Serves plan told told auth result
+pub starved : {E : Type 0} (plan : Plan AuthOutcome) (told : Option (List (Call E))) (auth : AuthRequest) (why : WireError) (result : Result AuthStep (AuthError E)) →
+    IsErrAnd result (λ e. e ≡ auth_error_of why) → why ≡ wire.NoMemory → CarriesOut plan told told auth result
 starved plan told auth why (Ok step) is none = absurd is
 starved {E} plan told auth why (Err e) is none =
     let memory : e ≡ error.NoMemory = is ∙ ap (λ w. auth_error_of {E = E} w) none in
-    subst (λ x. Serves plan told told auth (Err x)) (sym memory) ([], adds_nil told, tt)
+    subst (λ x. CarriesOut plan told told auth (Err x)) (sym memory) ([], adds_nil told, tt)
 
 -- memory was wanting after a call
-pub starved_after : {E : Type 0} (question : Question) (next : Answer question → Plan Outcome) (answer : Answer question) (call : Call E)
+pub starved_after : {E : Type 0} (question : Question) (next : Answer question → Plan AuthOutcome) (answer : Answer question) (call : Call E)
     (a b : Option (List (Call E))) (auth : AuthRequest) (why : WireError) (result : Result AuthStep (AuthError E)) →
     IsErrAnd result (λ e. e ≡ auth_error_of why) → why ≡ wire.NoMemory → Answered question (Ok answer) call → Adds a b (call ∷ []) →
-    Serves (Ask question next) a b auth result
+    CarriesOut (Ask question next) a b auth result
 starved_after question next answer call a b auth why result is none how h =
     asked question next answer call a b b auth result how h (starved (next answer) b auth why result is none)
 
 -- fields that do not fit fail a request, with no call
 pub unfit : {E : Type 0} (why : WireError) (told : Option (List (Call E))) (auth : AuthRequest) (result : Result AuthStep (AuthError E)) →
-    IsErrAnd result (λ e. e ≡ auth_error_of why) → auth_error_of {E = E} why ≡ error.Encoding why → Serves (Finish (Fails (Encoding why))) told told auth result
+    IsErrAnd result (λ e. e ≡ auth_error_of why) → auth_error_of {E = E} why ≡ error.Encoding why → CarriesOut (Finish (Fails (Encoding why))) told told auth result
 unfit why told auth (Ok step) is fits = absurd is
-unfit why told auth (Err e) is fits = subst (λ x. Serves (Finish (Fails (Encoding why))) told told auth (Err x)) (sym (is ∙ fits)) ([], adds_nil told, refl)
+unfit why told auth (Err e) is fits = subst (λ x. CarriesOut (Finish (Fails (Encoding why))) told told auth (Err x)) (sym (is ∙ fits)) ([], adds_nil told, refl)
 
 -- the same of the fields of a method
 pub unfit_method : {E : Type 0} (says : Method → Type 0) (auth : AuthRequest) (user : List ℕ) (told : Option (List (Call E))) (auth' : AuthRequest) (why : WireError)
     (result : Result AuthStep (AuthError E)) → IsErrAnd result (λ e. e ≡ auth_error_of why) → auth_error_of {E = E} why ≡ error.Encoding why → says (Unfit_method why) →
-    ServesMethod says auth user told told auth' result
+    CarriesOutMethod says auth user told told auth' result
 unfit_method says auth user told auth' why result is fits h = inl (Unfit_method why, h, unfit why told auth' result is fits)
 
 -- a name is the one that it is compared with, or another
@@ -122,17 +112,17 @@ in_connection fields user service name rest is h = subst (λ s. SpellsAll head_f
 -- a request that was served once its principal was bound
 pub begun_as : {E : Type 0} (says : Method → Type 0) (auth bound : AuthRequest) (user service : List ℕ) (a b : Option (List (Call E))) (auth' : AuthRequest) (result : Result AuthStep (AuthError E)) →
     service ≡ codes "ssh-connection" → bound ≡ bound_to auth user service →
-    ServesMethod says (record bound { partial_success = false }) user a b auth' result →
-    ServesMethod says (begun auth user (codes "ssh-connection")) user a b auth' result
+    CarriesOutMethod says (record bound { partial_success = false }) user a b auth' result →
+    CarriesOutMethod says (begun auth user (codes "ssh-connection")) user a b auth' result
 begun_as says auth bound user service a b auth' result is same h =
-    subst (λ s. ServesMethod says (begun auth user s) user a b auth' result) is
-    (subst (λ x. ServesMethod says (record x { partial_success = false }) user a b auth' result) same h)
+    subst (λ s. CarriesOutMethod says (begun auth user s) user a b auth' result) is
+    (subst (λ x. CarriesOutMethod says (record x { partial_success = false }) user a b auth' result) same h)
 
 -- a request is served as it says, or memory was wanting to read it
 pub as_it_says : {E : Type 0} (given : Circumstances) (fields user name rest : List ℕ) (auth : AuthRequest) (a b : Option (List (Call E))) (auth' : AuthRequest) (result : Result AuthStep (AuthError E)) →
     SpellsAll head_fields (user, (codes "ssh-connection", (name, tt))) fields rest →
-    ServesMethod (SaysMethod given fields (named_by name) rest) (begun auth user (codes "ssh-connection")) user a b auth' result →
-    (said : Said) × Says given fields said × Serves (verdict auth said) a b auth' result
+    CarriesOutMethod (SaysMethod given fields (named_by name) rest) (begun auth user (codes "ssh-connection")) user a b auth' result →
+    (said : Requested) × SaysRequest given fields said × CarriesOut (verdict auth said) a b auth' result
 as_it_says given fields user name rest auth a b auth' result spelled (inl h) = (Request user h.0, (name, rest, spelled, h.1), h.2)
 as_it_says given fields user name rest auth a b auth' result spelled (inr h) = (Unread, tt, h)
 
@@ -145,7 +135,7 @@ named_other name none password publickey interactive = rw (none, password, publi
 -- a method that the server does not have
 pub other_method : {E : Type 0} (given : Circumstances) (all name fields : List ℕ) (auth : AuthRequest) (user : List ℕ) (told : Option (List (Call E))) (auth' : AuthRequest) (step : AuthStep) →
     bytes_eq name (codes "none") ≡ false → bytes_eq name (codes "password") ≡ false → bytes_eq name (codes "publickey") ≡ false → bytes_eq name (codes "keyboard-interactive") ≡ false →
-    refused auth ≡ Replies step.reply step.verdict auth' → ServesMethod (SaysMethod given all (named_by name) fields) auth user told told auth' (Ok step)
+    refused auth ≡ Replies step.reply step.verdict auth' → CarriesOutMethod (SaysMethod given all (named_by name) fields) auth user told told auth' (Ok step)
 other_method given all name fields auth user told auth' step none password publickey interactive is =
-    subst (λ named. ServesMethod (SaysMethod given all named fields) auth user told told auth' (Ok step)) (sym (named_other name none password publickey interactive))
+    subst (λ named. CarriesOutMethod (SaysMethod given all named fields) auth user told told auth' (Ok step)) (sym (named_other name none password publickey interactive))
     (inl (Other_method, refl, finished (refused auth) told auth' step is))

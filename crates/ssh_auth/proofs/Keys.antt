@@ -23,49 +23,46 @@ use Rattle.ssh_auth.specs.Plan.{Finish, Ask, Question, Answer, Answered, Auth_pu
 use Rattle.ssh_auth.specs.Publickey.{Circumstances, Offer, offer_fields, Offers, IsAnswer}
 use Rattle.ssh_auth.specs.Read.{SignatureFails}
 use Rattle.ssh_auth.specs.Request.{is_probed}
-use Rattle.ssh_auth.specs.Said.{Unfit_method, Broken_method, Probe_method, Misnamed_method, Signed_method, SaysPublickey}
-use Rattle.ssh_auth.specs.Verdict.{Outcome, Replies, Fails, Encoding, refused, proof, signed, permitted, signed_verdict, method_verdict}
-use Rattle.ssh_auth.specs.Serve.{Serves, ServesMethod}
+use Rattle.ssh_auth.specs.Requested.{Unfit_method, Broken_method, Probe_method, Misnamed_method, Signed_method, SaysPublickey}
+use Rattle.ssh_auth.specs.Verdict.{AuthOutcome, Replies, Fails, Encoding, refused, proof, signed, permitted, signed_verdict, method_verdict}
+use Rattle.ssh_auth.specs.Serve.{CarriesOut, CarriesOutMethod}
 use Rattle.ssh_auth.proofs.Asks.{finished, starved_after, unfit_method}
 use Rattle.ssh_auth.proofs.Misfits.{whole_error}
 use Rattle.ssh_auth.proofs.Signatures.{spells_front, up_to_rest}
 
 -- the answer on an offered key has no reply, for want of memory or since PK_OK would be too long
-pub no_permit : {E : Type 0} (question : Question) (next : Answer question → Outcome) (answer : Answer question) (call : Call E)
+pub no_permit : {E : Type 0} (question : Question) (next : Answer question → AuthOutcome) (answer : Answer question) (call : Call E)
     (a b : Option (List (Call E))) (auth : AuthRequest) (why : WireError) (result : Result AuthStep (AuthError E)) →
     IsErrAnd result (λ e. e ≡ auth_error_of why) → (why ≡ wire.NoMemory) ⊎ ((why ≡ wire.TooLong) × (next answer ≡ Fails (Encoding wire.TooLong))) →
-    Answered question (Ok answer) call → Adds a b (call ∷ []) → Serves (Ask question (λ answer. Finish (next answer))) a b auth result
+    Answered question (Ok answer) call → Adds a b (call ∷ []) → CarriesOut (Ask question (λ answer. Finish (next answer))) a b auth result
 no_permit question next answer call a b auth why result is (inl none) how h = starved_after question (λ answer. Finish (next answer)) answer call a b auth why result is none how h
 no_permit question next answer call a b auth why (Ok step) is (inr long) how h = absurd is
 no_permit {E} question next answer call a b auth why (Err e) is (inr long) how h =
     let fails : e ≡ error.Encoding wire.TooLong = is ∙ ap (λ w. auth_error_of {E = E} w) long.0 in
-    subst (λ x. Serves (Ask question (λ answer. Finish (next answer))) a b auth (Err x)) (sym fails) (call ∷ [], h, (answer, how, sym long.1))
+    subst (λ x. CarriesOut (Ask question (λ answer. Finish (next answer))) a b auth (Err x)) (sym fails) (call ∷ [], h, (answer, how, sym long.1))
 
 -- the verifier refused the signature
 pub refused_signature : {E : Type 0} (auth : AuthRequest) (user : List ℕ) (offer : Offer) (accepted : Bool) (told : Option (List (Call E))) (auth' : AuthRequest) (step : AuthStep) →
-    accepted ≡ false → refused auth ≡ Replies step.reply step.verdict auth' → Serves (signed auth user offer (Some accepted)) told told auth' (Ok step)
+    accepted ≡ false → refused auth ≡ Replies step.reply step.verdict auth' → CarriesOut (signed auth user offer (Some accepted)) told told auth' (Ok step)
 refused_signature auth user offer accepted told auth' step denied is =
-    subst (λ b. Serves (signed auth user offer (Some b)) told told auth' (Ok step)) (sym denied) (finished (refused auth) told auth' step is)
+    subst (λ b. CarriesOut (signed auth user offer (Some b)) told told auth' (Ok step)) (sym denied) (finished (refused auth) told auth' step is)
 
 -- the verifier accepted it
-pub accepted_signature : {E : Type 0} (auth : AuthRequest) (user : List ℕ) (offer : Offer) (accepted : Bool) (key : PublicKeyOrCertificate) (algorithm : Algorithm)
-    (a b : Option (List (Call E))) (auth' : AuthRequest) (result : Result AuthStep (AuthError E)) → accepted ≡ true → key ≡ offer.key → algorithm ≡ offer.algorithm →
-    Serves (proof auth user key algorithm) a b auth' result → Serves (signed auth user offer (Some accepted)) a b auth' result
-accepted_signature auth user offer accepted key algorithm a b auth' result is same-key same-algorithm h =
-    subst (λ x. Serves (signed auth user offer (Some x)) a b auth' result) (sym is)
-    (subst (λ k. Serves (proof auth user k offer.algorithm) a b auth' result) same-key
-    (subst (λ x. Serves (proof auth user key x) a b auth' result) same-algorithm h))
+pub accepted_signature : {E : Type 0} (auth : AuthRequest) (user : List ℕ) (offer : Offer) (accepted : Bool) (a b : Option (List (Call E))) (auth' : AuthRequest)
+    (result : Result AuthStep (AuthError E)) → accepted ≡ true → CarriesOut (proof auth user offer.key offer.algorithm) a b auth' result →
+    CarriesOut (signed auth user offer (Some accepted)) a b auth' result
+accepted_signature auth user offer accepted a b auth' result is h = subst (λ x. CarriesOut (signed auth user offer (Some x)) a b auth' result) (sym is) h
 
 -- a key without its probe is asked about first
 pub unprobed : {E : Type 0} (auth : AuthRequest) (user : List ℕ) (offer : Offer) (accepted : Option Bool) (a b : Option (List (Call E))) (auth' : AuthRequest)
     (result : Result AuthStep (AuthError E)) → is_probed auth.current offer.name offer.blob ≡ false →
-    Serves (Ask (Auth_publickey_offered user (offered_key offer.key) offer.algorithm) (λ answer. permitted auth answer (signed auth user offer accepted))) a b auth' result →
-    Serves (signed_verdict auth user offer accepted) a b auth' result
+    CarriesOut (Ask (Auth_publickey_offered user (offered_key offer.key) offer.algorithm) (λ answer. permitted auth answer (signed auth user offer accepted))) a b auth' result →
+    CarriesOut (signed_verdict auth user offer accepted) a b auth' result
 unprobed auth user offer accepted a b auth' result is h = rw is h
 
 -- a signature that was not read
 pub unsigned_request : {E : Type 0} (given : Circumstances) (all fields rest : List ℕ) (offer : Offer) (auth : AuthRequest) (user : List ℕ) (told : Option (List (Call E))) (auth' : AuthRequest)
-    (e : AuthError E) → Offers given true offer fields rest → SignatureFails rest e → ServesMethod (SaysPublickey given all fields) auth user told told auth' (Err e)
+    (e : AuthError E) → Offers given true offer fields rest → SignatureFails rest e → CarriesOutMethod (SaysPublickey given all fields) auth user told told auth' (Err e)
 unsigned_request given all fields rest offer auth user told auth' error.NoMemory offers h = inr ([], adds_nil told, tt)
 unsigned_request given all fields rest offer auth user told auth' (error.Encoding why) offers h =
     inl (Unfit_method why, inr (inr (offer, rest, offers, h)), ([], adds_nil told, refl))
@@ -78,19 +75,19 @@ unsigned_request given all fields rest offer auth user told auth' error.Unsuppor
 -- an offer that was not read
 pub no_offer : {E : Type 0} (given : Circumstances) (all fields rest name blob : List ℕ) (is-signed : Bool) (auth : AuthRequest) (user : List ℕ) (told : Option (List (Call E))) (auth' : AuthRequest)
     (e : KeyError) (result : AuthError E) → result ≡ auth_error_of_key e → SpellsAll offer_fields (is-signed, (name, (blob, tt))) fields rest →
-    (e ≡ NoMemory) ⊎ ((e ≡ Blob) × FailsOffer name blob Blob) → ServesMethod (SaysPublickey given all fields) auth user told told auth' (Err result)
+    (e ≡ NoMemory) ⊎ ((e ≡ Blob) × FailsOffer name blob Blob) → CarriesOutMethod (SaysPublickey given all fields) auth user told told auth' (Err result)
 no_offer {E} given all fields rest name blob is-signed auth user told auth' e result is spelled (inl none) =
     let memory : result ≡ error.NoMemory = is ∙ ap (λ k. auth_error_of_key {E = E} k) none in
-    subst (λ x. ServesMethod (SaysPublickey given all fields) auth user told told auth' (Err x)) (sym memory) (inr ([], adds_nil told, tt))
+    subst (λ x. CarriesOutMethod (SaysPublickey given all fields) auth user told told auth' (Err x)) (sym memory) (inr ([], adds_nil told, tt))
 no_offer {E} given all fields rest name blob is-signed auth user told auth' e result is spelled (inr fails) =
     let key : result ≡ error.Key Blob = is ∙ ap (λ k. auth_error_of_key {E = E} k) fails.0 in
-    subst (λ x. ServesMethod (SaysPublickey given all fields) auth user told told auth' (Err x)) (sym key)
+    subst (λ x. CarriesOutMethod (SaysPublickey given all fields) auth user told told auth' (Err x)) (sym key)
     (inl (Broken_method, inl (is-signed, name, blob, rest, spelled, fails.1), ([], adds_nil told, (refl, refl))))
 
 -- a signature of another name
 pub misnamed : {E : Type 0} (given : Circumstances) (all fields rest : List ℕ) (offer : Offer) (signature : Signature) (auth : AuthRequest) (user : List ℕ) (told : Option (List (Call E)))
     (auth' : AuthRequest) (step : AuthStep) → Offers given true offer fields rest → EndsInSignature signature rest → (signature.name ≢ algorithm_name offer.algorithm) →
-    refused auth ≡ Replies step.reply step.verdict auth' → ServesMethod (SaysPublickey given all fields) auth user told told auth' (Ok step)
+    refused auth ≡ Replies step.reply step.verdict auth' → CarriesOutMethod (SaysPublickey given all fields) auth user told told auth' (Ok step)
 misnamed given all fields rest offer signature auth user told auth' step offers ends differs is =
     inl (Misnamed_method, (offer, rest, signature, offers, ends, differs), finished (refused auth) told auth' step is)
 
@@ -99,8 +96,8 @@ pub signed_request : {E : Type 0} (given : Circumstances) (payload front fields 
     (a b : Option (List (Call E))) (auth' : AuthRequest) (result : Result AuthStep (AuthError E)) → Offers given true offer fields rest → EndsInSignature signature rest →
     signature.name ≡ algorithm_name offer.algorithm → payload ≡ 50 ∷ front ++ fields → unsigned ≡ take (length payload - length rest) payload →
     ((accepted : Option Bool) × IsAnswer given.accepts (offered_key offer.key) offer.algorithm (string given.session_id ++ unsigned) signature.blob accepted
-    × Serves (signed_verdict auth user offer accepted) a b auth' result) →
-    ServesMethod (SaysPublickey given (drop 1 payload) fields) auth user a b auth' result
+    × CarriesOut (signed_verdict auth user offer accepted) a b auth' result) →
+    CarriesOutMethod (SaysPublickey given (drop 1 payload) fields) auth user a b auth' result
 signed_request given payload front fields rest unsigned offer signature auth user a b auth' result offers ends named whole is h =
     let middle = spells_front offer_fields (true, (offer.name, (offer.blob, tt))) fields rest offers.0 in
     let parts : payload ≡ (50 ∷ front ++ middle.0) ++ rest = whole ∙ ap (λ x. 50 ∷ front ++ x) middle.1 ∙ ap (λ x. 50 ∷ x) (sym (append_assoc front middle.0 rest)) in
@@ -116,13 +113,13 @@ offers_as given is-signed other offer fields rest is h = subst (λ b. Offers giv
 -- bytes after a probe
 pub more_than_probe : {E : Type 0} (given : Circumstances) (all fields rest : List ℕ) (offer : Offer) (auth : AuthRequest) (user : List ℕ) (told : Option (List (Call E))) (auth' : AuthRequest)
     (why : WireError) (result : Result AuthStep (AuthError E)) → Offers given false offer fields rest → MisfitsWhole [] rest why → IsErrAnd result (λ e. e ≡ auth_error_of why) →
-    ServesMethod (SaysPublickey given all fields) auth user told told auth' result
+    CarriesOutMethod (SaysPublickey given all fields) auth user told told auth' result
 more_than_probe {E} given all fields rest offer auth user told auth' why result offers misfit is =
     unfit_method (SaysPublickey given all fields) auth user told auth' why result is (whole_error E [] rest why misfit) (inr (inl (offer, rest, offers, misfit)))
 
 -- a probe
 pub probe : {E : Type 0} (given : Circumstances) (all fields rest : List ℕ) (offer : Offer) (auth : AuthRequest) (user : List ℕ) (a b : Option (List (Call E))) (auth' : AuthRequest)
-    (result : Result AuthStep (AuthError E)) → Offers given false offer fields rest → rest ≡ [] → Serves (method_verdict auth user (Probe_method offer)) a b auth' result →
-    ServesMethod (SaysPublickey given all fields) auth user a b auth' result
+    (result : Result AuthStep (AuthError E)) → Offers given false offer fields rest → rest ≡ [] → CarriesOut (method_verdict auth user (Probe_method offer)) a b auth' result →
+    CarriesOutMethod (SaysPublickey given all fields) auth user a b auth' result
 probe given all fields rest offer auth user a b auth' result offers none h =
     inl (Probe_method offer, subst (λ x. Offers given false offer fields x) none offers, h)

@@ -2,6 +2,7 @@ pub mod Asks
 pub mod Keys
 pub mod Misfits
 pub mod Plans
+pub mod Proving
 pub mod Signatures
 pub mod Responses
 pub mod Prompting

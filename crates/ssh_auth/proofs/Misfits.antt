@@ -5,7 +5,7 @@ use Rattle.ssh_wire.specs.declared.error.WireError.TheVariants as wire
 use Rattle.ssh_wire.specs.Field.{Field, Byte, Flag, Number, Long, Bytes, Text, Misfits, MisfitsAll, MisfitsWhole}
 use Rattle.ssh_auth.specs.declared.error.AuthError.TheVariants as error
 use Rattle.ssh_auth.specs.Failure.{auth_error_of}
-use Rattle.ssh_auth.specs.Said.{Unfit_method, SaysPassword}
+use Rattle.ssh_auth.specs.Requested.{Unfit_method, SaysPassword}
 
 memory_is_no_misfit : (field : Field) (bytes : List ℕ) → Misfits field bytes wire.NoMemory → ⊥
 memory_is_no_misfit Byte bytes h = h

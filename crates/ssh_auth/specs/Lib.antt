@@ -7,6 +7,6 @@ pub mod Publickey
 pub mod Read
 pub mod Request
 pub mod Response
-pub mod Said
+pub mod Requested
 pub mod Serve
 pub mod Verdict

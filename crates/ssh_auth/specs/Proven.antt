@@ -1,5 +1,5 @@
 -- What stands behind the calls that let a user in by a key or a certificate.
-use Rattle.std.specs.Prelude.{◌≡◌, ℕ, List, ◌++◌, true, codes, Option}
+use Rattle.std.specs.Prelude.{◌≡◌, ℕ, List, ◌++◌, All, true, codes, Option, Some}
 use Rattle.ssh_wire.specs.Field.{SpellsAll}
 use Rattle.ssh_keys.specs.declared.algorithm.HashAlg.{HashAlg}
 use Rattle.ssh_keys.specs.declared.key_or_certificate.PublicKeyOrCertificate.TheVariants.{PublicKey as Plain, Certificate}
@@ -7,9 +7,11 @@ use Rattle.ssh_keys.specs.declared.signature.Signature.{Signature}
 use Rattle.ssh_keys.specs.Algorithms.{algorithm_name}
 use Rattle.ssh_keys.specs.Offers.{offered_key}
 use Rattle.ssh_keys.specs.Signatures.{EndsInSignature}
+use Rattle.ssh_auth.specs.declared.call.Call.{Call}
+use Rattle.ssh_auth.specs.declared.call.Call.TheVariants.{AuthPublickey, AuthOpensshCertificate, AuthKeyboardInteractive}
 use Rattle.ssh_auth.specs.Plan.{Question, Auth_publickey, Auth_openssh_certificate, Answer, Plan, Finish, Ask, Tell}
 use Rattle.ssh_auth.specs.Publickey.{Circumstances, Offer, Offers, question}
-use Rattle.ssh_auth.specs.Said.{head_fields}
+use Rattle.ssh_auth.specs.Requested.{head_fields}
 
 -- the request is this user's, by this offer, which can be used, and it ends in a signature that the verifier accepts:
 -- of the offered key, by the algorithm that the request names, of the session id and all of the request before it
@@ -36,3 +38,19 @@ abbrev pub AsksOnly : {O : Type 0} → (Question → Type 0) → Plan O → Type
 AsksOnly P (Finish outcome) = Unit {0}
 AsksOnly P (Ask question next) = P question × ((answer : Answer question) → AsksOnly P (next answer))
 AsksOnly P (Tell entry next) = AsksOnly P next
+
+-- a call by which a key or a certificate may let a user in is about one that has signed the request so, whatever it
+-- was answered
+abbrev pub IsProvenCall : {E : Type 0} → Circumstances → (fields : List ℕ) → Call E → Type 0
+IsProvenCall given fields (AuthPublickey user public_key algorithm answer) = IsProven given fields (Auth_publickey user public_key algorithm)
+IsProvenCall given fields (AuthOpensshCertificate user certificate answer) = IsProven given fields (Auth_openssh_certificate user certificate)
+IsProvenCall given fields call = Unit {0}
+
+-- the call asks in a round of keyboard-interactive
+abbrev pub IsPromptCall : {E : Type 0} → Call E → Type 0
+IsPromptCall (AuthKeyboardInteractive user submethods response answer) = Unit {0}
+IsPromptCall call = ⊥
+
+-- of each that is told now and was not before, this holds
+abbrev pub AllAdded : {A : Type 0} → (A → Type 0) → Option (List A) → Option (List A) → Type 0
+AllAdded {A} holds told told' = (before more : List A) → told ≡ Some before → told' ≡ Some (before ++ more) → All holds more

@@ -7,7 +7,7 @@ use Rattle.ssh_auth.specs.declared.message.PasswordRequest.{PasswordRequest}
 use Rattle.ssh_auth.specs.declared.message.PasswordRequest.TheVariants.{Password, Change}
 use Rattle.ssh_auth.specs.declared.request.Request.{Request}
 use Rattle.ssh_auth.specs.Publickey.{Acceptance, Circumstances, MisfitsSignature, HoldsNoSignature}
-use Rattle.ssh_auth.specs.Said.{Method, Password_method, Change_method}
+use Rattle.ssh_auth.specs.Requested.{Method, Password_method, Change_method}
 
 abbrev pub password_method : PasswordRequest → Method
 password_method (Password password) = Password_method password.now

@@ -15,12 +15,13 @@ use Rattle.ssh_auth.specs.declared.auth_request.AuthRequest.{AuthRequest}
 use Rattle.ssh_auth.specs.declared.auth_request.CurrentRequest.TheVariants as round
 use Rattle.ssh_auth.specs.declared.auth_step.AuthVerdict.{AuthVerdict}
 use Rattle.ssh_auth.specs.declared.auth_step.AuthVerdict.TheVariants.{Accepted, Rejected, Continued}
+use Rattle.ssh_auth.specs.declared.reply.Rejection.{Rejection}
 use Rattle.ssh_auth.specs.Layout.{failure, success, pk_ok, info_request}
 use Rattle.ssh_auth.specs.Plan.{Plan, Finish, Ask, Auth_none, Auth_password, Auth_publickey_offered, Auth_publickey, Auth_openssh_certificate, Auth_keyboard_interactive}
 use Rattle.ssh_auth.specs.Request.{begun, count_after, is_probed, prompt_of}
 use Rattle.ssh_auth.specs.Response.{Responded, Responses, Unfit_responses, Unread_responses}
 use Rattle.ssh_auth.specs.Publickey.{Offer}
-use Rattle.ssh_auth.specs.Said.{Method, None_method, Password_method, Change_method, Unusable_method, Broken_method, Probe_method, Misnamed_method, Signed_method, Interactive_method, Other_method, Unfit_method, Said, Request, Other_service, Unfit, Unread}
+use Rattle.ssh_auth.specs.Requested.{Method, None_method, Password_method, Change_method, Unusable_method, Broken_method, Probe_method, Misnamed_method, Signed_method, Interactive_method, Other_method, Unfit_method, Requested, Request, Other_service, Unfit, Unread}
 
 -- why a request gets no answer
 pub data Fault : Type 0 where
@@ -36,93 +37,110 @@ pub data Fault : Type 0 where
   Unsupported : Fault
 
 -- what comes of a request
-pub data Outcome : Type 0 where
+pub data AuthOutcome : Type 0 where
   -- this payload is the reply, and this the state from then on
-  Replies : (reply : List ℕ) → (verdict : AuthVerdict) → (auth : AuthRequest) → Outcome
-  Fails : (fault : Fault) → Outcome
+  Replies : (reply : List ℕ) → (verdict : AuthVerdict) → (auth : AuthRequest) → AuthOutcome
+  Fails : (fault : Fault) → AuthOutcome
 
--- a rejection with these methods and this flag: the round is over
-abbrev pub rejected : AuthRequest → Bool → List MethodKind → Bool → Outcome
-rejected auth none_method methods partial = Replies (failure methods partial) (Rejected none_method)
-    (record auth { methods = methods; partial_success = partial; current = None; rejection_count = count_after partial auth.rejection_count })
+-- a rejection: these methods can continue, this is the flag, and the round is over
+abbrev pub rejected : AuthRequest → Rejection → AuthOutcome
+rejected auth rejection = Replies (failure rejection.methods rejection.partial_success) (Rejected rejection.none_method) (record auth {
+  methods = rejection.methods;
+  partial_success = rejection.partial_success;
+  current = None;
+  rejection_count = count_after rejection.partial_success auth.rejection_count;
+})
+
+abbrev pub is_none : MethodKind → Bool
+is_none kind.None = true
+is_none _ = false
+
+-- a request of method none or password that was refused: the method is taken away
+abbrev pub taken_away : AuthRequest → (asked : MethodKind) → AuthOutcome
+taken_away auth asked = rejected auth (record { none_method = is_none asked; methods = without asked auth.methods; partial_success = false })
 
 -- what an answer to a request of method none or password means: other methods are named, or the method is taken away
-abbrev pub answered : AuthRequest → MethodKind → Bool → Auth → Outcome
-answered auth method none_method Accept = Replies success Accepted auth
-answered auth method none_method (Reject methods partial) = rejected auth none_method (unwrap_or methods (without method auth.methods)) partial
-answered auth method none_method UnsupportedMethod = rejected auth none_method (without method auth.methods) false
-answered auth method none_method (Partial name instructions prompts) = rejected auth none_method (without method auth.methods) false
+abbrev pub after_method : AuthRequest → (asked : MethodKind) → Auth → AuthOutcome
+after_method auth asked Accept = Replies success Accepted auth
+after_method auth asked (Reject methods partial) =
+    rejected auth (record { none_method = is_none asked; methods = unwrap_or methods (without asked auth.methods); partial_success = partial })
+after_method auth asked UnsupportedMethod = taken_away auth asked
+after_method auth asked (Partial name instructions prompts) = taken_away auth asked
+
+-- a rejection that names these methods, where it names any, and else leaves them as they are
+abbrev pub rejected_naming : AuthRequest → Option (List MethodKind) → (partial : Bool) → AuthOutcome
+rejected_naming auth methods partial = rejected auth (record { none_method = false; methods = unwrap_or methods auth.methods; partial_success = partial })
 
 -- a rejection that leaves the methods as they are
-abbrev pub refused : AuthRequest → Outcome
-refused auth = rejected auth false auth.methods false
+abbrev pub refused : AuthRequest → AuthOutcome
+refused auth = rejected auth (record { none_method = false; methods = auth.methods; partial_success = false })
 
 -- what the answer on a key that may sign means: PK_OK, and the round is this probe; or other methods are named, and none is taken away
-abbrev pub probed : AuthRequest → Offer → Auth → Outcome
-probed auth offer Accept =
+abbrev pub after_offer : AuthRequest → Offer → Auth → AuthOutcome
+after_offer auth offer Accept =
     if nat_lt (length (pk_ok offer.name offer.blob)) (2 ^ 32)
     then Replies (pk_ok offer.name offer.blob) Continued (record auth { current = Some (round.PublicKey offer.blob offer.name true) })
     else Fails (Encoding TooLong)
-probed auth offer (Reject methods partial) = rejected auth false (unwrap_or methods auth.methods) partial
-probed auth offer UnsupportedMethod = refused auth
-probed auth offer (Partial name instructions prompts) = refused auth
+after_offer auth offer (Reject methods partial) = rejected_naming auth methods partial
+after_offer auth offer UnsupportedMethod = refused auth
+after_offer auth offer (Partial name instructions prompts) = refused auth
 
 -- what the answer on a key or a certificate that has signed means
-abbrev pub proven : AuthRequest → Auth → Outcome
-proven auth Accept = Replies success Accepted auth
-proven auth (Reject methods partial) = rejected auth false (unwrap_or methods auth.methods) partial
-proven auth UnsupportedMethod = refused auth
-proven auth (Partial name instructions prompts) = refused auth
+abbrev pub after_proof : AuthRequest → Auth → AuthOutcome
+after_proof auth Accept = Replies success Accepted auth
+after_proof auth (Reject methods partial) = rejected_naming auth methods partial
+after_proof auth UnsupportedMethod = refused auth
+after_proof auth (Partial name instructions prompts) = refused auth
 
 -- what the answer in a round of keyboard-interactive means: prompts, and the round goes on; or other methods are named, and none is taken away
-abbrev pub prompted : AuthRequest → Auth → Outcome
-prompted auth Accept = Replies success Accepted auth
-prompted auth (Reject methods partial) = rejected auth false (unwrap_or methods auth.methods) partial
-prompted auth UnsupportedMethod = Fails Unsupported
-prompted auth (Partial name instructions prompts) =
+abbrev pub after_prompts : AuthRequest → Auth → AuthOutcome
+after_prompts auth Accept = Replies success Accepted auth
+after_prompts auth (Reject methods partial) = rejected_naming auth methods partial
+after_prompts auth UnsupportedMethod = Fails Unsupported
+after_prompts auth (Partial name instructions prompts) =
     if nat_lt (length (info_request name instructions prompts)) (2 ^ 32)
     then Replies (info_request name instructions prompts) Continued auth
     else Fails (Encoding TooLong)
 
 -- the handler is asked in a round of keyboard-interactive
-abbrev pub interactive : AuthRequest → (user submethods : List ℕ) → Option (List (List ℕ)) → Plan Outcome
-interactive auth user submethods response = Ask (Auth_keyboard_interactive user submethods response) (λ answer. Finish (prompted auth answer))
+abbrev pub interactive : AuthRequest → (user submethods : List ℕ) → Option (List (List ℕ)) → Plan AuthOutcome
+interactive auth user submethods response = Ask (Auth_keyboard_interactive user submethods response) (λ answer. Finish (after_prompts auth answer))
 
 -- the handler is asked whether a key, or a certificate, lets the user in
-abbrev pub proof : AuthRequest → List ℕ → PublicKeyOrCertificate → Algorithm → Plan Outcome
-proof auth user (Plain key hash) algorithm = Ask (Auth_publickey user key algorithm) (λ answer. Finish (proven auth answer))
-proof auth user (Certificate certificate) algorithm = Ask (Auth_openssh_certificate user certificate) (λ answer. Finish (proven auth answer))
+abbrev pub proof : AuthRequest → List ℕ → PublicKeyOrCertificate → Algorithm → Plan AuthOutcome
+proof auth user (Plain key hash) algorithm = Ask (Auth_publickey user key algorithm) (λ answer. Finish (after_proof auth answer))
+proof auth user (Certificate certificate) algorithm = Ask (Auth_openssh_certificate user certificate) (λ answer. Finish (after_proof auth answer))
 
 -- the verifier refuses or accepts the signature of a key that may sign
-abbrev pub signed : AuthRequest → List ℕ → Offer → (accepted : Option Bool) → Plan Outcome
+abbrev pub signed : AuthRequest → List ℕ → Offer → (accepted : Option Bool) → Plan AuthOutcome
 signed auth user offer None = Finish (Fails Starved)
 signed auth user offer (Some false) = Finish (refused auth)
 signed auth user offer (Some true) = proof auth user offer.key offer.algorithm
 
 -- a key that was not asked about may sign only by this answer, whose methods and flag count for nothing
-abbrev pub permitted : AuthRequest → Auth → Plan Outcome → Plan Outcome
+abbrev pub permitted : AuthRequest → Auth → Plan AuthOutcome → Plan AuthOutcome
 permitted auth Accept next = next
 permitted auth _ next = Finish (refused auth)
 
 -- a signed request; a key without its probe is asked about first
-abbrev pub signed_verdict : AuthRequest → List ℕ → Offer → (accepted : Option Bool) → Plan Outcome
+abbrev pub signed_verdict : AuthRequest → List ℕ → Offer → (accepted : Option Bool) → Plan AuthOutcome
 signed_verdict auth user offer accepted =
     if is_probed auth.current offer.name offer.blob
     then signed auth user offer accepted
     else Ask (Auth_publickey_offered user (offered_key offer.key) offer.algorithm) (λ answer. permitted auth answer (signed auth user offer accepted))
 
 -- a request by the method that it names, once its principal is bound
-abbrev pub method_verdict : AuthRequest → List ℕ → Method → Plan Outcome
-method_verdict auth user None_method = Ask (Auth_none user) (λ answer. Finish (answered auth kind.None true answer))
-method_verdict auth user (Password_method password) = Ask (Auth_password user password) (λ answer. Finish (answered auth kind.Password false answer))
+abbrev pub method_verdict : AuthRequest → List ℕ → Method → Plan AuthOutcome
+method_verdict auth user None_method = Ask (Auth_none user) (λ answer. Finish (after_method auth kind.None answer))
+method_verdict auth user (Password_method password) = Ask (Auth_password user password) (λ answer. Finish (after_method auth kind.Password answer))
 -- a change is not served, and its method is taken away
-method_verdict auth user (Change_method password new_password) = Finish (rejected auth false (without kind.Password auth.methods) false)
+method_verdict auth user (Change_method password new_password) = Finish (taken_away auth kind.Password)
 -- an unusable key, or a signature of another name
 method_verdict auth user Unusable_method = Finish (refused auth)
 method_verdict auth user Misnamed_method = Finish (refused auth)
 method_verdict auth user Broken_method = Finish (Fails Key)
 method_verdict auth user (Probe_method offer) =
-    Ask (Auth_publickey_offered user (offered_key offer.key) offer.algorithm) (λ answer. Finish (probed auth offer answer))
+    Ask (Auth_publickey_offered user (offered_key offer.key) offer.algorithm) (λ answer. Finish (after_offer auth offer answer))
 method_verdict auth user (Signed_method offer accepted) = signed_verdict auth user offer accepted
 -- a round begins, in which nothing was prompted for yet
 method_verdict auth user (Interactive_method submethods) = interactive (record auth { current = Some (round.KeyboardInteractive submethods) }) user submethods None
@@ -131,19 +149,19 @@ method_verdict auth user Other_method = Finish (refused auth)
 method_verdict auth user (Unfit_method why) = Finish (Fails (Encoding why))
 
 -- a request by what it says
-abbrev pub verdict : AuthRequest → Said → Plan Outcome
+abbrev pub verdict : AuthRequest → Requested → Plan AuthOutcome
 verdict auth (Request user method) = method_verdict (begun auth user (codes "ssh-connection")) user method
 verdict auth Other_service = Finish (Fails Inconsistent)
 verdict auth (Unfit why) = Finish (Fails (Encoding why))
 verdict auth Unread = Finish (Fails Starved)
 
 -- a response to these prompts, which were shown to this user; where none wait it is refused, whatever it says
-abbrev pub responded : AuthRequest → Option (List ℕ × List ℕ) → Responded → Plan Outcome
+abbrev pub responded : AuthRequest → Option (List ℕ × List ℕ) → Responded → Plan AuthOutcome
 responded auth None said = Finish (refused auth)
 responded auth (Some prompt) (Responses responses) = interactive auth prompt.0 prompt.1 (Some responses)
 responded auth (Some prompt) (Unfit_responses why) = Finish (Fails (Encoding why))
 responded auth (Some prompt) Unread_responses = Finish (Fails Starved)
 
 -- a response by what it says: no partial success is left of what was before
-abbrev pub response_verdict : AuthRequest → Responded → Plan Outcome
+abbrev pub response_verdict : AuthRequest → Responded → Plan AuthOutcome
 response_verdict auth said = responded (record auth { partial_success = false }) (prompt_of auth) said

@@ -3,13 +3,16 @@ ghost use Rattle.std.specs.Prelude.{◌≡◌, None, true, false, not, IfOk, IfE
 ghost use Rattle.ssh_wire.specs.declared.error.WireError.TheVariants.{NoMemory};
 ghost use Rattle.ssh_auth.specs.Request.{server_request, client_request, principal_of, pair_of, initial_of, is_bound, bound_to, is_probed, prompt_of, count_after};
 
+#[cfg(test)]
+mod tests;
+
 use crate::Method;
 use bytes::Bytes;
 use ssh_wire::{MethodSet, Text, WireError};
 use std::alloc::Global;
 
 /// The user and the service that a request named (RFC 4252 section 5).
-#[derive(Drop)]
+#[derive(Drop, PartialEq, Eq)]
 pub struct Principal {
     /// The user's name.
     pub user: Text,
@@ -18,7 +21,7 @@ pub struct Principal {
 }
 
 /// What was begun and is gone on with by a later request.
-#[derive(Drop)]
+#[derive(Drop, PartialEq, Eq)]
 pub enum CurrentRequest {
     /// A key that the client asked about (RFC 4252 section 7).
     PublicKey {
@@ -39,7 +42,7 @@ pub enum CurrentRequest {
 }
 
 /// What is known of a client that asks to be authenticated.
-#[derive(Drop)]
+#[derive(Drop, PartialEq, Eq)]
 pub struct AuthRequest {
     /// The methods that can continue.
     pub methods: MethodSet,

@@ -18,10 +18,10 @@ pub enum AuthError<E> {
     /// The blob of a key or a certificate does not fit its layout, or a signature does not: always
     /// `KeyError::Blob`.
     Key(KeyError),
-    /// The handler answered this error.
-    Handler(E),
     /// The handler answered `Auth::UnsupportedMethod` to a user of keyboard-interactive.
     UnsupportedAuthMethod,
+    /// The handler answered this error.
+    Handler(E),
 }
 
 impl<E> From<WireError> for AuthError<E> {

@@ -1,4 +1,7 @@
 // What a server answers in the steps of GSS-API.
+#[cfg(test)]
+mod tests;
+
 use bytes::Bytes;
 use ssh_wire::Text;
 

@@ -65,8 +65,17 @@ pub trait AuthHandler {
     }
 
     /// A user offers a key (RFC 4252 section 7), in a probe, or in a signed request whose key was not
-    /// accepted in the probe before it: it may sign where this is not written. Nobody is let in by
-    /// the answer, whatever it is.
+    /// accepted in the probe before it; which of the two it is, is not told. The key may sign where this
+    /// is not written. Nobody is let in by the answer, whatever it is.
+    ///
+    /// The answer to a probe counts whole. Of the answer to a signed request it only counts whether it is
+    /// `Auth::Accept`, and then the signature is verified; else the request is refused, and neither the
+    /// methods nor the flag of an `Auth::Reject` are used.
+    ///
+    /// The algorithm is the one that the request names, and the key is what its blob holds, or what its
+    /// certificate certifies. The two need not belong together, as an RSA key and `ssh-ed25519`: whoever
+    /// minds it refuses them here, or leaves it to the verifier. So it is with an algorithm that is not to
+    /// be used any more, as `ssh-rsa`, which signs by SHA-1.
     fn auth_publickey_offered(
         &mut self,
         user: &str,
@@ -95,6 +104,10 @@ pub trait AuthHandler {
     /// time, and the verifier accepted its own signature and the one of the request. Its type, its
     /// principals, its critical options and whether its signature key is one to trust are for the
     /// handler to check. Refused where it is not written.
+    ///
+    /// It is told neither the algorithm by which the certified key signed the request nor the moment:
+    /// whoever refuses an algorithm does so in `auth_publickey_offered`, or in the verifier. A certificate
+    /// is never handed to `auth_publickey` by the key that it certifies.
     fn auth_openssh_certificate(
         &mut self,
         user: &str,

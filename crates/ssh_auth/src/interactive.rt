@@ -1,14 +1,15 @@
 // Requests by keyboard-interactive, and the responses to prompts.
 ghost use Rattle.std.specs.Prelude.{drop};
 ghost use Rattle.ssh_auth.specs.Response.{Responded, SaysResponses};
-ghost use Rattle.ssh_auth.specs.Said.{SaysInteractive, Interactive_method};
+ghost use Rattle.ssh_auth.specs.Requested.{SaysInteractive, Interactive_method};
 ghost use Rattle.ssh_auth.specs.Verdict.{method_verdict, response_verdict};
-ghost use Rattle.ssh_auth.specs.Serve.{IsNumbered, Serves, ServesMethod};
+ghost use Rattle.ssh_auth.specs.Proven.{IsPromptCall, AllAdded};
+ghost use Rattle.ssh_auth.specs.Serve.{IsNumbered, CarriesOut, CarriesOutMethod};
 
-use crate::message::{fields_of, read_interactive, read_responses};
+use crate::message::{read_interactive, read_responses};
 use crate::reply::{answer_prompted, refuse};
 use crate::{AuthError, AuthHandler, AuthRequest, AuthStep, CurrentRequest, Response};
-use ssh_wire::Text;
+use ssh_wire::{Text, fields_of};
 use std::alloc::Global;
 
 /// A request of method keyboard-interactive (RFC 4256 section 3.1).
@@ -19,7 +20,7 @@ pub(crate) fn serve_interactive<H: AuthHandler>(
     user: &str,
     fields: &[u8],
 ) -> Result<AuthStep, AuthError<H::Error>>
-    ensures { ServesMethod (SaysInteractive fields.now) auth.old user.now (H.told handler.old) (H.told handler.new) auth.new result }
+    ensures { CarriesOutMethod (SaysInteractive fields.now) auth.old user.now (H.told handler.old) (H.told handler.new) auth.new result }
 {
     let submethods = read_interactive(fields)?;
     begin_round(alloc, auth, handler, user, submethods)
@@ -33,7 +34,7 @@ fn begin_round<H: AuthHandler>(
     user: &str,
     submethods: &str,
 ) -> Result<AuthStep, AuthError<H::Error>>
-    ensures { Serves (method_verdict auth.old user.now (Interactive_method submethods.now)) (H.told handler.old) (H.told handler.new) auth.new result }
+    ensures { CarriesOut (method_verdict auth.old user.now (Interactive_method submethods.now)) (H.told handler.old) (H.told handler.new) auth.new result }
 {
     auth.current = Some(CurrentRequest::KeyboardInteractive {
         submethods: Text::new(alloc, submethods)?,
@@ -45,8 +46,8 @@ fn begin_round<H: AuthHandler>(
 }
 
 /// Serves a USERAUTH_INFO_RESPONSE (RFC 4256 section 3.4): makes the call that it owes, and gives
-/// its reply and its verdict. Where no prompts wait it is refused, and not read. After an error the
-/// state is not used again.
+/// its reply and its verdict. Where no prompts wait it is refused, and not read. A response is about
+/// prompts alone: no other callback is made. After an error the state is not used again.
 pub fn serve_response<H: AuthHandler>(
     alloc: Global,
     auth: &mut AuthRequest,
@@ -54,8 +55,9 @@ pub fn serve_response<H: AuthHandler>(
     payload: &[u8],
 ) -> Result<AuthStep, AuthError<H::Error>>
     requires numbered { IsNumbered 61 payload.now }
-    ensures { (said : Responded) × SaysResponses (drop 1 payload.now) said
-        × Serves (response_verdict auth.old said) (H.told handler.old) (H.told handler.new) auth.new result }
+    ensures verdict { (said : Responded) × SaysResponses (drop 1 payload.now) said
+        × CarriesOut (response_verdict auth.old said) (H.told handler.old) (H.told handler.new) auth.new result }
+    ensures prompts { AllAdded IsPromptCall (H.told handler.old) (H.told handler.new) }
 {
     auth.partial_success = false;
     let Some((user, submethods)) = auth.prompt() else {

@@ -1,9 +1,9 @@
 // The fields of a USERAUTH_REQUEST, or of a response to prompts, one after another.
-ghost use Rattle.std.specs.Prelude.{◌≡◌, ◌⊎◌, [], ◌∷◌, List, ℕ, MatchResult, IfOk, IfErr, drop, map};
+ghost use Rattle.std.specs.Prelude.{◌≡◌, ◌⊎◌, [], ◌∷◌, List, ℕ, MatchResult, IfOk, IfErr, map};
 ghost use Rattle.ssh_wire.specs.Field.{Flag, Text, SpellsAll, SpellsWhole, Misfits, MisfitsAll, MisfitsWhole};
 ghost use Rattle.ssh_wire.specs.Reading.{Reads};
 ghost use Rattle.ssh_wire.specs.declared.error.WireError.TheVariants.{NoMemory};
-ghost use Rattle.ssh_auth.specs.Said.{head_fields, SaysPassword, SaysInteractive, Change_method, Interactive_method, Unfit_method};
+ghost use Rattle.ssh_auth.specs.Requested.{head_fields, SaysPassword, SaysInteractive, Change_method, Interactive_method, Unfit_method};
 ghost use Rattle.ssh_auth.specs.Response.{SaysResponses, Responses, Unfit_responses};
 ghost use Rattle.ssh_auth.specs.Read.{password_method};
 
@@ -35,16 +35,6 @@ pub(crate) enum PasswordRequest<'a> {
         password: &'a str,
         new_password: &'a str,
     },
-}
-
-/// What follows a payload's number.
-pub fn fields_of(payload: &[u8]) -> &[u8]
-    ensures { result.now ≡ drop 1 payload.now }
-{
-    if payload.is_empty() {
-        return payload;
-    }
-    &payload[1..]
 }
 
 /// The head of a USERAUTH_REQUEST (RFC 4252 section 5).

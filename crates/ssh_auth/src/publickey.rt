@@ -6,10 +6,10 @@ ghost use Rattle.ssh_keys.specs.Offers.{offered_key};
 ghost use Rattle.ssh_auth.specs.declared.call.Call.TheVariants.{AuthPublickeyOffered};
 ghost use Rattle.ssh_auth.specs.Plan.{Finish, Ask, Auth_publickey, Auth_openssh_certificate};
 ghost use Rattle.ssh_auth.specs.Publickey.{Offers, IsAnswer};
-ghost use Rattle.ssh_auth.specs.Said.{SaysPublickey, Probe_method, Signed_method};
-ghost use Rattle.ssh_auth.specs.Verdict.{method_verdict, signed as signed_plan, proven};
+ghost use Rattle.ssh_auth.specs.Requested.{SaysPublickey, Probe_method, Signed_method};
+ghost use Rattle.ssh_auth.specs.Verdict.{method_verdict, signed as signed_plan, proof, after_proof};
 ghost use Rattle.ssh_auth.specs.Read.{circumstances, all_fields, IsWhole};
-ghost use Rattle.ssh_auth.specs.Serve.{Serves, ServesMethod};
+ghost use Rattle.ssh_auth.specs.Serve.{CarriesOut, CarriesOutMethod};
 
 use crate::key_request::{
     Offer, OfferFields, SignedRequest, is_accepted, read_offer, read_offer_fields, read_signature,
@@ -33,19 +33,19 @@ pub(crate) fn serve_publickey<H: AuthHandler, V: Verifier>(
     request: &Request<'_>,
 ) -> Result<AuthStep, AuthError<H::Error>>
     requires { IsWhole request.now }
-    ensures { ServesMethod (SaysPublickey (circumstances (V.accepts verifier.now) request.now) (all_fields request.now) request.now.fields.now)
+    ensures { CarriesOutMethod (SaysPublickey (circumstances (V.accepts verifier.now) request.now) (all_fields request.now) request.now.fields.now)
         auth.old request.now.user.now (H.told handler.old) (H.told handler.new) auth.new result }
 {
     let asked = read_offer_fields(request.fields)?;
     match read_offer(alloc, verifier, request.moment, asked.name, asked.blob) {
-        Ok(Some(offer)) => serve_offer(alloc, auth, handler, verifier, request, asked, &offer),
+        Ok(Some(offer)) => go_on_with_offer(alloc, auth, handler, verifier, request, asked, &offer),
         Ok(None) => Ok(refuse(alloc, auth)?),
         Err(e) => Err(AuthError::from(e)),
     }
 }
 
 /// A key or a certificate that can be used: its probe, or a request that it has signed.
-fn serve_offer<H: AuthHandler, V: Verifier>(
+fn go_on_with_offer<H: AuthHandler, V: Verifier>(
     alloc: Global,
     auth: &mut AuthRequest,
     handler: &mut H,
@@ -56,14 +56,14 @@ fn serve_offer<H: AuthHandler, V: Verifier>(
 ) -> Result<AuthStep, AuthError<H::Error>>
     requires whole { IsWhole request.now }
     requires offered { Offers (circumstances (V.accepts verifier.now) request.now) asked.signed offer.now request.now.fields.now asked.rest.now }
-    ensures { ServesMethod (SaysPublickey (circumstances (V.accepts verifier.now) request.now) (all_fields request.now) request.now.fields.now)
+    ensures { CarriesOutMethod (SaysPublickey (circumstances (V.accepts verifier.now) request.now) (all_fields request.now) request.now.fields.now)
         auth.old request.now.user.now (H.told handler.old) (H.told handler.new) auth.new result }
 {
     if asked.signed {
-        return serve_signed(alloc, auth, handler, verifier, request, asked.rest, offer);
+        return read_signed(alloc, auth, handler, verifier, request, asked.rest, offer);
     }
     read_none(asked.rest)?;
-    serve_probe(alloc, auth, handler, request.user, offer)
+    ask_probe(alloc, auth, handler, request.user, offer)
 }
 
 /// Asks whether the user may sign with the key.
@@ -84,14 +84,14 @@ fn ask_offered<H: AuthHandler>(
 }
 
 /// A probe: whether the key may sign (RFC 4252 section 7).
-fn serve_probe<H: AuthHandler>(
+fn ask_probe<H: AuthHandler>(
     alloc: Global,
     auth: &mut AuthRequest,
     handler: &mut H,
     user: &str,
     offer: &Offer<'_>,
 ) -> Result<AuthStep, AuthError<H::Error>>
-    ensures { Serves (method_verdict auth.old user.now (Probe_method offer.now)) (H.told handler.old) (H.told handler.new) auth.new result }
+    ensures { CarriesOut (method_verdict auth.old user.now (Probe_method offer.now)) (H.told handler.old) (H.told handler.new) auth.new result }
 {
     match ask_offered(handler, user, offer) {
         Ok(verdict) => Ok(answer_offer(alloc, auth, offer, &verdict)?),
@@ -100,7 +100,7 @@ fn serve_probe<H: AuthHandler>(
 }
 
 /// A request that ends in a signature.
-fn serve_signed<H: AuthHandler, V: Verifier>(
+fn read_signed<H: AuthHandler, V: Verifier>(
     alloc: Global,
     auth: &mut AuthRequest,
     handler: &mut H,
@@ -111,7 +111,7 @@ fn serve_signed<H: AuthHandler, V: Verifier>(
 ) -> Result<AuthStep, AuthError<H::Error>>
     requires whole { IsWhole request.now }
     requires offered { Offers (circumstances (V.accepts verifier.now) request.now) true offer.now request.now.fields.now rest.now }
-    ensures { ServesMethod (SaysPublickey (circumstances (V.accepts verifier.now) request.now) (all_fields request.now) request.now.fields.now)
+    ensures { CarriesOutMethod (SaysPublickey (circumstances (V.accepts verifier.now) request.now) (all_fields request.now) request.now.fields.now)
         auth.old request.now.user.now (H.told handler.old) (H.told handler.new) auth.new result }
 {
     let signature = match read_signature(alloc, rest) {
@@ -126,12 +126,12 @@ fn serve_signed<H: AuthHandler, V: Verifier>(
         unsigned: &request.payload[..request.payload.len() - rest.len()],
         signature,
     };
-    serve_signature(alloc, auth, handler, verifier, request.user, offer, &signed)
+    permit_signed(alloc, auth, handler, verifier, request.user, offer, &signed)
 }
 
 /// A request that is signed by the algorithm that it names. A key without its probe is asked about
 /// first.
-fn serve_signature<H: AuthHandler, V: Verifier>(
+fn permit_signed<H: AuthHandler, V: Verifier>(
     alloc: Global,
     auth: &mut AuthRequest,
     handler: &mut H,
@@ -143,20 +143,20 @@ fn serve_signature<H: AuthHandler, V: Verifier>(
     requires { length signed.now.session_id.now < 2 ^ 32 }
     ensures { (accepted : Option Bool) × IsAnswer (V.accepts verifier.now) (offered_key offer.now.key) offer.now.algorithm
         (string signed.now.session_id.now ++ signed.now.unsigned.now) signed.now.signature.blob accepted
-        × Serves (method_verdict auth.old user.now (Signed_method offer.now accepted)) (H.told handler.old) (H.told handler.new) auth.new result }
+        × CarriesOut (method_verdict auth.old user.now (Signed_method offer.now accepted)) (H.told handler.old) (H.told handler.new) auth.new result }
 {
     if auth.is_probed(offer.name, offer.blob) {
-        return serve_proof(alloc, auth, handler, verifier, user, offer, signed);
+        return verify_signed(alloc, auth, handler, verifier, user, offer, signed);
     }
     match ask_offered(handler, user, offer) {
-        Ok(Auth::Accept) => serve_proof(alloc, auth, handler, verifier, user, offer, signed),
+        Ok(Auth::Accept) => verify_signed(alloc, auth, handler, verifier, user, offer, signed),
         Ok(_) => Ok(refuse(alloc, auth)?),
         Err(e) => Err(AuthError::Handler(e)),
     }
 }
 
 /// A key that may sign: the handler is asked where the verifier accepts its signature.
-fn serve_proof<H: AuthHandler, V: Verifier>(
+fn verify_signed<H: AuthHandler, V: Verifier>(
     alloc: Global,
     auth: &mut AuthRequest,
     handler: &mut H,
@@ -168,23 +168,36 @@ fn serve_proof<H: AuthHandler, V: Verifier>(
     requires { length signed.now.session_id.now < 2 ^ 32 }
     ensures { (accepted : Option Bool) × IsAnswer (V.accepts verifier.now) (offered_key offer.now.key) offer.now.algorithm
         (string signed.now.session_id.now ++ signed.now.unsigned.now) signed.now.signature.blob accepted
-        × Serves (signed_plan auth.old user.now offer.now accepted) (H.told handler.old) (H.told handler.new) auth.new result }
+        × CarriesOut (signed_plan auth.old user.now offer.now accepted) (H.told handler.old) (H.told handler.new) auth.new result }
 {
     if !is_accepted(alloc, verifier, offer, signed)? {
         return Ok(refuse(alloc, auth)?);
     }
+    let_in(alloc, auth, handler, user, offer)
+}
+
+/// A key or a certificate whose signature the verifier accepted.
+fn let_in<H: AuthHandler>(
+    alloc: Global,
+    auth: &mut AuthRequest,
+    handler: &mut H,
+    user: &str,
+    offer: &Offer<'_>,
+) -> Result<AuthStep, AuthError<H::Error>>
+    ensures { CarriesOut (proof auth.old user.now offer.now.key offer.now.algorithm) (H.told handler.old) (H.told handler.new) auth.new result }
+{
     match &offer.key {
         PublicKeyOrCertificate::PublicKey { key, .. } => {
-            serve_key(alloc, auth, handler, user, key, offer.algorithm)
+            let_in_by_key(alloc, auth, handler, user, key, offer.algorithm)
         }
         PublicKeyOrCertificate::Certificate(certificate) => {
-            serve_certificate(alloc, auth, handler, user, certificate)
+            let_in_by_certificate(alloc, auth, handler, user, certificate)
         }
     }
 }
 
 /// A key whose signature the verifier accepted.
-fn serve_key<H: AuthHandler>(
+fn let_in_by_key<H: AuthHandler>(
     alloc: Global,
     auth: &mut AuthRequest,
     handler: &mut H,
@@ -192,7 +205,7 @@ fn serve_key<H: AuthHandler>(
     public_key: &PublicKey,
     algorithm: Algorithm,
 ) -> Result<AuthStep, AuthError<H::Error>>
-    ensures { Serves (Ask (Auth_publickey user.now public_key.now algorithm) (λ answer. Finish (proven auth.old answer))) (H.told handler.old) (H.told handler.new) auth.new result }
+    ensures { CarriesOut (Ask (Auth_publickey user.now public_key.now algorithm) (λ answer. Finish (after_proof auth.old answer))) (H.told handler.old) (H.told handler.new) auth.new result }
 {
     let key = VerifiedPublicKey {
         public_key,
@@ -205,14 +218,14 @@ fn serve_key<H: AuthHandler>(
 }
 
 /// A certificate whose key's signature the verifier accepted.
-fn serve_certificate<H: AuthHandler>(
+fn let_in_by_certificate<H: AuthHandler>(
     alloc: Global,
     auth: &mut AuthRequest,
     handler: &mut H,
     user: &str,
     certificate: &Certificate,
 ) -> Result<AuthStep, AuthError<H::Error>>
-    ensures { Serves (Ask (Auth_openssh_certificate user.now certificate.now) (λ answer. Finish (proven auth.old answer))) (H.told handler.old) (H.told handler.new) auth.new result }
+    ensures { CarriesOut (Ask (Auth_openssh_certificate user.now certificate.now) (λ answer. Finish (after_proof auth.old answer))) (H.told handler.old) (H.told handler.new) auth.new result }
 {
     match handler.auth_openssh_certificate(user, certificate) {
         Ok(verdict) => Ok(answer_proof(alloc, auth, &verdict)?),

@@ -4,9 +4,9 @@ ghost use Rattle.ssh_wire.specs.declared.error.WireError.TheVariants.{NoMemory, 
 ghost use Rattle.ssh_wire.specs.Methods.{without};
 ghost use Rattle.ssh_auth.specs.Layout.{failure, success, pk_ok, prompts_fields, info_request};
 ghost use Rattle.ssh_auth.specs.Plan.{Finish};
-ghost use Rattle.ssh_auth.specs.Serve.{Answers};
-ghost use Rattle.ssh_auth.specs.Verdict.{Replies, Fails, Encoding, rejected, refused, answered, probed, proven, prompted};
-ghost use Rattle.ssh_auth.specs.declared.auth.Auth.TheVariants.{Accept, Reject};
+ghost use Rattle.ssh_auth.specs.Serve.{Concludes};
+ghost use Rattle.ssh_auth.specs.Verdict.{Replies, Fails, Encoding, rejected, rejected_naming, taken_away, refused, is_none, after_method, after_offer, after_proof, after_prompts};
+ghost use Rattle.ssh_auth.specs.declared.auth.Auth.TheVariants.{Accept};
 
 use crate::auth_request::count_after_rejection;
 use crate::key_request::Offer;
@@ -32,7 +32,7 @@ fn failure_payload(
     ensures ok { IfOk result (λ payload. payload ≡ failure methods.now partial_success) }
     ensures memory { IfErr result (λ e. e ≡ NoMemory) }
 {
-    let names = methods.to_names(alloc)?.to_text(alloc)?;
+    let names = methods.to_names(alloc)?.to_text()?;
     let mut payload = Vec::new(alloc);
     put_u8(&mut payload, USERAUTH_FAILURE)?;
     put_text(&mut payload, names.as_str())?;
@@ -66,25 +66,36 @@ fn pk_ok_payload(alloc: Global, name: &str, blob: &[u8]) -> Result<Bytes, WireEr
     Ok(Bytes::from_vec(payload)?)
 }
 
+/// What a rejection says, and of what.
+#[derive(Clone, Copy)]
+pub(crate) struct Rejection {
+    /// Whether it is of a request of method none (RFC 4252 section 5.2).
+    pub none_method: bool,
+    /// The methods that can continue from now on.
+    pub methods: MethodSet,
+    /// Whether the request was right, and more is needed (RFC 4252 section 5.1).
+    pub partial_success: bool,
+}
+
 /// A rejection: these methods can continue from now on, and the round is over.
 pub(crate) fn reject(
     alloc: Global,
     auth: &mut AuthRequest,
-    none_method: bool,
-    methods: MethodSet,
-    partial_success: bool,
+    rejection: Rejection,
 ) -> Result<AuthStep, WireError>
-    ensures ok { IfOk result (λ step. rejected auth.old none_method methods partial_success ≡ Replies step.reply step.verdict auth.new) }
+    ensures ok { IfOk result (λ step. rejected auth.old rejection ≡ Replies step.reply step.verdict auth.new) }
     ensures memory { IfErr result (λ e. e ≡ NoMemory) }
 {
-    let reply = failure_payload(alloc, &methods, partial_success)?;
-    auth.methods = methods;
-    auth.partial_success = partial_success;
+    let reply = failure_payload(alloc, &rejection.methods, rejection.partial_success)?;
+    auth.methods = rejection.methods;
+    auth.partial_success = rejection.partial_success;
     auth.current = None;
-    auth.rejection_count = count_after_rejection(partial_success, auth.rejection_count);
+    auth.rejection_count = count_after_rejection(rejection.partial_success, auth.rejection_count);
     Ok(AuthStep {
         reply,
-        verdict: AuthVerdict::Rejected { none_method },
+        verdict: AuthVerdict::Rejected {
+            none_method: rejection.none_method,
+        },
     })
 }
 
@@ -93,8 +104,12 @@ pub(crate) fn refuse(alloc: Global, auth: &mut AuthRequest) -> Result<AuthStep, 
     ensures ok { IfOk result (λ step. refused auth.old ≡ Replies step.reply step.verdict auth.new) }
     ensures memory { IfErr result (λ e. e ≡ NoMemory) }
 {
-    let methods = auth.methods;
-    reject(alloc, auth, false, methods, false)
+    let rejection = Rejection {
+        none_method: false,
+        methods: auth.methods,
+        partial_success: false,
+    };
+    reject(alloc, auth, rejection)
 }
 
 /// A rejection of a key: the methods that are named replace the others, and none is taken away.
@@ -104,17 +119,21 @@ fn refuse_naming(
     named: Option<MethodSet>,
     partial_success: bool,
 ) -> Result<AuthStep, WireError>
-    ensures ok { IfOk result (λ step. proven auth.old (Reject named partial_success) ≡ Replies step.reply step.verdict auth.new) }
+    ensures ok { IfOk result (λ step. rejected_naming auth.old named partial_success ≡ Replies step.reply step.verdict auth.new) }
     ensures memory { IfErr result (λ e. e ≡ NoMemory) }
 {
-    let methods = named.unwrap_or(auth.methods);
-    reject(alloc, auth, false, methods, partial_success)
+    let rejection = Rejection {
+        none_method: false,
+        methods: named.unwrap_or(auth.methods),
+        partial_success,
+    };
+    reject(alloc, auth, rejection)
 }
 
 /// PK_OK: the key may sign, and the round is its probe.
 fn permit(alloc: Global, auth: &mut AuthRequest, offer: &Offer<'_>) -> Result<AuthStep, WireError>
-    ensures ok { IfOk result (λ step. probed auth.old offer.now Accept ≡ Replies step.reply step.verdict auth.new) }
-    ensures refused { IfErr result (λ e. (e ≡ NoMemory) ⊎ ((e ≡ TooLong) × (probed auth.old offer.now Accept ≡ Fails (Encoding TooLong)))) }
+    ensures ok { IfOk result (λ step. after_offer auth.old offer.now Accept ≡ Replies step.reply step.verdict auth.new) }
+    ensures refused { IfErr result (λ e. (e ≡ NoMemory) ⊎ ((e ≡ TooLong) × (after_offer auth.old offer.now Accept ≡ Fails (Encoding TooLong)))) }
 {
     let reply = pk_ok_payload(alloc, offer.name, offer.blob)?;
     auth.current = Some(CurrentRequest::PublicKey {
@@ -136,8 +155,8 @@ pub(crate) fn answer_offer(
     offer: &Offer<'_>,
     answer: &Auth,
 ) -> Result<AuthStep, WireError>
-    ensures ok { IfOk result (λ step. probed auth.old offer.now answer.now ≡ Replies step.reply step.verdict auth.new) }
-    ensures refused { IfErr result (λ e. (e ≡ NoMemory) ⊎ ((e ≡ TooLong) × (probed auth.old offer.now answer.now ≡ Fails (Encoding TooLong)))) }
+    ensures ok { IfOk result (λ step. after_offer auth.old offer.now answer.now ≡ Replies step.reply step.verdict auth.new) }
+    ensures refused { IfErr result (λ e. (e ≡ NoMemory) ⊎ ((e ≡ TooLong) × (after_offer auth.old offer.now answer.now ≡ Fails (Encoding TooLong)))) }
 {
     match answer {
         Auth::Accept => permit(alloc, auth, offer),
@@ -155,7 +174,7 @@ pub(crate) fn answer_proof(
     auth: &mut AuthRequest,
     answer: &Auth,
 ) -> Result<AuthStep, WireError>
-    ensures ok { IfOk result (λ step. proven auth.old answer.now ≡ Replies step.reply step.verdict auth.new) }
+    ensures ok { IfOk result (λ step. after_proof auth.old answer.now ≡ Replies step.reply step.verdict auth.new) }
     ensures memory { IfErr result (λ e. e ≡ NoMemory) }
 {
     match answer {
@@ -172,7 +191,7 @@ pub(crate) fn answer_proof(
 }
 
 /// The methods that can continue without the refused one.
-pub(crate) fn methods_without(methods: MethodSet, refused: MethodKind) -> MethodSet
+fn methods_without(methods: MethodSet, refused: MethodKind) -> MethodSet
     ensures { result ≡ without refused methods }
 {
     let mut left = methods;
@@ -180,15 +199,41 @@ pub(crate) fn methods_without(methods: MethodSet, refused: MethodKind) -> Method
     left
 }
 
+/// Whether it is the method none.
+fn is_none(method: MethodKind) -> bool
+    ensures { result ≡ is_none method }
+{
+    match method {
+        MethodKind::None => true,
+        _ => false,
+    }
+}
+
+/// A rejection of a request of method none or password, which is taken away.
+pub(crate) fn take_away(
+    alloc: Global,
+    auth: &mut AuthRequest,
+    method: MethodKind,
+) -> Result<AuthStep, WireError>
+    ensures ok { IfOk result (λ step. taken_away auth.old method ≡ Replies step.reply step.verdict auth.new) }
+    ensures memory { IfErr result (λ e. e ≡ NoMemory) }
+{
+    let rejection = Rejection {
+        none_method: is_none(method),
+        methods: methods_without(auth.methods, method),
+        partial_success: false,
+    };
+    reject(alloc, auth, rejection)
+}
+
 /// What the answer to a request of method none or password means.
 pub(crate) fn answer(
     alloc: Global,
     auth: &mut AuthRequest,
     method: MethodKind,
-    none_method: bool,
     answer: &Auth,
 ) -> Result<AuthStep, WireError>
-    ensures ok { IfOk result (λ step. answered auth.old method none_method answer.now ≡ Replies step.reply step.verdict auth.new) }
+    ensures ok { IfOk result (λ step. after_method auth.old method answer.now ≡ Replies step.reply step.verdict auth.new) }
     ensures memory { IfErr result (λ e. e ≡ NoMemory) }
 {
     match answer {
@@ -197,20 +242,18 @@ pub(crate) fn answer(
             verdict: AuthVerdict::Accepted,
         }),
         Auth::Reject {
-            proceed_with_methods: Some(methods),
-            partial_success,
-        } => reject(alloc, auth, none_method, *methods, *partial_success),
-        Auth::Reject {
-            proceed_with_methods: None,
+            proceed_with_methods,
             partial_success,
         } => {
-            let methods = methods_without(auth.methods, method);
-            reject(alloc, auth, none_method, methods, *partial_success)
+            let left = methods_without(auth.methods, method);
+            let rejection = Rejection {
+                none_method: is_none(method),
+                methods: proceed_with_methods.unwrap_or(left),
+                partial_success: *partial_success,
+            };
+            reject(alloc, auth, rejection)
         }
-        Auth::UnsupportedMethod | Auth::Partial { .. } => {
-            let methods = methods_without(auth.methods, method);
-            reject(alloc, auth, none_method, methods, false)
-        }
+        Auth::UnsupportedMethod | Auth::Partial { .. } => take_away(alloc, auth, method),
     }
 }
 
@@ -260,7 +303,7 @@ pub(crate) fn answer_prompted<E>(
     auth: &mut AuthRequest,
     answer: &Auth,
 ) -> Result<AuthStep, AuthError<E>>
-    ensures { Answers (Finish (prompted auth.old answer.now)) [] auth.new result }
+    ensures { Concludes (Finish (after_prompts auth.old answer.now)) [] auth.new result }
 {
     match answer {
         Auth::Accept => Ok(AuthStep {

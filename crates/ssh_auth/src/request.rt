@@ -1,17 +1,18 @@
 // One request of authentication, from its payload to its verdict.
 ghost use Rattle.std.specs.Prelude.{◌≡◌, ◌<◌, ◌^◌, length, drop};
-ghost use Rattle.ssh_auth.specs.Said.{Said, Says, None_method, Password_method, SaysMethod, SaysNone, SaysPassword, named_by};
+ghost use Rattle.ssh_auth.specs.Requested.{Requested, SaysRequest, None_method, Password_method, SaysMethod, SaysNone, SaysPassword, named_by};
 ghost use Rattle.ssh_auth.specs.Verdict.{verdict, method_verdict};
-ghost use Rattle.ssh_auth.specs.Serve.{IsNumbered, Serves, ServesMethod};
+ghost use Rattle.ssh_auth.specs.Proven.{IsProvenCall, AllAdded};
+ghost use Rattle.ssh_auth.specs.Serve.{IsNumbered, CarriesOut, CarriesOutMethod};
 ghost use Rattle.ssh_auth.specs.Read.{password_method, circumstances, all_fields, IsWhole};
 
 use crate::interactive::serve_interactive;
-use crate::message::{PasswordRequest, fields_of, read_none, read_password, read_request_head};
+use crate::message::{PasswordRequest, read_none, read_password, read_request_head};
 use crate::publickey::serve_publickey;
-use crate::reply::{answer, methods_without, refuse, reject};
+use crate::reply::{answer, refuse, take_away};
 use crate::{AuthError, AuthHandler, AuthRequest, AuthStep};
 use ssh_keys::Verifier;
-use ssh_wire::MethodKind;
+use ssh_wire::{MethodKind, fields_of};
 use std::alloc::Global;
 
 /// A request, once its user is known.
@@ -31,7 +32,9 @@ pub(crate) struct Request<'a> {
 
 /// Serves a USERAUTH_REQUEST (RFC 4252 section 5): makes the calls that it owes, and gives its
 /// reply and its verdict. `session_id` is that of the key exchange (RFC 4253 section 7.2),
-/// `moment` the time in milliseconds since 1970. After an error the state is not used again.
+/// `moment` the time in milliseconds since 1970. Whatever the payload says, a key or a certificate
+/// is only asked about to let a user in where it has signed this request. After an error the state
+/// is not used again.
 pub fn serve_request<H: AuthHandler, V: Verifier>(
     alloc: Global,
     auth: &mut AuthRequest,
@@ -43,8 +46,10 @@ pub fn serve_request<H: AuthHandler, V: Verifier>(
 ) -> Result<AuthStep, AuthError<H::Error>>
     requires session_id { length session_id.now < 2 ^ 32 }
     requires numbered { IsNumbered 50 payload.now }
-    ensures { (said : Said) × Says (record { accepts = V.accepts verifier.now; session_id = session_id.now; moment = moment }) (drop 1 payload.now) said
-        × Serves (verdict auth.old said) (H.told handler.old) (H.told handler.new) auth.new result }
+    ensures verdict { (said : Requested) × SaysRequest (record { accepts = V.accepts verifier.now; session_id = session_id.now; moment = moment }) (drop 1 payload.now) said
+        × CarriesOut (verdict auth.old said) (H.told handler.old) (H.told handler.new) auth.new result }
+    ensures proven { AllAdded (IsProvenCall (record { accepts = V.accepts verifier.now; session_id = session_id.now; moment = moment }) (drop 1 payload.now))
+        (H.told handler.old) (H.told handler.new) }
 {
     let head = read_request_head(fields_of(payload))?;
     if head.service != "ssh-connection" {
@@ -72,7 +77,7 @@ fn serve_method<H: AuthHandler, V: Verifier>(
     request: &Request<'_>,
 ) -> Result<AuthStep, AuthError<H::Error>>
     requires { IsWhole request.now }
-    ensures { ServesMethod (SaysMethod (circumstances (V.accepts verifier.now) request.now) (all_fields request.now) (named_by name.now) request.now.fields.now)
+    ensures { CarriesOutMethod (SaysMethod (circumstances (V.accepts verifier.now) request.now) (all_fields request.now) (named_by name.now) request.now.fields.now)
         auth.old request.now.user.now (H.told handler.old) (H.told handler.new) auth.new result }
 {
     if name == "none" {
@@ -98,7 +103,7 @@ fn serve_none<H: AuthHandler>(
     user: &str,
     fields: &[u8],
 ) -> Result<AuthStep, AuthError<H::Error>>
-    ensures { ServesMethod (SaysNone fields.now) auth.old user.now (H.told handler.old) (H.told handler.new) auth.new result }
+    ensures { CarriesOutMethod (SaysNone fields.now) auth.old user.now (H.told handler.old) (H.told handler.new) auth.new result }
 {
     read_none(fields)?;
     ask_none(alloc, auth, handler, user)
@@ -111,10 +116,10 @@ fn ask_none<H: AuthHandler>(
     handler: &mut H,
     user: &str,
 ) -> Result<AuthStep, AuthError<H::Error>>
-    ensures { Serves (method_verdict auth.old user.now None_method) (H.told handler.old) (H.told handler.new) auth.new result }
+    ensures { CarriesOut (method_verdict auth.old user.now None_method) (H.told handler.old) (H.told handler.new) auth.new result }
 {
     match handler.auth_none(user) {
-        Ok(verdict) => Ok(answer(alloc, auth, MethodKind::None, true, &verdict)?),
+        Ok(verdict) => Ok(answer(alloc, auth, MethodKind::None, &verdict)?),
         Err(e) => Err(AuthError::Handler(e)),
     }
 }
@@ -127,7 +132,7 @@ fn serve_password<H: AuthHandler>(
     user: &str,
     fields: &[u8],
 ) -> Result<AuthStep, AuthError<H::Error>>
-    ensures { ServesMethod (SaysPassword fields.now) auth.old user.now (H.told handler.old) (H.told handler.new) auth.new result }
+    ensures { CarriesOutMethod (SaysPassword fields.now) auth.old user.now (H.told handler.old) (H.told handler.new) auth.new result }
 {
     let asked = read_password(fields)?;
     serve_password_request(alloc, auth, handler, user, asked)
@@ -141,16 +146,13 @@ fn serve_password_request<H: AuthHandler>(
     user: &str,
     asked: PasswordRequest<'_>,
 ) -> Result<AuthStep, AuthError<H::Error>>
-    ensures { Serves (method_verdict auth.old user.now (password_method asked.entry)) (H.told handler.old) (H.told handler.new) auth.new result }
+    ensures { CarriesOut (method_verdict auth.old user.now (password_method asked.entry)) (H.told handler.old) (H.told handler.new) auth.new result }
 {
     match asked {
         PasswordRequest::Password { password } => {
             ask_password(alloc, auth, handler, user, password)
         }
-        PasswordRequest::Change { .. } => {
-            let methods = methods_without(auth.methods, MethodKind::Password);
-            Ok(reject(alloc, auth, false, methods, false)?)
-        }
+        PasswordRequest::Change { .. } => Ok(take_away(alloc, auth, MethodKind::Password)?),
     }
 }
 
@@ -162,10 +164,10 @@ fn ask_password<H: AuthHandler>(
     user: &str,
     password: &str,
 ) -> Result<AuthStep, AuthError<H::Error>>
-    ensures { Serves (method_verdict auth.old user.now (Password_method password.now)) (H.told handler.old) (H.told handler.new) auth.new result }
+    ensures { CarriesOut (method_verdict auth.old user.now (Password_method password.now)) (H.told handler.old) (H.told handler.new) auth.new result }
 {
     match handler.auth_password(user, password) {
-        Ok(verdict) => Ok(answer(alloc, auth, MethodKind::Password, false, &verdict)?),
+        Ok(verdict) => Ok(answer(alloc, auth, MethodKind::Password, &verdict)?),
         Err(e) => Err(AuthError::Handler(e)),
     }
 }

@@ -3,6 +3,9 @@ ghost use Rattle.std.specs.Prelude.{◌≡◌, IfOk, IfErr, map};
 ghost use Rattle.std.specs.Iterator.{YieldsFirstRef, item_count};
 ghost use Rattle.ssh_wire.specs.declared.error.WireError.TheVariants.{NoMemory};
 
+#[cfg(test)]
+mod tests;
+
 use bytes::Bytes;
 use ssh_wire::{Blobs, WireError};
 use std::alloc::Global;
@@ -49,6 +52,21 @@ impl<'a> Response<'a> {
             blobs.push(Bytes::copy_from_slice(alloc, text)?)?;
         }
         Ok(blobs)
+    }
+}
+
+/// Copies of the responses of a callback, to keep: none where nothing was prompted for yet. `NoMemory` is the
+/// only error.
+pub fn copied_response(
+    alloc: Global,
+    response: Option<Response<'_>>,
+) -> Result<Option<Blobs>, WireError>
+    ensures ok { IfOk result (λ copied. copied ≡ response.entry) }
+    ensures memory { IfErr result (λ e. e ≡ NoMemory) }
+{
+    match response {
+        Some(response) => Ok(Some(response.into_blobs(alloc)?)),
+        None => Ok(None),
     }
 }
 

@@ -1,6 +1,6 @@
 use Rattle.std.proofs.Common.{[], ◌∷◌, inl}
 use Rattle.ssh_wire.specs.Field.{Text}
-use Rattle.ssh_auth.specs.Said.{SaysInteractive, Interactive_method}
+use Rattle.ssh_auth.specs.Requested.{SaysInteractive, Interactive_method}
 use Rattle.ssh_auth.proofs.Asks.{unfit_method}
 use Rattle.ssh_auth.proofs.Misfits.{whole_error}
 use Rattle.ssh_auth.proofs.interactive.serve_interactive.Goals as goal

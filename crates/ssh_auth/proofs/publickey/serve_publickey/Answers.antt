@@ -1,7 +1,7 @@
 use Rattle.std.proofs.Common.{inl}
 use Rattle.ssh_auth.specs.Publickey.{offer_fields}
 use Rattle.ssh_auth.specs.Read.{circumstances, all_fields}
-use Rattle.ssh_auth.specs.Said.{SaysPublickey, Unusable_method}
+use Rattle.ssh_auth.specs.Requested.{SaysPublickey, Unusable_method}
 use Rattle.ssh_auth.specs.Verdict.{refused}
 use Rattle.ssh_auth.proofs.Asks.{finished, unfit_method}
 use Rattle.ssh_auth.proofs.Misfits.{all_error}

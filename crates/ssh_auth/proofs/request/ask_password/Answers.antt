@@ -1,8 +1,8 @@
-use Rattle.std.proofs.Common.{false, refl, Ok}
+use Rattle.std.proofs.Common.{refl, Ok}
 use Rattle.ssh_wire.specs.declared.method.MethodKind.TheVariants as kind
 use Rattle.ssh_auth.specs.declared.call.Call.TheVariants.{AuthPassword}
 use Rattle.ssh_auth.specs.Plan.{Finish, Auth_password}
-use Rattle.ssh_auth.specs.Verdict.{answered}
+use Rattle.ssh_auth.specs.Verdict.{after_method}
 use Rattle.ssh_auth.proofs.Asks.{starved_after}
 use Rattle.ssh_auth.proofs.request.ask_password.Goals as goal
 
@@ -10,6 +10,6 @@ pub returns-in_err-answer-in-Ok : goal.returns-in_err-answer-in-Ok
 returns-in_err-answer-in-Ok g c =
     let user = c.args.user.now in
     let password = c.args.password.now in
-    starved_after (Auth_password user password) (λ answer. Finish (answered c.args.auth.now kind.Password false answer)) c.in-Ok.verdict
+    starved_after (Auth_password user password) (λ answer. Finish (after_method c.args.auth.now kind.Password answer)) c.in-Ok.verdict
     (AuthPassword user password (Ok c.in-Ok.verdict)) _ _ c.answer.new.auth c.in_err-answer-in-Ok.field-0.0 c.from_residual.result c.from_residual.ensures.1
     c.in_err-answer-in-Ok.ensures.memory refl c.in-Ok.ensures

@@ -1,5 +1,5 @@
 use Rattle.std.proofs.Common.{[], inl}
-use Rattle.ssh_auth.specs.Said.{SaysNone, None_method}
+use Rattle.ssh_auth.specs.Requested.{SaysNone, None_method}
 use Rattle.ssh_auth.proofs.Asks.{unfit_method}
 use Rattle.ssh_auth.proofs.Misfits.{whole_error}
 use Rattle.ssh_auth.proofs.request.serve_none.Goals as goal

@@ -1,4 +1,4 @@
-use Rattle.ssh_auth.specs.Said.{SaysPassword}
+use Rattle.ssh_auth.specs.Requested.{SaysPassword}
 use Rattle.ssh_auth.proofs.Asks.{unfit_method}
 use Rattle.ssh_auth.proofs.Misfits.{password_error}
 use Rattle.ssh_auth.proofs.request.serve_password.Goals as goal

@@ -36,15 +36,15 @@ pub data Method : Type 0 where
   -- its fields do not fit
   Unfit_method : (why : WireError) → Method
 
-pub data Said : Type 0 where
+pub data Requested : Type 0 where
   -- a request for the service ssh-connection
-  Request : (user : List ℕ) → (method : Method) → Said
+  Request : (user : List ℕ) → (method : Method) → Requested
   -- a request for another service, whose method's fields are not read
-  Other_service : Said
+  Other_service : Requested
   -- the head does not fit
-  Unfit : (why : WireError) → Said
+  Unfit : (why : WireError) → Requested
   -- memory was wanting to read it: whatever it says
-  Unread : Said
+  Unread : Requested
 
 -- the method none has no fields (RFC 4252 section 5.2)
 abbrev pub SaysNone : List ℕ → Method → Type 0
@@ -113,11 +113,11 @@ SaysMethod given all Is_interactive fields method = SaysInteractive fields metho
 SaysMethod given all Is_other fields method = method ≡ Other_method
 
 -- under these circumstances the fields after the number say this
-abbrev pub Says : Circumstances → List ℕ → Said → Type 0
-Says given fields (Request user method) =
+abbrev pub SaysRequest : Circumstances → List ℕ → Requested → Type 0
+SaysRequest given fields (Request user method) =
     (name rest : List ℕ) × SpellsAll head_fields (user, (codes "ssh-connection", (name, tt))) fields rest
     × SaysMethod given fields (named_by name) rest method
-Says given fields Other_service =
+SaysRequest given fields Other_service =
     (user service name rest : List ℕ) × SpellsAll head_fields (user, (service, (name, tt))) fields rest × (service ≢ codes "ssh-connection")
-Says given fields (Unfit why) = MisfitsAll head_fields fields why
-Says given fields Unread = Unit {0}
+SaysRequest given fields (Unfit why) = MisfitsAll head_fields fields why
+SaysRequest given fields Unread = Unit {0}

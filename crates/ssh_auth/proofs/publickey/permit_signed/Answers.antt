@@ -7,7 +7,7 @@ use Rattle.ssh_auth.specs.Request.{is_probed}
 use Rattle.ssh_auth.specs.Verdict.{permitted, signed}
 use Rattle.ssh_auth.proofs.Asks.{asked, starved_after}
 use Rattle.ssh_auth.proofs.Keys.{unprobed}
-use Rattle.ssh_auth.proofs.publickey.serve_signature.Goals as goal
+use Rattle.ssh_auth.proofs.publickey.permit_signed.Goals as goal
 
 pub returns-in_err-refuse-in-Ok : goal.returns-in_err-refuse-in-Ok
 returns-in_err-refuse-in-Ok g c =
@@ -28,12 +28,12 @@ returns-in-Ok-Accept g c =
     let auth = c.args.auth.now in
     let user = c.args.user.now in
     let offer = c.args.offer.now in
-    let rest = c.serve_proof-in-Ok-Accept.ensures in
+    let rest = c.verify_signed-in-Ok-Accept.ensures in
     let fresh : is_probed auth.current offer.name offer.blob ≡ false = search rules in (
       rest.0,
       rest.1,
-      unprobed auth user offer rest.0 _ _ c.serve_proof-in-Ok-Accept.new.auth c.serve_proof-in-Ok-Accept.result fresh
+      unprobed auth user offer rest.0 _ _ c.verify_signed-in-Ok-Accept.new.auth c.verify_signed-in-Ok-Accept.result fresh
           (asked (Auth_publickey_offered user (offered_key offer.key) offer.algorithm) (λ answer. permitted auth answer (signed auth user offer rest.0)) Accept
-          (AuthPublickeyOffered user (offered_key offer.key) offer.algorithm (Ok Accept)) _ _ _ c.serve_proof-in-Ok-Accept.new.auth c.serve_proof-in-Ok-Accept.result
+          (AuthPublickeyOffered user (offered_key offer.key) offer.algorithm (Ok Accept)) _ _ _ c.verify_signed-in-Ok-Accept.new.auth c.verify_signed-in-Ok-Accept.result
           refl (rw c.in-Ok-Accept.field-0-is at c.in-Ok-Accept.ensures) rest.2),
     )

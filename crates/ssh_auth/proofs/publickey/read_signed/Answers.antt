@@ -4,7 +4,7 @@ use Rattle.ssh_keys.specs.Algorithms.{algorithm_name}
 use Rattle.ssh_auth.specs.Read.{circumstances, all_fields}
 use Rattle.ssh_auth.proofs.Asks.{same_text, other_text}
 use Rattle.ssh_auth.proofs.Keys.{unsigned_request, misnamed, signed_request}
-use Rattle.ssh_auth.proofs.publickey.serve_signed.Goals as goal
+use Rattle.ssh_auth.proofs.publickey.read_signed.Goals as goal
 
 pub returns-in-Err : goal.returns-in-Err
 returns-in-Err g c =
@@ -27,5 +27,5 @@ returns g c =
     let name = c.in-Ok.signature.name in
     let same : bytes_eq name (algorithm_name c.args.offer.now.algorithm) ≡ true = search rules in
     signed_request (circumstances (g.V.Verifier.accepts c.args.verifier.now) request) request.payload.now c.requires.whole.1.0 request.fields.now c.args.rest.now _ c.args.offer.now
-    c.in-Ok.signature c.args.auth.now request.user.now _ _ c.serve_signature.new.auth c.serve_signature.result c.requires.offered c.in-Ok.ensures
-    (same_text name (algorithm_name c.args.offer.now.algorithm) same) c.requires.whole.1.1 refl c.serve_signature.ensures
+    c.in-Ok.signature c.args.auth.now request.user.now _ _ c.permit_signed.new.auth c.permit_signed.result c.requires.offered c.in-Ok.ensures
+    (same_text name (algorithm_name c.args.offer.now.algorithm) same) c.requires.whole.1.1 refl c.permit_signed.ensures
