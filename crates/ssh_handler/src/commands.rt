@@ -42,10 +42,10 @@ impl<'a> Commands<'a> {
     }
 
     /// The recorded commands, in order.
-    pub fn recorded(&self) -> &[Command]
+    pub fn recorded(&self) -> &CommandList
         ensures { result.now ≡ self.now.recorded }
     {
-        self.recorded.as_slice()
+        &self.recorded
     }
 
     /// A copy of the recorded commands. `NoMemory` is the only error.

@@ -3,7 +3,7 @@ ghost use Rattle.std.specs.Prelude.{◌≡◌, IfOk};
 ghost use Rattle.ssh_auth.specs.declared.call.Call.TheVariants.{AuthenticationBanner, AuthNone, AuthPassword, AuthPublickeyOffered, AuthPublickey, AuthOpensshCertificate, AuthKeyboardInteractive, AuthSucceeded, ChannelOpenSession, ChannelEof, ChannelClose, WindowAdjusted};
 
 use crate::Commands;
-use ssh_auth::{Auth, Call, Response};
+use ssh_auth::{Auth, Call, Response, copied_response};
 use ssh_keys::{Algorithm, Certificate, PublicKey};
 use ssh_wire::{ChannelId, Text, WireError};
 use std::alloc::Global;
@@ -123,10 +123,7 @@ pub(crate) fn made_auth_keyboard_interactive<E: Copy>(
     Ok(Call::AuthKeyboardInteractive {
         user: Text::new(alloc, user)?,
         submethods: Text::new(alloc, submethods)?,
-        response: match response {
-            Some(response) => Some(response.into_blobs(alloc)?),
-            None => None,
-        },
+        response: copied_response(alloc, response)?,
         answer: copied_auth(alloc, answer)?,
     })
 }

@@ -1,5 +1,5 @@
-// Handlers by example, through the trait alone.
-ghost use Rattle.std.specs.Prelude.{codes};
+// Handlers by example, through the traits alone.
+ghost use Rattle.std.specs.Prelude.{◌≡◌, []};
 
 use crate::{Commands, Config, Handler, RecordError, Recorded};
 use bytes::Bytes;
@@ -7,26 +7,40 @@ use ssh_auth::{
     Auth, AuthHandler, Call, Prompts, PublicKeyOffer, Response, Unwritten, VerifiedPublicKey,
 };
 use ssh_keys::{Algorithm, CertType, Certificate, PublicKey, Signature};
-use ssh_link::{ChannelOpenHandle, Command, CommandOutcome, Refusal};
+use ssh_link::{ChannelOpenHandle, Command, CommandList, CommandOutcome, Refusal};
 use ssh_wire::{ChannelId, Text, WireError};
 use std::alloc::Global;
 use std::test::Fail;
 
-// What the three callbacks answered: whether there was a banner, whether the user was let in,
-// and the error that came last.
-fn answers<H: Handler>(
-    alloc: Global,
+// A callback that is lent commands.
+#[derive(Clone, Copy)]
+enum Event {
+    Succeeded,
+    Opened,
+    Granted,
+    Ended,
+    Closed,
+}
+
+// Calls it, of channel 2.
+fn tell<H: Handler>(
     handler: &mut H,
-    user: &str,
-    config: &Config,
-) -> (bool, bool, Option<H::Error>)
-    requires { H.suits config.now (codes "SSH-2.0-test") }
+    event: Event,
+    session: &mut Commands<'_>,
+) -> Result<(), H::Error>
+    requires fresh { session.old.recorded ≡ [] }
+    requires suits { H.suits session.old.config session.old.remote_sshid }
 {
-    let banner = matches!(handler.authentication_banner(), Ok(Some(_)));
-    let accepted = matches!(handler.auth_none(user), Ok(Auth::Accept));
-    let mut session = Commands::new(alloc, config, b"SSH-2.0-test");
-    let error = handler.auth_succeeded(&mut session).err();
-    (banner, accepted, error)
+    let channel = ChannelId(2);
+    match event {
+        Event::Succeeded => handler.auth_succeeded(session),
+        Event::Opened => {
+            handler.channel_open_session(channel, ChannelOpenHandle::new(channel), session)
+        }
+        Event::Granted => handler.window_adjusted(channel, 5, session),
+        Event::Ended => handler.channel_eof(channel, session),
+        Event::Closed => handler.channel_close(channel, session),
+    }
 }
 
 // Writes no callback.
@@ -50,6 +64,70 @@ impl Handler for Silent {
     ) -> Result<(), ()> {
         let _answered_later = reply.into_channel();
         Ok(())
+    }
+}
+
+// Keeps the window and the line that each callback is lent.
+#[derive(Drop)]
+struct Reader {
+    alloc: Global,
+    read: Vec<(u32, Bytes)>,
+}
+
+impl Reader {
+    fn read(&mut self, session: &Commands<'_>) -> Result<(), WireError> {
+        let line = Bytes::copy_from_slice(self.alloc, session.remote_sshid())?;
+        self.read.push((session.config().window_size, line))?;
+        Ok(())
+    }
+}
+
+impl AuthHandler for Reader {
+    type Error = WireError;
+
+    fn untold(&mut self, _by: Unwritten) -> Result<(), WireError> {
+        Ok(())
+    }
+}
+
+impl Handler for Reader {
+    fn auth_succeeded(&mut self, session: &mut Commands<'_>) -> Result<(), WireError> {
+        self.read(session)
+    }
+
+    fn channel_close(
+        &mut self,
+        _channel: ChannelId,
+        session: &mut Commands<'_>,
+    ) -> Result<(), WireError> {
+        self.read(session)
+    }
+
+    fn channel_eof(
+        &mut self,
+        _channel: ChannelId,
+        session: &mut Commands<'_>,
+    ) -> Result<(), WireError> {
+        self.read(session)
+    }
+
+    fn channel_open_session(
+        &mut self,
+        _channel: ChannelId,
+        reply: ChannelOpenHandle,
+        session: &mut Commands<'_>,
+    ) -> Result<(), WireError> {
+        let _answered_later = reply.into_channel();
+        self.read(session)
+    }
+
+    fn window_adjusted(
+        &mut self,
+        _channel: ChannelId,
+        _new_size: u32,
+        session: &mut Commands<'_>,
+    ) -> Result<(), WireError> {
+        self.read(session)
     }
 }
 
@@ -81,14 +159,6 @@ impl AuthHandler for Greeter {
         }
     }
 
-    fn auth_password(&mut self, _user: &str, password: &str) -> Result<Auth, Late> {
-        if password == "please" {
-            Ok(Auth::Accept)
-        } else {
-            Ok(Auth::UnsupportedMethod)
-        }
-    }
-
     fn auth_keyboard_interactive(
         &mut self,
         _user: &str,
@@ -96,7 +166,7 @@ impl AuthHandler for Greeter {
         response: Option<Response<'_>>,
     ) -> Result<Auth, Late> {
         let Some(mut response) = response else {
-            return self.prompt().or(Err(Late));
+            return prompt(self.alloc).or(Err(Late));
         };
         match (response.next(), response.next()) {
             (Some(b"1234"), None) => Ok(Auth::Accept),
@@ -105,17 +175,15 @@ impl AuthHandler for Greeter {
     }
 }
 
-impl Greeter {
-    // Asks for a code, which is not shown.
-    fn prompt(&self) -> Result<Auth, WireError> {
-        let mut prompts = Prompts::new(self.alloc);
-        prompts.push(Text::new(self.alloc, "Code: ")?, false)?;
-        Ok(Auth::Partial {
-            name: Text::new(self.alloc, "")?,
-            instructions: Text::new(self.alloc, "")?,
-            prompts,
-        })
-    }
+// Asks for a code, which is not shown.
+fn prompt(alloc: Global) -> Result<Auth, WireError> {
+    let mut prompts = Prompts::new(alloc);
+    prompts.push(Text::new(alloc, "Code: ")?, false)?;
+    Ok(Auth::Partial {
+        name: Text::new(alloc, "")?,
+        instructions: Text::new(alloc, "")?,
+        prompts,
+    })
 }
 
 impl Handler for Greeter {
@@ -134,27 +202,6 @@ impl Handler for Greeter {
             Err(_) => Err(Late),
         }
     }
-}
-
-#[test]
-fn unwritten_callbacks_refuse_and_go_on(rt: HostRuntime) {
-    let alloc = rt.alloc();
-    let config = Config::standard();
-    assert_eq!(rt;
-        answers(alloc, &mut Silent, "anna", &config),
-        (false, false, None)
-    );
-    let channel = ChannelId(2);
-    let mut at_eof = Commands::new(alloc, &config, &[]);
-    assert_eq!(rt; Silent.channel_eof(channel, &mut at_eof), Ok(()));
-    let mut at_close = Commands::new(alloc, &config, &[]);
-    assert_eq!(rt; Silent.channel_close(channel, &mut at_close), Ok(()));
-    let mut at_grant = Commands::new(alloc, &config, &[]);
-    assert_eq!(rt; Silent.window_adjusted(channel, 5, &mut at_grant), Ok(()));
-    for session in [at_eof, at_close, at_grant] {
-        assert_eq!(rt; session.recorded().len(), 0);
-    }
-    assert_eq!(rt; Silent.command_done(0, CommandOutcome::Accepted), Ok(()));
 }
 
 // A key of these bytes.
@@ -187,8 +234,21 @@ fn certificate(alloc: Global) -> Result<Certificate, Fail> {
     })
 }
 
+// The user and the answer of a request of authentication.
+fn request<E>(call: &Call<E>) -> Option<(&str, &Result<Auth, E>)> {
+    match call {
+        Call::AuthNone { user, answer }
+        | Call::AuthPassword { user, answer, .. }
+        | Call::AuthPublickeyOffered { user, answer, .. }
+        | Call::AuthPublickey { user, answer, .. }
+        | Call::AuthOpensshCertificate { user, answer, .. }
+        | Call::AuthKeyboardInteractive { user, answer, .. } => Some((user.as_str(), answer)),
+        _ => None,
+    }
+}
+
 #[test]
-fn unwritten_callbacks_let_nobody_in(rt: HostRuntime) -> Result<(), Fail> {
+fn callbacks_that_are_not_written_let_nobody_in(rt: HostRuntime) -> Result<(), Fail> {
     let alloc = rt.alloc();
     let public_key = &key(alloc, b"anna's")?;
     let algorithm = Algorithm::Ed25519;
@@ -200,113 +260,197 @@ fn unwritten_callbacks_let_nobody_in(rt: HostRuntime) -> Result<(), Fail> {
         public_key,
         algorithm,
     };
-    let offered = Silent.auth_publickey_offered("anna", offer);
-    assert_eq!(rt; matches!(offered, Ok(Auth::Accept)), true);
+    let mut handler = Recorded::new(alloc, Silent);
     let answers = [
-        Silent.auth_none("anna"),
-        Silent.auth_password("anna", "please"),
-        Silent.auth_publickey("anna", verified),
-        Silent.auth_openssh_certificate("anna", &certificate(alloc)?),
-        Silent.auth_keyboard_interactive("anna", "", None),
+        handler.auth_none("anna"),
+        handler.auth_password("anna", "please"),
+        handler.auth_publickey_offered("anna", offer),
+        handler.auth_publickey("anna", verified),
+        handler.auth_openssh_certificate("anna", &certificate(alloc)?),
+        handler.auth_keyboard_interactive("anna", "", None),
     ];
-    for answer in answers {
-        let refused = matches!(
-            answer,
-            Ok(Auth::Reject {
-                proceed_with_methods: None,
-                partial_success: false,
-            })
+    let refused = Auth::reject();
+    let expected = [
+        ("none", &refused),
+        ("a password", &refused),
+        ("an offered key may sign", &Auth::Accept),
+        ("a key", &refused),
+        ("a certificate", &refused),
+        ("prompts", &refused),
+    ];
+    for (answer, (shows, auth)) in answers.iter().zip(expected) {
+        assert!(rt; matches!(answer, Ok(given) if given == auth), "{shows}");
+    }
+    for (call, (shows, auth)) in handler.calls().iter().zip(expected) {
+        assert!(rt;
+            matches!(request(call), Some(("anna", Ok(told))) if told == auth),
+            "{shows}"
         );
-        assert_eq!(rt; refused, true);
     }
+    assert_eq!(rt; handler.calls().len(), expected.len());
+    assert!(rt; handler.authentication_banner() == Ok(None));
     Ok(())
 }
 
 #[test]
-fn recorded_tells_each_call(rt: HostRuntime) -> Result<(), Fail> {
-    let alloc = rt.alloc();
+fn callbacks_that_are_not_written_go_on_and_ask_nothing(rt: HostRuntime) {
     let config = Config::standard();
-    let mut handler = Recorded::new(alloc, Greeter { alloc });
-    let late = Some(RecordError::Inner(Late));
-    assert_eq!(rt;
-        answers(alloc, &mut handler, "anna", &config),
-        (true, true, late)
-    );
-    assert_eq!(rt;
-        answers(alloc, &mut handler, "bert", &config),
-        (true, false, late)
-    );
-    let mut users = Vec::new(alloc);
-    for call in handler.calls() {
-        if let Call::AuthNone { user, answer } = call {
-            users.push((user.copy()?, matches!(answer, Ok(Auth::Accept))))?;
-        }
+    for (shows, event) in [
+        ("an accepted user", Event::Succeeded),
+        ("a grant", Event::Granted),
+        ("an end of file", Event::Ended),
+        ("a close", Event::Closed),
+    ] {
+        let mut session = Commands::new(rt.alloc(), &config, &[]);
+        assert_eq!(rt; tell(&mut Silent, event, &mut session), Ok(()), "{shows}");
+        assert!(rt; session.recorded().is_empty(), "{shows}");
     }
-    assert_eq!(rt; handler.calls().len(), 6);
-    assert_eq!(rt; users.len(), 2);
-    assert_eq!(rt; (users[0].0.as_str(), users[0].1), ("anna", true));
-    assert_eq!(rt; (users[1].0.as_str(), users[1].1), ("bert", false));
-    Ok(())
+    assert_eq!(rt; Silent.command_done(0, CommandOutcome::Accepted), Ok(()));
 }
 
 #[test]
-fn commands_lend_what_they_were_given(rt: HostRuntime) {
-    let config = Config::standard();
-    let session = Commands::new(rt.alloc(), &config, b"SSH-2.0-test");
-    assert_eq!(rt; session.config().window_size, 2_097_152);
-    assert_eq!(rt; session.remote_sshid(), b"SSH-2.0-test".as_slice());
-}
-
-#[test]
-fn an_open_is_told_with_the_answer_that_was_recorded(rt: HostRuntime) {
+fn each_callback_reads_the_config_and_the_line_that_it_is_lent(rt: HostRuntime) {
     let alloc = rt.alloc();
-    let config = Config::standard();
-    let mut handler = Recorded::new(alloc, Greeter { alloc });
-    let mut session = Commands::new(alloc, &config, &[]);
-    let channel = ChannelId(2);
-    let asked = handler.channel_open_session(
-        channel,
-        ChannelOpenHandle::new(channel),
-        &mut session,
-    );
-    assert_eq!(rt; asked, Ok(()));
-    let accepted = Command::Answer(ChannelOpenHandle::new(channel).accept());
-    let told =
-        matches!(handler.calls().first(), Some(Call::ChannelOpenSession { channel, answer: Ok(()), commands })
-        if channel.0 == 2 && commands.as_slice().first() == Some(&accepted));
-    assert_eq!(rt; told, true);
-    assert_eq!(rt; session.into_list().as_slice().len(), 1);
-    let refused = CommandOutcome::Refused(Refusal::UnknownOpen);
-    assert_eq!(rt; handler.command_done(0, refused), Ok(()));
-    let last =
-        matches!(handler.calls().last(), Some(Call::CommandDone { place: 0, outcome, answer: Ok(()) }) if *outcome == refused);
-    assert_eq!(rt; last, true);
+    let line = b"SSH-2.0-test".as_slice();
+    for (shows, event, window_size) in [
+        ("an accepted user", Event::Succeeded, 1),
+        ("an open", Event::Opened, 2),
+        ("a grant", Event::Granted, 3),
+        ("an end of file", Event::Ended, 4),
+        ("a close", Event::Closed, 5),
+    ] {
+        let read = Vec::new(alloc);
+        let mut handler = Reader { alloc, read };
+        let mut config = Config::standard();
+        config.window_size = window_size;
+        let mut session = Commands::new(alloc, &config, line);
+        assert_eq!(rt; tell(&mut handler, event, &mut session), Ok(()), "{shows}");
+        assert_eq!(rt; handler.read.len(), 1, "{shows}");
+        assert_eq!(rt; handler.read[0].0, window_size, "{shows}");
+        assert_eq!(rt; handler.read[0].1.as_slice(), line, "{shows}");
+    }
 }
 
 #[test]
-fn prompts_and_responses_are_told(rt: HostRuntime) -> Result<(), Fail> {
+fn a_request_is_told_with_its_user_and_its_answer(rt: HostRuntime) {
+    let alloc = rt.alloc();
+    let mut handler = Recorded::new(alloc, Greeter { alloc });
+    for (name, expected) in [("anna", Auth::Accept), ("bert", Auth::reject())] {
+        assert!(rt;
+            matches!(handler.auth_none(name), Ok(auth) if auth == expected),
+            "{name}"
+        );
+        let told = matches!(handler.calls().last(), Some(Call::AuthNone { user, answer: Ok(auth) })
+            if user.as_str() == name && *auth == expected);
+        assert!(rt; told, "{name}");
+    }
+    assert_eq!(rt; handler.calls().len(), 2);
+}
+
+#[test]
+fn responses_are_told_as_they_came(rt: HostRuntime) -> Result<(), Fail> {
     let alloc = rt.alloc();
     let mut handler = Recorded::new(alloc, Greeter { alloc });
     let prompted = handler.auth_keyboard_interactive("anna", "pam", None);
-    assert_eq!(rt;
-        matches!(&prompted, Ok(Auth::Partial { prompts, .. }) if prompts.as_slice().len() == 1),
-        true
-    );
+    assert!(rt; prompted == Ok(prompt(alloc)?));
     let right = [b"1234".as_slice()];
-    let accepted = handler.auth_keyboard_interactive("anna", "pam", Some(Response::new(&right)));
-    assert_eq!(rt; matches!(accepted, Ok(Auth::Accept)), true);
     let more = [b"1234".as_slice(), b"".as_slice()];
-    let refused = handler.auth_keyboard_interactive("anna", "pam", Some(Response::new(&more)));
-    assert_eq!(rt; matches!(refused, Ok(Auth::Reject { .. })), true);
-    let mut responses = Vec::new(alloc);
-    for call in handler.calls() {
-        if let Call::AuthKeyboardInteractive { response, .. } = call {
-            responses.push(match response {
-                Some(texts) => texts.as_slice().len(),
-                None => 9,
-            })?;
-        }
+    for (shows, texts, expected) in [
+        ("the right one", right.as_slice(), Auth::Accept),
+        ("one too many", more.as_slice(), Auth::reject()),
+    ] {
+        let answer = handler.auth_keyboard_interactive("anna", "pam", Some(Response::new(texts)));
+        assert!(rt; answer == Ok(expected), "{shows}");
+        let sent = Response::new(texts).into_blobs(alloc)?;
+        let told = matches!(handler.calls().last(),
+            Some(Call::AuthKeyboardInteractive { response: Some(told), .. })
+            if told.as_slice() == sent.as_slice());
+        assert!(rt; told, "{shows}");
     }
-    assert_eq!(rt; responses.as_slice(), [9, 1, 2].as_slice());
     Ok(())
+}
+
+// What a callback of channel 2 answered, and the commands that it recorded.
+fn lent<E>(call: &Call<E>) -> Option<(&Result<(), E>, &CommandList)> {
+    match call {
+        Call::AuthSucceeded { answer, commands }
+        | Call::ChannelOpenSession {
+            channel: ChannelId(2),
+            answer,
+            commands,
+        }
+        | Call::WindowAdjusted {
+            channel: ChannelId(2),
+            new_size: 5,
+            answer,
+            commands,
+        }
+        | Call::ChannelEof {
+            channel: ChannelId(2),
+            answer,
+            commands,
+        }
+        | Call::ChannelClose {
+            channel: ChannelId(2),
+            answer,
+            commands,
+        } => Some((answer, commands)),
+        _ => None,
+    }
+}
+
+// Whether the list is this command alone, or is empty where there is none.
+fn is_only(commands: &CommandList, command: Option<&Command>) -> bool {
+    commands.get(0) == command && commands.get(1).is_none()
+}
+
+#[test]
+fn a_callback_is_told_with_the_commands_that_it_recorded(rt: HostRuntime) {
+    let alloc = rt.alloc();
+    let config = Config::standard();
+    let accepted = Command::Answer(ChannelOpenHandle::new(ChannelId(2)).accept());
+    for (shows, event, expected, recorded) in [
+        (
+            "an error",
+            Event::Succeeded,
+            Err(RecordError::Inner(Late)),
+            None,
+        ),
+        ("an open", Event::Opened, Ok(()), Some(&accepted)),
+        ("a grant", Event::Granted, Ok(()), None),
+        ("an end of file", Event::Ended, Ok(()), None),
+        ("a close", Event::Closed, Ok(()), None),
+    ] {
+        let mut handler = Recorded::new(alloc, Greeter { alloc });
+        let mut session = Commands::new(alloc, &config, &[]);
+        assert_eq!(rt;
+            tell(&mut handler, event, &mut session),
+            expected,
+            "{shows}"
+        );
+        assert!(rt; is_only(session.recorded(), recorded), "{shows}");
+        let told = matches!(handler.calls(), [call]
+            if matches!(lent(call), Some((answer, commands)) if *answer == expected && is_only(commands, recorded)));
+        assert!(rt; told, "{shows}");
+        assert!(rt; is_only(&session.into_list(), recorded), "{shows}");
+    }
+}
+
+#[test]
+fn the_end_of_a_command_is_told_with_its_place(rt: HostRuntime) {
+    let alloc = rt.alloc();
+    let mut handler = Recorded::new(alloc, Greeter { alloc });
+    let refused = CommandOutcome::Refused(Refusal::UnknownOpen);
+    assert_eq!(rt; handler.command_done(3, refused), Ok(()));
+    let told = match handler.calls() {
+        [
+            Call::CommandDone {
+                place,
+                outcome,
+                answer,
+            },
+        ] => Some((*place, *outcome, *answer)),
+        _ => None,
+    };
+    assert_eq!(rt; told, Some((3, refused, Ok(()))));
 }
