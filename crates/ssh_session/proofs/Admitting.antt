@@ -13,7 +13,7 @@ use Rattle.ssh_keys.specs.declared.key_or_certificate.PublicKeyOrCertificate.The
 use Rattle.ssh_keys.specs.Offers.{offered_key}
 use Rattle.ssh_link.specs.declared.command.Command.{Command as Commanded}
 use Rattle.ssh_link.specs.declared.command.Command.TheVariants as command
-use Rattle.ssh_link.specs.declared.frame.Frame.{Frame}
+use Rattle.ssh_link.specs.Frames.{Frame}
 use Rattle.ssh_link.specs.declared.frame.InputKind.{InputKind}
 use Rattle.ssh_link.specs.declared.frame.InputKind.TheVariants.{Payload, Command, OpenReply, End}
 use Rattle.ssh_link.specs.declared.link.TraceEntry.TheVariants as traced
@@ -28,14 +28,16 @@ use Rattle.ssh_auth.specs.declared.auth_request.Principal.{Principal}
 use Rattle.ssh_auth.specs.declared.auth_step.AuthVerdict.{AuthVerdict}
 use Rattle.ssh_auth.specs.declared.auth_step.AuthVerdict.TheVariants as verdict
 use Rattle.ssh_auth.specs.Layout.{failure, success, flag, pk_ok, prompts_fields, info_request}
-use Rattle.ssh_auth.specs.Plan.{Plan, Finish, Ask, Tell, after, Authentication_banner, Auth_none, Auth_password, Auth_publickey_offered, Auth_publickey, Auth_openssh_certificate, Auth_keyboard_interactive}
+use Rattle.ssh_auth.specs.Plan.{Plan, Finish, Ask, Tell, after, Question, Authentication_banner, Auth_none, Auth_password, Auth_publickey_offered, Auth_publickey, Auth_openssh_certificate, Auth_keyboard_interactive}
+use Rattle.ssh_auth.specs.Proven.{IsProven, AsksOnly}
 use Rattle.ssh_auth.specs.Publickey.{Acceptance, Circumstances, Offer}
 use Rattle.ssh_auth.specs.Request.{is_bound, bound_anew, begun, count_after, is_probed, prompt_in, prompt_of}
 use Rattle.ssh_auth.specs.Response.{Responded, Responses, Unfit_responses, Unread_responses}
-use Rattle.ssh_auth.specs.Said.{Said as Asked, Other_service, Method, None_method, Password_method, Change_method, Unusable_method, Broken_method, Probe_method, Misnamed_method, Signed_method, Interactive_method, Other_method, Unfit_method, named_by, Says as Asks}
-use Rattle.ssh_auth.specs.Said as asks
-use Rattle.ssh_auth.specs.Verdict.{method_verdict, answered, rejected, probed, proven, prompted, proof, signed, permitted, responded, Replies}
+use Rattle.ssh_auth.specs.Requested.{Requested as Asked, Other_service, Method, None_method, Password_method, Change_method, Unusable_method, Broken_method, Probe_method, Misnamed_method, Signed_method, Interactive_method, Other_method, Unfit_method, SaysRequest as Asks}
+use Rattle.ssh_auth.specs.Requested as asks
+use Rattle.ssh_auth.specs.Verdict.{method_verdict, after_method, rejected, is_none, after_offer, after_proof, after_prompts, proof, signed, permitted, responded, Replies}
 use Rattle.ssh_auth.specs.Verdict as auth
+use Rattle.ssh_auth.proofs.Proving.{verdict_only}
 use Rattle.ssh_session.specs.declared.gate.Gate.{Gate}
 use Rattle.ssh_session.specs.declared.gate.Gate.TheVariants as gate
 use Rattle.ssh_session.specs.declared.phase.Phase.{Phase}
@@ -51,10 +53,9 @@ use Rattle.ssh_session.specs.Commanded.{command_row, done}
 use Rattle.ssh_session.specs.Entries.{find}
 use Rattle.ssh_session.specs.Pending.{pending_of}
 use Rattle.ssh_session.specs.Run.{OwesKind}
-use Rattle.ssh_session.specs.Authorised.{IsRequestOf, IsResponse, NamesLast, IsOfChannel}
+use Rattle.ssh_session.specs.Authorised.{IsRequestOf, IsResponse, NamesLast, IsProvenRequest, IsOfChannel}
 use Rattle.ssh_session.proofs.Gates.{IsOfChannels, IsForRequest, is_userauth, is_authenticating, is_response, is_for_request, is_accepted, fits_of}
 use Rattle.ssh_session.proofs.Guards.{Accepts, IsClear, Guarded, plan_accepted}
-use Rattle.ssh_session.proofs.Signing.{ProvesKey, Proves, proves}
 
 -- ---- who is bound
 
@@ -152,7 +153,7 @@ reply_guarded given named a kind settings moment w requested reply (verdict.Reje
 reply_guarded given named a kind settings moment w requested reply verdict.Continued n rest is low clear q = ((low_frame a (at_once reply) n rest is low, tt), inr clear)
 
 rejected_guarded : (given : Circumstances) (named : List ℕ → Type 0) (a : Type 0) (kind : InputKind) (settings : Settings) (moment : ℕ) (w : World) (requested : Bool) (state : AuthRequest) (none_method : Bool) (methods : List MethodKind) (partial : Bool) →
-    IsClear (NamesLast named kind) (record w { auth = state }) → Guarded given named a kind (finished settings moment w requested (rejected state none_method methods partial))
+    IsClear (NamesLast named kind) (record w { auth = state }) → Guarded given named a kind (finished settings moment w requested (rejected state (record { none_method = none_method; methods = methods; partial_success = partial })))
 rejected_guarded given named a kind settings moment w requested state none_method methods partial clear =
     let after_it : AuthRequest = record state { methods = methods; partial_success = partial; current = None; rejection_count = count_after partial state.rejection_count } in
     reply_guarded given named a kind settings moment (record w { auth = after_it }) requested (failure methods partial) (verdict.Rejected none_method) 51 (string (names_text methods) ++ flag partial ∷ []) refl
@@ -173,22 +174,22 @@ shown_guarded given named a kind settings moment w requested state payload rest 
 
 -- ---- answers: one that accepts lets the user in
 
-answered_guarded : (given : Circumstances) (named : List ℕ → Type 0) (a b : Type 0) (kind : InputKind) (settings : Settings) (moment : ℕ) (w : World) (requested : Bool) (state : AuthRequest) (method : MethodKind) (none_method : Bool) (answer : Auth) →
-    IsClear (NamesLast named kind) (record w { auth = state }) → (answer ≡ Accept → b) → Guarded given named (a ⊎ b) kind (finished settings moment w requested (answered state method none_method answer))
-answered_guarded given named a b kind settings moment w requested state method none_method Accept clear h = accepted_guarded given named (a ⊎ b) kind settings moment w requested state clear (inr (h refl))
-answered_guarded given named a b kind settings moment w requested state method none_method (Reject methods partial) clear h = rejected_guarded given named (a ⊎ b) kind settings moment w requested state none_method _ partial clear
-answered_guarded given named a b kind settings moment w requested state method none_method UnsupportedMethod clear h = rejected_guarded given named (a ⊎ b) kind settings moment w requested state none_method _ false clear
-answered_guarded given named a b kind settings moment w requested state method none_method (Partial name instructions prompts) clear h = rejected_guarded given named (a ⊎ b) kind settings moment w requested state none_method _ false clear
+answered_guarded : (given : Circumstances) (named : List ℕ → Type 0) (a b : Type 0) (kind : InputKind) (settings : Settings) (moment : ℕ) (w : World) (requested : Bool) (state : AuthRequest) (method : MethodKind) (answer : Auth) →
+    IsClear (NamesLast named kind) (record w { auth = state }) → (answer ≡ Accept → b) → Guarded given named (a ⊎ b) kind (finished settings moment w requested (after_method state method answer))
+answered_guarded given named a b kind settings moment w requested state method Accept clear h = accepted_guarded given named (a ⊎ b) kind settings moment w requested state clear (inr (h refl))
+answered_guarded given named a b kind settings moment w requested state method (Reject methods partial) clear h = rejected_guarded given named (a ⊎ b) kind settings moment w requested state (is_none method) _ partial clear
+answered_guarded given named a b kind settings moment w requested state method UnsupportedMethod clear h = rejected_guarded given named (a ⊎ b) kind settings moment w requested state (is_none method) _ false clear
+answered_guarded given named a b kind settings moment w requested state method (Partial name instructions prompts) clear h = rejected_guarded given named (a ⊎ b) kind settings moment w requested state (is_none method) _ false clear
 
 proven_guarded : (given : Circumstances) (named : List ℕ → Type 0) (a b : Type 0) (kind : InputKind) (settings : Settings) (moment : ℕ) (w : World) (requested : Bool) (state : AuthRequest) (answer : Auth) →
-    IsClear (NamesLast named kind) (record w { auth = state }) → (answer ≡ Accept → b) → Guarded given named (a ⊎ b) kind (finished settings moment w requested (proven state answer))
+    IsClear (NamesLast named kind) (record w { auth = state }) → (answer ≡ Accept → b) → Guarded given named (a ⊎ b) kind (finished settings moment w requested (after_proof state answer))
 proven_guarded given named a b kind settings moment w requested state Accept clear h = accepted_guarded given named (a ⊎ b) kind settings moment w requested state clear (inr (h refl))
 proven_guarded given named a b kind settings moment w requested state (Reject methods partial) clear h = rejected_guarded given named (a ⊎ b) kind settings moment w requested state false _ partial clear
 proven_guarded given named a b kind settings moment w requested state UnsupportedMethod clear h = rejected_guarded given named (a ⊎ b) kind settings moment w requested state false _ false clear
 proven_guarded given named a b kind settings moment w requested state (Partial name instructions prompts) clear h = rejected_guarded given named (a ⊎ b) kind settings moment w requested state false _ false clear
 
 prompted_guarded : (given : Circumstances) (named : List ℕ → Type 0) (a b : Type 0) (kind : InputKind) (settings : Settings) (moment : ℕ) (w : World) (requested : Bool) (state : AuthRequest) (answer : Auth) →
-    IsClear (NamesLast named kind) (record w { auth = state }) → (answer ≡ Accept → b) → Guarded given named (a ⊎ b) kind (finished settings moment w requested (prompted state answer))
+    IsClear (NamesLast named kind) (record w { auth = state }) → (answer ≡ Accept → b) → Guarded given named (a ⊎ b) kind (finished settings moment w requested (after_prompts state answer))
 prompted_guarded given named a b kind settings moment w requested state Accept clear h = accepted_guarded given named (a ⊎ b) kind settings moment w requested state clear (inr (h refl))
 prompted_guarded given named a b kind settings moment w requested state (Reject methods partial) clear h = rejected_guarded given named (a ⊎ b) kind settings moment w requested state false _ partial clear
 prompted_guarded given named a b kind settings moment w requested state UnsupportedMethod clear h = tt
@@ -198,39 +199,46 @@ prompted_guarded given named a b kind settings moment w requested state (Partial
 
 -- ---- requests
 
+-- questions of which more is said
+asks_weak : {O : Type 0} (P Q : Question → Type 0) (plan : Plan O) → ((question : Question) → P question → Q question) → AsksOnly P plan → AsksOnly Q plan
+asks_weak P Q (Finish outcome) f h = tt
+asks_weak P Q (Ask question next) f h = (f question h.0, λ answer. asks_weak P Q (next answer) f (h.1 answer))
+asks_weak P Q (Tell entry next) f h = asks_weak P Q next f h
+
 proof_guarded : (given : Circumstances) (named : List ℕ → Type 0) (a : Type 0) (kind : InputKind) (settings : Settings) (moment : ℕ) (w : World) (requested : Bool) (state : AuthRequest) (user : List ℕ) (key : PublicKeyOrCertificate) (algorithm : Algorithm) →
-    ProvesKey given kind user key algorithm → IsClear (NamesLast named kind) (record w { auth = state }) → Guarded given named a kind (after (proof state user key algorithm) (finished settings moment w requested))
+    AsksOnly (IsProvenRequest given kind) (proof state user key algorithm) → IsClear (NamesLast named kind) (record w { auth = state }) → Guarded given named a kind (after (proof state user key algorithm) (finished settings moment w requested))
 proof_guarded given named a kind settings moment w requested state user (Plain key hash) algorithm h clear = (
   λ q. absurd q,
-  λ answer. proven_guarded given named a (Accepts given named kind (Auth_publickey user key algorithm) answer) kind settings moment w requested state answer clear (λ e. subst (Accepts given named kind (Auth_publickey user key algorithm)) (sym e) h),
+  λ answer. proven_guarded given named a (Accepts given named kind (Auth_publickey user key algorithm) answer) kind settings moment w requested state answer clear (λ e. subst (Accepts given named kind (Auth_publickey user key algorithm)) (sym e) h.0),
 )
 proof_guarded given named a kind settings moment w requested state user (Certificate certificate) algorithm h clear = (
   λ q. absurd q,
-  λ answer. proven_guarded given named a (Accepts given named kind (Auth_openssh_certificate user certificate) answer) kind settings moment w requested state answer clear (λ e. subst (Accepts given named kind (Auth_openssh_certificate user certificate)) (sym e) h),
+  λ answer. proven_guarded given named a (Accepts given named kind (Auth_openssh_certificate user certificate) answer) kind settings moment w requested state answer clear (λ e. subst (Accepts given named kind (Auth_openssh_certificate user certificate)) (sym e) h.0),
 )
 
 signed_guarded : (given : Circumstances) (named : List ℕ → Type 0) (a : Type 0) (kind : InputKind) (settings : Settings) (moment : ℕ) (w : World) (requested : Bool) (state : AuthRequest) (user : List ℕ) (offer : Offer) (accepted : Option Bool) →
-    Proves given kind user (Signed_method offer accepted) → IsClear (NamesLast named kind) (record w { auth = state }) → Guarded given named a kind (after (signed state user offer accepted) (finished settings moment w requested))
+    AsksOnly (IsProvenRequest given kind) (signed state user offer accepted) → IsClear (NamesLast named kind) (record w { auth = state }) → Guarded given named a kind (after (signed state user offer accepted) (finished settings moment w requested))
 signed_guarded given named a kind settings moment w requested state user offer None h clear = tt
 signed_guarded given named a kind settings moment w requested state user offer (Some false) h clear = rejected_guarded given named a kind settings moment w requested state false _ false clear
 signed_guarded given named a kind settings moment w requested state user offer (Some true) h clear = proof_guarded given named a kind settings moment w requested state user offer.key offer.algorithm h clear
 
 permitted_guarded : (given : Circumstances) (named : List ℕ → Type 0) (a : Type 0) (kind : InputKind) (settings : Settings) (moment : ℕ) (w : World) (requested : Bool) (state : AuthRequest) (user : List ℕ) (offer : Offer) (accepted : Option Bool) (answer : Auth) →
-    Proves given kind user (Signed_method offer accepted) → IsClear (NamesLast named kind) (record w { auth = state }) →
+    AsksOnly (IsProvenRequest given kind) (permitted state answer (signed state user offer accepted)) → IsClear (NamesLast named kind) (record w { auth = state }) →
     Guarded given named a kind (after (permitted state answer (signed state user offer accepted)) (finished settings moment w requested))
 permitted_guarded given named a kind settings moment w requested state user offer accepted Accept h clear = signed_guarded given named a kind settings moment w requested state user offer accepted h clear
 permitted_guarded given named a kind settings moment w requested state user offer accepted _ h clear = rejected_guarded given named a kind settings moment w requested state false _ false clear
 
 asked_first_guarded : (given : Circumstances) (named : List ℕ → Type 0) (a : Type 0) (kind : InputKind) (settings : Settings) (moment : ℕ) (w : World) (requested : Bool) (state : AuthRequest) (user : List ℕ) (offer : Offer) (accepted : Option Bool) (is_asked : Bool) →
-    Proves given kind user (Signed_method offer accepted) → IsClear (NamesLast named kind) (record w { auth = state }) →
+    AsksOnly (IsProvenRequest given kind) (if is_asked then signed state user offer accepted
+    else Ask (Auth_publickey_offered user (offered_key offer.key) offer.algorithm) (λ answer. permitted state answer (signed state user offer accepted))) → IsClear (NamesLast named kind) (record w { auth = state }) →
     Guarded given named a kind (after (if is_asked then signed state user offer accepted
     else Ask (Auth_publickey_offered user (offered_key offer.key) offer.algorithm) (λ answer. permitted state answer (signed state user offer accepted))) (finished settings moment w requested))
 asked_first_guarded given named a kind settings moment w requested state user offer accepted true h clear = signed_guarded given named a kind settings moment w requested state user offer accepted h clear
 asked_first_guarded given named a kind settings moment w requested state user offer accepted false h clear =
-    (λ q. absurd q, λ answer. permitted_guarded given named (a ⊎ ⊥) kind settings moment w requested state user offer accepted answer h clear)
+    (λ q. absurd q, λ answer. permitted_guarded given named (a ⊎ ⊥) kind settings moment w requested state user offer accepted answer (h.1 answer) clear)
 
 probed_guarded : (given : Circumstances) (named : List ℕ → Type 0) (a : Type 0) (kind : InputKind) (settings : Settings) (moment : ℕ) (w : World) (requested : Bool) (state : AuthRequest) (offer : Offer) (answer : Auth) → IsClear (NamesLast named kind) (record w { auth = state }) →
-    Guarded given named a kind (finished settings moment w requested (probed state offer answer))
+    Guarded given named a kind (finished settings moment w requested (after_offer state offer answer))
 probed_guarded given named a kind settings moment w requested state offer Accept clear =
     shown_guarded given named a kind settings moment w requested (record state { current = Some (round.PublicKey offer.blob offer.name true) }) (pk_ok offer.name offer.blob)
     (string offer.name ++ string offer.blob) (nat_lt (length (pk_ok offer.name offer.blob)) (2 ^ 32)) refl clear
@@ -239,14 +247,14 @@ probed_guarded given named a kind settings moment w requested state offer Unsupp
 probed_guarded given named a kind settings moment w requested state offer (Partial name instructions prompts) clear = rejected_guarded given named a kind settings moment w requested state false _ false clear
 
 method_guarded : (given : Circumstances) (named : List ℕ → Type 0) (a : Type 0) (kind : InputKind) (settings : Settings) (moment : ℕ) (w : World) (requested : Bool) (state : AuthRequest) (user : List ℕ) (method : Method) → IsRequestOf user kind →
-    Proves given kind user method → IsClear (NamesLast named kind) (record w { auth = state }) → Guarded given named a kind (after (method_verdict state user method) (finished settings moment w requested))
+    AsksOnly (IsProvenRequest given kind) (method_verdict state user method) → IsClear (NamesLast named kind) (record w { auth = state }) → Guarded given named a kind (after (method_verdict state user method) (finished settings moment w requested))
 method_guarded given named a kind settings moment w requested state user None_method is h clear = (
   λ q. absurd q,
-  λ answer. answered_guarded given named a (Accepts given named kind (Auth_none user) answer) kind settings moment w requested state method_kind.None true answer clear (λ e. subst (Accepts given named kind (Auth_none user)) (sym e) is),
+  λ answer. answered_guarded given named a (Accepts given named kind (Auth_none user) answer) kind settings moment w requested state method_kind.None answer clear (λ e. subst (Accepts given named kind (Auth_none user)) (sym e) is),
 )
 method_guarded given named a kind settings moment w requested state user (Password_method password) is h clear = (
   λ q. absurd q,
-  λ answer. answered_guarded given named a (Accepts given named kind (Auth_password user password) answer) kind settings moment w requested state method_kind.Password false answer clear (λ e. subst (Accepts given named kind (Auth_password user password)) (sym e) is),
+  λ answer. answered_guarded given named a (Accepts given named kind (Auth_password user password) answer) kind settings moment w requested state method_kind.Password answer clear (λ e. subst (Accepts given named kind (Auth_password user password)) (sym e) is),
 )
 method_guarded given named a kind settings moment w requested state user (Change_method password new_password) is h clear = rejected_guarded given named a kind settings moment w requested state false _ false clear
 method_guarded given named a kind settings moment w requested state user Unusable_method is h clear = rejected_guarded given named a kind settings moment w requested state false _ false clear
@@ -270,7 +278,8 @@ asked_guarded given named a settings moment w payload (asks.Request user method)
     let is = is_userauth settings w payload at in
     let request : IsRequestOf user (Payload payload) = (drop 1 payload, codes "ssh-connection", h.0, h.1, is, h.2) in
     method_guarded given named a (Payload payload) settings moment w true (begun w.auth user (codes "ssh-connection")) user method request
-    (proves given payload user h.0 h.1 method (named_by h.0) refl is h.2 h.3) (begun_clear settings named w payload user at request clear)
+    (asks_weak (IsProven given (drop 1 payload)) (IsProvenRequest given (Payload payload)) (method_verdict (begun w.auth user (codes "ssh-connection")) user method)
+    (λ question proven. (drop 1 payload, is, proven)) (verdict_only given (drop 1 payload) w.auth (asks.Request user method) h)) (begun_clear settings named w payload user at request clear)
 asked_guarded given named a settings moment w payload Other_service at h clear = tt
 asked_guarded given named a settings moment w payload asks.Unread at h clear = tt
 asked_guarded given named a settings moment w payload (asks.Unfit why) at h clear = tt

@@ -1,8 +1,9 @@
 -- How a row is served: a call or what the link is told, and what the row goes on to.
-use Rattle.std.proofs.Common.{◌≡◌, ◌≤◌, ℕ, List, [], ◌∷◌, ◌++◌, map, Option, Result, Ok, Err, refl, sym, subst, arith}
-use Rattle.ssh_link.specs.Told.{Adds}
+use Rattle.std.proofs.Common.{◌≡◌, ◌≤◌, ℕ, List, [], ◌∷◌, ◌++◌, map, Bool, true, false, Option, Result, Ok, Err, refl, sym, subst, arith}
+use Rattle.ssh_link.specs.Faults.{Rose}
+use Rattle.ssh_link.specs.Told.{Adds, ToldBy}
 use Rattle.ssh_link.proofs.Tellings.{adds_both, adds_nil, adds_weak, adds_then}
-use Rattle.ssh_link.specs.declared.frame.Frame.{Frame}
+use Rattle.ssh_link.specs.Frames.{Frame}
 use Rattle.ssh_link.specs.declared.link.TraceEntry.{TraceEntry}
 use Rattle.ssh_auth.specs.declared.call.Call.{Call}
 use Rattle.ssh_auth.specs.Plan.{Plan, Ask, Tell, Question, Answer, Event, Called, Told, calls_in, told_in, Reaches}
@@ -14,7 +15,7 @@ use Rattle.ssh_session.specs.declared.error.RunError.TheVariants as error
 use Rattle.ssh_session.specs.declared.session.Session.{Session}
 use Rattle.ssh_session.specs.World.{Settings}
 use Rattle.ssh_session.specs.Outcome.{Outcome}
-use Rattle.ssh_session.specs.Serve.{Answers, Hears, Heard, heard, Puts, Rose, Serves, ToldBy}
+use Rattle.ssh_session.specs.Serve.{Answers, Hears, Heard, heard, Puts, Serves, may_stop}
 
 -- the events after those by which a plan came to its rest
 pub answers_reached : {E : Type 0} (settings : Settings) (plan rest : Plan Outcome) (rose : Type 0) (xs ys : List (Event E)) (staged staged' : List Frame) (session : Session)
@@ -49,42 +50,26 @@ answers_rose settings plan rose rose' events staged staged' session (Err error.U
 answers_rose settings plan rose rose' events staged staged' session (Err error.NotBuilt) f h = h
 
 -- what was told, and then this by the answer
-pub told_then : {T E : Type 0} (result : Result T (RunError E)) (a b c : Option (List (Call E))) (xs ys : List (Call E)) → Adds a b xs → ToldBy result b c ys → ToldBy result a c (xs ++ ys)
-told_then (Ok x) a b c xs ys h k = adds_both a b c xs ys h k
-told_then (Err error.NoMemory) a b c xs ys h k = adds_both a b c xs ys h k
-told_then (Err error.LinkFault) a b c xs ys h k = adds_both a b c xs ys h k
-told_then (Err error.InputLimit) a b c xs ys h k = adds_both a b c xs ys h k
-told_then (Err (error.Encoding why)) a b c xs ys h k = adds_both a b c xs ys h k
-told_then (Err error.Inconsistent) a b c xs ys h k = adds_both a b c xs ys h k
-told_then (Err (error.Key why)) a b c xs ys h k = adds_both a b c xs ys h k
-told_then (Err (error.Handler e)) a b c xs ys h k = adds_then a b c xs ys (adds_weak a b xs h) k
-told_then (Err error.UnsupportedAuthMethod) a b c xs ys h k = adds_both a b c xs ys h k
-told_then (Err error.NotBuilt) a b c xs ys h k = adds_both a b c xs ys h k
+pub told_then : {A : Type 0} (stops : Bool) (a b c : Option (List A)) (xs ys : List A) → Adds a b xs → ToldBy stops b c ys → ToldBy stops a c (xs ++ ys)
+told_then true a b c xs ys h k = adds_then a b c xs ys (adds_weak a b xs h) k
+told_then false a b c xs ys h k = adds_both a b c xs ys h k
 
-pub told_all : {T E : Type 0} (result : Result T (RunError E)) (a b : Option (List (Call E))) (xs : List (Call E)) → Adds a b xs → ToldBy result a b xs
-told_all (Ok x) a b xs h = h
-told_all (Err error.NoMemory) a b xs h = h
-told_all (Err error.LinkFault) a b xs h = h
-told_all (Err error.InputLimit) a b xs h = h
-told_all (Err (error.Encoding why)) a b xs h = h
-told_all (Err error.Inconsistent) a b xs h = h
-told_all (Err (error.Key why)) a b xs h = h
-told_all (Err (error.Handler e)) a b xs h = adds_weak a b xs h
-told_all (Err error.UnsupportedAuthMethod) a b xs h = h
-told_all (Err error.NotBuilt) a b xs h = h
+pub told_all : {A : Type 0} (stops : Bool) (a b : Option (List A)) (xs : List A) → Adds a b xs → ToldBy stops a b xs
+told_all true a b xs h = adds_weak a b xs h
+told_all false a b xs h = h
 
 -- what was told before, all of it, and what was told then
 pub hears_then : {T E : Type 0} (result : Result T (RunError E)) (a b c : Heard E) (xs ys : List (Event E)) →
     Hears {T = Unit {0}} {E = E} (Ok tt) a b xs → Hears result b c ys → Hears result a c (xs ++ ys)
 hears_then result a b c xs ys h k = (
-  rw (calls_in_both xs ys) (told_then result a.calls b.calls c.calls (calls_in xs) (calls_in ys) h.0 k.0),
+  rw (calls_in_both xs ys) (told_then (may_stop result) a.calls b.calls c.calls (calls_in xs) (calls_in ys) h.0 k.0),
   rw (told_in_both xs ys) (adds_both a.trace b.trace c.trace (told_in xs) (told_in ys) h.1 k.1),
   omega (arith, h.2, k.2),
 )
 
 -- nothing was told
 pub hears_nothing : {T E : Type 0} (result : Result T (RunError E)) (a : Heard E) → Hears result a a []
-hears_nothing result a = (told_all result a.calls a.calls [] (adds_nil a.calls), adds_nil a.trace, omega arith)
+hears_nothing result a = (told_all (may_stop result) a.calls a.calls [] (adds_nil a.calls), adds_nil a.trace, omega arith)
 
 -- the handler was told this call, which answered no error
 pub hears_call : {E : Type 0} (a b : Option (List (Call E))) (trace : Option (List TraceEntry)) (faults : ℕ) (call : Call E) → Adds a b (call ∷ []) →
@@ -93,9 +78,9 @@ hears_call a b trace faults call h = (h, adds_nil trace, omega arith)
 
 -- calls alone, as events
 pub hears_calls : {T E : Type 0} (result : Result T (RunError E)) (a b : Option (List (Call E))) (trace : Option (List TraceEntry)) (faults : ℕ) (calls : List (Call E)) →
-    ToldBy result a b calls → Hears result (heard a trace faults) (heard b trace faults) (map Called calls)
+    ToldBy (may_stop result) a b calls → Hears result (heard a trace faults) (heard b trace faults) (map Called calls)
 hears_calls result a b trace faults calls h =
-    (subst (ToldBy result a b) (sym (calls_of_calls calls)) h, subst (Adds trace trace) (sym (told_of_calls calls)) (adds_nil trace), omega arith)
+    (subst (ToldBy (may_stop result) a b) (sym (calls_of_calls calls)) h, subst (Adds trace trace) (sym (told_of_calls calls)) (adds_nil trace), omega arith)
 
 -- the link was told this
 pub hears_told : {E : Type 0} (calls : Option (List (Call E))) (a b : Option (List TraceEntry)) (faults faults' : ℕ) (entry : TraceEntry) → Adds a b (entry ∷ []) → faults ≤ faults' →
@@ -109,8 +94,8 @@ pub reached : {E : Type 0} (settings : Settings) (plan rest : Plan Outcome) (a b
 reached settings plan rest a b c xs staged staged' session result h r k = (
   xs ++ k.0,
   hears_then result a b c xs k.0 h k.1,
-  answers_reached settings plan rest (Rose a c) xs k.0 staged staged' session result r
-      (answers_rose settings rest (Rose b c) (Rose a c) k.0 staged staged' session result (λ l. omega (arith, h.2, l)) k.2),
+  answers_reached settings plan rest (Rose a.faults c.faults) xs k.0 staged staged' session result r
+      (answers_rose settings rest (Rose b.faults c.faults) (Rose a.faults c.faults) k.0 staged staged' session result (λ l. omega (arith, h.2, l)) k.2),
 )
 
 -- the handler was asked, and what its answer goes on to was served
@@ -143,15 +128,19 @@ told settings entry next calls a b faults faults' c staged staged' session resul
 pub not_asked : {E : Type 0} (settings : Settings) (plan : Plan Outcome) (a : Heard E) (staged staged' : List Frame) (session : Session) (result : Result Flow (RunError E)) →
     Answers settings plan ⊥ [] staged staged' session result → Serves settings plan a a staged staged' session result
 not_asked settings plan a staged staged' session result h =
-    ([], hears_nothing result a, answers_rose settings plan ⊥ (Rose a a) [] staged staged' session result (λ x. absurd x) h)
+    ([], hears_nothing result a, answers_rose settings plan ⊥ (Rose a.faults a.faults) [] staged staged' session result (λ x. absurd x) h)
 
 -- memory was wanting, or the link failed, before anything was told
 pub starved : {E : Type 0} (settings : Settings) (plan : Plan Outcome) (a : Heard E) (staged staged' : List Frame) (session : Session) →
     Serves settings plan a a staged staged' session (Err error.NoMemory)
 starved settings plan a staged staged' session = ([], hears_nothing {T = Flow} (Err error.NoMemory) a, tt)
 
+pub starved_by : {E : Type 0} (settings : Settings) (plan : Plan Outcome) (a : Heard E) (staged staged' : List Frame) (session : Session) (result : Result Flow (RunError E)) →
+    result ≡ Err error.NoMemory → Serves settings plan a a staged staged' session result
+starved_by settings plan a staged staged' session result is = subst (Serves settings plan a a staged staged' session) (sym is) (starved settings plan a staged staged' session)
+
 pub link_failed : {E : Type 0} (settings : Settings) (plan : Plan Outcome) (a b : Heard E) (staged staged' : List Frame) (session : Session) →
-    b.calls ≡ a.calls → Adds a.trace b.trace [] → Rose a b → Serves settings plan a b staged staged' session (Err error.LinkFault)
+    b.calls ≡ a.calls → Adds a.trace b.trace [] → Rose a.faults b.faults → Serves settings plan a b staged staged' session (Err error.LinkFault)
 link_failed settings plan a b staged staged' session same h rose =
     ([], (rw same (adds_nil a.calls), h, omega (arith, rose)), (rose, tt))
 

@@ -6,7 +6,7 @@ use Rattle.ssh_wire.specs.declared.open_failure.ChannelOpenFailure.{ChannelOpenF
 use Rattle.ssh_wire.specs.Field.{SpellsWhole}
 use Rattle.ssh_link.specs.declared.command.Command.{Command as Commanded}
 use Rattle.ssh_link.specs.declared.command.Command.TheVariants as command
-use Rattle.ssh_link.specs.declared.frame.Frame.{Frame}
+use Rattle.ssh_link.specs.Frames.{Frame}
 use Rattle.ssh_link.specs.declared.frame.InputKind.{InputKind}
 use Rattle.ssh_link.specs.declared.frame.InputKind.TheVariants.{Payload, Command, OpenReply, End}
 use Rattle.ssh_link.specs.declared.link.TraceEntry.{TraceEntry}
@@ -19,7 +19,7 @@ use Rattle.ssh_auth.specs.Publickey.{Acceptance, Circumstances}
 use Rattle.ssh_auth.specs.Plan.{Plan, Finish, Ask, Tell, after, Question, Answer, Answered, Authentication_banner, Auth_succeeded, Channel_open_session, Channel_eof, Channel_close, Window_adjusted, Event, Called, Told, calls_in, Follows}
 use Rattle.ssh_auth.specs.declared.auth_step.AuthVerdict.{AuthVerdict}
 use Rattle.ssh_auth.specs.declared.auth_step.AuthVerdict.TheVariants as verdict
-use Rattle.ssh_auth.specs.Verdict.{verdict as verdict_on, response_verdict, Outcome as Reply, Replies}
+use Rattle.ssh_auth.specs.Verdict.{verdict as verdict_on, response_verdict, AuthOutcome as Reply, Replies}
 use Rattle.ssh_auth.specs.Verdict as auth
 use Rattle.ssh_session.specs.declared.error.RunError.{RunError}
 use Rattle.ssh_session.specs.declared.error.RunError.TheVariants as error

@@ -2,10 +2,10 @@
 use Rattle.std.proofs.Common.{◌≡◌, ◌<◌, ◌≤◌, ◌+◌, ℕ, List, [], ◌∷◌, ◌++◌, map, Option, Result, Ok, Err, refl, sym, ◌∙◌, ap, subst, arith}
 use Rattle.std.specs.Prelude.{option_to_list, length}
 use Rattle.std.proofs.lemmas.List.{append_assoc}
-use Rattle.ssh_link.specs.Told.{Adds}
+use Rattle.ssh_link.specs.Told.{Adds, ToldBy}
 use Rattle.ssh_link.proofs.Tellings.{adds_nil}
 use Rattle.ssh_link.specs.declared.command.Command.{Command}
-use Rattle.ssh_link.specs.declared.frame.Frame.{Frame}
+use Rattle.ssh_link.specs.Frames.{Frame}
 use Rattle.ssh_link.specs.declared.link.LinkFault.{LinkFault}
 use Rattle.ssh_link.specs.declared.link.LinkFault.TheVariants.{Failed, NoMemory}
 use Rattle.ssh_link.specs.declared.link.TraceEntry.{TraceEntry}
@@ -25,7 +25,7 @@ use Rattle.ssh_session.specs.World.{Settings, World}
 use Rattle.ssh_session.specs.Outcome.{Outcome, Goes}
 use Rattle.ssh_session.specs.Effect.{Effect, effect}
 use Rattle.ssh_session.specs.Commanded.{tell_all, done, tell_done, done_all, command_row}
-use Rattle.ssh_session.specs.Serve.{Refines, Heard, heard, Hears, Serves, HasEffect, DoesOne, Passes, ToldBy}
+use Rattle.ssh_session.specs.Serve.{Refines, Heard, heard, Hears, Serves, HasEffect, DoesOne, Passes, may_stop}
 use Rattle.ssh_session.proofs.Asks.{hears_calls, hears_then, hears_nothing, reached, told, not_asked, starved, link_failed, link_starved}
 use Rattle.ssh_session.proofs.Steps.{failing}
 
@@ -111,7 +111,7 @@ rest settings place commands frames world = done_all settings world frames place
 -- the handler was told of it, where it is told
 done_told : {E : Type 0} (settings : Settings) (plan mid : Plan Outcome) (next : List Frame → World → Plan Outcome) (a : Heard E) (x y : Option (List (Call E))) (trace : Option (List TraceEntry)) (faults : ℕ)
     (events : List (Event E)) (base staged' frames : List Frame) (world : World) (session : Session) (result : Result (Unit {0}) (RunError E)) (calls : List (Call E)) →
-    Hears {T = Unit {0}} {E = E} (Ok tt) a (heard x trace faults) events → Reaches plan events mid → ToldBy result x y calls → Passes mid (next frames world) (map Called calls) result →
+    Hears {T = Unit {0}} {E = E} (Ok tt) a (heard x trace faults) events → Reaches plan events mid → ToldBy (may_stop result) x y calls → Passes mid (next frames world) (map Called calls) result →
     staged' ≡ base ++ frames → Refines settings session world → DoesOne settings plan next a (heard y trace faults) base staged' session result
 done_told settings plan mid next a x y trace faults events base staged' frames world session (Ok done) calls h r t p is refines = (
   events ++ map Called calls,
@@ -140,7 +140,7 @@ done_told settings plan mid next a x y trace faults events base staged' frames w
 pub finished_one : {E : Type 0} (settings : Settings) (w : World) (before : List Frame) (place : ℕ) (command : Command) (commands : List Command) (x y : Option (List (Call E)))
     (a b : Option (List TraceEntry)) (f g : ℕ) (base staged staged' : List Frame) (session : Session) (taken : Done) (result : Result (Unit {0}) (RunError E)) →
     HasEffect {E = E} settings (effect settings w command) staged staged' session (Ok taken) → staged ≡ base ++ before → Adds a b (map Noticed (option_to_list taken.notice)) → f ≤ g →
-    ((next : Plan Outcome) → (calls : List (Call E)) × ToldBy result x y calls × Passes (tell_done place taken.outcome next) next (map Called calls) result) →
+    ((next : Plan Outcome) → (calls : List (Call E)) × ToldBy (may_stop result) x y calls × Passes (tell_done place taken.outcome next) next (map Called calls) result) →
     DoesOne settings (done_all settings w before place (command ∷ commands)) (rest settings (place + 1) commands) (heard x a f) (heard y b g) base staged' session result
 finished_one settings w before place command commands x y a b f g base staged staged' session taken result h is given later tells =
     let after : CommandOutcome → List Frame → World → Plan Outcome = λ outcome more world. tell_done place outcome (done_all settings world (before ++ more) (place + 1) commands) in

@@ -4,7 +4,7 @@ use Rattle.std.specs.Prelude.{option_to_list, nat_le, if◌then◌else◌}
 use Rattle.std.proofs.lemmas.Bool.{le-leb, leb-true}
 use Rattle.std.proofs.lemmas.List.{append-nil}
 use Rattle.ssh_wire.specs.declared.channel_id.ChannelId.{ChannelId}
-use Rattle.ssh_link.specs.declared.frame.Frame.{Frame}
+use Rattle.ssh_link.specs.Frames.{Frame}
 use Rattle.ssh_link.specs.declared.outcome.CommandOutcome.TheVariants.{Accepted, Refused}
 use Rattle.ssh_link.specs.declared.outcome.Refusal.{Refusal}
 use Rattle.ssh_link.specs.declared.outcome.Refusal.TheVariants.{TooLong}

@@ -18,7 +18,7 @@ use Rattle.ssh_keys.specs.declared.public_key.PublicKey.{PublicKey}
 use Rattle.ssh_keys.specs.Offers.{offered_key}
 use Rattle.ssh_link.specs.declared.command.Command.{Command as Commanded}
 use Rattle.ssh_link.specs.declared.command.Command.TheVariants as command
-use Rattle.ssh_link.specs.declared.frame.Frame.{Frame}
+use Rattle.ssh_link.specs.Frames.{Frame}
 use Rattle.ssh_link.specs.declared.frame.InputKind.{InputKind}
 use Rattle.ssh_link.specs.declared.frame.InputKind.TheVariants.{Payload, Command, OpenReply, End}
 use Rattle.ssh_link.specs.declared.link.TraceEntry.{TraceEntry}
@@ -35,12 +35,12 @@ use Rattle.ssh_auth.specs.declared.auth_step.AuthVerdict.{AuthVerdict}
 use Rattle.ssh_auth.specs.declared.auth_step.AuthVerdict.TheVariants as verdict
 use Rattle.ssh_auth.specs.Publickey.{Acceptance, Circumstances, Offer}
 use Rattle.ssh_auth.specs.declared.auth_request.CurrentRequest.TheVariants as round
-use Rattle.ssh_auth.specs.Said.{Said as Asked, Other_service, Method, None_method, Password_method, Change_method, Unusable_method, Broken_method, Probe_method, Misnamed_method, Signed_method, Interactive_method, Other_method, Unfit_method, named_by, head_fields, Says as Asks}
-use Rattle.ssh_auth.specs.Said as asks
+use Rattle.ssh_auth.specs.Requested.{Requested as Asked, Other_service, Method, None_method, Password_method, Change_method, Unusable_method, Broken_method, Probe_method, Misnamed_method, Signed_method, Interactive_method, Other_method, Unfit_method, named_by, head_fields, SaysRequest as Asks}
+use Rattle.ssh_auth.specs.Requested as asks
 use Rattle.ssh_auth.specs.Request.{begun, count_after, is_probed, prompt_of}
 use Rattle.ssh_auth.specs.Response.{Responded, Responses, Unfit_responses, Unread_responses, SaysResponses}
 use Rattle.ssh_auth.specs.Layout.{failure, success, pk_ok, info_request}
-use Rattle.ssh_auth.specs.Verdict.{method_verdict, answered, rejected, probed, proven, prompted, proof, signed, permitted, responded, Replies}
+use Rattle.ssh_auth.specs.Verdict.{method_verdict, after_method, rejected, is_none, after_offer, after_proof, after_prompts, proof, signed, permitted, responded, Replies}
 use Rattle.ssh_auth.specs.Verdict as auth
 use Rattle.ssh_session.specs.declared.gate.Gate.{Gate}
 use Rattle.ssh_session.specs.declared.gate.Gate.TheVariants as gate
@@ -268,19 +268,19 @@ reply_faultless kind settings moment w requested reply (verdict.Rejected none_me
 reply_faultless kind settings moment w requested reply verdict.Continued = tt
 
 rejected_faultless : (kind : InputKind) (settings : Settings) (moment : ℕ) (w : World) (requested : Bool) (state : AuthRequest) (none_method : Bool) (methods : List MethodKind) (partial : Bool) →
-    IsFaultless kind (finished settings moment w requested (rejected state none_method methods partial))
+    IsFaultless kind (finished settings moment w requested (rejected state (record { none_method = none_method; methods = methods; partial_success = partial })))
 rejected_faultless kind settings moment w requested state none_method methods partial =
     reply_faultless kind settings moment (record w { auth = record state { methods = methods; partial_success = partial; current = None; rejection_count = count_after partial state.rejection_count } }) requested (failure methods partial) (verdict.Rejected none_method)
 
-answered_faultless : (kind : InputKind) (settings : Settings) (moment : ℕ) (w : World) (requested : Bool) (state : AuthRequest) (method : MethodKind) (none_method : Bool) (answer : Auth) →
-    IsFaultless kind (finished settings moment w requested (answered state method none_method answer))
-answered_faultless kind settings moment w requested state method none_method Accept = reply_faultless kind settings moment (record w { auth = state }) requested success verdict.Accepted
-answered_faultless kind settings moment w requested state method none_method (Reject methods partial) = rejected_faultless kind settings moment w requested state none_method (unwrap_or methods (without method state.methods)) partial
-answered_faultless kind settings moment w requested state method none_method UnsupportedMethod = rejected_faultless kind settings moment w requested state none_method (without method state.methods) false
-answered_faultless kind settings moment w requested state method none_method (Partial name instructions prompts) = rejected_faultless kind settings moment w requested state none_method (without method state.methods) false
+answered_faultless : (kind : InputKind) (settings : Settings) (moment : ℕ) (w : World) (requested : Bool) (state : AuthRequest) (method : MethodKind) (answer : Auth) →
+    IsFaultless kind (finished settings moment w requested (after_method state method answer))
+answered_faultless kind settings moment w requested state method Accept = reply_faultless kind settings moment (record w { auth = state }) requested success verdict.Accepted
+answered_faultless kind settings moment w requested state method (Reject methods partial) = rejected_faultless kind settings moment w requested state (is_none method) (unwrap_or methods (without method state.methods)) partial
+answered_faultless kind settings moment w requested state method UnsupportedMethod = rejected_faultless kind settings moment w requested state (is_none method) (without method state.methods) false
+answered_faultless kind settings moment w requested state method (Partial name instructions prompts) = rejected_faultless kind settings moment w requested state (is_none method) (without method state.methods) false
 
 -- the answer on a key or a certificate that has signed comes to no fault
-proven_faultless : (kind : InputKind) (settings : Settings) (moment : ℕ) (w : World) (requested : Bool) (state : AuthRequest) (answer : Auth) → IsFaultless kind (finished settings moment w requested (proven state answer))
+proven_faultless : (kind : InputKind) (settings : Settings) (moment : ℕ) (w : World) (requested : Bool) (state : AuthRequest) (answer : Auth) → IsFaultless kind (finished settings moment w requested (after_proof state answer))
 proven_faultless kind settings moment w requested state Accept = reply_faultless kind settings moment (record w { auth = state }) requested success verdict.Accepted
 proven_faultless kind settings moment w requested state (Reject methods partial) = rejected_faultless kind settings moment w requested state false (unwrap_or methods state.methods) partial
 proven_faultless kind settings moment w requested state UnsupportedMethod = rejected_faultless kind settings moment w requested state false state.methods false
@@ -319,7 +319,7 @@ pk_ok_faultless kind settings moment w requested state offer true fits =
 pk_ok_faultless kind settings moment w requested state offer false fits = absurd (cc)
 
 probed_faultless : (kind : InputKind) (settings : Settings) (moment : ℕ) (w : World) (requested : Bool) (state : AuthRequest) (user : List ℕ) (offer : Offer) (answer : Auth) → ShortensProbe kind (Probe_method offer) →
-    IsFineAnswer kind (Auth_publickey_offered user (offered_key offer.key) offer.algorithm) answer → IsFaultless kind (finished settings moment w requested (probed state offer answer))
+    IsFineAnswer kind (Auth_publickey_offered user (offered_key offer.key) offer.algorithm) answer → IsFaultless kind (finished settings moment w requested (after_offer state offer answer))
 probed_faultless kind settings moment w requested state user offer Accept short fine =
     pk_ok_faultless kind settings moment w requested state offer (nat_lt (length (pk_ok offer.name offer.blob)) (2 ^ 32)) (lt-ltb (length (pk_ok offer.name offer.blob)) (2 ^ 32) (short fine))
 probed_faultless kind settings moment w requested state user offer (Reject methods partial) short fine = rejected_faultless kind settings moment w requested state false (unwrap_or methods state.methods) partial
@@ -333,7 +333,7 @@ prompts_faultless kind settings moment w requested state payload true fits = rep
 prompts_faultless kind settings moment w requested state payload false fits = absurd (cc)
 
 prompted_faultless : (kind : InputKind) (settings : Settings) (moment : ℕ) (w : World) (requested : Bool) (state : AuthRequest) (answer : Auth) → IsFinePrompt answer →
-    IsFaultless kind (finished settings moment w requested (prompted state answer))
+    IsFaultless kind (finished settings moment w requested (after_prompts state answer))
 prompted_faultless kind settings moment w requested state Accept fine = reply_faultless kind settings moment (record w { auth = state }) requested success verdict.Accepted
 prompted_faultless kind settings moment w requested state (Reject methods partial) fine = rejected_faultless kind settings moment w requested state false (unwrap_or methods state.methods) partial
 prompted_faultless kind settings moment w requested state UnsupportedMethod fine = absurd fine
@@ -343,8 +343,8 @@ prompted_faultless kind settings moment w requested state (Partial name instruct
 
 method_faultless : (kind : InputKind) (settings : Settings) (moment : ℕ) (w : World) (requested : Bool) (state : AuthRequest) (user : List ℕ) (method : Method) → IsServed method → ShortensProbe kind method →
     IsFaultless kind (after (method_verdict state user method) (finished settings moment w requested))
-method_faultless kind settings moment w requested state user None_method s short = λ answer fine. answered_faultless kind settings moment w requested state method_kind.None true answer
-method_faultless kind settings moment w requested state user (Password_method password) s short = λ answer fine. answered_faultless kind settings moment w requested state method_kind.Password false answer
+method_faultless kind settings moment w requested state user None_method s short = λ answer fine. answered_faultless kind settings moment w requested state method_kind.None answer
+method_faultless kind settings moment w requested state user (Password_method password) s short = λ answer fine. answered_faultless kind settings moment w requested state method_kind.Password answer
 method_faultless kind settings moment w requested state user (Change_method password new_password) s short = rejected_faultless kind settings moment w requested state false (without method_kind.Password state.methods) false
 method_faultless kind settings moment w requested state user Unusable_method s short = rejected_faultless kind settings moment w requested state false state.methods false
 method_faultless kind settings moment w requested state user Broken_method s short = absurd s

@@ -2,7 +2,7 @@
 use Rattle.std.proofs.Common.{◌≡◌, ◌≤◌, ◌==◌, true, false, ◌+◌, ◌-◌, ℕ, min, List, [], ◌∷◌, ◌++◌, map, length, drop, refl, sym, ◌∙◌, ap, arith, length-drop, length-append}
 use Rattle.std.specs.List.{concat}
 use Rattle.std.proofs.lemmas.List.{append-nil}
-use Rattle.ssh_link.specs.declared.frame.Frame.{Frame}
+use Rattle.ssh_link.specs.Frames.{Frame}
 use Rattle.ssh_session.specs.ChannelLayout.{data_frame}
 use Rattle.ssh_session.specs.Cut.{cut, left_of, chunk_of}
 use Rattle.ssh_session.specs.Entry.{Entry, accepted, piece_limit, flush_out, accepting}

@@ -1,6 +1,6 @@
 -- Plans in which nothing of the connection comes before an answer that accepts a user, and what their calls are.
 use Rattle.std.proofs.Common.{◌≡◌, ◌⊎◌, ℕ, List, [], ◌∷◌, Option, Some, None, Result, Ok, Err, sym, subst, inl, inr}
-use Rattle.ssh_link.specs.declared.frame.Frame.{Frame}
+use Rattle.ssh_link.specs.Frames.{Frame}
 use Rattle.ssh_link.specs.declared.frame.InputKind.{InputKind}
 use Rattle.ssh_auth.specs.declared.auth.Auth.{Auth}
 use Rattle.ssh_auth.specs.declared.auth.Auth.TheVariants.{Accept}

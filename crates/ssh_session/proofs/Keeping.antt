@@ -7,7 +7,7 @@ use Rattle.ssh_wire.specs.declared.open_failure.ChannelOpenFailure.{ChannelOpenF
 use Rattle.ssh_wire.specs.OpenFailures.{open_failure_code}
 use Rattle.ssh_link.specs.declared.command.Command.{Command}
 use Rattle.ssh_link.specs.declared.command.Command.TheVariants as command
-use Rattle.ssh_link.specs.declared.frame.Frame.{Frame}
+use Rattle.ssh_link.specs.Frames.{Frame}
 use Rattle.ssh_link.specs.declared.link.TraceEntry.{TraceEntry}
 use Rattle.ssh_link.specs.declared.link.TraceEntry.TheVariants.{Sent}
 use Rattle.ssh_link.specs.declared.notice.Notice.{Notice}

@@ -3,7 +3,7 @@ use Rattle.std.proofs.Common.{◌≡◌, ◌<◌, ◌≤◌, ◌+◌, ◌-◌, �
 use Rattle.std.specs.List.{concat}
 use Rattle.std.proofs.lemmas.List.{take_all, take_min, take-append-le, append-nil}
 use Rattle.std.proofs.lemmas.List.Folds.{concat-append}
-use Rattle.ssh_link.specs.declared.frame.Frame.{Frame}
+use Rattle.ssh_link.specs.Frames.{Frame}
 use Rattle.ssh_session.specs.ChannelLayout.{data_frame, eof_frame, close_frame}
 use Rattle.ssh_session.specs.Cut.{cut, left_of, AllFit}
 use Rattle.ssh_session.specs.Entry.{Entry, opened, accepted, piece_limit, flush_out, flushed, granting, accepting}

@@ -15,7 +15,7 @@ use Rattle.ssh_keys.specs.Signatures.{signature_fields, SpellsSignature, EndsInS
 use Rattle.ssh_keys.proofs.Agreement.{signature_once}
 use Rattle.ssh_keys.proofs.Offered.{algorithm_once, certified_algorithm_once, apart, offers_agree, offer_never_fails, offer_fails_once}
 use Rattle.ssh_auth.specs.Publickey.{Acceptance, Circumstances, Offer, IsOffered, IsUsable, OffersNothing, offer_fields, question, IsAnswer, MisfitsSignature, HoldsNoSignature}
-use Rattle.ssh_auth.specs.Said.{Method, None_method, Password_method, Change_method, Other_method, Interactive_method, Unusable_method, Broken_method, Probe_method, Misnamed_method, Signed_method, Unfit_method, SaysPublickey}
+use Rattle.ssh_auth.specs.Requested.{Method, None_method, Password_method, Change_method, Other_method, Interactive_method, Unusable_method, Broken_method, Probe_method, Misnamed_method, Signed_method, Unfit_method, SaysPublickey}
 
 -- ---- what a name and a blob offer
 

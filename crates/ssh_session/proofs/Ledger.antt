@@ -4,10 +4,9 @@ use Rattle.std.specs.Prelude.{◌+◌, ◌^◌, nat_lt, ◌&&◌, ◌≢◌, if�
 use Rattle.std.proofs.lemmas.List.{append-nil}
 use Rattle.std.proofs.lemmas.Grind.{common_steps}
 use Rattle.ssh_wire.specs.declared.method.MethodKind.TheVariants as kind
-use Rattle.ssh_wire.specs.Methods.{without as without_method}
 use Rattle.ssh_link.specs.declared.command.Command.{Command}
 use Rattle.ssh_link.specs.declared.command.Command.TheVariants as command
-use Rattle.ssh_link.specs.declared.frame.Frame.{Frame}
+use Rattle.ssh_link.specs.Frames.{Frame}
 use Rattle.ssh_link.specs.declared.frame.InputKind.{InputKind}
 use Rattle.ssh_link.specs.declared.frame.InputKind.TheVariants as input
 use Rattle.ssh_link.specs.declared.link.TraceEntry.{TraceEntry}
@@ -28,8 +27,8 @@ use Rattle.ssh_auth.specs.Publickey.{Acceptance, Circumstances, Offer}
 use Rattle.ssh_auth.specs.Plan.{Plan, Finish, Ask, Tell, after, Answer, Authentication_banner, Auth_publickey_offered, Event, Called, Told, told_in, Follows}
 use Rattle.ssh_auth.specs.Request.{begun, is_probed, prompt_of}
 use Rattle.ssh_auth.specs.Response.{Responded, Responses, Unfit_responses, Unread_responses}
-use Rattle.ssh_auth.specs.Said as asks
-use Rattle.ssh_auth.specs.Verdict.{method_verdict, answered as answer_of, rejected, probed, proven, prompted, proof, signed, permitted, responded, Outcome as Reply, Replies}
+use Rattle.ssh_auth.specs.Requested as asks
+use Rattle.ssh_auth.specs.Verdict.{method_verdict, after_method as answer_of, refused, taken_away, after_offer, after_proof, after_prompts, proof, signed, permitted, responded, AuthOutcome as Reply, Replies}
 use Rattle.ssh_auth.specs.Verdict as auth
 use Rattle.ssh_session.specs.declared.gate.Gate.{Gate}
 use Rattle.ssh_session.specs.declared.gate.Gate.TheVariants as gate
@@ -154,21 +153,21 @@ finished_keeps settings moment w requested past (auth.Fails fault) h = tt
 
 proof_keeps : (settings : Settings) (moment : ℕ) (w : World) (requested : Bool) (past : List TraceEntry) (state : AuthRequest) (user : List ℕ) (key : PublicKeyOrCertificate) (algorithm : Algorithm) → Ledgered w past →
     PlanKeeps past (after (proof state user key algorithm) (finished settings moment w requested))
-proof_keeps settings moment w requested past state user (Plain key hash) algorithm h = λ answer. finished_keeps settings moment w requested past (proven state answer) h
-proof_keeps settings moment w requested past state user (Certificate certificate) algorithm h = λ answer. finished_keeps settings moment w requested past (proven state answer) h
+proof_keeps settings moment w requested past state user (Plain key hash) algorithm h = λ answer. finished_keeps settings moment w requested past (after_proof state answer) h
+proof_keeps settings moment w requested past state user (Certificate certificate) algorithm h = λ answer. finished_keeps settings moment w requested past (after_proof state answer) h
 
 signed_keeps : (settings : Settings) (moment : ℕ) (w : World) (requested : Bool) (past : List TraceEntry) (state : AuthRequest) (user : List ℕ) (offer : Offer) (accepted : Option Bool) → Ledgered w past →
     PlanKeeps past (after (signed state user offer accepted) (finished settings moment w requested))
 signed_keeps settings moment w requested past state user offer None h = tt
-signed_keeps settings moment w requested past state user offer (Some false) h = finished_keeps settings moment w requested past (rejected state false state.methods false) h
+signed_keeps settings moment w requested past state user offer (Some false) h = finished_keeps settings moment w requested past (refused state) h
 signed_keeps settings moment w requested past state user offer (Some true) h = proof_keeps settings moment w requested past state user offer.key offer.algorithm h
 
 permitted_keeps : (settings : Settings) (moment : ℕ) (w : World) (requested : Bool) (past : List TraceEntry) (state : AuthRequest) (user : List ℕ) (offer : Offer) (accepted : Option Bool) (answer : Auth) → Ledgered w past →
     PlanKeeps past (after (permitted state answer (signed state user offer accepted)) (finished settings moment w requested))
 permitted_keeps settings moment w requested past state user offer accepted Accept h = signed_keeps settings moment w requested past state user offer accepted h
-permitted_keeps settings moment w requested past state user offer accepted (Reject methods partial) h = finished_keeps settings moment w requested past (rejected state false state.methods false) h
-permitted_keeps settings moment w requested past state user offer accepted UnsupportedMethod h = finished_keeps settings moment w requested past (rejected state false state.methods false) h
-permitted_keeps settings moment w requested past state user offer accepted (Partial name instructions prompts) h = finished_keeps settings moment w requested past (rejected state false state.methods false) h
+permitted_keeps settings moment w requested past state user offer accepted (Reject methods partial) h = finished_keeps settings moment w requested past (refused state) h
+permitted_keeps settings moment w requested past state user offer accepted UnsupportedMethod h = finished_keeps settings moment w requested past (refused state) h
+permitted_keeps settings moment w requested past state user offer accepted (Partial name instructions prompts) h = finished_keeps settings moment w requested past (refused state) h
 
 asked_first_keeps : (settings : Settings) (moment : ℕ) (w : World) (requested : Bool) (past : List TraceEntry) (state : AuthRequest) (user : List ℕ) (offer : Offer) (accepted : Option Bool) (is_asked : Bool) → Ledgered w past →
     PlanKeeps past (after (if is_asked then signed state user offer accepted
@@ -178,21 +177,21 @@ asked_first_keeps settings moment w requested past state user offer accepted fal
 
 method_keeps : (settings : Settings) (moment : ℕ) (w : World) (requested : Bool) (past : List TraceEntry) (state : AuthRequest) (user : List ℕ) (method : asks.Method) → Ledgered w past →
     PlanKeeps past (after (method_verdict state user method) (finished settings moment w requested))
-method_keeps settings moment w requested past state user asks.None_method h = λ answer. finished_keeps settings moment w requested past (answer_of state kind.None true answer) h
-method_keeps settings moment w requested past state user (asks.Password_method password) h = λ answer. finished_keeps settings moment w requested past (answer_of state kind.Password false answer) h
+method_keeps settings moment w requested past state user asks.None_method h = λ answer. finished_keeps settings moment w requested past (answer_of state kind.None answer) h
+method_keeps settings moment w requested past state user (asks.Password_method password) h = λ answer. finished_keeps settings moment w requested past (answer_of state kind.Password answer) h
 method_keeps settings moment w requested past state user (asks.Change_method password new_password) h =
-    finished_keeps settings moment w requested past (rejected state false (without_method kind.Password state.methods) false) h
-method_keeps settings moment w requested past state user asks.Unusable_method h = finished_keeps settings moment w requested past (rejected state false state.methods false) h
+    finished_keeps settings moment w requested past (taken_away state kind.Password) h
+method_keeps settings moment w requested past state user asks.Unusable_method h = finished_keeps settings moment w requested past (refused state) h
 method_keeps settings moment w requested past state user asks.Broken_method h = tt
-method_keeps settings moment w requested past state user (asks.Probe_method offer) h = λ answer. finished_keeps settings moment w requested past (probed state offer answer) h
-method_keeps settings moment w requested past state user asks.Misnamed_method h = finished_keeps settings moment w requested past (rejected state false state.methods false) h
+method_keeps settings moment w requested past state user (asks.Probe_method offer) h = λ answer. finished_keeps settings moment w requested past (after_offer state offer answer) h
+method_keeps settings moment w requested past state user asks.Misnamed_method h = finished_keeps settings moment w requested past (refused state) h
 method_keeps settings moment w requested past state user (asks.Signed_method offer accepted) h =
     asked_first_keeps settings moment w requested past state user offer accepted (is_probed state.current offer.name offer.blob) h
-method_keeps settings moment w requested past state user asks.Other_method h = finished_keeps settings moment w requested past (rejected state false state.methods false) h
-method_keeps settings moment w requested past state user (asks.Interactive_method submethods) h = λ answer. finished_keeps settings moment w requested past (prompted _ answer) h
+method_keeps settings moment w requested past state user asks.Other_method h = finished_keeps settings moment w requested past (refused state) h
+method_keeps settings moment w requested past state user (asks.Interactive_method submethods) h = λ answer. finished_keeps settings moment w requested past (after_prompts _ answer) h
 method_keeps settings moment w requested past state user (asks.Unfit_method why) h = tt
 
-request_keeps : (settings : Settings) (moment : ℕ) (w : World) (past : List TraceEntry) (asked : asks.Said) → Ledgered w past →
+request_keeps : (settings : Settings) (moment : ℕ) (w : World) (past : List TraceEntry) (asked : asks.Requested) → Ledgered w past →
     PlanKeeps past (row settings moment w (Request asked))
 request_keeps settings moment w past (asks.Request user method) h = method_keeps settings moment w true past (begun w.auth user (codes "ssh-connection")) user method h
 request_keeps settings moment w past asks.Other_service h = tt
@@ -201,8 +200,8 @@ request_keeps settings moment w past (asks.Unfit why) h = tt
 
 response_keeps : (settings : Settings) (moment : ℕ) (w : World) (requested : Bool) (past : List TraceEntry) (state : AuthRequest) (prompt : Option (List ℕ × List ℕ)) (said : Responded) → Ledgered w past →
     PlanKeeps past (after (responded state prompt said) (finished settings moment w requested))
-response_keeps settings moment w requested past state None said h = finished_keeps settings moment w requested past (rejected state false state.methods false) h
-response_keeps settings moment w requested past state (Some prompt) (Responses responses) h = λ answer. finished_keeps settings moment w requested past (prompted state answer) h
+response_keeps settings moment w requested past state None said h = finished_keeps settings moment w requested past (refused state) h
+response_keeps settings moment w requested past state (Some prompt) (Responses responses) h = λ answer. finished_keeps settings moment w requested past (after_prompts state answer) h
 response_keeps settings moment w requested past state (Some prompt) (Unfit_responses why) h = tt
 response_keeps settings moment w requested past state (Some prompt) Unread_responses h = tt
 

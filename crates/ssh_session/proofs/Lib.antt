@@ -22,7 +22,6 @@ mod Requests
 mod Responses
 pub mod Runs
 pub mod Settled
-mod Signing
 mod Steps
 pub mod Doing
 mod Peers

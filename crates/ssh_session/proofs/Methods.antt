@@ -10,10 +10,10 @@ use Rattle.ssh_link.specs.declared.frame.InputKind.{InputKind}
 use Rattle.ssh_link.specs.declared.frame.InputKind.TheVariants.{Payload}
 use Rattle.ssh_auth.specs.Layout.{pk_ok}
 use Rattle.ssh_auth.specs.Publickey.{Circumstances, Offer, offer_fields}
-use Rattle.ssh_auth.specs.Said.{Method, Broken_method, Probe_method, Misnamed_method, Signed_method, Unfit_method, Named, Is_none, Is_password, Is_publickey, Is_interactive, Is_other, named_by, head_fields, SaysPassword, SaysPublickey, SaysMethod}
+use Rattle.ssh_auth.specs.Requested.{Method, Broken_method, Probe_method, Misnamed_method, Signed_method, Unfit_method, Named, Is_none, Is_password, Is_publickey, Is_interactive, Is_other, named_by, head_fields, SaysPassword, SaysPublickey, SaysMethod}
+use Rattle.ssh_auth.proofs.Proving.{publickey_named, head_named}
 use Rattle.ssh_session.specs.Valid.{AreValidKeyFields, AreValidMethodFields, HasShortReply}
 use Rattle.ssh_session.proofs.KeyFields.{Offering, Usable, Unusable, OffersSo, Asks, Signs, SaysNext, InTurn, in_turn, same_offer, signed_holds, signed_fits}
-use Rattle.ssh_session.proofs.Signing.{publickey_named, head_named}
 
 -- the method fits its fields
 abbrev pub IsServed : Method → Type 0

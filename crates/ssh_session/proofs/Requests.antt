@@ -2,7 +2,7 @@
 use Rattle.std.proofs.Common.{◌≡◌, ◌<◌, ℕ, List, [], ◌∷◌, ◌++◌, map, Option, Result, Ok, Err, Bool, refl, sym, subst}
 use Rattle.std.proofs.lemmas.List.{append-nil}
 use Rattle.ssh_link.specs.Told.{Adds}
-use Rattle.ssh_link.specs.declared.frame.Frame.{Frame}
+use Rattle.ssh_link.specs.Frames.{Frame}
 use Rattle.ssh_link.specs.declared.link.TraceEntry.{TraceEntry}
 use Rattle.ssh_auth.specs.declared.call.Call.{Call}
 use Rattle.ssh_auth.specs.declared.auth_request.AuthRequest.{AuthRequest}
@@ -11,7 +11,7 @@ use Rattle.ssh_auth.specs.declared.auth_step.AuthVerdict.TheVariants as verdict
 use Rattle.ssh_auth.specs.declared.error.AuthError.{AuthError}
 use Rattle.ssh_auth.specs.declared.error.AuthError.TheVariants as auth_error
 use Rattle.ssh_auth.specs.Plan.{Plan, Finish, after, Event, Called, Follows}
-use Rattle.ssh_auth.specs.Verdict.{Outcome as Reply, Replies}
+use Rattle.ssh_auth.specs.Verdict.{AuthOutcome as Reply, Replies}
 use Rattle.ssh_auth.specs.Verdict as auth
 use Rattle.ssh_auth.specs.Serve as served
 use Rattle.ssh_auth.proofs.Plans.{follows_after, follows_begins, follows_breaks, begins_after, breaks_after}
@@ -62,7 +62,7 @@ fails_after {E} plan later reply outcome events is f =
 
 -- a request that gets no reply
 pub refused : {E : Type 0} (settings : Settings) (moment : ℕ) (w : World) (requested : Bool) (plan : Plan Reply) (a b : Option (List (Call E))) (trace : Option (List TraceEntry)) (faults : ℕ) (state : AuthRequest) (e : AuthError E)
-    (staged staged' : List Frame) (session : Session) → served.Serves plan a b state (Err e) →
+    (staged staged' : List Frame) (session : Session) → served.CarriesOut plan a b state (Err e) →
     Serves settings (after plan (finished settings moment w requested)) (heard a trace faults) (heard b trace faults) staged staged' session (Err (error_of_auth e))
 refused settings moment w requested plan a b trace faults state auth_error.NoMemory staged staged' session h =
     (map Called h.0, hears_calls {T = Flow} (Err error.NoMemory) a b trace faults h.0 h.1, begins_after plan (finished settings moment w requested) (map Called h.0) h.2)
@@ -101,16 +101,16 @@ held_until settings moment w requested reply none_method until a staged staged' 
 -- a request, or a response, that gets no reply, in the world of the session
 pub unanswered : {E : Type 0} (settings : Settings) (moment : ℕ) (w : World) (requested : Bool) (plan : AuthRequest → Plan Reply) (before : AuthRequest) (a b : Option (List (Call E))) (trace : Option (List TraceEntry)) (faults : ℕ)
     (state : AuthRequest) (e : AuthError E) (staged : List Frame) (session : Session) (result : Result Flow (RunError E)) → before ≡ w.auth → result ≡ Err (error_of_auth e) →
-    served.Serves (plan before) a b state (Err e) →
+    served.CarriesOut (plan before) a b state (Err e) →
     Serves settings (after (plan w.auth) (finished settings moment w requested)) (heard a trace faults) (heard b trace faults) staged staged session result
 unanswered settings moment w requested plan before a b trace faults state e staged session result same is h =
     subst (λ r. Serves settings (after (plan w.auth) (finished settings moment w requested)) (heard a trace faults) (heard b trace faults) staged staged session r) (sym is)
-    (refused settings moment w requested (plan w.auth) a b trace faults state e staged staged session (subst (λ x. served.Serves (plan x) a b state (Err e)) same h))
+    (refused settings moment w requested (plan w.auth) a b trace faults state e staged staged session (subst (λ x. served.CarriesOut (plan x) a b state (Err e)) same h))
 
 -- one that gets its reply, in the world of the session
 pub answered : {E : Type 0} (settings : Settings) (moment : ℕ) (w : World) (requested : Bool) (plan : AuthRequest → Plan Reply) (before : AuthRequest) (a b : Option (List (Call E))) (trace : Option (List TraceEntry)) (faults : ℕ)
     (c : Heard E) (state : AuthRequest) (step : AuthStep) (staged staged' : List Frame) (session : Session) (result : Result Flow (RunError E)) → before ≡ w.auth →
-    served.Serves {E = E} (plan before) a b state (Ok step) →
+    served.CarriesOut {E = E} (plan before) a b state (Ok step) →
     Serves settings (reply_row settings moment (record w { auth = state }) requested step.reply step.verdict) (heard b trace faults) c staged staged' session result →
     Serves settings (after (plan w.auth) (finished settings moment w requested)) (heard a trace faults) c staged staged' session result
 answered settings moment w requested plan before a b trace faults c state step staged staged' session result same h k =

@@ -3,10 +3,10 @@ use Rattle.std.proofs.Common.{◌≡◌, ◌<◌, ◌≤◌, ◌+◌, ℕ, List,
 use Rattle.std.specs.Prelude.{flat_map}
 use Rattle.std.proofs.lemmas.List.{append-nil, length-append}
 use Rattle.std.proofs.lemmas.List.Concat.{flat_map-append}
-use Rattle.ssh_link.specs.Told.{Adds}
+use Rattle.ssh_link.specs.Told.{Adds, ToldBy}
 use Rattle.ssh_link.specs.Asked.{IsAsked}
 use Rattle.ssh_link.proofs.Tellings.{adds_nil, adds_both}
-use Rattle.ssh_link.specs.declared.frame.Frame.{Frame}
+use Rattle.ssh_link.specs.Frames.{Frame}
 use Rattle.ssh_link.specs.declared.frame.Input.{Input}
 use Rattle.ssh_link.specs.declared.link.LinkFault.{LinkFault}
 use Rattle.ssh_link.specs.declared.link.LinkFault.TheVariants.{Failed, NoMemory}
@@ -22,7 +22,7 @@ use Rattle.ssh_session.specs.declared.session.Session.{Session}
 use Rattle.ssh_session.specs.World.{Settings, World, opening_world}
 use Rattle.ssh_session.specs.Entries.{nothing_waits}
 use Rattle.ssh_session.specs.Outcome.{Outcome}
-use Rattle.ssh_session.specs.Serve.{Refines, ToldBy}
+use Rattle.ssh_session.specs.Serve.{Refines, may_stop}
 use Rattle.ssh_session.specs.Run.{Turn, Turns, Run, calls_of, entries}
 use Rattle.ssh_session.specs.Step.{Steps, Stops, Closes, Ran}
 use Rattle.ssh_session.specs.Failure.{error_of_link}
@@ -66,10 +66,10 @@ run_more accepts settings w (first ∷ turns) mid turn world h t = (h.0, h.1, ru
 
 -- one more turn, in what is told and in the trace
 told_more : {T E : Type 0} (result : Result T (RunError E)) (a b c : Option (List (Call E))) (turns : List (Turn E)) (turn : Turn E) →
-    Adds a b (all_calls turns) → ToldBy result b c (calls_of turn) → ToldBy result a c (all_calls (turns ++ turn ∷ []))
+    Adds a b (all_calls turns) → ToldBy (may_stop result) b c (calls_of turn) → ToldBy (may_stop result) a c (all_calls (turns ++ turn ∷ []))
 told_more result a b c turns turn h k =
     let e : all_calls (turns ++ turn ∷ []) ≡ all_calls turns ++ calls_of turn = flat_map-append calls_of turns (turn ∷ []) ∙ ap (λ l. all_calls turns ++ l) (append-nil (calls_of turn)) in
-    subst (ToldBy result a c) (sym e) (told_then result a b c (all_calls turns) (calls_of turn) h k)
+    subst (ToldBy (may_stop result) a c) (sym e) (told_then (may_stop result) a b c (all_calls turns) (calls_of turn) h k)
 
 traced_more : {E : Type 0} (a b c d : Option (List TraceEntry)) (turns : List (Turn E)) (turn : Turn E) →
     Adds a b (trace_of turns) → Adds b c (Took turn.commands true turn.input ∷ []) → Adds c d (told_in turn.events ++ map Sent turn.frames) → Adds a d (trace_of (turns ++ turn ∷ []))
@@ -168,7 +168,7 @@ no_input accepts settings a b t u v f g h count max session e going took later c
       last = None;
       closes = subst (λ n. Closes accepts settings going.world n max None (f < h) (Err e)) (sym going.counted) (closes going.world);
       room = tt;
-      told = subst (λ l. ToldBy {T = Unit {0}} (Err e) a b (all_calls l)) (sym (append-nil going.turns)) (told_all {T = Unit {0}} (Err e) a b (all_calls going.turns) going.told);
+      told = subst (λ l. ToldBy (may_stop {T = Unit {0}} (Err e)) a b (all_calls l)) (sym (append-nil going.turns)) (told_all (may_stop {T = Unit {0}} (Err e)) a b (all_calls going.turns) going.told);
       traced = subst (λ l. Adds t v (trace_of l)) (sym (append-nil going.turns)) (subst (Adds t v) (append-nil (trace_of going.turns)) (adds_both t u v (trace_of going.turns) [] going.traced took));
       later = let e = going.later in omega arith;
     }

@@ -1,7 +1,7 @@
 -- What was sent on each number stays what has to be sent there, row by row.
 use Rattle.std.proofs.Common.{◌≡◌, ◌<◌, ◌≤◌, ◌==◌, ◌-◌, ℕ, Bool, true, false, Some, None, List, [], ◌∷◌, ◌++◌, map, length, refl, sym, ◌∙◌, ap, subst, inl, append_assoc, rules}
 use Rattle.std.proofs.lemmas.List.{append-nil}
-use Rattle.ssh_link.specs.declared.frame.Frame.{Frame}
+use Rattle.ssh_link.specs.Frames.{Frame}
 use Rattle.ssh_link.specs.declared.link.TraceEntry.{TraceEntry}
 use Rattle.ssh_link.specs.declared.link.TraceEntry.TheVariants.{Sent}
 use Rattle.ssh_session.specs.ChannelLayout.{confirmation_frame, failure_frame, data_frame, eof_frame, close_frame}

@@ -1,9 +1,9 @@
 -- From what serving an input does, and what handing its frames on does, to what taking an input does.
 use Rattle.std.proofs.Common.{◌≡◌, ◌<◌, ◌≤◌, ℕ, List, [], ◌++◌, map, Option, Result, Ok, Err, refl, sym, ◌∙◌, subst, inl, inr, arith}
 use Rattle.std.proofs.lemmas.List.{append-nil}
-use Rattle.ssh_link.specs.Told.{Adds}
+use Rattle.ssh_link.specs.Told.{Adds, ToldBy}
 use Rattle.ssh_link.proofs.Tellings.{adds_both}
-use Rattle.ssh_link.specs.declared.frame.Frame.{Frame}
+use Rattle.ssh_link.specs.Frames.{Frame}
 use Rattle.ssh_link.specs.declared.frame.Input.{Input}
 use Rattle.ssh_link.specs.declared.link.LinkFault.{LinkFault}
 use Rattle.ssh_link.specs.declared.link.LinkFault.TheVariants.{Failed, NoMemory}
@@ -20,7 +20,7 @@ use Rattle.ssh_session.specs.declared.session.Session.{Session}
 use Rattle.ssh_session.specs.Failure.{error_of_link}
 use Rattle.ssh_session.specs.World.{Settings, World}
 use Rattle.ssh_session.specs.Outcome.{Outcome}
-use Rattle.ssh_session.specs.Serve.{Heard, heard, Serves, Answers, ToldBy}
+use Rattle.ssh_session.specs.Serve.{Heard, heard, Serves, Answers, may_stop}
 use Rattle.ssh_session.specs.Run.{Owes}
 use Rattle.ssh_session.specs.Step.{Steps, SendsPart, Stops}
 
@@ -79,7 +79,7 @@ left_by plan events sent rose Failed cause h = (cause refl, inr h)
 left_by plan events sent rose NoMemory cause h = inr h
 
 told_by_link : {E : Type 0} (a b : Option (List (Call E))) (fault : LinkFault) (calls : List (Call E)) → Adds a b calls →
-    ToldBy {T = Flow} (Err (error_of_link fault)) a b calls
+    ToldBy (may_stop {T = Flow} (Err (error_of_link {E = E} fault))) a b calls
 told_by_link a b Failed calls h = h
 told_by_link a b NoMemory calls h = h
 

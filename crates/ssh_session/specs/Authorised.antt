@@ -1,7 +1,7 @@
 -- Nothing of the connection is served before an accepted authentication.
 use Rattle.std.specs.Prelude.{◌≡◌, ◌≤◌, ◌⊎◌, ℕ, List, [], ◌∷◌, Some, None, Ok}
 use Rattle.ssh_wire.specs.Field.{Text, SpellsAll}
-use Rattle.ssh_link.specs.declared.frame.Frame.{Frame}
+use Rattle.ssh_link.specs.Frames.{Frame}
 use Rattle.ssh_link.specs.declared.frame.InputKind.{InputKind}
 use Rattle.ssh_link.specs.declared.frame.InputKind.TheVariants.{Payload, Command, OpenReply, End}
 use Rattle.ssh_auth.specs.declared.auth.Auth.TheVariants.{Accept}

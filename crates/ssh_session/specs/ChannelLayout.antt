@@ -1,17 +1,13 @@
 -- The messages of a channel that a session writes, and the frames that carry them (RFC 4254 section 5).
 use Rattle.std.specs.Prelude.{ℕ, List, ◌∷◌, ◌++◌, Some, None}
-use Rattle.ssh_wire.specs.Field.{number, string}
+use Rattle.ssh_wire.specs.Field.{number}
 use Rattle.ssh_wire.specs.Open.{open_failure}
-use Rattle.ssh_link.specs.declared.frame.Frame.{Frame}
+use Rattle.ssh_link.specs.Frames.{Frame, channel_data}
 
 -- CHANNEL_OPEN_CONFIRMATION: byte 91, uint32 recipient channel, uint32 sender channel, uint32 initial window size,
 -- uint32 maximum packet size (section 5.1)
 abbrev pub open_confirmation : (recipient sender window packet : ℕ) → List ℕ
 open_confirmation recipient sender window packet = 91 ∷ number recipient ++ (number sender ++ (number window ++ number packet))
-
--- CHANNEL_DATA: byte 94, uint32 recipient channel, string data (section 5.2)
-abbrev pub channel_data : (recipient : ℕ) → (bytes : List ℕ) → List ℕ
-channel_data recipient bytes = 94 ∷ number recipient ++ string bytes
 
 -- CHANNEL_EOF: byte 96, uint32 recipient channel (section 5.3)
 abbrev pub channel_eof : (recipient : ℕ) → List ℕ

@@ -5,7 +5,7 @@ use Rattle.ssh_wire.specs.Open.{open_failure}
 use Rattle.ssh_wire.specs.OpenFailures.{open_failure_code, open_failure_text}
 use Rattle.ssh_link.specs.declared.command.Command.{Command}
 use Rattle.ssh_link.specs.declared.command.Command.TheVariants as command
-use Rattle.ssh_link.specs.declared.frame.Frame.{Frame}
+use Rattle.ssh_link.specs.Frames.{Frame}
 use Rattle.ssh_link.specs.declared.notice.Notice.{Notice}
 use Rattle.ssh_link.specs.declared.notice.Notice.TheVariants.{Ready}
 use Rattle.ssh_link.specs.declared.open_answer.OpenAnswer.{OpenAnswer}

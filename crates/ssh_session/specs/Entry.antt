@@ -2,7 +2,7 @@
 -- section 5.2).
 use Rattle.std.specs.Prelude.{ℕ, ◌+◌, ◌-◌, ◌^◌, min, Bool, false, List, [], ◌∷◌, ◌++◌, length, take, map, nat_lt}
 use Rattle.std.specs.List.{concat}
-use Rattle.ssh_link.specs.declared.frame.Frame.{Frame}
+use Rattle.ssh_link.specs.Frames.{Frame}
 use Rattle.ssh_session.specs.ChannelLayout.{data_frame}
 use Rattle.ssh_session.specs.Cut.{cut, left_of}
 

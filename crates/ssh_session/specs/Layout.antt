@@ -1,7 +1,7 @@
 -- The messages that a session writes by itself, and the frames that carry messages.
 use Rattle.std.specs.Prelude.{ℕ, List, [], ◌∷◌, ◌++◌, codes, Some, None}
 use Rattle.ssh_wire.specs.Field.{number, string}
-use Rattle.ssh_link.specs.declared.frame.Frame.{Frame}
+use Rattle.ssh_link.specs.Frames.{Frame}
 
 -- DISCONNECT: byte 1, uint32 reason, string description, string language (RFC 4253 section 11.1)
 abbrev pub disconnect : ℕ → List ℕ → List ℕ → List ℕ

@@ -1,7 +1,7 @@
 -- What an input comes to once its calls are made.
 use Rattle.std.specs.Prelude.{List}
 use Rattle.ssh_wire.specs.declared.error.WireError.{WireError}
-use Rattle.ssh_link.specs.declared.frame.Frame.{Frame}
+use Rattle.ssh_link.specs.Frames.{Frame}
 use Rattle.ssh_session.specs.World.{World}
 
 -- why an input cannot be finished

@@ -2,7 +2,7 @@
 use Rattle.std.specs.Prelude.{ℕ, ◌+◌, ◌-◌, ◌^◌, min, nat_lt, List, [], ◌∷◌, ◌++◌, length, Bool, true, false, Option, Some, None, unwrap_or, if◌then◌else◌, bytes_eq, codes}
 use Rattle.ssh_wire.specs.declared.error.WireError.TheVariants.{TooLong}
 use Rattle.ssh_wire.specs.declared.channel_id.ChannelId.{ChannelId}
-use Rattle.ssh_link.specs.declared.frame.Frame.{Frame}
+use Rattle.ssh_link.specs.Frames.{Frame}
 use Rattle.ssh_link.specs.declared.link.TraceEntry.TheVariants.{Noticed}
 use Rattle.ssh_link.specs.declared.notice.ChannelMsg.TheVariants as msg
 use Rattle.ssh_link.specs.declared.notice.Notice.TheVariants.{Channel, Granted}
@@ -10,8 +10,8 @@ use Rattle.ssh_auth.specs.declared.auth_step.AuthVerdict.{AuthVerdict}
 use Rattle.ssh_auth.specs.declared.auth_step.AuthVerdict.TheVariants as verdict
 use Rattle.ssh_auth.specs.Plan.{Plan, Finish, Ask, Tell, after, Authentication_banner, Auth_succeeded, Channel_open_session, Channel_eof, Channel_close, Window_adjusted}
 use Rattle.ssh_auth.specs.Response.{Responded}
-use Rattle.ssh_auth.specs.Said.{Said as Asked}
-use Rattle.ssh_auth.specs.Verdict.{verdict as verdict_on, response_verdict, Outcome as Reply, Replies}
+use Rattle.ssh_auth.specs.Requested.{Requested as Asked}
+use Rattle.ssh_auth.specs.Verdict.{verdict as verdict_on, response_verdict, AuthOutcome as Reply, Replies}
 use Rattle.ssh_auth.specs.Verdict as auth
 use Rattle.ssh_handler.specs.declared.config.Config.{Config}
 use Rattle.ssh_session.specs.declared.phase.Phase.TheVariants.{Authentication, Accepted}

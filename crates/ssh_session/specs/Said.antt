@@ -6,7 +6,7 @@ use Rattle.ssh_wire.specs.Field.{Field, Number, Text, SpellsWhole, MisfitsAll, M
 use Rattle.ssh_wire.specs.Open.{leading_fields, Leads, MisfitsOpen}
 use Rattle.ssh_auth.specs.Publickey.{Circumstances}
 use Rattle.ssh_auth.specs.Response.{Responded, SaysResponses}
-use Rattle.ssh_auth.specs.Said.{Said as Asked, Says as Asks}
+use Rattle.ssh_auth.specs.Requested.{Requested as Asked, SaysRequest as Asks}
 use Rattle.ssh_session.specs.declared.gate.Gate.{Gate}
 use Rattle.ssh_session.specs.declared.gate.Gate.TheVariants as gate
 

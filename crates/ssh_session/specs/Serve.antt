@@ -1,7 +1,8 @@
 -- What serving an input does, and how a session stands for a world.
-use Rattle.std.specs.Prelude.{◌≡◌, ◌<◌, ◌≤◌, ℕ, List, [], ◌++◌, Bool, false, Option, option_to_list, Result, Ok, Err}
-use Rattle.ssh_link.specs.Told.{Adds, AddsOrStops, Tells}
-use Rattle.ssh_link.specs.declared.frame.Frame.{Frame}
+use Rattle.std.specs.Prelude.{◌≡◌, ◌≤◌, ℕ, List, [], ◌++◌, Bool, true, false, Option, option_to_list, Result, Ok, Err}
+use Rattle.ssh_link.specs.Faults.{Rose}
+use Rattle.ssh_link.specs.Told.{Adds, ToldBy, Tells}
+use Rattle.ssh_link.specs.Frames.{Frame}
 use Rattle.ssh_link.specs.declared.link.TraceEntry.{TraceEntry}
 use Rattle.ssh_keys.specs.declared.error.KeyError.TheVariants.{Blob}
 use Rattle.ssh_auth.specs.declared.call.Call.{Call}
@@ -58,10 +59,6 @@ pub record Heard (E : Type 0) : Type 0 where
 abbrev pub heard : {E : Type 0} → Option (List (Call E)) → Option (List TraceEntry) → ℕ → Heard E
 heard calls trace faults = record { calls = calls; trace = trace; faults = faults }
 
--- the link's faults rose
-abbrev pub Rose : {E : Type 0} → Heard E → Heard E → Type 0
-Rose before after = before.faults < after.faults
-
 -- with these events the plan gives this answer; staged are the frames before and after, and rose says that the link's faults rose
 abbrev pub Answers : {E : Type 0} → Settings → Plan Outcome → Type 0 → List (Event E) → List Frame → List Frame → Session → Result Flow (RunError E) → Type 0
 Answers settings plan rose events staged staged' session (Ok Continue) =
@@ -78,20 +75,20 @@ Answers settings plan rose events staged staged' session (Err error.UnsupportedA
 Answers settings plan rose events staged staged' session (Err (error.Handler e)) = Breaks plan events e
 Answers settings plan rose events staged staged' session (Err error.NotBuilt) = Follows plan events (Fails Not_built)
 
--- the handler was told these calls; after one that answered an error it may tell nothing
-abbrev pub ToldBy : {T E : Type 0} → Result T (RunError E) → Option (List (Call E)) → Option (List (Call E)) → List (Call E) → Type 0
-ToldBy (Err (error.Handler e)) told told' calls = AddsOrStops told told' calls
-ToldBy _ told told' calls = Adds told told' calls
+-- after a callback that answered an error the handler may tell nothing
+abbrev pub may_stop : {T E : Type 0} → Result T (RunError E) → Bool
+may_stop (Err (error.Handler e)) = true
+may_stop _ = false
 
 -- what was told meanwhile are these events
 abbrev pub Hears : {T E : Type 0} → Result T (RunError E) → Heard E → Heard E → List (Event E) → Type 0
 Hears result before after events =
-    ToldBy result before.calls after.calls (calls_in events) × Adds before.trace after.trace (told_in events) × (before.faults ≤ after.faults)
+    ToldBy (may_stop result) before.calls after.calls (calls_in events) × Adds before.trace after.trace (told_in events) × (before.faults ≤ after.faults)
 
 -- the same, and the handler and the link were told these events
 abbrev pub Serves : {E : Type 0} → Settings → Plan Outcome → Heard E → Heard E → List Frame → List Frame → Session → Result Flow (RunError E) → Type 0
 Serves {E} settings plan before after staged staged' session result =
-    (events : List (Event E)) × Hears result before after events × Answers settings plan (Rose before after) events staged staged' session result
+    (events : List (Event E)) × Hears result before after events × Answers settings plan (Rose before.faults after.faults) events staged staged' session result
 
 -- what a command did in code: the frames that it staged, the notice that it gives, and the session after it
 abbrev pub HasEffect : {E : Type 0} → Settings → Effect → List Frame → List Frame → Session → Result Done (RunError E) → Type 0

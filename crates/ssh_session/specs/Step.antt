@@ -1,7 +1,8 @@
 -- What taking an input does, and what a run is.
 use Rattle.std.specs.Prelude.{◌≡◌, ◌<◌, ◌≤◌, ◌⊎◌, ℕ, List, [], ◌++◌, map, flat_map, length, Option, Some, None, option_to_list, IfSome, Result, Ok, Err}
-use Rattle.ssh_link.specs.Told.{Adds}
-use Rattle.ssh_link.specs.declared.frame.Frame.{Frame}
+use Rattle.ssh_link.specs.Faults.{Rose}
+use Rattle.ssh_link.specs.Told.{Adds, ToldBy}
+use Rattle.ssh_link.specs.Frames.{Frame}
 use Rattle.ssh_link.specs.declared.frame.Input.{Input}
 use Rattle.ssh_link.specs.declared.link.TraceEntry.{TraceEntry}
 use Rattle.ssh_link.specs.declared.link.TraceEntry.TheVariants.{Sent}
@@ -16,7 +17,7 @@ use Rattle.ssh_session.specs.declared.error.RunError.TheVariants as error
 use Rattle.ssh_session.specs.declared.session.Session.{Session}
 use Rattle.ssh_session.specs.World.{Settings, World, opening_world}
 use Rattle.ssh_session.specs.Outcome.{Outcome, Goes, Ends, Fails, Encoding, Inconsistent, Key, Unsupported, Not_built}
-use Rattle.ssh_session.specs.Serve.{Refines, ToldBy}
+use Rattle.ssh_session.specs.Serve.{Refines, may_stop}
 use Rattle.ssh_session.specs.Run.{Owes, Turn, Run, IsTaken, calls_of, entries}
 
 -- the plan comes to frames that begin with those that were handed on
@@ -51,11 +52,11 @@ pub record Steps {E : Type 0} (accepts : Acceptance) (settings : Settings) (w : 
   pub plan : Plan Outcome
   pub owes : Owes accepts settings w input plan
   pub events : List (Event E)
-  pub told : ToldBy result before after (calls_in events)
+  pub told : ToldBy (may_stop result) before after (calls_in events)
   pub sent : List Frame
   pub traced : Adds trace trace' (told_in events ++ map Sent sent)
   pub later : faults ≤ faults'
-  pub finishes : Finishes settings plan events sent (faults < faults') session result
+  pub finishes : Finishes settings plan events sent (Rose faults faults') session result
 
 -- how a run ends: in this world, after so many finished inputs, with one more that ended it or was not finished
 abbrev pub Closes : {E : Type 0} → Acceptance → Settings → World → ℕ → ℕ → Option (Turn E) → Type 0 → Result (Unit {0}) (RunError E) → Type 0
@@ -78,11 +79,11 @@ pub record Ran {E : Type 0} (accepts : Acceptance) (settings : Settings) (before
   pub run : Run accepts settings (opening_world settings) turns world
   -- and one more, which ended the run or was not finished
   pub last : Option (Turn E)
-  pub closes : Closes accepts settings world (length turns) max last (faults < faults') result
+  pub closes : Closes accepts settings world (length turns) max last (Rose faults faults') result
   -- no input is taken beyond the limit
   pub room : IfSome last (λ turn. length turns < max)
   -- the handler was called for these and for nothing else
-  pub told : ToldBy result before after (flat_map calls_of (turns ++ option_to_list last))
+  pub told : ToldBy (may_stop result) before after (flat_map calls_of (turns ++ option_to_list last))
   -- the link was asked for these inputs and given these frames, and nothing else
   pub traced : Adds trace trace' (flat_map entries (turns ++ option_to_list last))
   pub later : faults ≤ faults'

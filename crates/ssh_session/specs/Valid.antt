@@ -4,7 +4,7 @@ use Rattle.ssh_wire.specs.Field.{Flag, Number, Text, SpellsAll, SpellsWhole}
 use Rattle.ssh_wire.specs.Open.{Leads}
 use Rattle.ssh_link.specs.declared.command.Command.{Command as Commanded}
 use Rattle.ssh_link.specs.declared.command.Command.TheVariants as command
-use Rattle.ssh_auth.specs.Said.{Named, Is_none, Is_password, Is_publickey, Is_interactive, Is_other, named_by, head_fields}
+use Rattle.ssh_auth.specs.Requested.{Named, Is_none, Is_password, Is_publickey, Is_interactive, Is_other, named_by, head_fields}
 use Rattle.ssh_link.specs.declared.frame.InputKind.{InputKind}
 use Rattle.ssh_link.specs.declared.frame.InputKind.TheVariants.{Payload, Command, OpenReply, End}
 use Rattle.ssh_keys.specs.declared.signature.Signature.{Signature}

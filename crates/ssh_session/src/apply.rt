@@ -104,8 +104,7 @@ impl Session {
         if entry.waits() {
             return Err(RunError::NotBuilt);
         }
-        let frame = eof_frame(self.alloc, channel, entry.peer)?;
-        staged.push(frame)?;
+        staged.push(eof_frame(channel, entry.peer))?;
         self.channels[place].eof = true;
         Ok(Done::accepted())
     }
@@ -266,8 +265,7 @@ impl Session {
         ensures kept { OnOk result (self.new ≡ record self.old { channels = self.new.channels }) }
         ensures memory { IfErr result (λ e. e ≡ NoMemory) }
     {
-        let frame = close_frame(self.alloc, channel, peer)?;
-        staged.push(frame)?;
+        staged.push(close_frame(channel, peer))?;
         let channels = mem::replace(&mut self.channels, Vec::new(self.alloc));
         self.channels = remove(self.alloc, channels, channel)?;
         Ok(())

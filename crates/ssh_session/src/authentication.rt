@@ -124,11 +124,7 @@ impl Session {
             Answers settings (Finish (Goes (record { payload = payload; hold_until = hold_until; channel = None } ∷ []) (record w { requested = requested }))) ⊥ []
             staged.old.items staged.new.items self.new result }
     {
-        staged.push(Frame {
-            payload,
-            hold_until,
-            channel: None,
-        })?;
+        staged.push(Frame::new(payload, hold_until, None))?;
         self.requested = requested;
         Ok(Flow::Continue)
     }
@@ -148,11 +144,7 @@ impl Session {
             Serves settings (reply_row settings moment w requested reply verdict.Accepted)
             (heard (H.AuthHandler.told handler.old) (L.trace link.old) (L.faults link.old)) (heard (H.AuthHandler.told handler.new) (L.trace link.new) (L.faults link.new)) staged.old.items staged.new.items self.new result }
     {
-        staged.push(Frame {
-            payload: reply,
-            hold_until: None,
-            channel: None,
-        })?;
+        staged.push(Frame::new(reply, None, None))?;
         match self.ask_succeeded(handler) {
             Ok(commands) => {
                 self.phase = Phase::Accepted;

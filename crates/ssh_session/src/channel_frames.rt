@@ -1,5 +1,5 @@
 // The frames of a channel that a session writes by itself.
-ghost use Rattle.std.specs.Prelude.{◌≡◌, ◌≤◌, ◌<◌, ◌^◌, ◌-◌, ◌⊎◌, ◌↔◌, length, IfOk, IfErr, IsErrOf};
+ghost use Rattle.std.specs.Prelude.{◌≡◌, ◌≤◌, ◌<◌, ◌^◌, ◌⊎◌, ◌↔◌, length, IfOk, IfErr, IsErrOf};
 ghost use Rattle.ssh_wire.specs.declared.error.WireError.TheVariants.{TooLong, NoMemory};
 ghost use Rattle.ssh_wire.specs.OpenFailures.{open_failure_code};
 ghost use Rattle.ssh_wire.specs.Open.{open_failure};
@@ -7,14 +7,12 @@ ghost use Rattle.ssh_session.specs.ChannelLayout as layout;
 
 use bytes::Bytes;
 use ssh_link::Frame;
-use ssh_wire::{ChannelId, ChannelOpenFailure, WireError, put_bytes, put_text, put_u8, put_u32};
+use ssh_wire::{ChannelId, ChannelOpenFailure, WireError, put_text, put_u8, put_u32};
 use std::alloc::Global;
 
 const CHANNEL_OPEN_CONFIRMATION: u8 = 91;
 
 const CHANNEL_OPEN_FAILURE: u8 = 92;
-
-const CHANNEL_DATA: u8 = 94;
 
 const CHANNEL_EOF: u8 = 96;
 
@@ -29,11 +27,7 @@ fn frame_on(own: ChannelId, payload: Vec<u8>) -> Result<Frame, WireError>
     ensures ok { IfOk result (λ f. f ≡ layout.on_channel own.0 payload.items) }
     ensures memory { IfErr result (λ e. e ≡ NoMemory) }
 {
-    Ok(Frame {
-        payload: Bytes::from_vec(payload)?,
-        hold_until: None,
-        channel: Some(own),
-    })
+    Ok(Frame::new(Bytes::from_vec(payload)?, None, Some(own)))
 }
 
 /// CHANNEL_OPEN_CONFIRMATION: `window` and `packet` are what this side grants and takes, in bytes
@@ -101,42 +95,18 @@ fn failure_payload(
     Ok(payload)
 }
 
-/// CHANNEL_DATA with this piece. `NoMemory` is the only error (RFC 4254 section 5.2).
-pub(crate) fn data_frame(
-    alloc: Global,
-    own: ChannelId,
-    peer: u32,
-    piece: &[u8],
-) -> Result<Frame, WireError>
-    requires { length piece.now ≤ 2 ^ 32 - 14 }
-    ensures ok { IfOk result (λ f. f ≡ layout.data_frame own.0 peer piece.now) }
-    ensures memory { IfErr result (λ e. e ≡ NoMemory) }
+/// CHANNEL_EOF: no more data follow. Takes no memory (RFC 4254 section 5.3).
+pub(crate) fn eof_frame(own: ChannelId, peer: u32) -> Frame
+    ensures { result ≡ layout.eof_frame own.0 peer }
 {
-    let mut payload = Vec::new(alloc);
-    put_u8(&mut payload, CHANNEL_DATA)?;
-    put_u32(&mut payload, peer)?;
-    put_bytes(&mut payload, piece)?;
-    frame_on(own, payload)
+    let [a, b, c, d] = peer.to_be_bytes();
+    Frame::short(&[CHANNEL_EOF, a, b, c, d], None, Some(own))
 }
 
-/// CHANNEL_EOF: no more data follow (RFC 4254 section 5.3).
-pub(crate) fn eof_frame(alloc: Global, own: ChannelId, peer: u32) -> Result<Frame, WireError>
-    ensures ok { IfOk result (λ f. f ≡ layout.eof_frame own.0 peer) }
-    ensures memory { IfErr result (λ e. e ≡ NoMemory) }
+/// CHANNEL_CLOSE: nothing more follows. Takes no memory (RFC 4254 section 5.3).
+pub(crate) fn close_frame(own: ChannelId, peer: u32) -> Frame
+    ensures { result ≡ layout.close_frame own.0 peer }
 {
-    let mut payload = Vec::new(alloc);
-    put_u8(&mut payload, CHANNEL_EOF)?;
-    put_u32(&mut payload, peer)?;
-    frame_on(own, payload)
-}
-
-/// CHANNEL_CLOSE: nothing more follows (RFC 4254 section 5.3).
-pub(crate) fn close_frame(alloc: Global, own: ChannelId, peer: u32) -> Result<Frame, WireError>
-    ensures ok { IfOk result (λ f. f ≡ layout.close_frame own.0 peer) }
-    ensures memory { IfErr result (λ e. e ≡ NoMemory) }
-{
-    let mut payload = Vec::new(alloc);
-    put_u8(&mut payload, CHANNEL_CLOSE)?;
-    put_u32(&mut payload, peer)?;
-    frame_on(own, payload)
+    let [a, b, c, d] = peer.to_be_bytes();
+    Frame::short(&[CHANNEL_CLOSE, a, b, c, d], None, Some(own))
 }

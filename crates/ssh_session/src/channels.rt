@@ -1,6 +1,6 @@
 // Messages of the peer on its channels.
 ghost use Rattle.std.specs.Prelude.{◌≡◌, ◌++◌, ℕ, List};
-ghost use Rattle.ssh_link.specs.declared.frame.Frame.{Frame as FrameOf};
+ghost use Rattle.ssh_link.specs.Frames.{Frame as FrameOf};
 ghost use Rattle.ssh_session.specs.declared.gate.Gate.TheVariants as gate;
 ghost use Rattle.ssh_session.specs.World.{Settings, World};
 ghost use Rattle.ssh_session.specs.Entries.{find};

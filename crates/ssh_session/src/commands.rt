@@ -1,15 +1,16 @@
 // Commands of callbacks and from outside.
-ghost use Rattle.std.specs.Prelude.{◌≡◌, ◌++◌, ◌+◌, ◌<◌, ◌≤◌, ◌^◌, ◌∷◌, ℕ, List, Option, [], OnOk, OnErr, Ok, Err, map, option_to_list};
-ghost use Rattle.ssh_link.specs.Told.{Adds};
+ghost use Rattle.std.specs.Prelude.{◌≡◌, ◌++◌, ◌+◌, ◌≤◌, ◌^◌, ◌∷◌, ℕ, List, Option, [], OnOk, OnErr, Ok, Err, map, option_to_list};
+ghost use Rattle.ssh_link.specs.Faults.{Rose};
+ghost use Rattle.ssh_link.specs.Told.{Adds, ToldBy};
 ghost use Rattle.ssh_link.specs.declared.command.Command.{Command as CommandOf};
-ghost use Rattle.ssh_link.specs.declared.frame.Frame.{Frame as FrameOf};
+ghost use Rattle.ssh_link.specs.Frames.{Frame as FrameOf};
 ghost use Rattle.ssh_link.specs.declared.link.TraceEntry.TheVariants.{Noticed};
 ghost use Rattle.ssh_auth.specs.declared.call.Call.{Call as CallOf};
 ghost use Rattle.ssh_auth.specs.Plan.{Plan, Called};
 ghost use Rattle.ssh_session.specs.Outcome.{Outcome};
 ghost use Rattle.ssh_session.specs.World.{Settings, World};
 ghost use Rattle.ssh_session.specs.Commanded.{done_all, command_row, tell_done};
-ghost use Rattle.ssh_session.specs.Serve.{Refines, Serves, DoesOne, ToldBy, Passes, heard};
+ghost use Rattle.ssh_session.specs.Serve.{Refines, Serves, DoesOne, Passes, heard, may_stop};
 
 use crate::apply::Done;
 use crate::{Flow, RunError, Session};
@@ -20,7 +21,7 @@ use ssh_link::{Command, CommandList, CommandOutcome, Frame, Link, LinkFault, Not
 fn give<L: Link>(link: &mut L, notice: Option<Notice>) -> Result<(), LinkFault>
     ensures given { OnOk result (Adds (L.trace link.old) (L.trace link.new) (map Noticed (option_to_list notice))) }
     ensures err { OnErr result (Adds (L.trace link.old) (L.trace link.new) []) }
-    ensures cause { result ≡ Err LinkFault.Failed → L.faults link.old < L.faults link.new }
+    ensures cause { result ≡ Err LinkFault.Failed → Rose (L.faults link.old) (L.faults link.new) }
     ensures later { L.faults link.old ≤ L.faults link.new }
 {
     match notice {
@@ -35,7 +36,7 @@ fn tell_done<H: Handler>(
     place: usize,
     outcome: CommandOutcome,
 ) -> Result<(), RunError<H::Error>>
-    ensures { (next : Plan Outcome) → (calls : List (CallOf _)) × ToldBy result (H.AuthHandler.told handler.old) (H.AuthHandler.told handler.new) calls
+    ensures { (next : Plan Outcome) → (calls : List (CallOf _)) × ToldBy (may_stop result) (H.AuthHandler.told handler.old) (H.AuthHandler.told handler.new) calls
         × Passes (tell_done place outcome next) next (map Called calls) result }
 {
     match outcome {

@@ -2,11 +2,10 @@
 ghost use Rattle.std.specs.Prelude.{◌≡◌, ◌<◌, ◌-◌, ◌++◌, length, map, take, drop, IfOk, OnOk, IfErr};
 ghost use Rattle.std.specs.List.{concat};
 ghost use Rattle.ssh_wire.specs.declared.error.WireError.TheVariants.{NoMemory};
-ghost use Rattle.ssh_session.specs.ChannelLayout.{data_frame as data_frame_of};
+ghost use Rattle.ssh_session.specs.ChannelLayout.{data_frame};
 ghost use Rattle.ssh_session.specs.Cut.{pieces, cut, chunk_of, left_of};
 ghost use Rattle.ssh_session.specs.Entry.{piece_limit};
 
-use crate::channel_frames::data_frame;
 use bytes::Bytes;
 use ssh_link::Frame;
 use ssh_wire::{ChannelId, WireError};
@@ -28,23 +27,17 @@ pub(crate) struct Recipient {
     ghost packet_size: { 0 < packet },
 }
 
-/// These bytes go out, in pieces.
-fn push_pieces(
-    alloc: Global,
-    to: Recipient,
-    bytes: &[u8],
-    staged: &mut Vec<Frame>,
-) -> Result<(), WireError>
-    ensures ok { OnOk result (staged.new.items ≡ staged.old.items ++ map (data_frame_of to.own.0 to.peer) (pieces (piece_limit to.packet) bytes.now)) }
+/// These bytes go out, in pieces that share them.
+fn push_pieces(to: Recipient, bytes: Bytes, staged: &mut Vec<Frame>) -> Result<(), WireError>
+    ensures ok { OnOk result (staged.new.items ≡ staged.old.items ++ map (data_frame to.own.0 to.peer) (pieces (piece_limit to.packet) bytes)) }
     ensures memory { IfErr result (λ e. e ≡ NoMemory) }
 {
     let limit = to.packet.min(MAX_PIECE);
     let mut rest = bytes;
     while !rest.is_empty() {
         let count = rest.len().min(limit as usize);
-        let (piece, more) = rest.split_at(count);
-        staged.push(data_frame(alloc, to.own, to.peer, piece)?)?;
-        rest = more;
+        let piece = rest.split_to(count)?;
+        staged.push(Frame::data(to.own, to.peer, piece))?;
     }
     Ok(())
 }
@@ -52,7 +45,6 @@ fn push_pieces(
 /// What the credit lets out of this chunk goes out, and the rest joins what is left. Answers the
 /// credit after it, in bytes.
 fn send_chunk(
-    alloc: Global,
     to: Recipient,
     credit: u32,
     chunk: Bytes,
@@ -62,19 +54,20 @@ fn send_chunk(
     ensures credit { IfOk result (λ r. r ≡ credit - length chunk) }
     ensures left { OnOk result (left.new.items ≡ left.old.items ++ chunk_of (drop credit chunk)) }
     ensures staged { OnOk result (staged.new.items
-        ≡ staged.old.items ++ map (data_frame_of to.own.0 to.peer) (pieces (piece_limit to.packet) (take credit chunk))) }
+        ≡ staged.old.items ++ map (data_frame to.own.0 to.peer) (pieces (piece_limit to.packet) (take credit chunk))) }
     ensures memory { IfErr result (λ e. e ≡ NoMemory) }
 {
-    let bytes = chunk.as_slice();
+    let size = chunk.len();
     let count = credit as usize;
-    if count < bytes.len() {
-        let (first, _) = bytes.split_at(count);
-        push_pieces(alloc, to, first, staged)?;
-        left.push(chunk.slice(count..)?)?;
+    if count < size {
+        let mut rest = chunk;
+        let first = rest.split_to(count)?;
+        push_pieces(to, first, staged)?;
+        left.push(rest)?;
         return Ok(0);
     }
-    push_pieces(alloc, to, bytes, staged)?;
-    Ok(credit - bytes.len() as u32)
+    push_pieces(to, chunk, staged)?;
+    Ok(credit - size as u32)
 }
 
 /// What the credit lets out of these chunks goes out. Answers what is left of them, and the credit
@@ -89,13 +82,13 @@ pub(crate) fn send_chunks(
     ensures left { IfOk result (λ r. r.0.items ≡ left_of credit chunks.items) }
     ensures credit { IfOk result (λ r. r.1 ≡ credit - length (concat chunks.items)) }
     ensures staged { OnOk result (staged.new.items
-        ≡ staged.old.items ++ map (data_frame_of to.own.0 to.peer) (cut (piece_limit to.packet) credit chunks.items)) }
+        ≡ staged.old.items ++ map (data_frame to.own.0 to.peer) (cut (piece_limit to.packet) credit chunks.items)) }
     ensures memory { IfErr result (λ e. e ≡ NoMemory) }
 {
     let mut left = Vec::new(alloc);
     let mut credit_left = credit;
     for chunk in chunks {
-        credit_left = send_chunk(alloc, to, credit_left, chunk, &mut left, staged)?;
+        credit_left = send_chunk(to, credit_left, chunk, &mut left, staged)?;
     }
     Ok((left, credit_left))
 }

@@ -19,11 +19,7 @@ fn frame_at_once(payload: Vec<u8>) -> Result<Frame, WireError>
     ensures ok { IfOk result (λ f. f ≡ at_once payload.items) }
     ensures memory { IfErr result (λ e. e ≡ NoMemory) }
 {
-    Ok(Frame {
-        payload: Bytes::from_vec(payload)?,
-        hold_until: None,
-        channel: None,
-    })
+    Ok(Frame::new(Bytes::from_vec(payload)?, None, None))
 }
 
 /// SERVICE_ACCEPT for the service `ssh-userauth` (RFC 4253 section 10).

@@ -1,5 +1,6 @@
 // A run: inputs from a link, one after another, until one ends it.
-ghost use Rattle.std.specs.Prelude.{◌≡◌, ◌<◌, ◌≤◌, ◌^◌, List, length, OnOk, IfSome, IsSomeAnd, IsErrOf, flat_map, option_to_list, ◌++◌};
+ghost use Rattle.std.specs.Prelude.{◌≡◌, ◌<◌, ◌^◌, List, length, OnOk, IfSome, IsSomeAnd, IsErrOf, flat_map, option_to_list, ◌++◌};
+ghost use Rattle.ssh_link.specs.Faults.{Rose};
 ghost use Rattle.ssh_session.specs.World.{World, settings_of, opening_world};
 ghost use Rattle.ssh_session.specs.Run.{Turn, Run as RunOf, entries};
 ghost use Rattle.ssh_session.specs.Sent.{Settled};
@@ -90,7 +91,7 @@ pub fn run_stream<H: Handler, V: Verifier, L: Link>(
     ensures closing { (account : Ran (V.accepts verifier.now) (settings_of config.now session_id.now remote_sshid.now) (H.AuthHandler.told handler.old) (H.AuthHandler.told handler.new)
         (L.trace link.old) (L.trace link.new) (L.faults link.old) (L.faults link.new) max_inputs result) →
         ClosesRightly (V.accepts verifier.now) (settings_of config.now session_id.now remote_sshid.now) (account.turns ++ option_to_list account.last) }
-    ensures link_fault { IsErrOf result RunError.LinkFault → L.faults link.old < L.faults link.new }
+    ensures link_fault { IsErrOf result RunError.LinkFault → Rose (L.faults link.old) (L.faults link.new) }
 {
     run_inputs(
         alloc,

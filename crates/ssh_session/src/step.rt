@@ -1,7 +1,8 @@
 // One input, taken and finished.
-ghost use Rattle.std.specs.Prelude.{◌≡◌, ◌≢◌, ◌≤◌, ◌<◌, ◌++◌, ℕ, List, map, Ok, Err, OnOk, IfErr, true};
-ghost use Rattle.ssh_link.specs.declared.frame.Frame.{Frame as FrameOf};
+ghost use Rattle.std.specs.Prelude.{◌≡◌, ◌≢◌, ◌≤◌, ◌++◌, ℕ, List, map, Ok, Err, OnOk, IfErr, true};
+ghost use Rattle.ssh_link.specs.Frames.{Frame as FrameOf};
 ghost use Rattle.ssh_link.specs.declared.link.TraceEntry.TheVariants.{Sent};
+ghost use Rattle.ssh_link.specs.Faults.{Rose};
 ghost use Rattle.ssh_link.specs.Told.{Adds};
 ghost use Rattle.ssh_session.specs.World.{Settings, World, circumstances};
 ghost use Rattle.ssh_session.specs.Gate.{gate_of};
@@ -15,16 +16,16 @@ ghost use Rattle.ssh_session.specs.Step.{Steps};
 
 use crate::gate::Gate;
 use crate::{Flow, RunError, Session};
-use ssh_auth::fields_of;
 use ssh_handler::Handler;
 use ssh_keys::Verifier;
 use ssh_link::{Command, Frame, Input, InputKind, Link, LinkFault};
+use ssh_wire::fields_of;
 
 /// Hands the staged frames on, in order.
 fn send_all<L: Link>(link: &mut L, staged: Vec<Frame>) -> Result<(), LinkFault>
     ensures sent { OnOk result (Adds (L.trace link.old) (L.trace link.new) (map Sent staged.items)) }
     ensures part { IfErr result (λ _. (sent rest : List FrameOf) × (staged.items ≡ sent ++ rest) × Adds (L.trace link.old) (L.trace link.new) (map Sent sent)) }
-    ensures cause { result ≡ Err LinkFault.Failed → L.faults link.old < L.faults link.new }
+    ensures cause { result ≡ Err LinkFault.Failed → Rose (L.faults link.old) (L.faults link.new) }
     ensures later { L.faults link.old ≤ L.faults link.new }
 {
     for frame in staged {

@@ -1,5 +1,5 @@
 use Rattle.std.proofs.Common.{◌≡◌, ◌+◌, ◌++◌, List, Ok, length}
-use Rattle.ssh_link.specs.declared.frame.Frame.{Frame}
+use Rattle.ssh_link.specs.Frames.{Frame}
 use Rattle.ssh_session.specs.World.{Settings, World}
 use Rattle.ssh_session.specs.Commanded.{done_all}
 use Rattle.ssh_session.specs.Serve.{Refines, DoesOne, heard}

@@ -1,14 +1,16 @@
-use Rattle.std.proofs.Common.{[], Ok, sym, refl}
+use Rattle.std.proofs.Common.{[], Ok, Err, sym, ap, ◌∙◌, refl}
 use Rattle.std.proofs.lemmas.List.{append-nil}
+use Rattle.std.proofs.lemmas.Result.{err_from_is_err_and}
 use Rattle.ssh_link.specs.declared.link.TraceEntry.TheVariants.{Noticed}
 use Rattle.ssh_link.specs.declared.notice.Notice.TheVariants.{Granted}
 use Rattle.ssh_auth.specs.Plan.{Finish}
 use Rattle.ssh_session.specs.declared.error.Flow.TheVariants.{Continue}
 use Rattle.ssh_session.specs.Entry.{granting, flushed, flush_out}
 use Rattle.ssh_session.specs.Entries.{find, put}
+use Rattle.ssh_session.specs.Failure.{run_error_of}
 use Rattle.ssh_session.specs.Outcome.{Goes}
-use Rattle.ssh_session.specs.Rows.{window_told}
-use Rattle.ssh_session.proofs.Asks.{told, not_asked}
+use Rattle.ssh_session.specs.Rows.{grant_row, window_told}
+use Rattle.ssh_session.proofs.Asks.{told, not_asked, starved_by}
 use Rattle.ssh_session.proofs.Listed.{found_number}
 use Rattle.ssh_session.proofs.Places.{read_at, none_at}
 use Rattle.ssh_session.proofs.Peers.{grant_there, grant_nowhere}
@@ -47,3 +49,9 @@ returns g c = λ settings w r.
       live = r.live;
     })
     new.1))
+
+pub returns-in_err-new_size : goal.returns-in_err-new_size
+returns-in_err-new_size g c = λ settings w r.
+    let p = err_from_is_err_and c.from_residual.result c.from_residual.ensures.1 in
+    starved_by settings (grant_row settings w c.args.amount (find c.args.channel.0 w.entries)) _ c.args.staged.now.items c.grant.new.staged.items _
+    c.from_residual.result (p.1 ∙ ap Err (p.2 ∙ ap run_error_of c.in_err-new_size.ensures.memory))

@@ -1,12 +1,14 @@
-use Rattle.std.proofs.Common.{◌≡◌, [], true, false, ◌∙◌, sym, refl, Ok, Err}
+use Rattle.std.proofs.Common.{◌≡◌, [], true, false, ◌∙◌, sym, refl, ap, Ok, Err}
 use Rattle.std.proofs.lemmas.List.{append-nil}
+use Rattle.std.proofs.lemmas.Result.{err_from_is_err_and}
 use Rattle.ssh_auth.specs.Plan.{Channel_open_session}
 use Rattle.ssh_session.specs.Commanded.{done_all}
-use Rattle.ssh_session.specs.Rows.{own, drawn}
+use Rattle.ssh_session.specs.Failure.{run_error_of}
+use Rattle.ssh_session.specs.Rows.{own, drawn, open_session_row}
 use Rattle.ssh_session.specs.World.{next_number, has_no_channel}
 use Rattle.ssh_session.specs.declared.error.Flow.{Flow}
 use Rattle.ssh_session.specs.declared.error.RunError.TheVariants as error
-use Rattle.ssh_session.proofs.Asks.{asked, asked_in_vain, hears_nothing}
+use Rattle.ssh_session.proofs.Asks.{asked, asked_in_vain, hears_nothing, starved_by}
 use Rattle.ssh_session.proofs.Branches.{open_alone, open_beside, opens_own}
 use Rattle.ssh_session.proofs.session.Session.open_session.Goals as goal
 
@@ -33,3 +35,9 @@ returns-in-Err g c = λ settings w r.
     rw (open_alone settings w c.args.peer c.args.window c.args.packet yes)
     (asked_in_vain settings (Channel_open_session (own n)) (done_all settings (drawn w c.args.peer c.args.window c.args.packet) [] 0) c.in-Err.e _ _ _ _ c.args.staged.now.items c.args.staged.now.items c.draw.new.self
     (opens_own _ _ c.next_number-number.result n (Err c.in-Err.e) (c.next_number-number.ensures settings w r) c.in-Err.ensures))
+
+pub returns-in_err-draw : goal.returns-in_err-draw
+returns-in_err-draw g c = λ settings w r.
+    let p = err_from_is_err_and c.from_residual.result c.from_residual.ensures.1 in
+    starved_by settings (open_session_row settings w c.args.peer c.args.window c.args.packet) _ c.args.staged.now.items c.args.staged.now.items c.draw.new.self
+    c.from_residual.result (p.1 ∙ ap Err (p.2 ∙ ap run_error_of c.in_err-draw.ensures.memory))

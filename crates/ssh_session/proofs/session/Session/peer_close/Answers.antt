@@ -1,5 +1,6 @@
-use Rattle.std.proofs.Common.{[], ◌∷◌, Ok, Err, ap, sym, refl}
+use Rattle.std.proofs.Common.{[], ◌∷◌, Ok, Err, ap, sym, ◌∙◌, refl}
 use Rattle.std.proofs.lemmas.List.{append-nil}
+use Rattle.std.proofs.lemmas.Result.{err_from_is_err_and}
 use Rattle.ssh_link.specs.declared.link.TraceEntry.TheVariants.{Noticed}
 use Rattle.ssh_link.specs.declared.notice.ChannelMsg.TheVariants.{Close}
 use Rattle.ssh_link.specs.declared.notice.Notice.TheVariants.{Channel}
@@ -9,9 +10,10 @@ use Rattle.ssh_session.specs.declared.error.RunError.TheVariants.{Handler}
 use Rattle.ssh_session.specs.ChannelLayout.{close_frame}
 use Rattle.ssh_session.specs.Commanded.{done_all}
 use Rattle.ssh_session.specs.Entries.{find, without}
+use Rattle.ssh_session.specs.Failure.{run_error_of}
 use Rattle.ssh_session.specs.Outcome.{Goes}
 use Rattle.ssh_session.specs.Rows.{peer_close_row}
-use Rattle.ssh_session.proofs.Asks.{told, asked, asked_in_vain, not_asked}
+use Rattle.ssh_session.proofs.Asks.{told, asked, asked_in_vain, not_asked, starved_by}
 use Rattle.ssh_session.proofs.Doing.{link_stopped}
 use Rattle.ssh_session.proofs.Listed.{found_number}
 use Rattle.ssh_session.proofs.Places.{read_at, none_at}
@@ -56,3 +58,9 @@ returns-in-Err-ask_close g c = λ settings w r.
     (told settings (Noticed (Channel c.args.channel Close)) (Ask question (done_all settings now frames 0)) _ _ _ _ _ _ c.args.staged.now.items c.drop_channel.new.staged.items c.drop_channel.new.self
     (Err (Handler c.in-Err-ask_close.e)) c.in_default-notice.ensures.noticed c.notice.ensures.later
     (asked_in_vain settings question (done_all settings now frames 0) c.in-Err-ask_close.e _ _ _ _ c.args.staged.now.items c.drop_channel.new.staged.items c.drop_channel.new.self c.in-Err-ask_close.ensures))
+
+pub returns-in_err-drop_channel : goal.returns-in_err-drop_channel
+returns-in_err-drop_channel g c = λ settings w r.
+    let p = err_from_is_err_and c.from_residual.result c.from_residual.ensures.1 in
+    starved_by settings (peer_close_row settings w (find c.args.channel.0 w.entries)) _ c.args.staged.now.items c.drop_channel.new.staged.items c.drop_channel.new.self
+    c.from_residual.result (p.1 ∙ ap Err (p.2 ∙ ap run_error_of c.in_err-drop_channel.ensures.memory))

@@ -46,8 +46,8 @@ returns g c = λ settings w r.
     let m = found_number n w.entries a.entry a.is in
     accepted settings (eof_effect w (find n w.entries)) (eof_frame a.entry.number a.entry.peer ∷ []) (record w { entries = put (record a.entry { eof = true }) w.entries })
     c.accepted.result c.args.staged.now.items c.push.new.self.items _ (rw (j.0.is, t, s, one) refl) c.accepted.ensures
-    (one_frame eof_frame n a.entry.number c.index-entry.result.now.peer a.entry.peer c.in_ok-frame.frame c.args.staged.now.items c.push.new.self.items
-    (sym m) (j.1.peer ∙ ap (λ x. x.peer) one) c.in_ok-frame.ensures.ok c.in_ok-push.ensures.items)
+    (one_frame eof_frame n a.entry.number c.index-entry.result.now.peer a.entry.peer c.eof_frame.result c.args.staged.now.items c.push.new.self.items
+    (sym m) (j.1.peer ∙ ap (λ x. x.peer) one) c.eof_frame.ensures c.in_ok-push.ensures.items)
     (record {
       config = r.config;
       session_id = r.session_id;

@@ -6,7 +6,7 @@ use Rattle.ssh_session.proofs.session.Session.serve_info_response.Goals as goal
 
 pub returns-in-Ok : goal.returns-in-Ok
 returns-in-Ok g c = λ settings w r.
-    let said = c.in-Ok.ensures in
+    let said = c.in-Ok.ensures.verdict in
     let state = c.serve_response.new.auth in
     let now = record w { auth = state } in
     let f = c.finish_request in (
@@ -21,7 +21,7 @@ returns-in-Ok g c = λ settings w r.
 
 pub returns-in-Err : goal.returns-in-Err
 returns-in-Err g c = λ settings w r.
-    let said = c.in-Err.ensures in (
+    let said = c.in-Err.ensures.verdict in (
       Response said.0,
       said.1,
       unanswered settings c.args.moment w w.requested (λ auth. response_verdict auth said.0) c.args.self.now.auth (g.H.AuthHandler.told c.args.handler.now) (g.H.AuthHandler.told c.serve_response.new.handler) _ _

@@ -1,5 +1,5 @@
 use Rattle.std.proofs.Common.{true, refl, ◌∙◌, ap, subst, drop, Err}
-use Rattle.ssh_auth.specs.Said.{Says as Asks}
+use Rattle.ssh_auth.specs.Requested.{SaysRequest as Asks}
 use Rattle.ssh_auth.specs.Verdict.{verdict}
 use Rattle.ssh_session.specs.Said.{Request}
 use Rattle.ssh_session.proofs.Requests.{answered, unanswered}
@@ -7,7 +7,7 @@ use Rattle.ssh_session.proofs.session.Session.serve_userauth_request.Goals as go
 
 pub returns-in-Ok : goal.returns-in-Ok
 returns-in-Ok g c = λ settings w r.
-    let asked = c.in-Ok.ensures in
+    let asked = c.in-Ok.ensures.verdict in
     let state = c.serve_request.new.auth in (
       Request asked.0,
       subst (λ id. Asks (record { accepts = g.V.Verifier.accepts c.args.verifier.now; session_id = id; moment = c.args.moment }) (drop 1 c.args.payload.now) asked.0)
@@ -19,7 +19,7 @@ returns-in-Ok g c = λ settings w r.
 
 pub returns-in-Err : goal.returns-in-Err
 returns-in-Err g c = λ settings w r.
-    let asked = c.in-Err.ensures in (
+    let asked = c.in-Err.ensures.verdict in (
       Request asked.0,
       subst (λ id. Asks (record { accepts = g.V.Verifier.accepts c.args.verifier.now; session_id = id; moment = c.args.moment }) (drop 1 c.args.payload.now) asked.0)
           (c.as_slice.ensures ∙ r.session_id) asked.1,

@@ -1,7 +1,7 @@
 use Rattle.std.proofs.Common.{◌∙◌, ap, Err}
 use Rattle.std.proofs.lemmas.Result.{err_from_is_err_and}
-use Rattle.ssh_session.specs.Said.{Grant, Unfit, grant_fields}
-use Rattle.ssh_session.proofs.Misfits.{misfit_error, unfit}
+use Rattle.ssh_session.specs.Said.{Grant, Unfit}
+use Rattle.ssh_session.proofs.Misfits.{unfit}
 use Rattle.ssh_session.proofs.session.Session.serve_window_adjust.Goals as goal
 
 pub returns-in_err-channel : goal.returns-in_err-channel
@@ -9,7 +9,7 @@ returns-in_err-channel g c = λ settings w moment r.
     let p = err_from_is_err_and c.from_residual.result c.from_residual.ensures.1 in (
       Unfit c.in_err-channel.field-0.0,
       c.in_err-channel.ensures,
-      unfit settings c.in_err-channel.field-0.0 _ _ _ c.from_residual.result (p.1 ∙ ap Err (p.2 ∙ misfit_error g.row.H-Error.Denot grant_fields c.args.fields.now c.in_err-channel.field-0.0 c.in_err-channel.ensures)),
+      unfit settings c.in_err-channel.field-0.0 _ _ _ c.from_residual.result (p.1 ∙ ap Err p.2),
     )
 
 pub returns : goal.returns
