@@ -6,12 +6,13 @@ use Rattle.ssh_link.specs.declared.frame.Input.{Input}
 use Rattle.ssh_link.specs.declared.link.TraceEntry.{TraceEntry}
 use Rattle.ssh_link.specs.declared.link.TraceEntry.TheVariants as entry
 use Rattle.ssh_link.specs.Supply.{Supply, left_until, after_next}
+use Rattle.ssh_link.specs.Told.{ToldBy}
 use Rattle.ssh_auth.specs.declared.call.Call.{Call}
 use Rattle.ssh_auth.specs.Publickey.{Acceptance}
 use Rattle.ssh_session.specs.declared.error.RunError.{RunError}
 use Rattle.ssh_session.specs.declared.error.RunError.TheVariants as error
 use Rattle.ssh_session.specs.World.{Settings, settings_of, World}
-use Rattle.ssh_session.specs.Serve.{ToldBy}
+use Rattle.ssh_session.specs.Serve.{may_stop}
 use Rattle.ssh_session.specs.Run.{Turn, calls_of, entries}
 use Rattle.ssh_session.specs.Step.{Closes, Ran}
 use Rattle.ssh_script.specs.declared.asked.Asked.{Asked}
@@ -73,25 +74,17 @@ is_given supply (entry.Noticed notice ∷ all) = is_given supply all
 is_given supply (entry.Answered ticket outcome ∷ all) = is_given supply all
 
 -- a handler that goes on telling told these calls
-told_some : (result : Result (Unit {0}) (RunError Failure)) (old new calls : List (Call Failure)) → ToldBy result (Some old) (Some new) calls → new ≡ old ++ calls
-told_some (Ok done) old new calls h = let z : Some new ≡ Some (old ++ calls) = h in cc
-told_some (Err error.NoMemory) old new calls h = let z : Some new ≡ Some (old ++ calls) = h in cc
-told_some (Err error.LinkFault) old new calls h = let z : Some new ≡ Some (old ++ calls) = h in cc
-told_some (Err error.InputLimit) old new calls h = let z : Some new ≡ Some (old ++ calls) = h in cc
-told_some (Err (error.Encoding why)) old new calls h = let z : Some new ≡ Some (old ++ calls) = h in cc
-told_some (Err error.Inconsistent) old new calls h = let z : Some new ≡ Some (old ++ calls) = h in cc
-told_some (Err (error.Key why)) old new calls h = let z : Some new ≡ Some (old ++ calls) = h in cc
-told_some (Err error.UnsupportedAuthMethod) old new calls h = let z : Some new ≡ Some (old ++ calls) = h in cc
-told_some (Err (error.Handler e)) old new calls h = h
-told_some (Err error.NotBuilt) old new calls h = let z : Some new ≡ Some (old ++ calls) = h in cc
+told_some : (may_stop : Bool) (old new calls : List (Call Failure)) → ToldBy may_stop (Some old) (Some new) calls → new ≡ old ++ calls
+told_some true old new calls h = h
+told_some false old new calls h = let z : Some new ≡ Some (old ++ calls) = h in cc
 
 told_is : (result : Result (Unit {0}) (RunError Failure)) (lost lost' : Bool) (queues queues' : Queues) (old all : List Asked) (calls : List (Call Failure)) →
-    lost ≡ false → lost' ≡ false → old ≡ [] → ToldBy result (told_of lost queues old) (told_of lost' queues' all) calls → (queues' ≡ queues) × (played queues' all ≡ calls)
+    lost ≡ false → lost' ≡ false → old ≡ [] → ToldBy (may_stop result) (told_of lost queues old) (told_of lost' queues' all) calls → (queues' ≡ queues) × (played queues' all ≡ calls)
 told_is result true lost' queues queues' old all calls l m o h = absurd (let z : true ≡ false = l in cc)
 told_is result false true queues queues' old all calls l m o h = absurd (let z : true ≡ false = m in cc)
 told_is result false false queues queues' old all calls l m o h =
     let e : heading queues' ++ played queues' all ≡ (heading queues ++ played queues old) ++ calls =
-    told_some result (heading queues ++ played queues old) (heading queues' ++ played queues' all) calls h in
+    told_some (may_stop result) (heading queues ++ played queues old) (heading queues' ++ played queues' all) calls h in
     let f : heading queues ++ played queues old ≡ heading queues = ap (λ x. heading queues ++ played queues x) o ∙ append-nil (heading queues) in
     heads queues' queues (played queues' all) calls (e ∙ ap (λ x. x ++ calls) f)
 

@@ -1,6 +1,7 @@
 pub mod Reading
 pub mod Digits
 pub mod Printing
+pub mod Hexed
 pub mod Reasons
 pub mod Queues
 pub mod Telling

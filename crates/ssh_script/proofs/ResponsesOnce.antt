@@ -6,7 +6,7 @@ use Rattle.ssh_wire.specs.Field.{Number, Bytes, Text, SpellsAll, MisfitsWhole}
 use Rattle.ssh_wire.proofs.Fields.{spells_once, spells_all_once, spells_whole_once, misfits_all_not_spells, misfits_whole_not_spells, misfits_all_once, misfits_whole_once}
 use Rattle.ssh_auth.specs.Response.{Responded, Responses, Unfit_responses, Unread_responses, strings, values, SaysResponses}
 use Rattle.ssh_auth.proofs.Responses.{never_unfit}
-use Rattle.ssh_auth.specs.Said.{Method, Interactive_method, Unfit_method, SaysInteractive}
+use Rattle.ssh_auth.specs.Requested.{Method, Interactive_method, Unfit_method, SaysInteractive}
 
 pub interactive_once : (rest : List ℕ) (a b : Method) → SaysInteractive rest a → SaysInteractive rest b → a ≡ b
 interactive_once rest (Interactive_method submethods) (Interactive_method other) h k =

@@ -5,9 +5,9 @@ use Rattle.std.specs.Prelude.{codes, drop}
 use Rattle.ssh_wire.specs.declared.error.WireError.{WireError}
 use Rattle.ssh_wire.specs.Field.{Flag, Text, SpellsAll, SpellsWhole, MisfitsAll, MisfitsWhole}
 use Rattle.ssh_wire.proofs.Fields.{spells_all_once, spells_whole_once, misfits_all_not_spells, misfits_whole_not_spells, misfits_all_once, misfits_whole_once}
-use Rattle.ssh_auth.specs.Said.{head_fields, Method, None_method, Password_method, Change_method, Unfit_method, SaysNone, SaysPassword, Named, Is_none, Is_password, Is_publickey, Is_interactive, Is_other, named_by, SaysMethod, Other_service}
-use Rattle.ssh_auth.specs.Said.{Said as Asked, Says as Asks}
-use Rattle.ssh_auth.specs.Said as asks
+use Rattle.ssh_auth.specs.Requested.{head_fields, Method, None_method, Password_method, Change_method, Unfit_method, SaysNone, SaysPassword, Named, Is_none, Is_password, Is_publickey, Is_interactive, Is_other, named_by, SaysMethod, Other_service}
+use Rattle.ssh_auth.specs.Requested.{Requested as Asked, SaysRequest as Asks}
+use Rattle.ssh_auth.specs.Requested as asks
 use Rattle.ssh_auth.specs.Publickey.{Circumstances}
 use Rattle.ssh_auth.specs.Response.{Responded, Responses, Unfit_responses, Unread_responses}
 use Rattle.ssh_session.proofs.KeyFields.{AreOneMethod, itself, publickey_once}

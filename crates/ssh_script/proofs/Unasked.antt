@@ -8,8 +8,8 @@ use Rattle.ssh_auth.specs.declared.auth_request.AuthRequest.{AuthRequest}
 use Rattle.ssh_auth.specs.Plan.{Plan, Finish, Ask, after, Auth_publickey_offered, Event, Called, Told}
 use Rattle.ssh_auth.specs.Publickey.{Offer}
 use Rattle.ssh_auth.specs.Request.{begun, is_probed, prompt_of}
-use Rattle.ssh_auth.specs.Said.{Said as Asked, Method, Signed_method}
-use Rattle.ssh_auth.specs.Said as asks
+use Rattle.ssh_auth.specs.Requested.{Requested as Asked, Method, Signed_method}
+use Rattle.ssh_auth.specs.Requested as asks
 use Rattle.ssh_auth.specs.Response.{Responded, Responses, Unfit_responses, Unread_responses}
 use Rattle.ssh_auth.specs.Verdict.{signed, permitted, responded}
 use Rattle.ssh_session.proofs.KeyFields.{AreOneAnswer, AreOneMethod}

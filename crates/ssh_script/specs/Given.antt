@@ -1,5 +1,5 @@
--- What the link of a script gives: an answer to an open that was set aside and is asked for, else a command that was set
--- aside and is asked for, else the next input, else the end.
+-- What the link of a script gives: an answer to an open that was set aside and is asked for, else a command that was
+-- set aside and is asked for, else the next input, else the end.
 use Rattle.std.specs.Prelude.{◌≡◌, ℕ, List, [], ◌∷◌, ◌++◌, map, Option, Some, None, false}
 use Rattle.ssh_link.specs.declared.frame.Input.{Input}
 use Rattle.ssh_link.specs.declared.link.TraceEntry.{TraceEntry}

@@ -1,5 +1,6 @@
 -- How the lines of a script are written: words with one space between each two.
-use Rattle.std.specs.Prelude.{◌≡◌, ◌≢◌, ◌<◌, ◌^◌, ◌⊎◌, ◌==◌, ℕ, List, [], ◌∷◌, length, codes, bytes_eq, Bool, true, false, nat_lt, if◌then◌else◌, Option, Some, None, option_map, Ok, IsUtf8}
+use Rattle.std.specs.Prelude.{◌≡◌, ◌≢◌, ◌<◌, ◌^◌, ◌⊎◌, ◌==◌, ℕ, List, [], ◌∷◌, length, codes, bytes_eq, Bool, true}
+use Rattle.std.specs.Prelude.{false, nat_lt, if◌then◌else◌, Option, Some, None, option_map, Ok, IsUtf8}
 use Rattle.std.specs.List.{position_or_len, before_first, after_first}
 use Rattle.std.specs.Fmt.{decimal}
 use Rattle.hex.specs.Hex.{decode_of}
@@ -71,7 +72,8 @@ abbrev pub IsKeyIn : List ℕ → Option PublicKey → Type 0
 IsKeyIn digits (Some public) = IsKeyHex digits public
 IsKeyIn digits None = (public : PublicKey) → IsKeyHex digits public → ⊥
 
--- a signature that is accepted is written in four words: the key, the name of an algorithm of keys, the message, the signature
+-- a signature that is accepted is written in four words: the key, the name of an algorithm of keys, the message and the
+-- signature
 abbrev pub IsSignature : (key algorithm message signature : List ℕ) → AcceptedSignature → Type 0
 IsSignature key algorithm message signature accepted =
     IsKeyHex key accepted.key
@@ -81,7 +83,8 @@ IsSignature key algorithm message signature accepted =
 
 abbrev pub IsSignatureIn : (key algorithm message signature : List ℕ) → Option AcceptedSignature → Type 0
 IsSignatureIn key algorithm message signature (Some accepted) = IsSignature key algorithm message signature accepted
-IsSignatureIn key algorithm message signature None = (accepted : AcceptedSignature) → IsSignature key algorithm message signature accepted → ⊥
+IsSignatureIn key algorithm message signature None =
+    (accepted : AcceptedSignature) → IsSignature key algorithm message signature accepted → ⊥
 
 -- what a line is by its words
 pub data Form : Type 0 where
@@ -106,7 +109,9 @@ is_space byte = byte == 32
 
 abbrev pub cut : List ℕ → Option (List ℕ × List ℕ)
 cut text =
-    if nat_lt (position_or_len is_space text) (length text) then Some (before_first is_space text, after_first is_space text) else None
+    if nat_lt (position_or_len is_space text) (length text)
+    then Some (before_first is_space text, after_first is_space text)
+    else None
 
 -- accept, reject or fail
 abbrev pub verdict_of : List ℕ → Option Verdict
@@ -188,7 +193,8 @@ config_words None = No_form
 config_words (Some parts) =
     if bytes_eq parts.0 (codes "attempts") then Of_number (λ count. line.Setting (setting.Attempts count)) parts.1
     else if bytes_eq parts.0 (codes "reject") then Of_number (λ time. line.Setting (setting.Reject time)) parts.1
-    else if bytes_eq parts.0 (codes "reject-initial") then Of_number (λ time. line.Setting (setting.RejectInitial time)) parts.1
+    else if bytes_eq parts.0 (codes "reject-initial")
+    then Of_number (λ time. line.Setting (setting.RejectInitial time)) parts.1
     else No_form
 
 abbrev pub config_form : List ℕ → Form
@@ -219,7 +225,8 @@ replies answer = line.Input (input.Reply answer)
 -- data, a channel and bytes
 abbrev pub data_words : Option (List ℕ × List ℕ) → Form
 data_words None = No_form
-data_words (Some parts) = Of_small (λ channel. Of_bytes (λ bytes. commands (command.Data (own channel) bytes)) parts.1) parts.0
+data_words (Some parts) =
+    Of_small (λ channel. Of_bytes (λ bytes. commands (command.Data (own channel) bytes)) parts.1) parts.0
 
 abbrev pub data_form : List ℕ → Form
 data_form rest = data_words (cut rest)
@@ -251,7 +258,8 @@ rejecting_form channel (Some why) = Whole (replies (rejecting (own channel) why)
 -- reject, a channel and the code of a reason
 abbrev pub reject_words : Option (List ℕ × List ℕ) → Form
 reject_words None = No_form
-reject_words (Some parts) = Of_small (λ channel. Of_small (λ code. rejecting_form channel (reason_of code)) parts.1) parts.0
+reject_words (Some parts) =
+    Of_small (λ channel. Of_small (λ code. rejecting_form channel (reason_of code)) parts.1) parts.0
 
 abbrev pub reject_form : List ℕ → Form
 reject_form rest = reject_words (cut rest)
@@ -296,8 +304,10 @@ Fits (Of_bytes says digits) None = (bytes : List ℕ) → IsHex digits bytes →
 Fits (Of_text says digits) (Some said) = (text : List ℕ) × IsTextHex digits text × (said ≡ says text)
 Fits (Of_text says digits) None = (text : List ℕ) → IsTextHex digits text → ⊥
 Fits (Of_signature key algorithm message signature) (Some said) =
-    (accepted : AcceptedSignature) × IsSignature key algorithm message signature accepted × (said ≡ line.Setting (setting.Sign accepted))
-Fits (Of_signature key algorithm message signature) None = (accepted : AcceptedSignature) → IsSignature key algorithm message signature accepted → ⊥
+    (accepted : AcceptedSignature) × IsSignature key algorithm message signature accepted
+    × (said ≡ line.Setting (setting.Sign accepted))
+Fits (Of_signature key algorithm message signature) None =
+    (accepted : AcceptedSignature) → IsSignature key algorithm message signature accepted → ⊥
 Fits (Of_small next digits) said =
     ((n : ℕ) × IsSmall digits n × Fits (next n) said) ⊎ (((n : ℕ) → IsSmall digits n → ⊥) × (said ≡ None))
 

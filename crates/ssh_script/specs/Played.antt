@@ -1,9 +1,13 @@
 -- What the handler of a script answers.
-use Rattle.std.specs.Prelude.{◌≡◌, ℕ, ◌-◌, ◌==◌, List, [], ◌∷◌, ◌++◌, codes, map, drop, Bool, true, false, Option, Some, None, Result, Ok, Err, if◌then◌else◌}
+use Rattle.std.specs.Prelude.{◌≡◌, ℕ, ◌-◌, ◌==◌, List, [], ◌∷◌, ◌++◌, codes, map, drop, Bool, true, false, Option, Some}
+use Rattle.std.specs.Prelude.{None, Result, Ok, Err, if◌then◌else◌}
 use Rattle.ssh_auth.specs.declared.auth.Auth.{Auth}
 use Rattle.ssh_auth.specs.declared.auth.Auth.TheVariants.{Reject, Accept, UnsupportedMethod, Partial}
 use Rattle.ssh_auth.specs.declared.call.Call.{Call}
-use Rattle.ssh_auth.specs.declared.call.Call.TheVariants.{AuthenticationBanner, AuthNone, AuthPassword, AuthPublickeyOffered, AuthPublickey, AuthOpensshCertificate, AuthKeyboardInteractive, AuthSucceeded, ChannelOpenSession, ChannelEof, ChannelClose, WindowAdjusted, CommandDone}
+use Rattle.ssh_auth.specs.declared.call.Call.TheVariants.{AuthenticationBanner, AuthNone, AuthPassword}
+use Rattle.ssh_auth.specs.declared.call.Call.TheVariants.{AuthPublickeyOffered, AuthPublickey, AuthOpensshCertificate}
+use Rattle.ssh_auth.specs.declared.call.Call.TheVariants.{AuthKeyboardInteractive, AuthSucceeded, ChannelOpenSession}
+use Rattle.ssh_auth.specs.declared.call.Call.TheVariants.{ChannelEof, ChannelClose, WindowAdjusted, CommandDone}
 use Rattle.ssh_auth.specs.Prompts.{Prompt}
 use Rattle.ssh_handler.specs.declared.recorded.RecordError.{RecordError}
 use Rattle.ssh_handler.specs.declared.recorded.RecordError.TheVariants.{Inner}
@@ -103,15 +107,20 @@ banner_answer left banner = if left == 0 then Ok banner else fails
 abbrev pub answered : Queues → Asked → Call Failure
 answered queues asked.AuthenticationBanner = AuthenticationBanner (banner_answer queues.banners queues.banner)
 answered queues (asked.AuthNone user) = AuthNone user (verdict_answer (first_verdict verdict.Reject queues.none))
-answered queues (asked.AuthPassword user password) = AuthPassword user password (verdict_answer (first_verdict verdict.Reject queues.password))
-answered queues (asked.AuthPublickeyOffered user key algorithm) = AuthPublickeyOffered user key algorithm (verdict_answer (first_verdict verdict.Accept queues.offered))
-answered queues (asked.AuthPublickey user key algorithm) = AuthPublickey user key algorithm (verdict_answer (first_verdict verdict.Reject queues.publickey))
+answered queues (asked.AuthPassword user password) =
+    AuthPassword user password (verdict_answer (first_verdict verdict.Reject queues.password))
+answered queues (asked.AuthPublickeyOffered user key algorithm) =
+    AuthPublickeyOffered user key algorithm (verdict_answer (first_verdict verdict.Accept queues.offered))
+answered queues (asked.AuthPublickey user key algorithm) =
+    AuthPublickey user key algorithm (verdict_answer (first_verdict verdict.Reject queues.publickey))
 answered queues (asked.AuthOpensshCertificate user certificate) =
     AuthOpensshCertificate user certificate (verdict_answer (first_verdict verdict.Reject queues.certificate))
 answered queues (asked.AuthKeyboardInteractive user submethods response) =
-    AuthKeyboardInteractive user submethods response (interactive_answer (first_verdict (interactive.Plain verdict.Reject) queues.interactive))
+    AuthKeyboardInteractive user submethods response
+    (interactive_answer (first_verdict (interactive.Plain verdict.Reject) queues.interactive))
 answered queues asked.AuthSucceeded = AuthSucceeded (Ok tt) []
-answered queues (asked.ChannelOpenSession channel) = ChannelOpenSession channel (Ok tt) (recorded (open_answer queues.opens channel))
+answered queues (asked.ChannelOpenSession channel) =
+    ChannelOpenSession channel (Ok tt) (recorded (open_answer queues.opens channel))
 answered queues (asked.ChannelEof channel) = ChannelEof channel (Ok tt) []
 answered queues (asked.ChannelClose channel) = ChannelClose channel (Ok tt) []
 answered queues (asked.WindowAdjusted channel new_size) = WindowAdjusted channel new_size (Ok tt) []
@@ -125,7 +134,8 @@ after queues (asked.AuthPassword user password) = record queues { password = res
 after queues (asked.AuthPublickeyOffered user key algorithm) = record queues { offered = rest queues.offered }
 after queues (asked.AuthPublickey user key algorithm) = record queues { publickey = rest queues.publickey }
 after queues (asked.AuthOpensshCertificate user certificate) = record queues { certificate = rest queues.certificate }
-after queues (asked.AuthKeyboardInteractive user submethods response) = record queues { interactive = rest queues.interactive }
+after queues (asked.AuthKeyboardInteractive user submethods response) =
+    record queues { interactive = rest queues.interactive }
 after queues asked.AuthSucceeded = queues
 after queues (asked.ChannelOpenSession channel) = queues
 after queues (asked.ChannelEof channel) = queues
@@ -150,7 +160,8 @@ asked_of (AuthPassword user password answer) = asked.AuthPassword user password
 asked_of (AuthPublickeyOffered user key algorithm answer) = asked.AuthPublickeyOffered user key algorithm
 asked_of (AuthPublickey user key algorithm answer) = asked.AuthPublickey user key algorithm
 asked_of (AuthOpensshCertificate user certificate answer) = asked.AuthOpensshCertificate user certificate
-asked_of (AuthKeyboardInteractive user submethods response answer) = asked.AuthKeyboardInteractive user submethods response
+asked_of (AuthKeyboardInteractive user submethods response answer) =
+    asked.AuthKeyboardInteractive user submethods response
 asked_of (AuthSucceeded answer commands) = asked.AuthSucceeded
 asked_of (ChannelOpenSession channel answer commands) = asked.ChannelOpenSession channel
 asked_of (ChannelEof channel answer commands) = asked.ChannelEof channel
@@ -164,8 +175,8 @@ IsAnswered queues [] = Unit {0}
 IsAnswered queues (call ∷ calls) =
     (call ≡ answered queues (asked_of call)) × IsAnswered (after queues (asked_of call)) calls
 
--- the answers as a handler tells them before its calls: a call for each queue, which names its verdicts by their numbers, one for the number of banners that fail, one
--- for the banner, and one for the opens
+-- the answers as a handler tells them before its calls: a call for each queue, which names its verdicts by their
+-- numbers, one for the number of banners that fail, one for the banner, and one for the opens
 abbrev pub verdict_number : Verdict → ℕ
 verdict_number verdict.Accept = 0
 verdict_number verdict.Reject = 1

@@ -15,7 +15,7 @@ use Rattle.ssh_link.specs.declared.outcome.CommandOutcome.{CommandOutcome}
 use Rattle.ssh_link.specs.declared.outcome.CommandOutcome.TheVariants as outcome
 use Rattle.ssh_link.specs.declared.outcome.Refusal.{Refusal}
 use Rattle.ssh_link.specs.declared.outcome.Refusal.TheVariants as refusal
-use Rattle.ssh_link.specs.declared.frame.Frame.{Frame}
+use Rattle.ssh_link.specs.Frames.{Frame}
 use Rattle.ssh_link.specs.declared.link.TraceEntry.{TraceEntry}
 use Rattle.ssh_link.specs.declared.link.TraceEntry.TheVariants as entry
 use Rattle.ssh_auth.specs.declared.call.Call.{Call}
@@ -61,24 +61,29 @@ abbrev pub channel_line : List ℕ → ChannelId → List ℕ
 channel_line name channel = codes "call " ++ name ++ codes " " ++ decimal channel.0 ++ codes "\n"
 
 abbrev pub window_line : ChannelId → ℕ → List ℕ
-window_line channel new_size = codes "call window_adjusted " ++ decimal channel.0 ++ codes " " ++ decimal new_size ++ codes "\n"
+window_line channel new_size =
+    codes "call window_adjusted " ++ decimal channel.0 ++ codes " " ++ decimal new_size ++ codes "\n"
 
 abbrev pub command_line : ℕ → CommandOutcome → List ℕ
-command_line place result = codes "call command_done " ++ decimal place ++ codes " " ++ outcome_text result ++ codes "\n"
+command_line place result =
+    codes "call command_done " ++ decimal place ++ codes " " ++ outcome_text result ++ codes "\n"
 
 -- a callback and its arguments
 abbrev pub asked_line : Asked → List ℕ
 asked_line asked.AuthenticationBanner = codes "call authentication_banner\n"
 asked_line (asked.AuthNone user) = codes "call auth_none " ++ hex_text user ++ codes "\n"
-asked_line (asked.AuthPassword user password) = codes "call auth_password " ++ hex_text user ++ codes " " ++ hex_text password ++ codes "\n"
+asked_line (asked.AuthPassword user password) =
+    codes "call auth_password " ++ hex_text user ++ codes " " ++ hex_text password ++ codes "\n"
 asked_line (asked.AuthPublickeyOffered user key algorithm) =
     codes "call auth_publickey_offered " ++ hex_text user ++ codes " " ++ key_text key algorithm ++ codes "\n"
-asked_line (asked.AuthPublickey user key algorithm) = codes "call auth_publickey " ++ hex_text user ++ codes " " ++ key_text key algorithm ++ codes "\n"
+asked_line (asked.AuthPublickey user key algorithm) =
+    codes "call auth_publickey " ++ hex_text user ++ codes " " ++ key_text key algorithm ++ codes "\n"
 -- a certificate: its key id
 asked_line (asked.AuthOpensshCertificate user certificate) =
     codes "call auth_openssh_certificate " ++ hex_text user ++ codes " " ++ hex_text certificate.key_id ++ codes "\n"
 asked_line (asked.AuthKeyboardInteractive user submethods response) =
-    codes "call auth_keyboard_interactive " ++ hex_text user ++ codes " " ++ hex_text submethods ++ response_text response ++ codes "\n"
+    codes "call auth_keyboard_interactive " ++ hex_text user ++ codes " " ++ hex_text submethods
+    ++ response_text response ++ codes "\n"
 asked_line asked.AuthSucceeded = codes "call auth_succeeded\n"
 asked_line (asked.ChannelOpenSession channel) = channel_line (codes "channel_open_session") channel
 asked_line (asked.ChannelEof channel) = channel_line (codes "channel_eof") channel
@@ -102,7 +107,8 @@ hold_text (Some moment) = codes " hold " ++ decimal moment
 
 abbrev pub frame_line : Frame → List ℕ
 frame_line frame =
-    codes "send " ++ channel_text frame.channel ++ codes " " ++ hex_text frame.payload ++ hold_text frame.hold_until ++ codes "\n"
+    codes "send " ++ channel_text frame.channel ++ codes " " ++ hex_text frame.payload ++ hold_text frame.hold_until
+    ++ codes "\n"
 
 -- what happened on a channel
 abbrev pub msg_text : ChannelMsg → List ℕ
@@ -130,7 +136,8 @@ input_line number = codes "input " ++ decimal number ++ codes "\n"
 -- the trace, after so many inputs
 abbrev pub entry_lines : ℕ → List TraceEntry → List ℕ
 entry_lines taken [] = []
-entry_lines taken (entry.Took commands replies input ∷ entries) = input_line (taken + 1) ++ entry_lines (taken + 1) entries
+entry_lines taken (entry.Took commands replies input ∷ entries) =
+    input_line (taken + 1) ++ entry_lines (taken + 1) entries
 entry_lines taken (entry.Sent frame ∷ entries) = frame_line frame ++ entry_lines taken entries
 entry_lines taken (entry.Noticed one ∷ entries) = notice_line one ++ entry_lines taken entries
 entry_lines taken (entry.Answered ticket result ∷ entries) = answer_line ticket result ++ entry_lines taken entries

@@ -1,5 +1,6 @@
 -- What the lines of a script say together.
-use Rattle.std.specs.Prelude.{◌≡◌, ◌+◌, ◌^◌, ◌==◌, ℕ, List, [], ◌∷◌, ◌++◌, length, nat_lt, false, if◌then◌else◌, Option, Some, None, Result, Ok, Err, MatchOption}
+use Rattle.std.specs.Prelude.{◌≡◌, ◌+◌, ◌^◌, ◌==◌, ℕ, List, [], ◌∷◌, ◌++◌, length, nat_lt, false, if◌then◌else◌, Option}
+use Rattle.std.specs.Prelude.{Some, None, Result, Ok, Err, MatchOption}
 use Rattle.ssh_link.specs.declared.frame.Input.{Input}
 use Rattle.ssh_link.specs.declared.frame.InputKind.{InputKind}
 use Rattle.ssh_link.specs.declared.frame.InputKind.TheVariants.{Payload, Command, OpenReply}
@@ -44,7 +45,17 @@ opening_scene = record {
   max_inputs = 1000000;
   config = standard_config;
   accepted = [];
-  queues = record { none = []; password = []; offered = []; publickey = []; certificate = []; interactive = []; banners = 0; banner = None; opens = Accept };
+  queues = record {
+    none = [];
+    password = [];
+    offered = [];
+    publickey = [];
+    certificate = [];
+    interactive = [];
+    banners = 0;
+    banner = None;
+    opens = Accept;
+  };
   tickets = 0;
   inputs = [];
   moment = 0;
@@ -56,15 +67,22 @@ abbrev pub set : Setting → Scene → Option Scene
 set (setting.Session id) s = if nat_lt (length id) (2 ^ 32) then Some (record s { session_id = id }) else None
 set (setting.Inputs count) s = Some (record s { max_inputs = count })
 set (setting.Reject time) s = Some (record s { config = record s.config { auth_rejection_time = time } })
-set (setting.RejectInitial time) s = Some (record s { config = record s.config { auth_rejection_time_initial = Some time } })
+set (setting.RejectInitial time) s =
+    Some (record s { config = record s.config { auth_rejection_time_initial = Some time } })
 set (setting.Attempts count) s = Some (record s { config = record s.config { max_auth_attempts = count } })
 set (setting.Sign signature) s = Some (record s { accepted = s.accepted ++ signature ∷ [] })
-set (setting.AnswerNone verdict) s = Some (record s { queues = record s.queues { none = s.queues.none ++ verdict ∷ [] } })
-set (setting.AnswerPassword verdict) s = Some (record s { queues = record s.queues { password = s.queues.password ++ verdict ∷ [] } })
-set (setting.AnswerOffered verdict) s = Some (record s { queues = record s.queues { offered = s.queues.offered ++ verdict ∷ [] } })
-set (setting.AnswerPublickey verdict) s = Some (record s { queues = record s.queues { publickey = s.queues.publickey ++ verdict ∷ [] } })
-set (setting.AnswerCertificate verdict) s = Some (record s { queues = record s.queues { certificate = s.queues.certificate ++ verdict ∷ [] } })
-set (setting.AnswerInteractive verdict) s = Some (record s { queues = record s.queues { interactive = s.queues.interactive ++ verdict ∷ [] } })
+set (setting.AnswerNone verdict) s =
+    Some (record s { queues = record s.queues { none = s.queues.none ++ verdict ∷ [] } })
+set (setting.AnswerPassword verdict) s =
+    Some (record s { queues = record s.queues { password = s.queues.password ++ verdict ∷ [] } })
+set (setting.AnswerOffered verdict) s =
+    Some (record s { queues = record s.queues { offered = s.queues.offered ++ verdict ∷ [] } })
+set (setting.AnswerPublickey verdict) s =
+    Some (record s { queues = record s.queues { publickey = s.queues.publickey ++ verdict ∷ [] } })
+set (setting.AnswerCertificate verdict) s =
+    Some (record s { queues = record s.queues { certificate = s.queues.certificate ++ verdict ∷ [] } })
+set (setting.AnswerInteractive verdict) s =
+    Some (record s { queues = record s.queues { interactive = s.queues.interactive ++ verdict ∷ [] } })
 set setting.FailBanner s = Some (record s { queues = record s.queues { banners = s.queues.banners + 1 } })
 set (setting.Banner text) s = Some (record s { queues = record s.queues { banner = Some text } })
 set (setting.AnswerOpen verdict) s = Some (record s { queues = record s.queues { opens = verdict } })

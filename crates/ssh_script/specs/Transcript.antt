@@ -1,8 +1,9 @@
 -- What the program owes: its status, and the text that it writes.
-use Rattle.std.specs.Prelude.{◌≡◌, ◌≢◌, ◌<◌, ◌≤◌, ◌⊎◌, ℕ, List, [], ◌∷◌, ◌++◌, codes, flat_map, length, Option, Some, None, option_to_list, IfSome, Result, Ok, Err}
+use Rattle.std.specs.Prelude.{◌≡◌, ◌≢◌, ◌<◌, ◌≤◌, ◌⊎◌, ℕ, List, [], ◌∷◌, ◌++◌, codes, flat_map, length, Option, Some}
+use Rattle.std.specs.Prelude.{None, option_to_list, IfSome, Result, Ok, Err}
 use Rattle.std.specs.Fmt.{decimal}
 use Rattle.ssh_link.specs.Told.{Adds}
-use Rattle.ssh_link.specs.Io.{Rose}
+use Rattle.ssh_link.specs.Faults.{RoseOrFull}
 use Rattle.ssh_keys.specs.Tables.{IsListed}
 use Rattle.ssh_link.specs.Supply.{Supply, left_until}
 use Rattle.ssh_auth.specs.Publickey.{Acceptance}
@@ -12,6 +13,8 @@ use Rattle.ssh_session.specs.declared.error.RunError.TheVariants as error
 use Rattle.ssh_session.specs.World.{Settings, settings_of, World, opening_world}
 use Rattle.ssh_session.specs.Run.{Turn, Run, calls_of, entries}
 use Rattle.ssh_session.specs.Step.{Closes}
+use Rattle.ssh_script.specs.declared.task.Task.{Task}
+use Rattle.ssh_script.specs.declared.task.Task.TheVariants as task
 use Rattle.ssh_script.specs.Transfer.{IsAll, AddsPart}
 use Rattle.ssh_script.specs.Scene.{Scene, opening_scene, lines_of, Gives}
 use Rattle.ssh_script.specs.Played.{Failure, IsAnswered}
@@ -37,7 +40,8 @@ scene_accepts scene = IsListed scene.accepted
 abbrev pub scene_supply : Scene → Supply
 scene_supply scene = left_until scene.moment scene.inputs
 
--- this is the status and the text of a run of the scene, in which each callback is answered by the scene and each input is the scene's
+-- this is the status and the text of a run of the scene, in which each callback is answered by the scene and each input
+-- is the scene's
 pub record IsRun (scene : Scene) (status : ℕ) (text : List ℕ) : Type 0 where
   pub turns : List (Turn Failure)
   pub world : World
@@ -50,7 +54,8 @@ pub record IsRun (scene : Scene) (status : ℕ) (text : List ℕ) : Type 0 where
   pub answered : IsAnswered scene.queues (flat_map calls_of (turns ++ option_to_list last))
   pub given : IsGiven (scene_supply scene) (flat_map entries (turns ++ option_to_list last))
   pub status_is : status_of result ≡ Some status
-  pub text_is : text ≡ printed (flat_map calls_of (turns ++ option_to_list last)) (flat_map entries (turns ++ option_to_list last)) result
+  pub text_is : text ≡ printed (flat_map calls_of (turns ++ option_to_list last))
+      (flat_map entries (turns ++ option_to_list last)) result
 
 -- the status and the text of a script with this scene, or with this first bad line
 abbrev pub Shows : Result Scene ℕ → ℕ → List ℕ → Type 0
@@ -68,19 +73,43 @@ IsTooLong bytes = longest < length bytes
 abbrev pub Scripted : List ℕ → ℕ → List ℕ → Type 0
 Scripted bytes status text =
     (IsTooLong bytes × (status ≡ 2) × (text ≡ codes "script too long\n"))
-    ⊎ ((length bytes ≤ longest) × (read : Result Scene ℕ) × Gives 0 opening_scene (lines_of bytes) read × Shows read status text)
+    ⊎ ((length bytes ≤ longest)
+    × (read : Result Scene ℕ) × Gives 0 opening_scene (lines_of bytes) read × Shows read status text)
 
--- the words that ask for a run
+-- the words that ask for a run, for the usage line, and for the version
 abbrev pub run_words : List (List ℕ)
 run_words = codes "run" ∷ []
+
+abbrev pub help_words : List (List ℕ)
+help_words = codes "--help" ∷ []
+
+abbrev pub version_words : List (List ℕ)
+version_words = codes "--version" ∷ []
+
+-- words that ask for nothing
+abbrev pub IsUnknown : List (List ℕ) → Type 0
+IsUnknown words = (words ≢ run_words) × (words ≢ help_words) × (words ≢ version_words)
+
+-- these words ask for this
+abbrev pub IsTask : Task → List (List ℕ) → Type 0
+IsTask task.Run words = words ≡ run_words
+IsTask task.ShowUsage words = words ≡ help_words
+IsTask task.ShowVersion words = words ≡ version_words
+IsTask task.Refuse words = IsUnknown words
 
 abbrev pub usage : List ℕ
 usage = codes "usage: ssh_script run | generate <n> | threads <n>\n"
 
--- the status and the text of these words and this script: words come first
+abbrev pub version : List ℕ
+version = codes "ssh_script 0.1.0\n"
+
+-- the status and the text of these words and this script
 abbrev pub Transcript : List (List ℕ) → List ℕ → ℕ → List ℕ → Type 0
 Transcript words bytes status text =
-    ((words ≢ run_words) × (status ≡ 2) × (text ≡ usage)) ⊎ ((words ≡ run_words) × Scripted bytes status text)
+    ((words ≡ run_words) × Scripted bytes status text)
+    ⊎ ((words ≡ help_words) × (status ≡ 0) × (text ≡ usage))
+    ⊎ ((words ≡ version_words) × (status ≡ 0) × (text ≡ version))
+    ⊎ (IsUnknown words × (status ≡ 2) × (text ≡ usage))
 
 -- a script that is not run: it is too long, or has a bad line
 abbrev pub IsBadScript : List ℕ → Type 0
@@ -92,19 +121,28 @@ Owed words left status text = (bytes : List ℕ) × IsAll left bytes × Transcri
 
 -- a script was asked for, and its source failed
 abbrev pub IsUnread : List (List ℕ) → ℕ → ℕ → Type 0
-IsUnread words faults faults' = (words ≡ run_words) × Rose faults faults'
+IsUnread words faults faults' = (words ≡ run_words) × RoseOrFull faults faults'
 
 abbrev pub read_fault : List ℕ
 read_fault = codes "read fault\n"
 
--- how the program ends, by its status: what is owed, that the source failed and that the sink did, and what the sink held before and after
-pub data Ends (owed : ℕ → List ℕ → Type 0) (source_failed sink_failed : Type 0) (held held' : Option (List ℕ)) (status : ℕ) : Type 0 where
+-- the reading was cut short: the source failed, or memory was wanting
+abbrev pub IsCutShort : ℕ → ℕ → ℕ → Type 0
+IsCutShort faults faults' status = ((2 < status) × RoseOrFull faults faults') ⊎ (status ≡ 5)
+
+-- how the program ends, by its status: what is owed, that the source failed and that the sink did, and what the sink
+-- held before and after
+pub data Ends (owed : ℕ → List ℕ → Type 0) (source_failed sink_failed : Type 0) (held held' : Option (List ℕ))
+    (status : ℕ) : Type 0 where
   -- the whole text was written
-  Shown : (text : List ℕ) → status < 3 → owed status text → Adds held held' text → Ends owed source_failed sink_failed held held' status
+  Shown : (text : List ℕ) → status < 3 → owed status text → Adds held held' text →
+      Ends owed source_failed sink_failed held held' status
   -- the source failed
-  Unread : status ≡ 3 → source_failed → Adds held held' read_fault → Ends owed source_failed sink_failed held held' status
+  Unread : status ≡ 3 → source_failed → Adds held held' read_fault →
+      Ends owed source_failed sink_failed held held' status
   -- the sink failed, and a front of the text was written
-  Unwritten : status ≡ 4 → sink_failed → (text : List ℕ) → (((s : ℕ) × owed s text) ⊎ (source_failed × (text ≡ read_fault))) → AddsPart held held' text →
+  Unwritten : status ≡ 4 → sink_failed → (text : List ℕ) →
+      (((s : ℕ) × owed s text) ⊎ (source_failed × (text ≡ read_fault))) → AddsPart held held' text →
       Ends owed source_failed sink_failed held held' status
   -- there was no memory, and nothing was written
   Starved : status ≡ 5 → Adds held held' [] → Ends owed source_failed sink_failed held held' status

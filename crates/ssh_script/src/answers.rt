@@ -4,7 +4,7 @@ use ssh_wire::Text;
 
 /// What a script answers to a request of authentication.
 #[derive(Clone, Copy, Debug, PartialEq, Eq)]
-pub enum Verdict {
+pub(crate) enum Verdict {
     /// The user is let in.
     Accept,
     /// The request is refused.
@@ -15,7 +15,7 @@ pub enum Verdict {
 
 /// What a script answers to a user of keyboard-interactive.
 #[derive(Clone, Copy, Debug, PartialEq, Eq)]
-pub enum InteractiveVerdict {
+pub(crate) enum InteractiveVerdict {
     /// What any other request could be answered.
     Plain(Verdict),
     /// The handler does not have the method.
@@ -26,7 +26,7 @@ pub enum InteractiveVerdict {
 
 /// What a script answers to the channels that the peer opens.
 #[derive(Clone, Copy, Debug, PartialEq, Eq)]
-pub enum OpenVerdict {
+pub(crate) enum OpenVerdict {
     /// They are accepted.
     Accept,
     /// They are refused as administratively prohibited.
@@ -37,40 +37,40 @@ pub enum OpenVerdict {
 
 /// The answers of a script, each list in order.
 #[derive(Drop)]
-pub struct Answers {
+pub(crate) struct Answers {
     /// To requests of method none.
-    pub none: Vec<Verdict>,
+    pub(crate) none: Vec<Verdict>,
     /// To requests of method password.
-    pub password: Vec<Verdict>,
+    pub(crate) password: Vec<Verdict>,
     /// To offers of keys.
-    pub offered: Vec<Verdict>,
+    pub(crate) offered: Vec<Verdict>,
     /// To requests that are signed by a key.
-    pub publickey: Vec<Verdict>,
+    pub(crate) publickey: Vec<Verdict>,
     /// To requests that are signed by the key of a certificate.
-    pub certificate: Vec<Verdict>,
+    pub(crate) certificate: Vec<Verdict>,
     /// To users of keyboard-interactive.
-    pub interactive: Vec<InteractiveVerdict>,
+    pub(crate) interactive: Vec<InteractiveVerdict>,
     /// How many banner callbacks fail.
-    pub failing_banners: u64,
+    pub(crate) failing_banners: u64,
     /// The banner that the later ones give.
-    pub banner: Option<Text>,
+    pub(crate) banner: Option<Text>,
     /// To all channels that the peer opens.
-    pub opens: OpenVerdict,
+    pub(crate) opens: OpenVerdict,
 }
 
 /// How many answers of each list were given.
 #[derive(Clone, Copy)]
-pub struct Places {
+pub(crate) struct Places {
     /// To requests of method none.
-    pub none: usize,
+    pub(crate) none: usize,
     /// To requests of method password.
-    pub password: usize,
+    pub(crate) password: usize,
     /// To offers of keys.
-    pub offered: usize,
+    pub(crate) offered: usize,
     /// To requests that are signed by a key.
-    pub publickey: usize,
+    pub(crate) publickey: usize,
     /// To requests that are signed by the key of a certificate.
-    pub certificate: usize,
+    pub(crate) certificate: usize,
     /// To users of keyboard-interactive.
-    pub interactive: usize,
+    pub(crate) interactive: usize,
 }

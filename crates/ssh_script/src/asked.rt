@@ -2,7 +2,7 @@
 ghost use Rattle.std.specs.Prelude.{◌≡◌, IfOk};
 ghost use Rattle.ssh_script.specs.declared.asked.Asked.TheVariants as asked;
 
-use ssh_auth::{PublicKeyOffer, Response, VerifiedPublicKey};
+use ssh_auth::{PublicKeyOffer, Response, VerifiedPublicKey, copied_response};
 use ssh_keys::{Algorithm, Certificate, PublicKey};
 use ssh_link::CommandOutcome;
 use ssh_wire::{Blobs, ChannelId, Text, WireError};
@@ -10,7 +10,7 @@ use std::alloc::Global;
 
 /// A callback that was made, without its answer.
 #[derive(Debug, Drop)]
-pub enum Asked {
+pub(crate) enum Asked {
     /// The banner was asked for.
     AuthenticationBanner,
     /// A user asked to be let in by method none.
@@ -168,10 +168,7 @@ impl Asked {
         Ok(Asked::AuthKeyboardInteractive {
             user: Text::new(alloc, user)?,
             submethods: Text::new(alloc, submethods)?,
-            response: match response {
-                Some(response) => Some(response.into_blobs(alloc)?),
-                None => None,
-            },
+            response: copied_response(alloc, response)?,
         })
     }
 }

@@ -3,9 +3,8 @@ ghost use Rattle.std.specs.Prelude.{◌≡◌, [], ◌∷◌, IfOk};
 ghost use Rattle.ssh_auth.specs.declared.auth.Auth.TheVariants.{Partial};
 ghost use Rattle.ssh_script.specs.Played.{code_prompt, interactive_answer};
 
-use crate::ScriptError;
 use crate::answers::InteractiveVerdict;
-use crate::script_handler::answer_of;
+use crate::script_handler::{ScriptError, answer_of};
 use ssh_auth::{Auth, Prompts};
 use ssh_handler::RecordError;
 use ssh_wire::{Text, WireError};

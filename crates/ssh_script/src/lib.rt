@@ -20,12 +20,8 @@ mod scene;
 mod script;
 mod script_handler;
 mod script_link;
+mod task;
 mod transfer;
 
-pub use answers::{Answers, InteractiveVerdict, OpenVerdict, Verdict};
-pub use asked::Asked;
-pub use lines::{InputLine, Line, Setting};
 pub use run::{one_transcript, run_script};
-pub use script::{Script, Stage};
-pub use script_handler::{ScriptError, ScriptHandler};
-pub use script_link::ScriptLink;
+pub use script_handler::ScriptError;

@@ -8,7 +8,7 @@ use ssh_wire::Text;
 
 /// How a session is set up, and what its handler answers.
 #[derive(Debug, Drop)]
-pub enum Setting {
+pub(crate) enum Setting {
     /// The session id, of at most 2^32 - 1 bytes.
     Session(Bytes),
     /// After how many inputs the run stops.
@@ -43,7 +43,7 @@ pub enum Setting {
 
 /// What comes in.
 #[derive(Debug, Drop)]
-pub enum InputLine {
+pub(crate) enum InputLine {
     /// From here on inputs come at this moment, in milliseconds.
     At(u64),
     /// The peer's payload.
@@ -58,7 +58,7 @@ pub enum InputLine {
 
 /// What one line of a script says.
 #[derive(Debug, Drop)]
-pub enum Line {
+pub(crate) enum Line {
     /// Nothing: it is empty, or a comment.
     Passed,
     /// A setting, which stands before the first input line.

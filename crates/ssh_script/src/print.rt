@@ -289,14 +289,27 @@ fn print_hold(alloc: Global, out: &mut String, hold_until: Option<u64>) -> Resul
     print_number(alloc, out, moment)
 }
 
+/// A payload in hex, one part of the frame after the other, and `-` for an empty one.
+fn print_payload(alloc: Global, out: &mut String, frame: &Frame) -> Result<(), AllocError>
+    ensures { OnOk result (string_bytes out.new ≡ string_bytes out.old ++ hex_text frame.now.payload) }
+{
+    let (head, body) = frame.parts();
+    if body.is_empty() {
+        return print_hex(alloc, out, head);
+    }
+    let text = hex::encode(alloc, head)?;
+    out.push_str(text.as_str())?;
+    print_hex(alloc, out, body)
+}
+
 fn print_frame(alloc: Global, out: &mut String, frame: &Frame) -> Result<(), AllocError>
     ensures { OnOk result (string_bytes out.new ≡ string_bytes out.old ++ frame_line frame.now) }
 {
     out.push_str("send ")?;
-    print_channel(alloc, out, frame.channel)?;
+    print_channel(alloc, out, frame.channel())?;
     out.push_str(" ")?;
-    print_hex(alloc, out, frame.payload.as_slice())?;
-    print_hold(alloc, out, frame.hold_until)?;
+    print_payload(alloc, out, frame)?;
+    print_hold(alloc, out, frame.hold_until())?;
     out.push_str("\n")
 }
 

@@ -1,23 +1,28 @@
 // A script is read and run, and what comes of it is written.
-ghost use Rattle.std.specs.Prelude.{◌≡◌, ◌≢◌, ◌<◌, ◌≤◌, ◌++◌, ◌↔◌, ◌⊎◌, ℕ, List, map, codes, length, IfOk, OnOk, IsErrOf, true, false};
+ghost use Rattle.std.specs.Prelude.{◌≡◌, ◌≢◌, ◌<◌, ◌≤◌, ◌+◌, ◌++◌, ◌↔◌, ◌⊎◌, ℕ, List, map, codes, length, IfOk, OnOk, IsErrOf, true, false};
 ghost use Rattle.std.specs.Fmt.{decimal};
 ghost use Rattle.std.specs.String.{string_bytes};
-ghost use Rattle.ssh_link.specs.Io.{Rose};
+ghost use Rattle.ssh_link.specs.Faults.{RoseOrFull};
 ghost use Rattle.ssh_script.specs.Print.{variant_name, last_line};
 ghost use Rattle.ssh_script.specs.Scene.{scene_of};
-ghost use Rattle.ssh_script.specs.Transcript.{status_of, IsRun, Scripted, IsBadScript, Transcript, Owed, IsUnread, Ends, longest, run_words, usage};
+ghost use Rattle.ssh_script.specs.Transfer.{IsReadTo, IsReadWithin};
+ghost use Rattle.ssh_script.specs.Transcript.{status_of, IsRun, Scripted, IsBadScript, IsUnknown, Transcript, Owed, IsUnread, IsCutShort, Ends, longest, run_words};
 
 use crate::print::{print_calls, print_number, print_trace};
 use crate::scene::read_script;
 use crate::script::Script;
-use crate::transfer::{ReadError, read_all, write_all};
-use crate::{ScriptError, ScriptHandler, ScriptLink};
+use crate::script_handler::{ScriptError, ScriptHandler};
+use crate::script_link::ScriptLink;
+use crate::task::{Task, task_of};
+use crate::transfer::{ReadError, read_front, write_all};
 use ssh_handler::RecordError;
 use ssh_link::{Sink, Source};
 use ssh_session::{RunError, run_stream};
 use std::alloc::{AllocError, Global};
 
-/// The status where a script is not run.
+/// The status where nothing went wrong.
+const DONE: u8 = 0;
+/// The status where words ask for nothing, or a script is not run.
 const REFUSED: u8 = 2;
 /// The status where the source failed.
 const READ_FAULT: u8 = 3;
@@ -29,7 +34,12 @@ const NO_MEMORY: u8 = 5;
 /// The longest script, in bytes.
 const LONGEST: usize = 16_777_216;
 
+/// How much of a source is read at most: one byte more shows that a script is too long.
+const READ_AT_MOST: usize = LONGEST + 1;
+
 const USAGE: &str = "usage: ssh_script run | generate <n> | threads <n>\n";
+
+const VERSION: &str = "ssh_script 0.1.0\n";
 
 /// What a script comes to: the program's status, and what it writes.
 #[derive(Drop)]
@@ -103,27 +113,24 @@ fn run_scene(alloc: Global, script: Script) -> Result<Report, AllocError>
     let Some(status) = status_of(&run) else {
         return Err(AllocError);
     };
-    if handler.lost() {
+    if handler.lost {
         return Err(AllocError);
     }
     let mut text = String::new(alloc);
-    print_calls(alloc, &mut text, handler.asked())?;
-    print_trace(alloc, &mut text, link.trace())?;
+    print_calls(alloc, &mut text, &handler.asked)?;
+    print_trace(alloc, &mut text, link.memory.trace())?;
     print_last(&mut text, &run)?;
     Ok(Report { status, text })
 }
 
-/// The one line of a script that is not run.
-fn refusal(alloc: Global, line: &str) -> Result<Report, AllocError>
-    ensures status { IfOk result (λ report. report.status ≡ 2) }
+/// One line, where no script is run.
+fn one_line(alloc: Global, status: u8, line: &str) -> Result<Report, AllocError>
+    ensures status { IfOk result (λ report. report.status ≡ status) }
     ensures text { IfOk result (λ report. string_bytes report.text ≡ line.now) }
 {
     let mut text = String::new(alloc);
     text.push_str(line)?;
-    Ok(Report {
-        status: REFUSED,
-        text,
-    })
+    Ok(Report { status, text })
 }
 
 /// The script has a bad line of this number.
@@ -146,7 +153,7 @@ fn show(alloc: Global, bytes: &[u8]) -> Result<Report, AllocError>
     ensures { IfOk result (λ report. Scripted bytes.now report.status (string_bytes report.text)) }
 {
     if bytes.len() > LONGEST {
-        return refusal(alloc, "script too long\n");
+        return one_line(alloc, REFUSED, "script too long\n");
     }
     show_lines(alloc, bytes)
 }
@@ -162,42 +169,43 @@ fn show_lines(alloc: Global, bytes: &[u8]) -> Result<Report, AllocError>
     }
 }
 
-/// Whether the words are the one word `run`.
-fn is_run(words: &[&str]) -> bool
-    ensures yes { result ≡ true → map (λ word. word.now) words.now ≡ run_words }
-    ensures no { result ≡ false → map (λ word. word.now) words.now ≢ run_words }
-{
-    match words {
-        [word] => *word == "run",
-        _ => false,
-    }
-}
-
 /// What these words and the source's script come to.
 fn transcript<S: Source>(alloc: Global, words: &[&str], source: &mut S) -> Result<Report, ReadError>
     ensures owed { IfOk result (λ report. Owed (map (λ word. word.now) words.now) (S.left source.old) report.status (string_bytes report.text)) }
+    ensures unread { map (λ word. word.now) words.now ≢ run_words → source.new ≡ source.old }
+    ensures whole { map (λ word. word.now) words.now ≡ run_words → OnOk result (IsReadTo (longest + 1) (S.left source.old) (S.left source.new)) }
+    ensures no_further { IsReadWithin (longest + 1) (S.left source.old) (S.left source.new) }
     ensures cause { IsErrOf result ReadError.Failed → IsUnread (map (λ word. word.now) words.now) (S.faults source.old) (S.faults source.new) }
     ensures later { S.faults source.old ≤ S.faults source.new }
 {
-    if !is_run(words) {
-        return Ok(refusal(alloc, USAGE)?);
+    match task_of(words) {
+        Task::Run => {
+            let bytes = read_front(alloc, source, READ_AT_MOST)?;
+            Ok(show(alloc, bytes.as_slice())?)
+        }
+        Task::ShowUsage => Ok(one_line(alloc, DONE, USAGE)?),
+        Task::ShowVersion => Ok(one_line(alloc, DONE, VERSION)?),
+        Task::Refuse => Ok(one_line(alloc, REFUSED, USAGE)?),
     }
-    let bytes = read_all(alloc, source, LONGEST)?;
-    Ok(show(alloc, bytes.as_slice())?)
 }
 
 /// Does what the words ask for with the script that the source holds, and answers the status of
-/// the program: 0 where the run was Ok, 1 where it ended by an error, 2 for other words than
-/// `run`, a bad line, or more than 16777216 bytes, 3 where the source failed, 4 where the sink
-/// failed, 5 where there was no memory.
+/// the program: 0 where the run was Ok, and for `--help` and `--version`; 1 where the run ended
+/// by an error; 2 for other words, a bad line, or more than 16777216 bytes; 3 where the source
+/// failed, 4 where the sink failed, 5 where there was no memory. The source is read for the word
+/// `run` alone: to its end, or to byte 16777217.
 pub fn run_script<S: Source, W: Sink>(
     alloc: Global,
     words: &[&str],
     source: &mut S,
     sink: &mut W,
 ) -> u8
-    ensures { Ends (Owed (map (λ word. word.now) words.now) (S.left source.old)) (IsUnread (map (λ word. word.now) words.now) (S.faults source.old) (S.faults source.new))
-        (Rose (W.faults sink.old) (W.faults sink.new)) (W.held sink.old) (W.held sink.new) result }
+    ensures ends { Ends (Owed (map (λ word. word.now) words.now) (S.left source.old)) (IsUnread (map (λ word. word.now) words.now) (S.faults source.old) (S.faults source.new))
+        (RoseOrFull (W.faults sink.old) (W.faults sink.new)) (W.held sink.old) (W.held sink.new) result }
+    ensures unread { map (λ word. word.now) words.now ≢ run_words → source.new ≡ source.old }
+    ensures whole { map (λ word. word.now) words.now ≡ run_words →
+        IsReadTo (longest + 1) (S.left source.old) (S.left source.new) ⊎ IsCutShort (S.faults source.old) (S.faults source.new) result }
+    ensures no_further { IsReadWithin (longest + 1) (S.left source.old) (S.left source.new) }
 {
     match transcript(alloc, words, source) {
         Ok(report) => match write_all(sink, report.text.as_bytes()) {
@@ -212,10 +220,10 @@ pub fn run_script<S: Source, W: Sink>(
     }
 }
 
-/// Words and a script owe one status and one text, and the status is 2 exactly with other words
-/// than `run`, and with a script that is too long or has a bad line.
+/// Words and a script owe one status and one text, and the status is 2 exactly with words that
+/// ask for nothing, and with `run` and a script that is too long or has a bad line.
 pub fn one_transcript()
     ensures once { (words : List (List ℕ)) (script : List ℕ) (m n : ℕ) (s t : List ℕ) → Transcript words script m s → Transcript words script n t → (m ≡ n) × (s ≡ t) }
     ensures two { (words : List (List ℕ)) (script : List ℕ) (m : ℕ) (text : List ℕ) → Transcript words script m text →
-        (m ≡ 2) ↔ ((words ≢ run_words) ⊎ IsBadScript script) }
+        (m ≡ 2) ↔ (IsUnknown words ⊎ ((words ≡ run_words) × IsBadScript script)) }
 {}

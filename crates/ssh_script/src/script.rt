@@ -9,7 +9,7 @@ use ssh_link::Input;
 
 /// Which lines may follow.
 #[derive(Clone, Copy, Debug, PartialEq, Eq)]
-pub enum Stage {
+pub(crate) enum Stage {
     /// All.
     Settings,
     /// All but settings: there was an input line.
@@ -20,25 +20,25 @@ pub enum Stage {
 
 /// What a script says.
 #[derive(Drop)]
-pub struct Script {
+pub(crate) struct Script {
     /// The session id.
-    pub session_id: Bytes,
+    pub(crate) session_id: Bytes,
     /// After how many inputs the run stops.
-    pub max_inputs: u64,
+    pub(crate) max_inputs: u64,
     /// How the server is set up.
-    pub config: Config,
+    pub(crate) config: Config,
     /// The signatures that are accepted.
-    pub verifier: TableVerifier,
+    pub(crate) verifier: TableVerifier,
     /// What the callbacks are answered.
-    pub answers: Answers,
+    pub(crate) answers: Answers,
     /// How many of the inputs are commands and answers to opens: these have the tickets from 1 to
     /// this.
-    pub tickets: u64,
+    pub(crate) tickets: u64,
     /// The inputs, in order.
-    pub inputs: Vec<Input>,
+    pub(crate) inputs: Vec<Input>,
     /// The moment in force, in milliseconds.
-    pub moment: u64,
+    pub(crate) moment: u64,
     /// Which lines may follow.
-    pub stage: Stage,
+    pub(crate) stage: Stage,
     ghost short: { length session_id < 2 ^ 32 },
 }

@@ -14,28 +14,33 @@ use ssh_keys::Certificate;
 use ssh_link::{ChannelOpenHandle, CommandOutcome, OpenAnswer};
 use ssh_wire::{ChannelId, Text, WireError};
 use std::alloc::Global;
+use thiserror::Error;
 
 /// The error that a script's handler answers where the script says `fail`.
-#[derive(Clone, Copy, Debug, PartialEq, Eq)]
+#[derive(Clone, Copy, Debug, PartialEq, Eq, Error)]
+#[error("the script says fail")]
 pub struct ScriptError;
 
 /// Answers the k-th request of a kind by the k-th verdict on that kind. Later offers of keys are
 /// accepted, and all other later requests are refused. The first banner callbacks fail, as many as
 /// the script says, and the later ones give the script's banner, where it has one.
 #[derive(Drop)]
-pub struct ScriptHandler {
+pub(crate) struct ScriptHandler {
     alloc: Global,
-    answers: Answers,
-    asked: Vec<Asked>,
+    /// What it answers by.
+    pub(crate) answers: Answers,
+    /// The callbacks that were made, in order.
+    pub(crate) asked: Vec<Asked>,
     next: Places,
     banners_left: u64,
-    lost: bool,
+    /// Whether a callback was not kept, or its answer not made, for want of memory.
+    pub(crate) lost: bool,
     ghost left: { left_after (queues_in answers) asked.items ≡ queues_from answers next banners_left },
 }
 
 impl ScriptHandler {
     /// A handler that was not called yet.
-    pub fn new(alloc: Global, answers: Answers) -> ScriptHandler
+    pub(crate) fn new(alloc: Global, answers: Answers) -> ScriptHandler
         ensures answers { result.answers ≡ answers }
         ensures asked { result.asked.items ≡ [] }
         ensures lost { result.lost ≡ false }
@@ -56,20 +61,6 @@ impl ScriptHandler {
             banners_left,
             lost: false,
         }
-    }
-
-    /// The callbacks that were made, in order.
-    pub fn asked(&self) -> &[Asked]
-        ensures { result.now ≡ self.now.asked.items }
-    {
-        &self.asked
-    }
-
-    /// Whether a callback was not kept, or its answer not made, for want of memory.
-    pub fn lost(&self) -> bool
-        ensures { result ≡ self.now.lost }
-    {
-        self.lost
     }
 }
 

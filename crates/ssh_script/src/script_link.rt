@@ -4,20 +4,20 @@ ghost use Rattle.ssh_wire.specs.declared.error.WireError.TheVariants.{NoMemory};
 ghost use Rattle.ssh_link.specs.Supply.{left_until};
 ghost use Rattle.ssh_script.specs.Given.{as_given, left_after};
 
-use ssh_link::{
-    Calls, CommandOutcome, Frame, Input, Inputs, Link, LinkFault, MemoryLink, Notice, TraceEntry,
-};
+use ssh_link::{Calls, CommandOutcome, Frame, Input, Inputs, Link, LinkFault, MemoryLink, Notice};
 use ssh_wire::WireError;
 use std::alloc::Global;
 
 /// Gives the inputs of a script as a link in memory does, with the end at the script's last moment.
 /// The outside never fails.
 #[derive(Drop)]
-pub struct ScriptLink {
-    // All inputs of the script, which the link tells before its calls.
-    inputs: Vec<Input>,
-    last_moment: u64,
-    memory: MemoryLink,
+pub(crate) struct ScriptLink {
+    /// All inputs of the script, which the link tells before its calls.
+    pub(crate) inputs: Vec<Input>,
+    /// The moment of the end, in milliseconds.
+    pub(crate) last_moment: u64,
+    /// What is left of the inputs, and the finished calls.
+    pub(crate) memory: MemoryLink,
     ghost given: { as_given (left_until last_moment inputs.items) memory.trace ≡ memory.trace },
     ghost left: { left_after (left_until last_moment inputs.items) memory.trace ≡ memory.supply },
     ghost sound: { memory.failures.fails ≡ [] },
@@ -37,7 +37,11 @@ fn copied(alloc: Global, inputs: &[Input]) -> Result<Inputs, WireError>
 
 impl ScriptLink {
     /// A link that was not called yet. `NoMemory` is the only error.
-    pub fn new(alloc: Global, inputs: Vec<Input>, last_moment: u64) -> Result<ScriptLink, WireError>
+    pub(crate) fn new(
+        alloc: Global,
+        inputs: Vec<Input>,
+        last_moment: u64,
+    ) -> Result<ScriptLink, WireError>
         ensures inputs { IfOk result (λ link. link.inputs ≡ inputs) }
         ensures last_moment { IfOk result (λ link. link.last_moment ≡ last_moment) }
         ensures trace { IfOk result (λ link. link.memory.trace ≡ []) }
@@ -47,15 +51,8 @@ impl ScriptLink {
         Ok(ScriptLink {
             inputs,
             last_moment,
-            memory: MemoryLink::ending_at(alloc, left, last_moment, Calls::new(alloc)),
+            memory: MemoryLink::ending_at(alloc, left, last_moment, Calls::new(alloc))?,
         })
-    }
-
-    /// The finished calls, in order.
-    pub fn trace(&self) -> &[TraceEntry]
-        ensures { result.now ≡ self.now.memory.trace }
-    {
-        self.memory.trace()
     }
 }
 

@@ -13,11 +13,11 @@ returns c = kept (scene_of c.args.script) c.in-Some.status c.run_stream-run.resu
     c.new-handler.result.asked.items c.run_stream-run.new.handler.asked.items
     c.in-Ok.link.inputs.items c.run_stream-run.new.link.inputs.items c.in-Ok.link.last_moment c.run_stream-run.new.link.last_moment
     c.in-Ok.link.memory.trace c.run_stream-run.new.link.memory.trace c.as_slice.result.now (string_bytes c.print_last.new.out)
-    c.new-handler.ensures.lost (sym c.lost.ensures ∙ c.if-lost.false)
+    c.new-handler.ensures.lost c.if-handler.false
     (ap queues_in c.new-handler.ensures.answers) c.new-handler.ensures.asked
     (ap (λ v. v.items) c.in-Ok.ensures.inputs) c.in-Ok.ensures.last_moment c.in-Ok.ensures.trace c.run_stream-run.new.link.given
     (sym c.status_of.ensures ∙ c.in-Some.is) c.as_slice.ensures c.run_stream-run.ensures.run
     (text_of (string_bytes c.new-text.result) (string_bytes c.print_calls.new.out) (string_bytes c.print_trace.new.out) (string_bytes c.print_last.new.out) _ _ _
     c.new-text.ensures.bytes
-    (c.in_ok-print_calls.ensures ∙ ap (λ l. string_bytes c.new-text.result ++ flat_map asked_line l) c.asked.ensures)
+    (c.in_ok-print_calls.ensures ∙ ap (λ l. string_bytes c.new-text.result ++ flat_map asked_line l) c.deref.ensures.value)
     (c.in_ok-print_trace.ensures ∙ ap (λ l. string_bytes c.print_calls.new.out ++ entry_lines 0 l) c.trace.ensures) c.in_ok-print_last.ensures)

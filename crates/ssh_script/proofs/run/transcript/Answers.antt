@@ -1,10 +1,16 @@
 use Rattle.std.proofs.Common.{rules}
-use Rattle.ssh_script.proofs.Endings.{owed_usage, owed_read}
+use Rattle.ssh_script.proofs.Endings.{owed_read, owed_usage, owed_version, owed_refusal}
 use Rattle.ssh_script.proofs.run.transcript.Goals as goal
 
-pub returns-then-not-is_run-clause-owed : goal.returns-then-not-is_run-clause-owed
-returns-then-not-is_run-clause-owed g c = owed_usage _ _ _ _ (c.is_run.ensures.no (search rules)) (search rules) (search rules)
+pub returns-in_ok-show-in-Run-clause-owed : goal.returns-in_ok-show-in-Run-clause-owed
+returns-in_ok-show-in-Run-clause-owed g c =
+    owed_read _ _ c.in_ok-bytes-in-Run.bytes.items _ _ (search rules) c.in_ok-bytes-in-Run.ensures.front (rw c.as_slice.ensures.value at c.in_ok-show-in-Run.ensures)
 
-pub returns-clause-owed : goal.returns-clause-owed
-returns-clause-owed g c = owed_read _ _ c.in_ok-bytes.bytes.items _ _ (c.is_run.ensures.yes (search rules)) c.in_ok-bytes.ensures.front c.in_ok-bytes.ensures.all
-    (rw c.as_slice.ensures.value at c.in_ok-show.ensures)
+pub returns-in_ok-one_line-in-ShowUsage-clause-owed : goal.returns-in_ok-one_line-in-ShowUsage-clause-owed
+returns-in_ok-one_line-in-ShowUsage-clause-owed g c = owed_usage _ _ _ _ (search rules) (search rules) (search rules)
+
+pub returns-in_ok-one_line-in-ShowVersion-clause-owed : goal.returns-in_ok-one_line-in-ShowVersion-clause-owed
+returns-in_ok-one_line-in-ShowVersion-clause-owed g c = owed_version _ _ _ _ (search rules) (search rules) (search rules)
+
+pub returns-in_ok-one_line-in-Refuse-clause-owed : goal.returns-in_ok-one_line-in-Refuse-clause-owed
+returns-in_ok-one_line-in-Refuse-clause-owed g c = owed_refusal _ _ _ _ (search rules) (search rules) (search rules)
