@@ -47,7 +47,7 @@ fn named(alloc: Global, bytes: &[u8]) -> Result<Text, Fail> {
         return Ok(Text::new(alloc, "no text")?);
     };
     let methods = MethodSet::from_names(&NameList::parse(alloc, text)?);
-    Ok(methods.to_names(alloc)?.to_text(alloc)?)
+    Ok(methods.to_names(alloc)?.to_text()?)
 }
 
 fn answer(alloc: Global, call: Call, bytes: &[u8]) -> Result<Text, Fail> {

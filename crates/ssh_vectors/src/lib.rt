@@ -7,6 +7,8 @@ mod calls;
 #[cfg(test)]
 mod channels;
 #[cfg(test)]
+mod documented;
+#[cfg(test)]
 mod keys;
 #[cfg(test)]
 mod prompts;

@@ -159,7 +159,7 @@ fn service_link(alloc: Global, fails: &[u64]) -> Result<MemoryLink, Fail> {
     for number in fails {
         calls.push(*number)?;
     }
-    Ok(MemoryLink::new(alloc, inputs, calls))
+    Ok(MemoryLink::new(alloc, inputs, calls)?)
 }
 
 fn sent(link: &MemoryLink) -> usize {
@@ -250,7 +250,7 @@ fn a_silent_handler_lets_nobody_in(rt: HostRuntime) -> Result<(), Fail> {
     let mut inputs = Inputs::new(alloc);
     inputs.push(input(alloc, SERVICE)?)?;
     inputs.push(input(alloc, NONE)?)?;
-    let mut link = MemoryLink::new(alloc, inputs, Calls::new(alloc));
+    let mut link = MemoryLink::new(alloc, inputs, Calls::new(alloc))?;
     let run = run_stream(
         alloc,
         &config,
@@ -266,7 +266,8 @@ fn a_silent_handler_lets_nobody_in(rt: HostRuntime) -> Result<(), Fail> {
     let mut numbers = Vec::new(alloc);
     for entry in link.trace() {
         if let TraceEntry::Sent(frame) = entry {
-            numbers.push(frame.payload.first().copied())?;
+            let (head, body) = frame.parts();
+            numbers.push(head.first().or(body.first()).copied())?;
         }
     }
     assert_eq!(rt; numbers.as_slice(), [Some(6u8), Some(51)].as_slice());
@@ -281,7 +282,7 @@ fn a_handler_counts_on_the_line_of_its_peer(rt: HostRuntime) -> Result<(), Fail>
     let mut inputs = Inputs::new(alloc);
     inputs.push(input(alloc, SERVICE)?)?;
     inputs.push(input(alloc, NONE)?)?;
-    let mut link = MemoryLink::new(alloc, inputs, Calls::new(alloc));
+    let mut link = MemoryLink::new(alloc, inputs, Calls::new(alloc))?;
     let mut handler = Naming {
         alloc,
         software: Bytes::copy_from_slice(alloc, b"")?,

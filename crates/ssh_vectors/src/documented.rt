@@ -1,0 +1,233 @@
+// The examples of docs/SCRIPT.md, as they stand there.
+use crate::transcripts::{Case, passes, run};
+use std::test::Fail;
+
+#[test]
+fn the_examples_of_the_page_print_what_it_says(rt: HostRuntime) -> Result<(), Fail> {
+    let cases = [
+        // A request for the service of authentication.
+        Case {
+            script: b"recv 050000000c7373682d7573657261757468\n",
+            status: 0,
+            written: b"call authentication_banner\n\
+              input 1\n\
+              send - 060000000c7373682d7573657261757468\n\
+              input 2\n\
+              ok\n",
+        },
+        // Two passwords, of which the script has the second accepted.
+        Case {
+            script: b"# Two answers to passwords; a third password has the default.\n\
+              answer password reject\n\
+              answer password accept\n\
+              config reject 250\n\
+              \n\
+              at 1000\n\
+              recv 050000000c7373682d7573657261757468\n\
+              recv 3200000005616c6963650000000e7373682d636f6e6e656374696f6e0000000870617373776f726400000000036\
+              f6c64\n\
+              at 3000\n\
+              recv 3200000005616c6963650000000e7373682d636f6e6e656374696f6e0000000870617373776f726400000000036\
+              e6577\n\
+              end\n",
+            status: 0,
+            written: b"call authentication_banner\n\
+              call auth_password 616c696365 6f6c64\n\
+              call auth_password 616c696365 6e6577\n\
+              call auth_succeeded\n\
+              input 1\n\
+              send - 060000000c7373682d7573657261757468\n\
+              input 2\n\
+              send - 330000002d6e6f6e652c7075626c69636b65792c686f737462617365642c6b6579626f6172642d696e7465726\
+              1637469766500 hold 1250\n\
+              input 3\n\
+              send - 34\n\
+              input 4\n\
+              ok\n",
+        },
+        // A request that is signed by a key, over a session id.
+        Case {
+            script: b"session 5e55\n\
+              sign 0000000b7373682d656432353531390000002011111111111111111111111111111111111111111111111111111\
+              11111111111 ssh-ed25519 000000025e553200000005616c6963650000000e7373682d636f6e6e656374696f6e0000\
+              00097075626c69636b6579010000000b7373682d65643235353139000000330000000b7373682d656432353531390000\
+              00201111111111111111111111111111111111111111111111111111111111111111 333333333333333333333333333\
+              333333333333333333333333333333333333333333333333333333333333333333333333333333333333333333333333\
+              33333\n\
+              answer publickey accept\n\
+              recv 050000000c7373682d7573657261757468\n\
+              recv 3200000005616c6963650000000e7373682d636f6e6e656374696f6e000000097075626c69636b6579010000000\
+              b7373682d65643235353139000000330000000b7373682d6564323535313900000020111111111111111111111111111\
+              1111111111111111111111111111111111111000000530000000b7373682d65643235353139000000403333333333333\
+              333333333333333333333333333333333333333333333333333333333333333333333333333333333333333333333333\
+              3333333333333333333\n",
+            status: 0,
+            written: b"call authentication_banner\n\
+              call auth_publickey_offered 616c696365 0000000b7373682d65643235353139000000201111111111111111111\
+              111111111111111111111111111111111111111111111 ssh-ed25519\n\
+              call auth_publickey 616c696365 0000000b7373682d6564323535313900000020111111111111111111111111111\
+              1111111111111111111111111111111111111 ssh-ed25519\n\
+              call auth_succeeded\n\
+              input 1\n\
+              send - 060000000c7373682d7573657261757468\n\
+              input 2\n\
+              send - 34\n\
+              input 3\n\
+              ok\n",
+        },
+        // A banner, and a round of prompts that is answered by two responses.
+        Case {
+            script: b"banner 68690a\n\
+              answer interactive ask\n\
+              answer interactive accept\n\
+              recv 050000000c7373682d7573657261757468\n\
+              recv 3200000005616c6963650000000e7373682d636f6e6e656374696f6e000000146b6579626f6172642d696e74657\
+              26163746976650000000000000000\n\
+              recv 3d00000002000000000000000431323334\n",
+            status: 0,
+            written: b"call authentication_banner\n\
+              call auth_keyboard_interactive 616c696365 - none\n\
+              call auth_keyboard_interactive 616c696365 - - 31323334\n\
+              call auth_succeeded\n\
+              input 1\n\
+              send - 060000000c7373682d7573657261757468\n\
+              send - 350000000368690a00000000\n\
+              input 2\n\
+              send - 3c0000000000000000000000000000000100000006436f64653a2000\n\
+              input 3\n\
+              send - 34\n\
+              input 4\n\
+              ok\n",
+        },
+        // Data that wait for a grant, and commands that wait for the data.
+        Case {
+            script: b"answer none accept\n\
+              recv 050000000c7373682d7573657261757468\n\
+              recv 3200000005616c6963650000000e7373682d636f6e6e656374696f6e000000046e6f6e65\n\
+              recv 5a0000000773657373696f6e000000070000000300008000\n\
+              data 2 68656c6c6f\n\
+              eof 2\n\
+              accept 2\n\
+              data 9 -\n\
+              recv 5d0000000200000064\n\
+              recv 6000000002\n\
+              recv 6100000002\n",
+            status: 0,
+            written: b"call authentication_banner\n\
+              call auth_none 616c696365\n\
+              call auth_succeeded\n\
+              call channel_open_session 2\n\
+              call window_adjusted 2 98\n\
+              call channel_eof 2\n\
+              call channel_close 2\n\
+              input 1\n\
+              send - 060000000c7373682d7573657261757468\n\
+              input 2\n\
+              send - 34\n\
+              input 3\n\
+              notice 2 Ready 3 32768\n\
+              send 2 5b00000007000000020020000000008000\n\
+              input 4\n\
+              done 1 accepted\n\
+              send 2 5e000000070000000368656c\n\
+              input 5\n\
+              done 3 refused UnknownOpen\n\
+              input 6\n\
+              notice 2 Granted 100\n\
+              notice 2 WindowAdjusted 98\n\
+              send 2 5e00000007000000026c6f\n\
+              input 7\n\
+              done 2 accepted\n\
+              send 2 6000000007\n\
+              input 8\n\
+              done 4 refused UnknownChannel\n\
+              input 9\n\
+              notice 2 Eof\n\
+              input 10\n\
+              notice 2 Close\n\
+              send 2 6100000007\n\
+              input 11\n\
+              ok\n",
+        },
+        // An open that the callback leaves to a line.
+        Case {
+            script: b"answer none accept\n\
+              answer open hold\n\
+              recv 050000000c7373682d7573657261757468\n\
+              recv 3200000005616c6963650000000e7373682d636f6e6e656374696f6e000000046e6f6e65\n\
+              recv 5a0000000773657373696f6e000000070000000300008000\n\
+              reject 2 4\n\
+              accept 2\n",
+            status: 0,
+            written: b"call authentication_banner\n\
+              call auth_none 616c696365\n\
+              call auth_succeeded\n\
+              call channel_open_session 2\n\
+              input 1\n\
+              send - 060000000c7373682d7573657261757468\n\
+              input 2\n\
+              send - 34\n\
+              input 3\n\
+              input 4\n\
+              done 1 accepted\n\
+              send 2 5c0000000700000004000000117265736f757263652073686f727461676500000002656e\n\
+              input 5\n\
+              done 2 refused UnknownOpen\n\
+              input 6\n\
+              ok\n",
+        },
+        // A payload that does not fit its layout.
+        Case {
+            script: b"recv 050000000c7373682d7573657261757468\n\
+              recv 32\n",
+            status: 1,
+            written: b"call authentication_banner\n\
+              input 1\n\
+              send - 060000000c7373682d7573657261757468\n\
+              input 2\n\
+              error Encoding\n",
+        },
+        // No input is asked for past the limit.
+        Case {
+            script: b"inputs 1\n\
+              recv 050000000c7373682d7573657261757468\n",
+            status: 1,
+            written: b"call authentication_banner\n\
+              input 1\n\
+              send - 060000000c7373682d7573657261757468\n\
+              error InputLimit\n",
+        },
+        // A setting behind an input line.
+        Case {
+            script: b"# The setting stands after an input line.\n\
+              at 5\n\
+              inputs 7\n",
+            status: 2,
+            written: b"bad line 3\n",
+        },
+    ];
+    passes(&rt, rt.alloc(), &cases)
+}
+
+#[test]
+fn words_other_than_run_print_one_line(rt: HostRuntime) -> Result<(), Fail> {
+    let usage = b"usage: ssh_script run | generate <n> | threads <n>\n".as_slice();
+    let version = b"ssh_script 0.1.0\n".as_slice();
+    let cases: [(&[&str], u8, &[u8]); 7] = [
+        (&["--help"], 0, usage),
+        (&["--version"], 0, version),
+        // A word more, other letters, and no word ask for nothing.
+        (&["--help", "run"], 2, usage),
+        (&["--Version"], 2, usage),
+        (&["run", "--help"], 2, usage),
+        (&["threads", "2"], 2, usage),
+        (&[], 2, usage),
+    ];
+    for (words, status, line) in &cases {
+        // The first read fails: the source is not read.
+        let (answered, sink) = run(rt.alloc(), *words, b"end\n", &[1], &[])?;
+        assert_eq!(rt; answered, *status);
+        assert_eq!(rt; sink.bytes(), *line);
+    }
+    Ok(())
+}
