@@ -1,4 +1,5 @@
 pub mod Fields
+pub mod Written
 pub mod MethodNames
 pub mod MethodSets
 pub mod Names

@@ -1,5 +1,6 @@
 pub mod Disconnects
 pub mod Field
+pub mod Messages
 pub mod MethodPlaces
 pub mod Methods
 pub mod Names
@@ -9,3 +10,4 @@ pub mod OpenFailures
 pub mod Ptys
 pub mod Reading
 pub mod Signals
+pub mod TerminalModes

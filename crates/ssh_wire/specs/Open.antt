@@ -1,6 +1,7 @@
 -- The messages that open a channel (RFC 4254 section 5.1), after their number byte.
-use Rattle.std.specs.Prelude.{◌≡◌, ◌≢◌, ◌⊎◌, ℕ, List, [], ◌∷◌, ◌++◌, Option, Some, None, find, bytes_eq, codes}
-use Rattle.ssh_wire.specs.Field.{Field, Number, Text, Values, SpellsAll, SpellsWhole, MisfitsAll, MisfitsWhole, number, string}
+use Rattle.std.specs.Prelude.{◌≡◌, ◌≢◌, ◌⊎◌, ℕ, List, [], ◌∷◌, Option, Some, None, find, bytes_eq, codes}
+use Rattle.ssh_wire.specs.Field.{Field, Number, Text, Values, SpellsAll, SpellsWhole, MisfitsAll, MisfitsWhole}
+use Rattle.ssh_wire.specs.Messages.{channel_open, channel_open_confirmation, channel_open_failure, written}
 use Rattle.ssh_wire.specs.declared.error.WireError.{WireError}
 use Rattle.ssh_wire.specs.declared.error.LayoutError.{LayoutError}
 use Rattle.ssh_wire.specs.declared.error.LayoutError.TheVariants.{Wire, Inconsistent}
@@ -11,7 +12,7 @@ use Rattle.ssh_wire.specs.declared.open.ChannelOpenConfirmation.{ChannelOpenConf
 
 -- the type's name, the sender's number, its window, its packet size (RFC 4254 section 5.1)
 abbrev pub leading_fields : List Field
-leading_fields = Text ∷ Number ∷ Number ∷ Number ∷ []
+leading_fields = channel_open.fields
 
 -- a type of channel: its name, the fields that follow the packet size, and what they say
 pub record KnownType : Type 0 where
@@ -105,7 +106,7 @@ MisfitsOpen bytes Inconsistent = (name : List ℕ) × (sender window : ℕ) × (
 
 -- the recipient's number, the sender's, the sender's window and packet size (RFC 4254 section 5.1)
 abbrev pub confirmation_fields : List Field
-confirmation_fields = Number ∷ Number ∷ Number ∷ Number ∷ []
+confirmation_fields = channel_open_confirmation.fields
 
 -- the bytes up to this rest are a confirmation that says this; a packet size of 0 would never let data through
 abbrev pub SpellsConfirmation : ChannelOpenConfirmation → (bytes rest : List ℕ) → Type 0
@@ -120,6 +121,6 @@ MisfitsConfirmation bytes (Wire why) = MisfitsAll confirmation_fields bytes why
 MisfitsConfirmation bytes Inconsistent =
     (recipient sender window : ℕ) × (after : List ℕ) × SpellsAll confirmation_fields (recipient, (sender, (window, (0, tt)))) bytes after
 
--- the refusal of an open: the number 92, the recipient's number, the reason, the description, its language (RFC 4254 section 5.1)
+-- the refusal of an open: the recipient's number, the reason, the description, its language (RFC 4254 section 5.1)
 abbrev pub open_failure : (recipient reason : ℕ) → (description language : List ℕ) → List ℕ
-open_failure recipient reason description language = 92 ∷ number recipient ++ (number reason ++ (string description ++ string language))
+open_failure recipient reason description language = written channel_open_failure (recipient, (reason, (description, (language, tt))))

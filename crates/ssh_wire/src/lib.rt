@@ -11,6 +11,7 @@ mod channel_type;
 mod disconnect;
 mod error;
 mod limits;
+pub mod message;
 mod method;
 mod method_set;
 mod modes;

@@ -59,5 +59,25 @@ impl Modes {
     }
 }
 
+/// Two lists are equal where their modes and the values of these are, in order.
+impl PartialEq for Modes {
+    ghost use Rattle.std.specs.Cmp.{partial_equiv_from_equiv};
+    ghost use Rattle.ssh_wire.specs.TerminalModes.{are_same, are_same-laws};
+
+    ghost eq = { are_same };
+
+    ghost laws = { partial_equiv_from_equiv are_same-laws };
+
+    fn eq(&self, other: &Modes) -> bool {
+        self.as_slice() == other.as_slice()
+    }
+}
+
+impl Eq for Modes {
+    ghost use Rattle.ssh_wire.specs.TerminalModes.{are_same-laws};
+
+    ghost laws = { are_same-laws };
+}
+
 #[cfg(test)]
 mod tests;

@@ -6,11 +6,9 @@ ghost use Rattle.ssh_wire.specs.Open.{SpellsOpen, MisfitsOpen, SpellsConfirmatio
 ghost use Rattle.ssh_wire.specs.declared.error.WireError.TheVariants.{NoMemory, TooLong};
 ghost use Rattle.ssh_wire.specs.declared.error.LayoutError.TheVariants.{Wire};
 
+use crate::message::CHANNEL_OPEN_FAILURE;
 use crate::{ChannelType, LayoutError, Reader, WireError, put_bytes, put_text, put_u8, put_u32};
 use std::alloc::Global;
-
-/// SSH_MSG_CHANNEL_OPEN_FAILURE (RFC 4254 section 9).
-const OPEN_FAILURE: u8 = 92;
 
 /// SSH_OPEN_UNKNOWN_CHANNEL_TYPE (RFC 4254 section 5.1).
 const UNKNOWN_CHANNEL_TYPE: u8 = 3;
@@ -95,7 +93,7 @@ impl OpenChannelMessage {
         ensures memory { IfErr result (λ e. e ≡ NoMemory) }
         ensures grown { (more : List ℕ) × (out.new.items ≡ out.old.items ++ more) }
     {
-        put_u8(out, OPEN_FAILURE)?;
+        put_u8(out, CHANNEL_OPEN_FAILURE)?;
         put_u32(out, self.recipient_channel)?;
         put_u32(out, u32::from(reason))?;
         put_bytes(out, message)?;

@@ -5,7 +5,7 @@ ghost use Rattle.ssh_wire.specs.Ptys.{opcode};
 
 /// A mode of a terminal, by its name in POSIX (RFC 4254 section 8).
 #[allow(non_camel_case_types)]
-#[derive(Clone, Copy, Debug, PartialEq, Eq)]
+#[derive(Clone, Copy, Debug)]
 pub enum Pty {
     /// No mode: the end of the modes.
     TTY_OP_END = 0,
@@ -198,6 +198,26 @@ impl Pty {
             _ => return None,
         })
     }
+}
+
+/// Two modes are one where their codes are.
+impl PartialEq for Pty {
+    ghost use Rattle.std.specs.Cmp.{partial_equiv_from_equiv};
+    ghost use Rattle.ssh_wire.specs.TerminalModes.{is_same_mode, is_same_mode-laws};
+
+    ghost eq = { is_same_mode };
+
+    ghost laws = { partial_equiv_from_equiv is_same_mode-laws };
+
+    fn eq(&self, other: &Pty) -> bool {
+        self.code() == other.code()
+    }
+}
+
+impl Eq for Pty {
+    ghost use Rattle.ssh_wire.specs.TerminalModes.{is_same_mode-laws};
+
+    ghost laws = { is_same_mode-laws };
 }
 
 #[cfg(test)]
