@@ -5,7 +5,7 @@ use Rattle.std.proofs.lemmas.Grind.{common_steps}
 use Rattle.std.proofs.lemmas.List.{drop-drop}
 use Rattle.ssh_link.specs.declared.frame.Input.{Input}
 use Rattle.ssh_link.specs.declared.frame.InputKind.{InputKind}
-use Rattle.ssh_link.specs.declared.frame.InputKind.TheVariants.{Payload, Command, OpenReply, End}
+use Rattle.ssh_link.specs.declared.frame.InputKind.TheVariants.{Payload, Command, OpenReply, KeepaliveTick, InactivityTick, RekeyTick, End}
 use Rattle.ssh_link.specs.Asked.{is_asked, IsAsked}
 use Rattle.ssh_link.specs.Supply.{Supply, is_command, is_reply, input_or_end, in_turn, next_input, passed_over, after_next}
 use Rattle.ssh_link.specs.Waiting.{first_passes, first_aside}
@@ -22,12 +22,18 @@ reply_asked : (commands replies : Bool) (kind : InputKind) → is_reply kind ≡
 reply_asked commands replies (OpenReply ticket answer) h = refl
 reply_asked commands replies (Command ticket command) h = cc
 reply_asked commands replies (Payload bytes) h = cc
+reply_asked commands replies KeepaliveTick h = cc
+reply_asked commands replies InactivityTick h = cc
+reply_asked commands replies RekeyTick h = cc
 reply_asked commands replies End h = cc
 
 command_asked : (commands replies : Bool) (kind : InputKind) → is_command kind ≡ true → is_asked commands replies kind ≡ commands
 command_asked commands replies (OpenReply ticket answer) h = cc
 command_asked commands replies (Command ticket command) h = refl
 command_asked commands replies (Payload bytes) h = cc
+command_asked commands replies KeepaliveTick h = cc
+command_asked commands replies InactivityTick h = cc
+command_asked commands replies RekeyTick h = cc
 command_asked commands replies End h = cc
 
 -- of a list whose inputs all are of one kind, which is not asked for, none is

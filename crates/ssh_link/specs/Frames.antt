@@ -1,9 +1,10 @@
 -- A frame as definitions see it, and the messages whose data it may share (RFC 4254 section 5.2).
-use Rattle.std.specs.Prelude.{ℕ, List, ◌∷◌, ◌++◌, Option, Bool, ◌&&◌, nat_eq, bytes_eq}
+use Rattle.std.specs.Prelude.{ℕ, List, Option, Bool, ◌&&◌, nat_eq, bytes_eq}
 use Rattle.std.specs.Option.{option_eq}
 use Rattle.std.specs.Cmp.{IsEquivalence, and_equiv, on_equiv, nat_eq_equiv}
 use Rattle.std.specs.Cmp.Lexicographic.{options_equiv, nat_list_eq_equiv}
-use Rattle.ssh_wire.specs.Field.{number, string}
+use Rattle.ssh_wire.specs.Messages.{written}
+use Rattle.ssh_wire.specs.Messages as message
 use Rattle.ssh_wire.specs.declared.channel_id.ChannelId.{ChannelId}
 
 -- a payload for the peer, the moment before which it is not to go out, and this side's channel that it was written for
@@ -22,10 +23,10 @@ are_same-laws =
     and_equiv (and_equiv (on_equiv (λ frame. frame.payload) nat_list_eq_equiv) (on_equiv (λ frame. frame.hold_until) (options_equiv nat_eq_equiv)))
     (on_equiv (λ frame. frame.channel) (options_equiv (on_equiv (λ channel. channel.0) nat_eq_equiv)))
 
--- CHANNEL_DATA: byte 94, uint32 recipient channel, string data
+-- the data of a channel
 abbrev pub channel_data : (recipient : ℕ) → (bytes : List ℕ) → List ℕ
-channel_data recipient bytes = 94 ∷ number recipient ++ string bytes
+channel_data recipient bytes = written message.channel_data (recipient, (bytes, tt))
 
--- CHANNEL_EXTENDED_DATA: byte 95, uint32 recipient channel, uint32 data type code, string data
+-- its data of another type, as what a program writes to its standard error
 abbrev pub channel_extended_data : (recipient code : ℕ) → (bytes : List ℕ) → List ℕ
-channel_extended_data recipient code bytes = 95 ∷ number recipient ++ (number code ++ string bytes)
+channel_extended_data recipient code bytes = written message.channel_extended_data (recipient, (code, (bytes, tt)))

@@ -1,4 +1,6 @@
+pub mod ChannelCommands
 pub mod Frames
+pub mod Exchange
 pub mod Told
 pub mod Faults
 pub mod Io

@@ -4,9 +4,9 @@ ghost use Rattle.std.specs.Option.{option_copied};
 ghost use Rattle.std.specs.List.{slice_get};
 ghost use Rattle.ssh_wire.specs.declared.error.WireError.TheVariants.{NoMemory};
 
-use crate::OpenAnswer;
+use crate::{ChannelMsg, OpenAnswer};
 use bytes::Bytes;
-use ssh_wire::{ChannelId, WireError};
+use ssh_wire::{ChannelId, Disconnect, Sig, Text, WireError};
 use std::alloc::Global;
 use std::collections::VecDeque;
 use std::marker::Model;
@@ -22,6 +22,15 @@ pub enum Command {
         /// The bytes, in order.
         bytes: Bytes,
     },
+    /// Sends these bytes on the channel as data of another type (RFC 4254 section 5.2).
+    ExtendedData {
+        /// The channel.
+        channel: ChannelId,
+        /// The data type code; 1 is standard error.
+        ext: u32,
+        /// The bytes, in order.
+        bytes: Bytes,
+    },
     /// Tells the peer that no more data follow on the channel (RFC 4254 section 5.3).
     Eof {
         /// The channel.
@@ -32,8 +41,143 @@ pub enum Command {
         /// The channel.
         channel: ChannelId,
     },
+    /// Answers a request of the peer on the channel by success (RFC 4254 section 5.4).
+    ChannelSuccess {
+        /// The channel.
+        channel: ChannelId,
+    },
+    /// Answers a request of the peer on the channel by failure (RFC 4254 section 5.4).
+    ChannelFailure {
+        /// The channel.
+        channel: ChannelId,
+    },
+    /// Tells the client whether it may do the flow control itself (RFC 4254 section 6.8).
+    XonXoff {
+        /// The channel.
+        channel: ChannelId,
+        /// Whether it may.
+        client_can_do: bool,
+    },
+    /// Tells how the program on the channel ended (RFC 4254 section 6.10).
+    ExitStatus {
+        /// The channel.
+        channel: ChannelId,
+        /// The program's exit status.
+        exit_status: u32,
+    },
+    /// Tells which signal ended the program on the channel (RFC 4254 section 6.10).
+    ExitSignal {
+        /// The channel.
+        channel: ChannelId,
+        /// The signal.
+        signal: Sig,
+        /// Whether its memory was written out.
+        core_dumped: bool,
+        /// What happened, for people.
+        error_message: Text,
+        /// The language tag of that text.
+        language: Text,
+    },
+    /// Opens a session (RFC 4254 section 6.1).
+    OpenSession,
+    /// Opens a channel to the agent of the client.
+    OpenAgent,
+    /// Opens a connection to this host (RFC 4254 section 7.2, direct-tcpip).
+    OpenDirectTcpip {
+        /// The host to connect to.
+        host: Text,
+        /// Its port.
+        port: u32,
+        /// Where the connection comes from.
+        originator: Text,
+        /// The port there.
+        originator_port: u32,
+    },
+    /// Hands on a connection that came to a forwarded port (RFC 4254 section 7.2,
+    /// forwarded-tcpip).
+    OpenForwardedTcpip {
+        /// The address that was connected to.
+        host: Text,
+        /// Its port.
+        port: u32,
+        /// Where the connection comes from.
+        originator: Text,
+        /// The port there.
+        originator_port: u32,
+    },
+    /// Opens a connection to the socket of this path at the peer.
+    OpenDirectStreamlocal {
+        /// The path.
+        path: Text,
+    },
+    /// Hands on a connection that came to the forwarded socket of this path.
+    OpenForwardedStreamlocal {
+        /// The path.
+        path: Text,
+    },
+    /// Opens a connection to the peer's X server (RFC 4254 section 6.3.2).
+    OpenX11 {
+        /// Where the connection comes from.
+        originator: Text,
+        /// The port there.
+        originator_port: u32,
+    },
+    /// Asks the peer to forward connections to this address (RFC 4254 section 7.1).
+    TcpipForward {
+        /// The address that the peer is to listen at.
+        address: Text,
+        /// The port; 0 leaves it to the peer.
+        port: u32,
+        /// The slot under which the reply is told; none asks for no reply.
+        reply: Option<u64>,
+    },
+    /// Asks the peer to forward them no longer (RFC 4254 section 7.1).
+    CancelTcpipForward {
+        /// The address.
+        address: Text,
+        /// The port.
+        port: u32,
+        /// The slot under which the reply is told; none asks for no reply.
+        reply: Option<u64>,
+    },
+    /// Asks the peer for a sign of life, whose reply is told to nobody.
+    Keepalive,
+    /// Asks the peer for a sign of life.
+    Ping {
+        /// The slot under which the reply is told.
+        slot: u64,
+    },
+    /// Answers the peer's oldest global request by success (RFC 4254 section 4).
+    RequestSuccess,
+    /// Answers the peer's oldest global request by failure (RFC 4254 section 4).
+    RequestFailure,
+    /// Tells the peer something for people to read (RFC 4253 section 11.3).
+    Debug {
+        /// Whether it is to be shown in any case.
+        always_display: bool,
+        /// The text.
+        message: Text,
+        /// Its language tag.
+        language: Text,
+    },
+    /// Ends the connection (RFC 4253 section 11.1).
+    Disconnect {
+        /// Why.
+        reason: Disconnect,
+        /// The same in words.
+        description: Text,
+        /// Their language tag.
+        language: Text,
+    },
     /// Answers an open of the peer (RFC 4254 section 5.1).
     Answer(OpenAnswer),
+    /// A message that only a client sends: it is refused.
+    ClientOnly {
+        /// The channel.
+        channel: ChannelId,
+        /// The message.
+        msg: ChannelMsg,
+    },
 }
 
 impl Command {
@@ -47,9 +191,176 @@ impl Command {
                 channel: *channel,
                 bytes: bytes.clone()?,
             }),
+            Command::ExtendedData {
+                channel,
+                ext,
+                bytes,
+            } => Ok(Command::ExtendedData {
+                channel: *channel,
+                ext: *ext,
+                bytes: bytes.clone()?,
+            }),
             Command::Eof { channel } => Ok(Command::Eof { channel: *channel }),
             Command::Close { channel } => Ok(Command::Close { channel: *channel }),
+            Command::ChannelSuccess { channel } => Ok(Command::ChannelSuccess {
+                channel: *channel,
+            }),
+            Command::ChannelFailure { channel } => Ok(Command::ChannelFailure {
+                channel: *channel,
+            }),
+            Command::XonXoff {
+                channel,
+                client_can_do,
+            } => Ok(Command::XonXoff {
+                channel: *channel,
+                client_can_do: *client_can_do,
+            }),
+            Command::ExitStatus {
+                channel,
+                exit_status,
+            } => Ok(Command::ExitStatus {
+                channel: *channel,
+                exit_status: *exit_status,
+            }),
+            Command::ExitSignal {
+                channel,
+                signal,
+                core_dumped,
+                error_message,
+                language,
+            } => Ok(Command::ExitSignal {
+                channel: *channel,
+                signal: signal.copy()?,
+                core_dumped: *core_dumped,
+                error_message: error_message.copy()?,
+                language: language.copy()?,
+            }),
+            Command::OpenSession => Ok(Command::OpenSession),
+            Command::OpenAgent => Ok(Command::OpenAgent),
+            Command::OpenDirectTcpip {
+                host,
+                port,
+                originator,
+                originator_port,
+            } => Ok(Command::OpenDirectTcpip {
+                host: host.copy()?,
+                port: *port,
+                originator: originator.copy()?,
+                originator_port: *originator_port,
+            }),
+            Command::OpenForwardedTcpip {
+                host,
+                port,
+                originator,
+                originator_port,
+            } => Ok(Command::OpenForwardedTcpip {
+                host: host.copy()?,
+                port: *port,
+                originator: originator.copy()?,
+                originator_port: *originator_port,
+            }),
+            Command::OpenDirectStreamlocal { path } => Ok(Command::OpenDirectStreamlocal {
+                path: path.copy()?,
+            }),
+            Command::OpenForwardedStreamlocal { path } => Ok(Command::OpenForwardedStreamlocal {
+                path: path.copy()?,
+            }),
+            Command::OpenX11 {
+                originator,
+                originator_port,
+            } => Ok(Command::OpenX11 {
+                originator: originator.copy()?,
+                originator_port: *originator_port,
+            }),
+            Command::TcpipForward {
+                address,
+                port,
+                reply,
+            } => Ok(Command::TcpipForward {
+                address: address.copy()?,
+                port: *port,
+                reply: *reply,
+            }),
+            Command::CancelTcpipForward {
+                address,
+                port,
+                reply,
+            } => Ok(Command::CancelTcpipForward {
+                address: address.copy()?,
+                port: *port,
+                reply: *reply,
+            }),
+            Command::Keepalive => Ok(Command::Keepalive),
+            Command::Ping { slot } => Ok(Command::Ping { slot: *slot }),
+            Command::RequestSuccess => Ok(Command::RequestSuccess),
+            Command::RequestFailure => Ok(Command::RequestFailure),
+            Command::Debug {
+                always_display,
+                message,
+                language,
+            } => Ok(Command::Debug {
+                always_display: *always_display,
+                message: message.copy()?,
+                language: language.copy()?,
+            }),
+            Command::Disconnect {
+                reason,
+                description,
+                language,
+            } => Ok(Command::Disconnect {
+                reason: *reason,
+                description: description.copy()?,
+                language: language.copy()?,
+            }),
             Command::Answer(answer) => Ok(Command::Answer(answer.copy()?)),
+            Command::ClientOnly { channel, msg } => Ok(Command::ClientOnly {
+                channel: *channel,
+                msg: msg.copy()?,
+            }),
+        }
+    }
+}
+
+/// What a message means as a command on its channel: one that a server may send, or one that only
+/// a client sends.
+impl From<(ChannelId, ChannelMsg)> for Command {
+    ghost use Rattle.ssh_link.specs.ChannelCommands.{channel_command};
+
+    ghost from_gives = { λ said command. command ≡ channel_command said.0 said.1 };
+
+    fn from((channel, msg): (ChannelId, ChannelMsg)) -> Command {
+        match msg {
+            ChannelMsg::Data { bytes } => Command::Data { channel, bytes },
+            ChannelMsg::ExtendedData { bytes, ext } => Command::ExtendedData {
+                channel,
+                ext,
+                bytes,
+            },
+            ChannelMsg::Eof => Command::Eof { channel },
+            ChannelMsg::Close => Command::Close { channel },
+            ChannelMsg::Success => Command::ChannelSuccess { channel },
+            ChannelMsg::Failure => Command::ChannelFailure { channel },
+            ChannelMsg::XonXoff { client_can_do } => Command::XonXoff {
+                channel,
+                client_can_do,
+            },
+            ChannelMsg::ExitStatus { exit_status } => Command::ExitStatus {
+                channel,
+                exit_status,
+            },
+            ChannelMsg::ExitSignal {
+                signal_name,
+                core_dumped,
+                error_message,
+                lang_tag,
+            } => Command::ExitSignal {
+                channel,
+                signal: signal_name,
+                core_dumped,
+                error_message,
+                language: lang_tag,
+            },
+            msg => Command::ClientOnly { channel, msg },
         }
     }
 }
@@ -142,3 +453,6 @@ impl CommandList {
         Ok(copies)
     }
 }
+
+#[cfg(test)]
+mod tests;

@@ -7,12 +7,9 @@ ghost use Rattle.ssh_link.specs.Supply.{is_reply};
 
 use crate::{Command, OpenAnswer};
 use bytes::Bytes;
+use ssh_wire::message::{CHANNEL_DATA, CHANNEL_EXTENDED_DATA};
 use ssh_wire::{ChannelId, WireError};
 use std::marker::Model;
-
-const CHANNEL_DATA: u8 = 94;
-
-const CHANNEL_EXTENDED_DATA: u8 = 95;
 
 /// How many bytes a frame has room for in place: as many as stand before the data of a
 /// CHANNEL_EXTENDED_DATA.
@@ -267,6 +264,12 @@ pub enum InputKind {
     /// The answer to an open of the peer from outside, and the ticket under which its outcome is
     /// answered.
     OpenReply(u64, OpenAnswer),
+    /// Nothing came from the peer for a while: it may be asked for a sign of life.
+    KeepaliveTick,
+    /// Nothing came from the peer for too long.
+    InactivityTick,
+    /// The keys are to be exchanged anew (RFC 4253 section 9).
+    RekeyTick,
     /// The peer is gone: nothing follows.
     End,
 }
@@ -285,6 +288,9 @@ impl InputKind {
             InputKind::OpenReply(ticket, answer) => {
                 Ok(InputKind::OpenReply(*ticket, answer.copy()?))
             }
+            InputKind::KeepaliveTick => Ok(InputKind::KeepaliveTick),
+            InputKind::InactivityTick => Ok(InputKind::InactivityTick),
+            InputKind::RekeyTick => Ok(InputKind::RekeyTick),
             InputKind::End => Ok(InputKind::End),
         }
     }

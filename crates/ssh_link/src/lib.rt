@@ -1,5 +1,5 @@
 //! What a session sees of the outside: inputs come in and frames go out through a `Link`, the
-//! bytes of a program through a `Source` and a `Sink`.
+//! bytes of a program through a `Source` and a `Sink`; keys are exchanged by a `Kex`.
 //!
 //! What the crates above rely on: an outside fails only where its count of faults rose (of a source
 //! or a sink: rose, or is full), which does not rise where a call is finished, and whatever tells its
@@ -11,6 +11,7 @@ mod failures;
 mod frame;
 mod input_queue;
 mod io;
+mod kex;
 mod link;
 mod lists;
 mod memory_io;
@@ -18,6 +19,7 @@ mod memory_link;
 mod notice;
 mod open_answer;
 mod outcome;
+mod plain_kex;
 mod standard;
 #[cfg(test)]
 mod tests;
@@ -25,6 +27,7 @@ mod tests;
 pub use command::{Command, CommandList};
 pub use frame::{Frame, Input, InputKind};
 pub use io::{IoFailed, Sink, Source};
+pub use kex::{Kex, KexCall, KexFault, KexStep};
 pub use link::{Link, LinkFault, TraceEntry};
 pub use lists::{Calls, Inputs};
 pub use memory_io::{MemorySink, MemorySource};
@@ -32,4 +35,5 @@ pub use memory_link::MemoryLink;
 pub use notice::{ChannelMsg, Notice};
 pub use open_answer::{ChannelOpenHandle, OpenAnswer};
 pub use outcome::{CommandOutcome, Refusal};
+pub use plain_kex::{PlainKex, PlainKexError};
 pub use standard::{StdSink, StdSource};

@@ -88,6 +88,7 @@ impl MemoryLink {
         ensures planned { IsErrOf result LinkFault.Failed ↔ IsTrue (fails_next self.old.failures) }
     {
         if self.failures.next_fails() {
+            drop(entry);
             return Err(LinkFault::Failed);
         }
         if pushed(&mut self.trace, entry).is_err() {
