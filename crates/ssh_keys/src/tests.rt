@@ -73,7 +73,7 @@ fn rows(alloc: Global) -> Result<Vec<Row>, Fail> {
 }
 
 #[test]
-fn keys_of_openssh_are_read_and_written(rt: HostRuntime) -> Result<(), Fail> {
+fn a_key_is_read_as_its_parts_and_written_as_its_blob(rt: HostRuntime) -> Result<(), Fail> {
     let alloc = rt.alloc();
     let rows = rows(alloc)?;
     for row in &rows {
@@ -113,7 +113,7 @@ fn is_signed_by_ed25519(certificate: &Certificate) -> bool {
 }
 
 #[test]
-fn certificates_of_openssh_are_read(rt: HostRuntime) -> Result<(), Fail> {
+fn a_certificate_says_what_was_certified(rt: HostRuntime) -> Result<(), Fail> {
     let alloc = rt.alloc();
     let rows = rows(alloc)?;
     let mut serial = 0u64;
@@ -129,7 +129,7 @@ fn certificates_of_openssh_are_read(rt: HostRuntime) -> Result<(), Fail> {
 }
 
 #[test]
-fn certificates_of_openssh_are_signed(rt: HostRuntime) -> Result<(), Fail> {
+fn a_certificate_has_its_signature_and_the_signed_part(rt: HostRuntime) -> Result<(), Fail> {
     let alloc = rt.alloc();
     let rows = rows(alloc)?;
     let ca = ed25519(alloc, vectors::CA_KEY)?;
@@ -158,7 +158,7 @@ fn verifier_of(alloc: Global, certificate: &Certificate) -> Result<TableVerifier
 }
 
 #[test]
-fn certificate_holds_in_its_time(rt: HostRuntime) -> Result<(), Fail> {
+fn a_certificate_holds_from_its_first_second_to_its_last(rt: HostRuntime) -> Result<(), Fail> {
     let alloc = rt.alloc();
     let mut certificate = decoded(alloc, vectors::ED25519_CERTIFICATE)?;
     let table = verifier_of(alloc, &certificate)?;
@@ -183,7 +183,7 @@ fn certificate_holds_in_its_time(rt: HostRuntime) -> Result<(), Fail> {
 }
 
 #[test]
-fn certificate_holds_if_it_is_signed(rt: HostRuntime) -> Result<(), Fail> {
+fn a_certificate_whose_signature_is_not_accepted_is_refused(rt: HostRuntime) -> Result<(), Fail> {
     let alloc = rt.alloc();
     let certificate = decoded(alloc, vectors::ED25519_CERTIFICATE)?.copy()?;
     let empty = TableVerifier::new(alloc);
@@ -193,7 +193,7 @@ fn certificate_holds_if_it_is_signed(rt: HostRuntime) -> Result<(), Fail> {
 }
 
 #[test]
-fn signatures_of_openssh_are_read(rt: HostRuntime) -> Result<(), Fail> {
+fn a_signature_is_read_to_its_end(rt: HostRuntime) -> Result<(), Fail> {
     let alloc = rt.alloc();
     let rows = [
         (vectors::ED25519_SIGNATURE, "ssh-ed25519", 64),
@@ -218,7 +218,7 @@ fn signatures_of_openssh_are_read(rt: HostRuntime) -> Result<(), Fail> {
 }
 
 #[test]
-fn offers_are_read_by_the_name_of_their_algorithm(rt: HostRuntime) -> Result<(), Fail> {
+fn a_plain_key_is_offered_with_the_hash_of_the_name(rt: HostRuntime) -> Result<(), Fail> {
     let alloc = rt.alloc();
     let blob = unhex(alloc, vectors::RSA_BLOB)?;
     let plain = PublicKeyOrCertificate::decode(alloc, "rsa-sha2-256", blob.as_slice())?;
@@ -232,7 +232,7 @@ fn offers_are_read_by_the_name_of_their_algorithm(rt: HostRuntime) -> Result<(),
 }
 
 #[test]
-fn certificates_are_offered_by_names_of_their_own(rt: HostRuntime) -> Result<(), Fail> {
+fn a_certificate_is_offered_by_the_name_of_certificates(rt: HostRuntime) -> Result<(), Fail> {
     let alloc = rt.alloc();
     let blob = unhex(alloc, vectors::P256_CERTIFICATE)?;
     let name = "ecdsa-sha2-nistp256-cert-v01@openssh.com";
@@ -244,7 +244,7 @@ fn certificates_are_offered_by_names_of_their_own(rt: HostRuntime) -> Result<(),
 }
 
 #[test]
-fn offers_that_are_refused(rt: HostRuntime) -> Result<(), Fail> {
+fn an_offer_that_does_not_fit_is_refused(rt: HostRuntime) -> Result<(), Fail> {
     let alloc = rt.alloc();
     let refused = [
         ("ssh-dss", vectors::ED25519_BLOB, KeyError::Unknown),
@@ -280,7 +280,7 @@ fn offers_that_are_refused(rt: HostRuntime) -> Result<(), Fail> {
 }
 
 #[test]
-fn names_are_those_of_the_standards(rt: HostRuntime) -> Result<(), Fail> {
+fn an_algorithm_has_the_names_of_the_standards(rt: HostRuntime) -> Result<(), Fail> {
     let names = [
         ("ssh-ed25519", "ssh-ed25519-cert-v01@openssh.com"),
         (
