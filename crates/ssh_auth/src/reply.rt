@@ -12,16 +12,11 @@ use crate::auth_request::count_after_rejection;
 use crate::key_request::Offer;
 use crate::{Auth, AuthError, AuthRequest, AuthStep, AuthVerdict, CurrentRequest, Prompts};
 use bytes::Bytes;
+use ssh_wire::message::{
+    USERAUTH_FAILURE, USERAUTH_INFO_REQUEST, USERAUTH_PK_OK, USERAUTH_SUCCESS,
+};
 use ssh_wire::{MethodKind, MethodSet, Text, WireError, put_bytes, put_text, put_u8, put_u32};
 use std::alloc::Global;
-
-const USERAUTH_FAILURE: u8 = 51;
-
-const USERAUTH_SUCCESS: u8 = 52;
-
-const USERAUTH_PK_OK: u8 = 60;
-
-const USERAUTH_INFO_REQUEST: u8 = 60;
 
 /// USERAUTH_FAILURE with the methods that can continue (RFC 4252 section 5.1).
 fn failure_payload(
