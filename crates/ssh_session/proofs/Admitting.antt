@@ -1,5 +1,5 @@
 -- The rows are plans in which nothing of the connection comes before an answer that accepts a user.
-use Rattle.std.proofs.Common.{◌≡◌, ◌≤◌, ◌⊎◌, ℕ, List, [], ◌∷◌, ◌++◌, Option, Some, None, Bool, true, false, refl, sym, ap, subst, inl, inr, arith}
+use Rattle.std.proofs.Common.{⊎_elim, ◌≡◌, ◌≤◌, ◌⊎◌, ℕ, List, [], ◌∷◌, ◌++◌, Option, Some, None, Bool, true, false, refl, sym, ap, subst, inl, inr, arith}
 use Rattle.std.specs.Prelude.{◌&&◌, ◌^◌, nat_lt, bytes_eq, codes, if◌then◌else◌, length, drop}
 use Rattle.std.proofs.lemmas.Slice.Eq.{bytes_eq-Decides}
 use Rattle.ssh_wire.specs.declared.error.WireError.TheVariants.{TooLong}
@@ -48,7 +48,7 @@ use Rattle.ssh_session.specs.Said.{Said, Nothing, Disconnect, Over_cap, Service,
 use Rattle.ssh_session.specs.Outcome.{Outcome, Goes}
 use Rattle.ssh_session.specs.Rows.{row, open_session_row, accept_row, reply_row, finished, moment_after, rejection_hold}
 use Rattle.ssh_session.specs.Layout.{at_once, held, service_accept, banner, too_many_attempts}
-use Rattle.ssh_session.specs.Effect.{refuses, effect, data_effect, eof_effect, close_effect, answer_effect}
+use Rattle.ssh_session.specs.Effect.{refuses, Not_built, effect, data_effect, eof_effect, close_effect, answer_effect}
 use Rattle.ssh_session.specs.Commanded.{command_row, done}
 use Rattle.ssh_session.specs.Entries.{find}
 use Rattle.ssh_session.specs.Pending.{pending_of}
@@ -369,19 +369,23 @@ row_guarded given named a settings moment w payload (Peer_close channel) h clear
 row_guarded given named a settings moment w payload (Unfit why) h clear = tt
 row_guarded given named a settings moment w payload Unbuilt h clear = tt
 
--- where there is neither a channel nor an open, each command is refused
-refused : (settings : Settings) (named : List ℕ → Type 0) (w : World) (commanded : Commanded) → IsClear named w → (why : Refusal) × (effect settings w commanded ≡ refuses why w)
-refused settings named w (command.Data channel bytes) h = (UnknownChannel, ap (λ es. data_effect w bytes (find channel.0 es)) h.1)
-refused settings named w (command.Eof channel) h = (UnknownChannel, ap (λ es. eof_effect w (find channel.0 es)) h.1)
-refused settings named w (command.Close channel) h = (UnknownChannel, ap (λ es. close_effect w (find channel.0 es)) h.1)
-refused settings named w (command.Answer answer) h = (UnknownOpen, ap (λ ps. answer_effect settings w answer (pending_of answer.channel.0 ps)) h.2)
+-- where there is neither a channel nor an open, each command is refused or not built
+refused : (settings : Settings) (named : List ℕ → Type 0) (w : World) (commanded : Commanded) → IsClear named w →
+    ((why : Refusal) × (effect settings w commanded ≡ refuses why w)) ⊎ (effect settings w commanded ≡ Not_built)
+refused settings named w (command.Data channel bytes) h = inl (UnknownChannel, ap (λ es. data_effect w bytes (find channel.0 es)) h.1)
+refused settings named w (command.Eof channel) h = inl (UnknownChannel, ap (λ es. eof_effect w (find channel.0 es)) h.1)
+refused settings named w (command.Close channel) h = inl (UnknownChannel, ap (λ es. close_effect w (find channel.0 es)) h.1)
+refused settings named w (command.Answer answer) h = inl (UnknownOpen, ap (λ ps. answer_effect settings w answer (pending_of answer.channel.0 ps)) h.2)
+refused settings named w _ h = inr refl
 
 -- a command that comes before an accepted authentication does nothing
 command_guarded : (given : Circumstances) (named : List ℕ → Type 0) (a : Type 0) (kind : InputKind) (settings : Settings) (w : World) (ticket : ℕ) (commanded : Commanded) → ((other : List ℕ) → IsRequestOf other kind → ⊥) → IsClear named w →
     Guarded given named a kind (command_row settings w ticket commanded)
 command_guarded given named a kind settings w ticket commanded none clear =
-    let why = refused settings named w commanded clear in
-    subst (λ does. Guarded given named a kind (done does (λ result frames world. Tell (traced.Answered ticket result) (Finish (Goes frames world))))) (sym why.1) (tt, inr (unnamed named kind w none clear))
+    ⊎_elim
+    (λ why. subst (λ does. Guarded given named a kind (done does (λ result frames world. Tell (traced.Answered ticket result) (Finish (Goes frames world))))) (sym why.1) (tt, inr (unnamed named kind w none clear)))
+    (λ is. subst (λ does. Guarded given named a kind (done does (λ result frames world. Tell (traced.Answered ticket result) (Finish (Goes frames world))))) (sym is) tt)
+    (refused settings named w commanded clear)
 
 clear_guarded : (accepts : Acceptance) (named : List ℕ → Type 0) (a : Type 0) (settings : Settings) (w : World) (moment : ℕ) (kind : InputKind) (plan : Plan Outcome) → OwesKind accepts settings w moment kind plan →
     IsClear named w → Guarded (circumstances accepts settings moment) named a kind plan
@@ -395,6 +399,7 @@ clear_guarded accepts named a settings w moment (OpenReply ticket answer) plan o
 clear_guarded accepts named a settings w moment (Payload payload) plan o clear =
     subst (Guarded (circumstances accepts settings moment) named a (Payload payload)) (sym o.2)
     (row_guarded (circumstances accepts settings moment) named a settings moment w payload o.0 o.1 clear)
+clear_guarded accepts named a settings w moment kind plan o clear = subst (Guarded (circumstances accepts settings moment) named a kind) (sym o) tt
 
 -- what an input owes is such a plan
 pub owed_guarded : (accepts : Acceptance) (named : List ℕ → Type 0) (a : Type 0) (settings : Settings) (w : World) (moment : ℕ) (kind : InputKind) (plan : Plan Outcome) → OwesKind accepts settings w moment kind plan →

@@ -230,6 +230,7 @@ command_does own settings w ticket (command.Close channel) =
     close_does (MayClose own w (Command ticket (command.Close channel))) own w (find channel.0 w.entries)
     (λ e found is sent. let same = found_own own channel.0 w e found is in (e, same.1, inr (same.0, sent)))
 command_does own settings w ticket (command.Answer answer) = none_does _ own _ (answer_does own settings w answer (pending_of answer.channel.0 w.pending))
+command_does own settings w ticket _ = tt
 
 -- ---- payloads
 
@@ -326,6 +327,7 @@ owed_closes own accepts settings w moment (OpenReply ticket answer) plan o =
     (command_closes _ own settings w ticket (command.Answer answer) (none_does _ own _ (answer_does own settings w answer (pending_of answer.channel.0 w.pending))))
 owed_closes own accepts settings w moment (Payload payload) plan o =
     subst (ClosesWhere (MayClose own w (Payload payload)) own) (sym o.2) (row_closes (circumstances accepts settings moment) own settings moment w payload o.0 o.1)
+owed_closes own accepts settings w moment kind plan o = subst (ClosesWhere (MayClose own w kind) own) (sym o) tt
 
 -- ---- over a run
 

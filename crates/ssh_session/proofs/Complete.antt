@@ -216,6 +216,7 @@ owed_ends accepts settings w moment (OpenReply ticket answer) plan events frames
     follows_endless plan events frames (subst IsEndless (sym o) (command_endless settings w ticket (command.Answer answer))) h
 owed_ends accepts settings w moment (Payload payload) plan events frames o h =
     said_ends (circumstances accepts settings moment) settings w moment payload o.0 events frames o.1 (subst (λ p. Follows p events (Ends frames)) o.2 h) (row_ends settings moment w o.0)
+owed_ends accepts settings w moment _ plan events frames o h = follows_endless plan events frames (subst IsEndless (sym o) tt) h
 
 closes_ended : {E : Type 0} (accepts : Acceptance) (settings : Settings) (w : World) (count max : ℕ) (last : Option (Turn E)) (rose : Type 0) (result : Result (Unit {0}) (RunError E)) →
     Closes accepts settings w count max last rose result → OnOk result (IsSomeAnd last (λ turn. IsEnding settings w turn.input.kind))

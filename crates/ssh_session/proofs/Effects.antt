@@ -5,6 +5,9 @@ use Rattle.std.proofs.lemmas.Bool.{le-leb, leb-true}
 use Rattle.std.proofs.lemmas.List.{append-nil}
 use Rattle.ssh_wire.specs.declared.channel_id.ChannelId.{ChannelId}
 use Rattle.ssh_link.specs.Frames.{Frame}
+use Rattle.ssh_link.specs.declared.command.Command.{Command}
+use Rattle.ssh_link.specs.declared.command.Command.TheVariants as command
+use Rattle.ssh_link.specs.declared.open_answer.OpenAnswer.{OpenAnswer}
 use Rattle.ssh_link.specs.declared.outcome.CommandOutcome.TheVariants.{Accepted, Refused}
 use Rattle.ssh_link.specs.declared.outcome.Refusal.{Refusal}
 use Rattle.ssh_link.specs.declared.outcome.Refusal.TheVariants.{TooLong}
@@ -19,7 +22,7 @@ use Rattle.ssh_session.specs.ChannelLayout.{on_channel}
 use Rattle.ssh_session.specs.Entry.{Entry, opened}
 use Rattle.ssh_session.specs.Held.{Holds, AllHold}
 use Rattle.ssh_session.specs.Pending.{Pending, pending_of, answered}
-use Rattle.ssh_session.specs.Effect.{Effect, Does, refuses, accepts, failure_of, fails_open, description_of, language_of, decides}
+use Rattle.ssh_session.specs.Effect.{Effect, Does, Not_built, effect, refuses, accepts, failure_of, fails_open, description_of, language_of, decides}
 use Rattle.ssh_session.specs.Rows.{own}
 use Rattle.ssh_session.specs.Serve.{Refines, HasEffect}
 use Rattle.ssh_session.specs.World.{Settings, World}
@@ -51,6 +54,16 @@ accepted settings does frames world done staged staged' session d k s r =
 pub effect_is : {E : Type 0} (settings : Settings) (does this : Effect) (staged staged' : List Frame) (session : Session) (result : Result Done (RunError E)) →
     does ≡ this → HasEffect settings this staged staged' session result → HasEffect settings does staged staged' session result
 effect_is settings does this staged staged' session result d h = subst (λ x. HasEffect settings x staged staged' session result) (sym d) h
+
+-- a command of another kind is not built
+pub unbuilt : (settings : Settings) (w : World) (one : Command) → ((channel : ChannelId) (bytes : List ℕ) → one ≡ command.Data channel bytes → ⊥) →
+    ((channel : ChannelId) → one ≡ command.Eof channel → ⊥) → ((channel : ChannelId) → one ≡ command.Close channel → ⊥) →
+    ((answer : OpenAnswer) → one ≡ command.Answer answer → ⊥) → effect settings w one ≡ Not_built
+unbuilt settings w (command.Data channel bytes) a b c d = absurd (a channel bytes refl)
+unbuilt settings w (command.Eof channel) a b c d = absurd (b channel refl)
+unbuilt settings w (command.Close channel) a b c d = absurd (c channel refl)
+unbuilt settings w (command.Answer answer) a b c d = absurd (d answer refl)
+unbuilt settings w _ a b c d = refl
 
 -- a frame went out, and it is this one
 pub staged_one : (f g : Frame) (staged staged' : List Frame) → f ≡ g → staged' ≡ staged ++ f ∷ [] → staged' ≡ staged ++ g ∷ []

@@ -57,7 +57,7 @@ use Rattle.ssh_session.specs.Effect.{Effect, Does, Not_built, effect, data_effec
 use Rattle.ssh_session.specs.Commanded.{tell_all, done, tell_done, done_all, command_row}
 use Rattle.ssh_session.specs.Rows.{row, accept_row, reply_row, finished, open_session_row, grant_row, peer_eof_row, peer_close_row}
 use Rattle.ssh_session.specs.Run.{OwesKind}
-use Rattle.ssh_session.specs.Valid.{AreValidMethodFields, AreValidFields, IsValidKind, HasShortReply, AreAnswers, IsFine, AreFine}
+use Rattle.ssh_session.specs.Valid.{AreValidMethodFields, AreValidFields, IsValidKind, IsBuiltCommand, HasShortReply, AreAnswers, IsFine, AreFine}
 use Rattle.ssh_session.proofs.Listed.{all_sent}
 use Rattle.ssh_session.proofs.Methods.{IsServed, ShortensProbe, served, shortened}
 use Rattle.ssh_session.proofs.Responses.{IsRead, response_read}
@@ -213,12 +213,13 @@ close_built w (Some e) sent = unless_built (waits e) _ (sent e refl) tt
 waits_not : (number : ℕ) (entries : List Entry) (e : Entry) → nothing_waits entries ≡ true → find number entries ≡ Some e → waits e ≡ false
 waits_not number entries e none found = le-ltb e.granted (length (accepted e)) (all_sent number entries e found none)
 
--- each command is built where nothing waits
-command_built : (settings : Settings) (w : World) (commanded : Commanded) → nothing_waits w.entries ≡ true → IsBuilt (effect settings w commanded)
-command_built settings w (command.Data channel bytes) none = data_built w bytes (find channel.0 w.entries)
-command_built settings w (command.Eof channel) none = eof_built w (find channel.0 w.entries) (λ e found. waits_not channel.0 w.entries e none found)
-command_built settings w (command.Close channel) none = close_built w (find channel.0 w.entries) (λ e found. waits_not channel.0 w.entries e none found)
-command_built settings w (command.Answer answer) none = answer_built settings w answer (pending_of answer.channel.0 w.pending)
+-- each of these commands is done where nothing waits
+command_built : (settings : Settings) (w : World) (commanded : Commanded) → IsBuiltCommand commanded → nothing_waits w.entries ≡ true → IsBuilt (effect settings w commanded)
+command_built settings w (command.Data channel bytes) built none = data_built w bytes (find channel.0 w.entries)
+command_built settings w (command.Eof channel) built none = eof_built w (find channel.0 w.entries) (λ e found. waits_not channel.0 w.entries e none found)
+command_built settings w (command.Close channel) built none = close_built w (find channel.0 w.entries) (λ e found. waits_not channel.0 w.entries e none found)
+command_built settings w (command.Answer answer) built none = answer_built settings w answer (pending_of answer.channel.0 w.pending)
+command_built settings w _ built none = absurd built
 
 tells_faultless : (kind : InputKind) (entries : List TraceEntry) (next : Plan Outcome) → IsFaultless kind next → IsFaultless kind (tell_all entries next)
 tells_faultless kind [] next h = h
@@ -451,9 +452,10 @@ pub owed_faultless : (accepts : Acceptance) (settings : Settings) (w : World) (m
 owed_faultless accepts settings w moment commands End plan same asked v o = subst (IsFaultless End) (sym o) tt
 owed_faultless accepts settings w moment commands (Command ticket commanded) plan same asked v o =
     subst (IsFaultless (Command ticket commanded)) (sym o)
-    (command_faultless (Command ticket commanded) settings w ticket commanded (command_built settings w commanded (sym same ∙ asked)))
+    (command_faultless (Command ticket commanded) settings w ticket commanded (command_built settings w commanded v (sym same ∙ asked)))
 owed_faultless accepts settings w moment commands (OpenReply ticket answer) plan same asked v o =
     subst (IsFaultless (OpenReply ticket answer)) (sym o)
     (command_faultless (OpenReply ticket answer) settings w ticket (command.Answer answer) (answer_built settings w answer (pending_of answer.channel.0 w.pending)))
 owed_faultless accepts settings w moment commands (Payload payload) plan same asked v o =
     subst (IsFaultless (Payload payload)) (sym o.2) (fields_faultless (circumstances accepts settings moment) settings moment w (gate_of settings w payload) payload o.0 v o.1)
+owed_faultless accepts settings w moment commands _ plan same asked v o = absurd v

@@ -198,6 +198,7 @@ effect_keeps settings w (command.Eof channel) past h = eof_keeps channel.0 (find
 effect_keeps settings w (command.Close channel) past h = closes_keeps channel.0 (find channel.0 w.entries) w past refl h
 effect_keeps settings w (command.Answer answer) past h =
     answer_keeps settings answer answer.channel.0 (pending_of answer.channel.0 w.pending) w past refl h
+effect_keeps settings w _ past h = tt
 
 pub effect_settles : (settings : Settings) (w : World) (command : Command) (notices : List Notice) (frames : List Frame) (outcome : CommandOutcome) (v : World)
     (past : List TraceEntry) → effect settings w command ≡ Does notices frames outcome v → Ledgered w past → Ledgered v (past ++ map Sent frames)
@@ -242,6 +243,7 @@ effect_same settings w (command.Data channel bytes) = data_same w bytes (find ch
 effect_same settings w (command.Eof channel) = eof_same w (find channel.0 w.entries)
 effect_same settings w (command.Close channel) = close_same w (find channel.0 w.entries)
 effect_same settings w (command.Answer answer) = answer_same settings w answer (pending_of answer.channel.0 w.pending)
+effect_same settings w _ = tt
 
 pub refused_changes_nothing : (settings : Settings) (w : World) (command : Command) (notices : List Notice) (frames : List Frame) (why : Refusal) (v : World) →
     effect settings w command ≡ Does notices frames (Refused why) v → (notices ≡ []) × (frames ≡ []) × (v ≡ w)

@@ -291,6 +291,7 @@ owed_keeps accepts settings w moment (input.Payload payload) plan past o h =
     subst (PlanKeeps past) (sym o.2) (row_keeps (circumstances accepts settings moment) settings moment w (gate_of settings w payload) payload o.0 past o.1 h)
 owed_keeps accepts settings w moment (input.Command ticket command) plan past o h = subst (PlanKeeps past) (sym o) (command_row_keeps settings w ticket command past h)
 owed_keeps accepts settings w moment (input.OpenReply ticket answer) plan past o h = subst (PlanKeeps past) (sym o) (command_row_keeps settings w ticket (command.Answer answer) past h)
+owed_keeps accepts settings w moment _ plan past o h = subst (PlanKeeps past) (sym o) tt
 
 -- an input that is taken, and what the link is told before the frames, are passed over
 passes_over : (es : List Entry) (past told : List TraceEntry) (frames : List Frame) → IsSilent told → Settled es (past ++ map Sent frames) → Settled es (past ++ (told ++ map Sent frames))

@@ -3,7 +3,7 @@ use Rattle.std.specs.Prelude.{◌≡◌, ◌≤◌, ◌⊎◌, ℕ, List, [], �
 use Rattle.ssh_wire.specs.Field.{Text, SpellsAll}
 use Rattle.ssh_link.specs.Frames.{Frame}
 use Rattle.ssh_link.specs.declared.frame.InputKind.{InputKind}
-use Rattle.ssh_link.specs.declared.frame.InputKind.TheVariants.{Payload, Command, OpenReply, End}
+use Rattle.ssh_link.specs.declared.frame.InputKind.TheVariants.{Payload}
 use Rattle.ssh_auth.specs.declared.auth.Auth.TheVariants.{Accept}
 use Rattle.ssh_auth.specs.declared.call.Call.{Call}
 use Rattle.ssh_auth.specs.declared.call.Call.TheVariants.{AuthenticationBanner, AuthNone, AuthPassword, AuthPublickeyOffered, AuthPublickey, AuthOpensshCertificate, AuthKeyboardInteractive}
@@ -15,18 +15,14 @@ use Rattle.ssh_session.specs.Run.{Turn, calls_of}
 
 -- the input is a USERAUTH_REQUEST of this user: byte 50, string user, string service, string method, and more
 abbrev pub IsRequestOf : List ℕ → InputKind → Type 0
-IsRequestOf user End = ⊥
-IsRequestOf user (Command ticket command) = ⊥
-IsRequestOf user (OpenReply ticket answer) = ⊥
 IsRequestOf user (Payload payload) = (fields : List ℕ) × (service : List ℕ) × (method : List ℕ) × (rest : List ℕ) × (payload ≡ 50 ∷ fields) ×
     SpellsAll (Text ∷ Text ∷ Text ∷ []) (user, (service, (method, tt))) fields rest
+IsRequestOf user _ = ⊥
 
 -- the input is a USERAUTH_INFO_RESPONSE, whose number is 61
 abbrev pub IsResponse : InputKind → Type 0
-IsResponse End = ⊥
-IsResponse (Command ticket command) = ⊥
-IsResponse (OpenReply ticket answer) = ⊥
 IsResponse (Payload payload) = (fields : List ℕ) × (payload ≡ 61 ∷ fields)
+IsResponse _ = ⊥
 
 -- the last USERAUTH_REQUEST named this user: this input, or where it is none, the last one before it
 abbrev pub NamesLast : (named : List ℕ → Type 0) → InputKind → List ℕ → Type 0
@@ -36,10 +32,8 @@ NamesLast named kind user = IsRequestOf user kind ⊎ (((other : List ℕ) → I
 -- key, the certificate's own, by the algorithm that the request names, of the session id and the request up to its
 -- signature field; and where it is a certificate, the verifier accepts the certificate's own signature too
 abbrev pub IsProvenRequest : Circumstances → InputKind → Question → Type 0
-IsProvenRequest given End question = ⊥
-IsProvenRequest given (Command ticket command) question = ⊥
-IsProvenRequest given (OpenReply ticket answer) question = ⊥
 IsProvenRequest given (Payload payload) question = (fields : List ℕ) × (payload ≡ 50 ∷ fields) × IsProven given fields question
+IsProvenRequest given _ question = ⊥
 
 -- the call accepted the user of its input's request, and of one by a key or a certificate the signature was accepted; or
 -- the user whom the last request before a response named

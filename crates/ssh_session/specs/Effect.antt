@@ -94,9 +94,10 @@ abbrev pub answer_effect : Settings → World → OpenAnswer → Option Pending 
 answer_effect settings w answer None = refuses UnknownOpen w
 answer_effect settings w answer (Some opening) = decides settings w opening answer.rejection answer.texts
 
--- one command, done in this world
+-- one command, done in this world; those of other kinds are not built
 abbrev pub effect : Settings → World → Command → Effect
 effect settings w (command.Data channel bytes) = data_effect w bytes (find channel.0 w.entries)
 effect settings w (command.Eof channel) = eof_effect w (find channel.0 w.entries)
 effect settings w (command.Close channel) = close_effect w (find channel.0 w.entries)
 effect settings w (command.Answer answer) = answer_effect settings w answer (pending_of answer.channel.0 w.pending)
+effect settings w _ = Not_built

@@ -14,7 +14,7 @@ use Rattle.ssh_auth.specs.Plan.{Plan, Finish, Event, calls_in, told_in, Follows}
 use Rattle.ssh_session.specs.World.{Settings, World, circumstances}
 use Rattle.ssh_session.specs.Gate.{gate_of}
 use Rattle.ssh_session.specs.Said.{Said, Says}
-use Rattle.ssh_session.specs.Outcome.{Outcome, Goes, Ends}
+use Rattle.ssh_session.specs.Outcome.{Outcome, Goes, Ends, Fails, Not_built}
 use Rattle.ssh_session.specs.Entries.{nothing_waits}
 use Rattle.ssh_session.specs.Commanded.{command_row}
 use Rattle.ssh_session.specs.Rows.{row}
@@ -27,6 +27,8 @@ OwesKind accepts settings w moment (Payload payload) plan =
 -- a command, and a reply to an open, is done
 OwesKind accepts settings w moment (Command ticket command) plan = plan ≡ command_row settings w ticket command
 OwesKind accepts settings w moment (OpenReply ticket answer) plan = plan ≡ command_row settings w ticket (Answer answer)
+-- ticks are not built
+OwesKind accepts settings w moment _ plan = plan ≡ Finish (Fails Not_built)
 
 abbrev pub Owes : Acceptance → Settings → World → Input → Plan Outcome → Type 0
 Owes accepts settings w input plan = OwesKind accepts settings w input.moment input.kind plan

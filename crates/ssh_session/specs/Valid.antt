@@ -66,20 +66,28 @@ AreValidFields given w gate.ChannelEof fields = (channel : ℕ) × SpellsWhole c
 AreValidFields given w gate.ChannelClose fields = (channel : ℕ) × SpellsWhole channel_field (channel, tt) fields
 AreValidFields given w gate.NotBuilt fields = ⊥
 
+-- what the command does is built
+abbrev pub IsBuiltCommand : Commanded → Type 0
+IsBuiltCommand (command.Data channel bytes) = Unit {0}
+IsBuiltCommand (command.Eof channel) = Unit {0}
+IsBuiltCommand (command.Close channel) = Unit {0}
+IsBuiltCommand (command.Answer answer) = Unit {0}
+IsBuiltCommand _ = ⊥
+
+-- a tick is not built
 abbrev pub IsValidKind : Circumstances → Settings → World → InputKind → Type 0
 IsValidKind given settings w End = Unit {0}
 IsValidKind given settings w (Payload payload) = AreValidFields given w (gate_of settings w payload) (drop 1 payload)
-IsValidKind given settings w (Command ticket command) = Unit {0}
+IsValidKind given settings w (Command ticket commanded) = IsBuiltCommand commanded
 IsValidKind given settings w (OpenReply ticket answer) = Unit {0}
+IsValidKind given settings w _ = ⊥
 
 -- PK_OK, the reply to a probe whose key may sign, is no longer than a payload can be (RFC 4252 section 7)
 abbrev pub HasShortReply : InputKind → Type 0
-HasShortReply End = Unit {0}
-HasShortReply (Command ticket command) = Unit {0}
-HasShortReply (OpenReply ticket answer) = Unit {0}
 HasShortReply (Payload payload) = (user name blob rest : List ℕ) →
     SpellsAll head_fields (user, (codes "ssh-connection", (codes "publickey", tt))) (drop 1 payload) rest →
     SpellsAll offer_fields (false, (name, (blob, tt))) rest [] → length (pk_ok name blob) < 2 ^ 32
+HasShortReply _ = Unit {0}
 
 -- a callback records nothing but answers to opens, for which alone `Commands` has a call
 abbrev pub AreAnswers : List Commanded → Type 0
@@ -140,6 +148,5 @@ IsComplete (Err e) = ⊥
 -- an input that ends a run: the end, DISCONNECT, whose number is 1, or a request over the cap
 abbrev pub IsEnding : Settings → World → InputKind → Type 0
 IsEnding settings w End = Unit {0}
-IsEnding settings w (Command ticket command) = ⊥
-IsEnding settings w (OpenReply ticket answer) = ⊥
 IsEnding settings w (Payload payload) = ((fields : List ℕ) × (payload ≡ 1 ∷ fields)) ⊎ (gate_of settings w payload ≡ gate.OverCap)
+IsEnding settings w _ = ⊥

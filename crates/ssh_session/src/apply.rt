@@ -62,6 +62,7 @@ impl Session {
             Command::Eof { channel } => self.send_eof(channel, staged),
             Command::Close { channel } => self.close(channel, staged),
             Command::Answer(answer) => self.answer_open(answer, staged),
+            _unbuilt => Err(RunError::NotBuilt),
         }
     }
 

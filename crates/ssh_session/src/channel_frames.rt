@@ -7,16 +7,11 @@ ghost use Rattle.ssh_session.specs.ChannelLayout as layout;
 
 use bytes::Bytes;
 use ssh_link::Frame;
+use ssh_wire::message::{
+    CHANNEL_CLOSE, CHANNEL_EOF, CHANNEL_OPEN_CONFIRMATION, CHANNEL_OPEN_FAILURE,
+};
 use ssh_wire::{ChannelId, ChannelOpenFailure, WireError, put_text, put_u8, put_u32};
 use std::alloc::Global;
-
-const CHANNEL_OPEN_CONFIRMATION: u8 = 91;
-
-const CHANNEL_OPEN_FAILURE: u8 = 92;
-
-const CHANNEL_EOF: u8 = 96;
-
-const CHANNEL_CLOSE: u8 = 97;
 
 /// How many bytes the two texts of a CHANNEL_OPEN_FAILURE have together at most: 17 bytes are the
 /// other fields, and a payload has at most 2^32 - 1.

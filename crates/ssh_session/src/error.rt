@@ -42,7 +42,8 @@ pub enum RunError<HE> {
     Handler(HE),
     /// The input asks for what is not built yet: a key exchange, a message of the connection but the
     /// open of a session channel and the grants, the end of file and the close of its peer, a second
-    /// channel, or an end of file or a close behind data that wait.
+    /// channel, a tick, or an end of file or a close behind data that wait; or it brings a command,
+    /// or a callback records one, that is none of data, end of file, close and answer to an open.
     NotBuilt,
 }
 

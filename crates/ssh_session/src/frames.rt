@@ -5,14 +5,9 @@ ghost use Rattle.ssh_session.specs.Layout.{at_once, service_accept, banner, too_
 
 use bytes::Bytes;
 use ssh_link::Frame;
+use ssh_wire::message::{DISCONNECT, SERVICE_ACCEPT, USERAUTH_BANNER};
 use ssh_wire::{Disconnect, WireError, put_text, put_u8, put_u32};
 use std::alloc::Global;
-
-const DISCONNECT: u8 = 1;
-
-const SERVICE_ACCEPT: u8 = 6;
-
-const USERAUTH_BANNER: u8 = 53;
 
 /// A frame of no channel with this payload, which may go out at once.
 fn frame_at_once(payload: Vec<u8>) -> Result<Frame, WireError>

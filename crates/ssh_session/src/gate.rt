@@ -7,6 +7,10 @@ ghost use Rattle.ssh_session.specs.Gate.{gate_of, phase_gate, authentication_gat
 
 use crate::Session;
 use crate::phase::Phase;
+use ssh_wire::message::{
+    CHANNEL_CLOSE, CHANNEL_EOF, CHANNEL_OPEN, CHANNEL_WINDOW_ADJUST, DISCONNECT, KEXINIT,
+    SERVICE_REQUEST, USERAUTH_INFO_RESPONSE, USERAUTH_REQUEST,
+};
 
 /// What a payload is to a session, by its number alone.
 #[derive(Clone, Copy, Debug, PartialEq, Eq)]
@@ -34,24 +38,6 @@ pub enum Gate {
     /// What it asks for is not built.
     NotBuilt,
 }
-
-const DISCONNECT: u8 = 1;
-
-const SERVICE_REQUEST: u8 = 5;
-
-const KEXINIT: u8 = 20;
-
-const USERAUTH_REQUEST: u8 = 50;
-
-const USERAUTH_INFO_RESPONSE: u8 = 61;
-
-const CHANNEL_OPEN: u8 = 90;
-
-const CHANNEL_WINDOW_ADJUST: u8 = 93;
-
-const CHANNEL_EOF: u8 = 96;
-
-const CHANNEL_CLOSE: u8 = 97;
 
 impl Session {
     /// What this payload is to the session.

@@ -124,6 +124,9 @@ impl Session {
                 self.serve_command(link, ticket, Command::Answer(answer), staged)
             }
             InputKind::End => Ok(Flow::Ended),
+            InputKind::KeepaliveTick => Err(RunError::NotBuilt),
+            InputKind::InactivityTick => Err(RunError::NotBuilt),
+            InputKind::RekeyTick => Err(RunError::NotBuilt),
         }
     }
 

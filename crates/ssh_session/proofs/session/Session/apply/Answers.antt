@@ -1,7 +1,7 @@
 use Rattle.std.proofs.Common.{ap}
 use Rattle.ssh_link.specs.declared.command.Command.TheVariants as command
 use Rattle.ssh_session.specs.Effect.{effect}
-use Rattle.ssh_session.proofs.Effects.{effect_is}
+use Rattle.ssh_session.proofs.Effects.{effect_is, unbuilt}
 use Rattle.ssh_session.proofs.session.Session.apply.Goals as goal
 
 pub returns-in-Data : goal.returns-in-Data
@@ -27,3 +27,7 @@ returns-in-Answer g c = λ settings w r.
     let f = c.answer_open in
     effect_is settings (effect settings w c.args.command) (effect settings w (command.Answer c.in-Answer.answer)) c.args.staged.now.items f.new.staged.items f.new.self f.result
     (ap (effect settings w) c.in-Answer.is) (f.ensures settings w r)
+
+pub returns-in_default : goal.returns-in_default
+returns-in_default g c = λ settings w r.
+    unbuilt settings w c.args.command c.in_default.not-Data c.in_default.not-Eof c.in_default.not-Close c.in_default.not-Answer

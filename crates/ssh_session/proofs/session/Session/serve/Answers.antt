@@ -1,11 +1,12 @@
 use Rattle.std.proofs.Common.{[], refl, sym}
 use Rattle.std.proofs.lemmas.List.{append-nil}
-use Rattle.std.specs.Prelude.{Ok}
+use Rattle.std.specs.Prelude.{Ok, Err}
 use Rattle.ssh_link.specs.declared.command.Command.TheVariants.{Answer}
 use Rattle.ssh_auth.specs.Plan.{Finish}
 use Rattle.ssh_session.specs.declared.error.Flow.TheVariants.{Ended}
+use Rattle.ssh_session.specs.declared.error.RunError.TheVariants.{NotBuilt}
 use Rattle.ssh_session.specs.Commanded.{command_row}
-use Rattle.ssh_session.specs.Outcome.{Ends}
+use Rattle.ssh_session.specs.Outcome.{Ends, Fails, Not_built}
 use Rattle.ssh_session.specs.Rows.{row}
 use Rattle.ssh_session.proofs.Asks.{not_asked}
 use Rattle.ssh_session.proofs.session.Session.serve.Goals as goal
@@ -28,4 +29,25 @@ returns-in-End g c = λ settings w r. (
   Finish (Ends []),
   rw c.in-End.is refl,
   not_asked settings (Finish (Ends [])) _ c.args.staged.now.items c.args.staged.now.items c.args.self.now (Ok Ended) ([], refl, sym (append-nil c.args.staged.now.items)),
+)
+
+pub returns-in-KeepaliveTick : goal.returns-in-KeepaliveTick
+returns-in-KeepaliveTick g c = λ settings w r. (
+  Finish (Fails Not_built),
+  rw c.in-KeepaliveTick.is refl,
+  not_asked settings (Finish (Fails Not_built)) _ c.args.staged.now.items c.args.staged.now.items c.args.self.now (Err NotBuilt) refl,
+)
+
+pub returns-in-InactivityTick : goal.returns-in-InactivityTick
+returns-in-InactivityTick g c = λ settings w r. (
+  Finish (Fails Not_built),
+  rw c.in-InactivityTick.is refl,
+  not_asked settings (Finish (Fails Not_built)) _ c.args.staged.now.items c.args.staged.now.items c.args.self.now (Err NotBuilt) refl,
+)
+
+pub returns-in-RekeyTick : goal.returns-in-RekeyTick
+returns-in-RekeyTick g c = λ settings w r. (
+  Finish (Fails Not_built),
+  rw c.in-RekeyTick.is refl,
+  not_asked settings (Finish (Fails Not_built)) _ c.args.staged.now.items c.args.staged.now.items c.args.self.now (Err NotBuilt) refl,
 )
