@@ -3,7 +3,7 @@ use Rattle.std.proofs.Common.{◌≡◌, ◌<◌, ◌≤◌, ◌+◌, ℕ, List,
 use Rattle.std.specs.Prelude.{flat_map, option_to_list, IfSome}
 use Rattle.ssh_link.specs.Frames.{Frame}
 use Rattle.ssh_link.specs.declared.frame.InputKind.{InputKind}
-use Rattle.ssh_link.specs.declared.frame.InputKind.TheVariants.{Payload, Command, OpenReply, End}
+use Rattle.ssh_link.specs.declared.frame.InputKind.TheVariants.{Payload}
 use Rattle.ssh_link.specs.declared.link.TraceEntry.{TraceEntry}
 use Rattle.ssh_link.specs.declared.link.TraceEntry.TheVariants as entry
 use Rattle.ssh_link.specs.Supply.{Supply, next_input, after_next}
@@ -39,12 +39,10 @@ less supply turn = left_after supply (entries turn)
 
 kind_meet : (accepts : Acceptance) (settings : Settings) (w : World) (moment : ℕ) (kind : InputKind) (p q : Plan Outcome) (xs ys : List (Event Failure)) (o o' : Result Outcome Failure) →
     OwesKind accepts settings w moment kind p → OwesKind accepts settings w moment kind q → IsFed o → IsFed o' → Comes p xs o → Comes q ys o' → Meet xs ys o o'
-kind_meet accepts settings w moment End p q xs ys o o' h k f g c d = (p, c, subst (λ x. Comes x ys o') (k ∙ sym h) d)
 kind_meet accepts settings w moment (Payload payload) p q xs ys o o' h k f g c d =
     said_meet settings moment w h.0 k.0 xs ys o o' (said_once (circumstances accepts settings moment) (gate_of settings w payload) payload h.0 k.0 h.1 k.1) f g
     (subst (λ x. Comes x xs o) h.2 c) (subst (λ x. Comes x ys o') k.2 d)
-kind_meet accepts settings w moment (Command ticket command) p q xs ys o o' h k f g c d = (p, c, subst (λ x. Comes x ys o') (k ∙ sym h) d)
-kind_meet accepts settings w moment (OpenReply ticket answer) p q xs ys o o' h k f g c d = (p, c, subst (λ x. Comes x ys o') (k ∙ sym h) d)
+kind_meet accepts settings w moment _ p q xs ys o o' h k f g c d = (p, c, subst (λ x. Comes x ys o') (k ∙ sym h) d)
 
 -- how a turn ends a run, by what its plan comes to
 abbrev Matches : Result Outcome Failure → List Frame → Result (Unit {0}) (RunError Failure) → Type 0

@@ -1,5 +1,5 @@
 -- How a run is printed.
-use Rattle.std.specs.Prelude.{ℕ, ◌+◌, List, [], ◌∷◌, ◌++◌, codes, flat_map, Option, Some, None, Result, Ok, Err}
+use Rattle.std.specs.Prelude.{ℕ, ◌+◌, List, [], ◌∷◌, ◌++◌, codes, flat_map, Bool, true, false, Option, Some, None, Result, Ok, Err}
 use Rattle.std.specs.Fmt.{decimal}
 use Rattle.hex.specs.Hex.{encode_lower}
 use Rattle.ssh_wire.specs.declared.channel_id.ChannelId.{ChannelId}
@@ -45,10 +45,15 @@ response_text (Some responses) = flat_map response_word responses
 
 -- how a refusal is named
 abbrev pub refusal_name : Refusal → List ℕ
+refusal_name refusal.Disconnected = codes "Disconnected"
+refusal_name refusal.ClientOnly = codes "ClientOnly"
+refusal_name refusal.NotAuthenticated = codes "NotAuthenticated"
 refusal_name refusal.UnknownChannel = codes "UnknownChannel"
 refusal_name refusal.UnknownOpen = codes "UnknownOpen"
+refusal_name refusal.NotConfirmed = codes "NotConfirmed"
 refusal_name refusal.SendingEnded = codes "SendingEnded"
 refusal_name refusal.TooLong = codes "TooLong"
+refusal_name refusal.NumbersFull = codes "NumbersFull"
 
 -- what came of a command
 abbrev pub outcome_text : CommandOutcome → List ℕ
@@ -110,18 +115,31 @@ frame_line frame =
     codes "send " ++ channel_text frame.channel ++ codes " " ++ hex_text frame.payload ++ hold_text frame.hold_until
     ++ codes "\n"
 
--- what happened on a channel
+-- what happened on a channel; no row tells of the other messages
 abbrev pub msg_text : ChannelMsg → List ℕ
 msg_text (msg.WindowAdjusted new_size) = codes " WindowAdjusted " ++ decimal new_size
 msg_text msg.Eof = codes " Eof"
 msg_text msg.Close = codes " Close"
+msg_text _ = codes " NotBuilt"
 
--- a notice: its channel, its variant, and its fields
+-- the port that the peer listens at
+abbrev pub port_text : Option ℕ → List ℕ
+port_text None = codes " denied"
+port_text (Some port) = codes " " ++ decimal port
+
+abbrev pub flag_text : Bool → List ℕ
+flag_text true = codes " 1"
+flag_text false = codes " 0"
+
+-- a notice: its channel, or - where it is of none, its variant, and its fields
 abbrev pub notice_text : Notice → List ℕ
 notice_text (notice.Channel channel happened) = decimal channel.0 ++ msg_text happened
 notice_text (notice.Granted channel amount) = decimal channel.0 ++ codes " Granted " ++ decimal amount
 notice_text (notice.Ready channel window packet) =
     decimal channel.0 ++ codes " Ready " ++ decimal window ++ codes " " ++ decimal packet
+notice_text (notice.Forwarded slot port) = codes "- Forwarded " ++ decimal slot ++ port_text port
+notice_text (notice.Cancelled slot is_done) = codes "- Cancelled " ++ decimal slot ++ flag_text is_done
+notice_text (notice.Pong slot) = codes "- Pong " ++ decimal slot
 
 abbrev pub notice_line : Notice → List ℕ
 notice_line one = codes "notice " ++ notice_text one ++ codes "\n"

@@ -2,7 +2,7 @@
 ghost use Rattle.std.specs.Prelude.{◌≡◌, ◌++◌, codes, OnOk};
 ghost use Rattle.std.specs.Fmt.{decimal};
 ghost use Rattle.std.specs.String.{string_bytes};
-ghost use Rattle.ssh_script.specs.Print.{refusal_name, outcome_text, msg_text, notice_text, notice_line, answer_line};
+ghost use Rattle.ssh_script.specs.Print.{refusal_name, outcome_text, msg_text, port_text, flag_text, notice_text, notice_line, answer_line};
 
 use crate::print::{print_field, print_id};
 use ssh_link::{ChannelMsg, CommandOutcome, Notice, Refusal};
@@ -14,10 +14,15 @@ fn refusal_name(why: Refusal) -> &'static str
     ensures { result.now ≡ refusal_name why }
 {
     match why {
+        Refusal::Disconnected => "Disconnected",
+        Refusal::ClientOnly => "ClientOnly",
+        Refusal::NotAuthenticated => "NotAuthenticated",
         Refusal::UnknownChannel => "UnknownChannel",
         Refusal::UnknownOpen => "UnknownOpen",
+        Refusal::NotConfirmed => "NotConfirmed",
         Refusal::SendingEnded => "SendingEnded",
         Refusal::TooLong => "TooLong",
+        Refusal::NumbersFull => "NumbersFull",
     }
 }
 
@@ -50,7 +55,35 @@ fn print_msg(alloc: Global, out: &mut String, msg: &ChannelMsg) -> Result<(), Al
         }
         ChannelMsg::Eof => out.push_str(" Eof"),
         ChannelMsg::Close => out.push_str(" Close"),
+        _ => out.push_str(" NotBuilt"),
     }
+}
+
+fn print_port(alloc: Global, out: &mut String, port: Option<u32>) -> Result<(), AllocError>
+    ensures { OnOk result (string_bytes out.new ≡ string_bytes out.old ++ port_text port) }
+{
+    match port {
+        Some(port) => print_field(alloc, out, " ", u64::from(port)),
+        None => out.push_str(" denied"),
+    }
+}
+
+/// A flag behind other fields.
+fn print_flag(out: &mut String, flag: bool) -> Result<(), AllocError>
+    ensures { OnOk result (string_bytes out.new ≡ string_bytes out.old ++ flag_text flag) }
+{
+    if flag {
+        out.push_str(" 1")
+    } else {
+        out.push_str(" 0")
+    }
+}
+
+fn print_cancelled(alloc: Global, out: &mut String, slot: u64, ok: bool) -> Result<(), AllocError>
+    ensures { OnOk result (string_bytes out.new ≡ string_bytes out.old ++ (codes "- Cancelled " ++ decimal slot ++ flag_text ok)) }
+{
+    print_field(alloc, out, "- Cancelled ", slot)?;
+    print_flag(out, ok)
 }
 
 fn print_ready(alloc: Global, out: &mut String, window: u32, packet: u32) -> Result<(), AllocError>
@@ -81,6 +114,12 @@ fn print_fields(alloc: Global, out: &mut String, notice: &Notice) -> Result<(), 
             print_id(alloc, out, *channel)?;
             print_ready(alloc, out, *window, *packet)
         }
+        Notice::Forwarded { slot, port } => {
+            print_field(alloc, out, "- Forwarded ", *slot)?;
+            print_port(alloc, out, *port)
+        }
+        Notice::Cancelled { slot, ok } => print_cancelled(alloc, out, *slot, *ok),
+        Notice::Pong { slot } => print_field(alloc, out, "- Pong ", *slot),
     }
 }
 

@@ -1,7 +1,8 @@
 // What the lines of a script say together.
 ghost use Rattle.std.specs.Prelude.{◌≡◌, ◌<◌, ◌+◌, ◌∷◌, [], length, Some, None, if◌then◌else◌, IfOk, OnOk, IfSome, MatchOption};
 ghost use Rattle.ssh_script.specs.declared.lines.Setting.TheVariants as setting;
-ghost use Rattle.ssh_script.specs.Scene.{scene_of, seen, opening_scene, set, with_input, with_ticket, taken, with_line, lines_of, Gives};
+ghost use Rattle.ssh_link.specs.declared.frame.InputKind.TheVariants as kind;
+ghost use Rattle.ssh_script.specs.Scene.{scene_of, seen, opening_scene, set, with_input, with_ticket, after_input, taken, with_line, lines_of, Gives};
 
 use crate::answers::{Answers, OpenVerdict};
 use crate::grammar::read_line;
@@ -10,8 +11,11 @@ use crate::script::{Script, Stage};
 use bytes::Bytes;
 use ssh_handler::Config;
 use ssh_keys::{AcceptedSignature, TableVerifier};
-use ssh_link::{Input, InputKind};
+use ssh_link::{Command, Input, InputKind, OpenAnswer};
 use std::alloc::{AllocError, Global};
+
+/// What comes after the peer is gone is not taken.
+fn pass_over(_line: InputLine) {}
 
 impl Script {
     /// What no line says.
@@ -109,28 +113,51 @@ impl Script {
         Ok(self.tickets)
     }
 
+    /// A command from outside comes, with the next ticket.
+    fn push_command(&mut self, command: Command) -> Result<(), AllocError>
+        ensures { OnOk result (with_input (kind.Command (self.old.tickets + 1) command) (with_ticket (scene_of self.old)) ≡ scene_of self.new) }
+    {
+        let ticket = self.next_ticket()?;
+        self.push(InputKind::Command(ticket, command))
+    }
+
+    /// An answer to an open comes from outside, with the next ticket.
+    fn push_reply(&mut self, answer: OpenAnswer) -> Result<(), AllocError>
+        ensures { OnOk result (with_input (kind.OpenReply (self.old.tickets + 1) answer) (with_ticket (scene_of self.old)) ≡ scene_of self.new) }
+    {
+        let ticket = self.next_ticket()?;
+        self.push(InputKind::OpenReply(ticket, answer))
+    }
+
+    /// Takes in an input line of a peer that is there.
+    fn take_live(&mut self, line: InputLine) -> Result<(), AllocError>
+        ensures { OnOk result (after_input line (scene_of self.old) ≡ scene_of self.new) }
+    {
+        self.stage = Stage::Inputs;
+        match line {
+            InputLine::At(moment) => {
+                self.moment = moment;
+                Ok(())
+            }
+            InputLine::Recv(bytes) => self.push(InputKind::Payload(bytes)),
+            InputLine::Command(command) => self.push_command(command),
+            InputLine::Reply(answer) => self.push_reply(answer),
+            InputLine::End => {
+                self.stage = Stage::Ended;
+                Ok(())
+            }
+        }
+    }
+
     /// Takes in an input line.
     fn take(&mut self, line: InputLine) -> Result<(), AllocError>
         ensures { OnOk result (taken self.old.stage line (scene_of self.old) ≡ scene_of self.new) }
     {
         if self.stage == Stage::Ended {
+            pass_over(line);
             return Ok(());
         }
-        self.stage = Stage::Inputs;
-        match line {
-            InputLine::At(moment) => self.moment = moment,
-            InputLine::Recv(bytes) => self.push(InputKind::Payload(bytes))?,
-            InputLine::Command(command) => {
-                let ticket = self.next_ticket()?;
-                self.push(InputKind::Command(ticket, command))?;
-            }
-            InputLine::Reply(answer) => {
-                let ticket = self.next_ticket()?;
-                self.push(InputKind::OpenReply(ticket, answer))?;
-            }
-            InputLine::End => self.stage = Stage::Ended,
-        }
-        Ok(())
+        self.take_live(line)
     }
 
     /// Takes in one more line; false where it may not stand here.
