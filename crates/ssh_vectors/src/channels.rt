@@ -6,8 +6,9 @@ use std::test::Fail;
 // Alice is let in by method none.
 const SETTINGS: &[u8] = b"answer none accept\n";
 
-const LOGIN: &[u8] =
-    b"recv 050000000c7373682d7573657261757468\nrecv 3200000005616c6963650000000e7373682d636f6e6e656374696f6e000000046e6f6e65\n";
+const LOGIN: &[u8] = b"\
+    recv 050000000c7373682d7573657261757468\n\
+    recv 3200000005616c6963650000000e7373682d636f6e6e656374696f6e000000046e6f6e65\n";
 
 const LOGIN_CALLS: &[u8] =
     b"call authentication_banner\ncall auth_none 616c696365\ncall auth_succeeded\n";
@@ -42,69 +43,214 @@ fn one_session_channel(rt: HostRuntime) -> Result<(), Fail> {
             settings: b"",
             inputs: b"recv 5a0000000773657373696f6e000000070010000000008000\n",
             calls: b"call channel_open_session 2\n",
-            trace: b"input 3\nnotice 2 Ready 1048576 32768\nsend 2 5b00000007000000020020000000008000\ninput 4\nok\n",
+            trace: b"\
+                input 3\n\
+                notice 2 Ready 1048576 32768\n\
+                send 2 5b00000007000000020020000000008000\n\
+                input 4\nok\n",
         },
         // Peer number 44 and a window of 3: the rest of the data waits for a grant, and the two
         // commands behind it are set aside.
         Case {
             settings: b"",
-            inputs: b"recv 5a0000000773657373696f6e0000002c0000000300008000\ndata 2 68656c6c6f\neof 2\nclose 2\n",
+            inputs: b"\
+                recv 5a0000000773657373696f6e0000002c0000000300008000\n\
+                data 2 68656c6c6f\n\
+                eof 2\n\
+                close 2\n",
             calls: b"call channel_open_session 2\n",
-            trace: b"input 3\nnotice 2 Ready 3 32768\nsend 2 5b0000002c000000020020000000008000\ninput 4\ndone 1 accepted\nsend 2 5e0000002c0000000368656c\ninput 5\nok\n",
+            trace: b"\
+                input 3\n\
+                notice 2 Ready 3 32768\n\
+                send 2 5b0000002c000000020020000000008000\n\
+                input 4\n\
+                done 1 accepted\n\
+                send 2 5e0000002c0000000368656c\n\
+                input 5\nok\n",
         },
         Case {
             settings: b"",
-            inputs: b"recv 5a0000000773657373696f6e0000002c0000000300008000\ndata 2 68656c6c6f\neof 2\nclose 2\nrecv 5d0000000200000002\n",
+            inputs: b"\
+                recv 5a0000000773657373696f6e0000002c0000000300008000\n\
+                data 2 68656c6c6f\n\
+                eof 2\n\
+                close 2\n\
+                recv 5d0000000200000002\n",
             calls: b"call channel_open_session 2\ncall window_adjusted 2 0\n",
-            trace: b"input 3\nnotice 2 Ready 3 32768\nsend 2 5b0000002c000000020020000000008000\ninput 4\ndone 1 accepted\nsend 2 5e0000002c0000000368656c\ninput 5\nnotice 2 Granted 2\nnotice 2 WindowAdjusted 0\nsend 2 5e0000002c000000026c6f\ninput 6\ndone 2 accepted\nsend 2 600000002c\ninput 7\ndone 3 accepted\nsend 2 610000002c\ninput 8\nok\n",
+            trace: b"\
+                input 3\n\
+                notice 2 Ready 3 32768\n\
+                send 2 5b0000002c000000020020000000008000\n\
+                input 4\n\
+                done 1 accepted\n\
+                send 2 5e0000002c0000000368656c\n\
+                input 5\n\
+                notice 2 Granted 2\n\
+                notice 2 WindowAdjusted 0\n\
+                send 2 5e0000002c000000026c6f\n\
+                input 6\n\
+                done 2 accepted\n\
+                send 2 600000002c\n\
+                input 7\n\
+                done 3 accepted\n\
+                send 2 610000002c\n\
+                input 8\nok\n",
         },
         // A grant that no data wait for.
         Case {
             settings: b"",
-            inputs: b"recv 5a0000000773657373696f6e0000002c0000000300008000\nrecv 5d0000000200000005\nrecv 5d0000000900000005\n",
+            inputs: b"\
+                recv 5a0000000773657373696f6e0000002c0000000300008000\n\
+                recv 5d0000000200000005\n\
+                recv 5d0000000900000005\n",
             calls: b"call channel_open_session 2\ncall window_adjusted 2 8\n",
-            trace: b"input 3\nnotice 2 Ready 3 32768\nsend 2 5b0000002c000000020020000000008000\ninput 4\nnotice 2 Granted 5\nnotice 2 WindowAdjusted 8\ninput 5\ninput 6\nok\n",
+            trace: b"\
+                input 3\n\
+                notice 2 Ready 3 32768\n\
+                send 2 5b0000002c000000020020000000008000\n\
+                input 4\n\
+                notice 2 Granted 5\n\
+                notice 2 WindowAdjusted 8\n\
+                input 5\n\
+                input 6\nok\n",
         },
         // An answer to an open passes the commands that were set aside before it.
         Case {
             settings: b"",
-            inputs: b"recv 5a0000000773657373696f6e0000002c0000000300008000\ndata 2 68656c6c6f\neof 2\naccept 2\nrecv 5d0000000200000002\n",
+            inputs: b"\
+                recv 5a0000000773657373696f6e0000002c0000000300008000\n\
+                data 2 68656c6c6f\n\
+                eof 2\n\
+                accept 2\n\
+                recv 5d0000000200000002\n",
             calls: b"call channel_open_session 2\ncall window_adjusted 2 0\n",
-            trace: b"input 3\nnotice 2 Ready 3 32768\nsend 2 5b0000002c000000020020000000008000\ninput 4\ndone 1 accepted\nsend 2 5e0000002c0000000368656c\ninput 5\ndone 3 refused UnknownOpen\ninput 6\nnotice 2 Granted 2\nnotice 2 WindowAdjusted 0\nsend 2 5e0000002c000000026c6f\ninput 7\ndone 2 accepted\nsend 2 600000002c\ninput 8\nok\n",
+            trace: b"\
+                input 3\n\
+                notice 2 Ready 3 32768\n\
+                send 2 5b0000002c000000020020000000008000\n\
+                input 4\n\
+                done 1 accepted\n\
+                send 2 5e0000002c0000000368656c\n\
+                input 5\n\
+                done 3 refused UnknownOpen\n\
+                input 6\n\
+                notice 2 Granted 2\n\
+                notice 2 WindowAdjusted 0\n\
+                send 2 5e0000002c000000026c6f\n\
+                input 7\n\
+                done 2 accepted\n\
+                send 2 600000002c\n\
+                input 8\nok\n",
         },
         // Nothing is sent after an end of file.
         Case {
             settings: b"",
-            inputs: b"recv 5a0000000773657373696f6e000000070010000000008000\ndata 2 61\neof 2\ndata 2 62\neof 2\nclose 2\nclose 2\n",
+            inputs: b"\
+                recv 5a0000000773657373696f6e000000070010000000008000\n\
+                data 2 61\n\
+                eof 2\n\
+                data 2 62\n\
+                eof 2\n\
+                close 2\n\
+                close 2\n",
             calls: b"call channel_open_session 2\n",
-            trace: b"input 3\nnotice 2 Ready 1048576 32768\nsend 2 5b00000007000000020020000000008000\ninput 4\ndone 1 accepted\nsend 2 5e000000070000000161\ninput 5\ndone 2 accepted\nsend 2 6000000007\ninput 6\ndone 3 refused SendingEnded\ninput 7\ndone 4 refused SendingEnded\ninput 8\ndone 5 accepted\nsend 2 6100000007\ninput 9\ndone 6 refused UnknownChannel\ninput 10\nok\n",
+            trace: b"\
+                input 3\n\
+                notice 2 Ready 1048576 32768\n\
+                send 2 5b00000007000000020020000000008000\n\
+                input 4\n\
+                done 1 accepted\n\
+                send 2 5e000000070000000161\n\
+                input 5\n\
+                done 2 accepted\n\
+                send 2 6000000007\n\
+                input 6\n\
+                done 3 refused SendingEnded\n\
+                input 7\n\
+                done 4 refused SendingEnded\n\
+                input 8\n\
+                done 5 accepted\n\
+                send 2 6100000007\n\
+                input 9\n\
+                done 6 refused UnknownChannel\n\
+                input 10\nok\n",
         },
         // The peer ends its data and closes, and the next open has a number of its own.
         Case {
             settings: b"",
-            inputs: b"recv 5a0000000773657373696f6e000000070010000000008000\nrecv 6000000002\nrecv 6100000002\nrecv 5a0000000773657373696f6e000000070010000000008000\n",
-            calls: b"call channel_open_session 2\ncall channel_eof 2\ncall channel_close 2\ncall channel_open_session 3\n",
-            trace: b"input 3\nnotice 2 Ready 1048576 32768\nsend 2 5b00000007000000020020000000008000\ninput 4\nnotice 2 Eof\ninput 5\nnotice 2 Close\nsend 2 6100000007\ninput 6\nnotice 3 Ready 1048576 32768\nsend 3 5b00000007000000030020000000008000\ninput 7\nok\n",
+            inputs: b"\
+                recv 5a0000000773657373696f6e000000070010000000008000\n\
+                recv 6000000002\n\
+                recv 6100000002\n\
+                recv 5a0000000773657373696f6e000000070010000000008000\n",
+            calls: b"\
+                call channel_open_session 2\n\
+                call channel_eof 2\n\
+                call channel_close 2\n\
+                call channel_open_session 3\n",
+            trace: b"\
+                input 3\n\
+                notice 2 Ready 1048576 32768\n\
+                send 2 5b00000007000000020020000000008000\n\
+                input 4\n\
+                notice 2 Eof\n\
+                input 5\n\
+                notice 2 Close\n\
+                send 2 6100000007\n\
+                input 6\n\
+                notice 3 Ready 1048576 32768\n\
+                send 3 5b00000007000000030020000000008000\n\
+                input 7\nok\n",
         },
         // An open that is answered by a line, and once.
         Case {
             settings: b"answer open accept\nanswer open hold\n",
-            inputs: b"recv 5a0000000773657373696f6e000000070010000000008000\ndata 2 61\naccept 2\nreject 2 1\n",
+            inputs: b"\
+                recv 5a0000000773657373696f6e000000070010000000008000\n\
+                data 2 61\n\
+                accept 2\n\
+                reject 2 1\n",
             calls: b"call channel_open_session 2\n",
-            trace: b"input 3\ninput 4\ndone 1 refused UnknownChannel\ninput 5\nnotice 2 Ready 1048576 32768\ndone 2 accepted\nsend 2 5b00000007000000020020000000008000\ninput 6\ndone 3 refused UnknownOpen\ninput 7\nok\n",
+            trace: b"\
+                input 3\n\
+                input 4\n\
+                done 1 refused UnknownChannel\n\
+                input 5\n\
+                notice 2 Ready 1048576 32768\n\
+                done 2 accepted\n\
+                send 2 5b00000007000000020020000000008000\n\
+                input 6\n\
+                done 3 refused UnknownOpen\n\
+                input 7\nok\n",
         },
         Case {
             settings: b"answer open hold\n",
-            inputs: b"recv 5a0000000773657373696f6e000000070010000000008000\nreject 2 4\naccept 2\n",
+            inputs: b"\
+                recv 5a0000000773657373696f6e000000070010000000008000\n\
+                reject 2 4\n\
+                accept 2\n",
             calls: b"call channel_open_session 2\n",
-            trace: b"input 3\ninput 4\ndone 1 accepted\nsend 2 5c0000000700000004000000117265736f757263652073686f727461676500000002656e\ninput 5\ndone 2 refused UnknownOpen\ninput 6\nok\n",
+            trace: b"\
+                input 3\n\
+                input 4\n\
+                done 1 accepted\n\
+                send 2 5c0000000700000004000000117265736f757263652073686f727461676500000002656e\n\
+                input 5\n\
+                done 2 refused UnknownOpen\n\
+                input 6\nok\n",
         },
         // An open that the callback refuses.
         Case {
             settings: b"answer open reject\n",
             inputs: b"recv 5a0000000773657373696f6e000000070010000000008000\naccept 2\n",
             calls: b"call channel_open_session 2\n",
-            trace: b"input 3\nsend 2 5c00000007000000010000001b61646d696e6973747261746976656c792070726f6869626974656400000002656e\ninput 4\ndone 1 refused UnknownOpen\ninput 5\nok\n",
+            trace: b"\
+                input 3\n\
+                send 2 5c00000007000000010000001b61646d696e6973747261746976656c792070726f68696269\
+                74656400000002656e\n\
+                input 4\n\
+                done 1 refused UnknownOpen\n\
+                input 5\nok\n",
         },
     ];
     for case in &cases {
@@ -124,7 +270,21 @@ fn commands_before_any_channel(rt: HostRuntime) -> Result<(), Fail> {
     assert_eq!(rt; status, 0);
     assert_eq!(rt;
         sink.bytes(),
-        b"input 1\ndone 1 refused UnknownChannel\ninput 2\ndone 2 refused UnknownChannel\ninput 3\ndone 3 refused UnknownChannel\ninput 4\ndone 4 refused UnknownOpen\ninput 5\ndone 5 refused UnknownOpen\ninput 6\ndone 6 refused UnknownChannel\ninput 7\nok\n".as_slice()
+        b"\
+            input 1\n\
+            done 1 refused UnknownChannel\n\
+            input 2\n\
+            done 2 refused UnknownChannel\n\
+            input 3\n\
+            done 3 refused UnknownChannel\n\
+            input 4\n\
+            done 4 refused UnknownOpen\n\
+            input 5\n\
+            done 5 refused UnknownOpen\n\
+            input 6\n\
+            done 6 refused UnknownChannel\n\
+            input 7\nok\n"
+            .as_slice()
     );
     Ok(())
 }

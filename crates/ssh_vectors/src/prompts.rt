@@ -9,13 +9,23 @@ fn prompts(rt: HostRuntime) -> Result<(), Fail> {
         Case {
             script: b"banner 68690a\nrecv 050000000c7373682d7573657261757468\n",
             status: 0,
-            written: b"call authentication_banner\ninput 1\nsend - 060000000c7373682d7573657261757468\nsend - 350000000368690a00000000\ninput 2\nok\n",
+            written: b"\
+                call authentication_banner\n\
+                input 1\n\
+                send - 060000000c7373682d7573657261757468\n\
+                send - 350000000368690a00000000\n\
+                input 2\nok\n",
         },
         // The last banner counts, and one may be empty.
         Case {
             script: b"banner 68690a\nbanner -\nrecv 050000000c7373682d7573657261757468\n",
             status: 0,
-            written: b"call authentication_banner\ninput 1\nsend - 060000000c7373682d7573657261757468\nsend - 350000000000000000\ninput 2\nok\n",
+            written: b"\
+                call authentication_banner\n\
+                input 1\n\
+                send - 060000000c7373682d7573657261757468\n\
+                send - 350000000000000000\n\
+                input 2\nok\n",
         },
         // A banner callback that fails gives no banner.
         Case {
@@ -25,66 +35,210 @@ fn prompts(rt: HostRuntime) -> Result<(), Fail> {
         },
         // A round: the prompt, and the response to it.
         Case {
-            script: b"answer interactive ask\nanswer interactive accept\nrecv 050000000c7373682d7573657261757468\nrecv 3200000005616c6963650000000e7373682d636f6e6e656374696f6e000000146b6579626f6172642d696e7465726163746976650000000000000000\nrecv 3d000000010000000431323334\n",
+            script: b"\
+                answer interactive ask\n\
+                answer interactive accept\n\
+                recv 050000000c7373682d7573657261757468\n\
+                recv 3200000005616c6963650000000e7373682d636f6e6e656374696f6e000000146b6579626f61\
+                72642d696e7465726163746976650000000000000000\n\
+                recv 3d000000010000000431323334\n",
             status: 0,
-            written: b"call authentication_banner\ncall auth_keyboard_interactive 616c696365 - none\ncall auth_keyboard_interactive 616c696365 - 31323334\ncall auth_succeeded\ninput 1\nsend - 060000000c7373682d7573657261757468\ninput 2\nsend - 3c0000000000000000000000000000000100000006436f64653a2000\ninput 3\nsend - 34\ninput 4\nok\n",
+            written: b"\
+                call authentication_banner\n\
+                call auth_keyboard_interactive 616c696365 - none\n\
+                call auth_keyboard_interactive 616c696365 - 31323334\n\
+                call auth_succeeded\n\
+                input 1\n\
+                send - 060000000c7373682d7573657261757468\n\
+                input 2\n\
+                send - 3c0000000000000000000000000000000100000006436f64653a2000\n\
+                input 3\n\
+                send - 34\n\
+                input 4\nok\n",
         },
         // Submethods, and two rounds: no response to the first prompt, and two to the second, the first
         // of them empty.
         Case {
-            script: b"answer interactive ask\nanswer interactive ask\nanswer interactive accept\nrecv 050000000c7373682d7573657261757468\nrecv 3200000005616c6963650000000e7373682d636f6e6e656374696f6e000000146b6579626f6172642d696e74657261637469766500000002656e0000000770616d2c6f7470\nrecv 3d00000000\nrecv 3d00000002000000000000000161\n",
+            script: b"\
+                answer interactive ask\n\
+                answer interactive ask\n\
+                answer interactive accept\n\
+                recv 050000000c7373682d7573657261757468\n\
+                recv 3200000005616c6963650000000e7373682d636f6e6e656374696f6e000000146b6579626f61\
+                72642d696e74657261637469766500000002656e0000000770616d2c6f7470\n\
+                recv 3d00000000\n\
+                recv 3d00000002000000000000000161\n",
             status: 0,
-            written: b"call authentication_banner\ncall auth_keyboard_interactive 616c696365 70616d2c6f7470 none\ncall auth_keyboard_interactive 616c696365 70616d2c6f7470\ncall auth_keyboard_interactive 616c696365 70616d2c6f7470 - 61\ncall auth_succeeded\ninput 1\nsend - 060000000c7373682d7573657261757468\ninput 2\nsend - 3c0000000000000000000000000000000100000006436f64653a2000\ninput 3\nsend - 3c0000000000000000000000000000000100000006436f64653a2000\ninput 4\nsend - 34\ninput 5\nok\n",
+            written: b"\
+                call authentication_banner\n\
+                call auth_keyboard_interactive 616c696365 70616d2c6f7470 none\n\
+                call auth_keyboard_interactive 616c696365 70616d2c6f7470\n\
+                call auth_keyboard_interactive 616c696365 70616d2c6f7470 - 61\n\
+                call auth_succeeded\n\
+                input 1\n\
+                send - 060000000c7373682d7573657261757468\n\
+                input 2\n\
+                send - 3c0000000000000000000000000000000100000006436f64653a2000\n\
+                input 3\n\
+                send - 3c0000000000000000000000000000000100000006436f64653a2000\n\
+                input 4\n\
+                send - 34\n\
+                input 5\nok\n",
         },
         // Without a line the user is refused, and no method is taken away.
         Case {
-            script: b"recv 050000000c7373682d7573657261757468\nrecv 3200000005616c6963650000000e7373682d636f6e6e656374696f6e000000146b6579626f6172642d696e7465726163746976650000000000000000\n",
+            script: b"\
+                recv 050000000c7373682d7573657261757468\n\
+                recv 3200000005616c6963650000000e7373682d636f6e6e656374696f6e000000146b6579626f61\
+                72642d696e7465726163746976650000000000000000\n",
             status: 0,
-            written: b"call authentication_banner\ncall auth_keyboard_interactive 616c696365 - none\ninput 1\nsend - 060000000c7373682d7573657261757468\ninput 2\nsend - 33000000366e6f6e652c70617373776f72642c7075626c69636b65792c686f737462617365642c6b6579626f6172642d696e74657261637469766500 hold 1000\ninput 3\nok\n",
+            written: b"\
+                call authentication_banner\n\
+                call auth_keyboard_interactive 616c696365 - none\n\
+                input 1\n\
+                send - 060000000c7373682d7573657261757468\n\
+                input 2\n\
+                send - 33000000366e6f6e652c70617373776f72642c7075626c69636b65792c686f737462617365\
+                642c6b6579626f6172642d696e74657261637469766500 hold 1000\n\
+                input 3\nok\n",
         },
         // The handler fails.
         Case {
-            script: b"answer interactive fail\nrecv 050000000c7373682d7573657261757468\nrecv 3200000005616c6963650000000e7373682d636f6e6e656374696f6e000000146b6579626f6172642d696e7465726163746976650000000000000000\n",
+            script: b"\
+                answer interactive fail\n\
+                recv 050000000c7373682d7573657261757468\n\
+                recv 3200000005616c6963650000000e7373682d636f6e6e656374696f6e000000146b6579626f61\
+                72642d696e7465726163746976650000000000000000\n",
             status: 1,
-            written: b"call authentication_banner\ncall auth_keyboard_interactive 616c696365 - none\ninput 1\nsend - 060000000c7373682d7573657261757468\ninput 2\nerror Handler\n",
+            written: b"\
+                call authentication_banner\n\
+                call auth_keyboard_interactive 616c696365 - none\n\
+                input 1\n\
+                send - 060000000c7373682d7573657261757468\n\
+                input 2\nerror Handler\n",
         },
         // The handler does not have the method.
         Case {
-            script: b"answer interactive unsupported\nrecv 050000000c7373682d7573657261757468\nrecv 3200000005616c6963650000000e7373682d636f6e6e656374696f6e000000146b6579626f6172642d696e7465726163746976650000000000000000\n",
+            script: b"\
+                answer interactive unsupported\n\
+                recv 050000000c7373682d7573657261757468\n\
+                recv 3200000005616c6963650000000e7373682d636f6e6e656374696f6e000000146b6579626f61\
+                72642d696e7465726163746976650000000000000000\n",
             status: 1,
-            written: b"call authentication_banner\ncall auth_keyboard_interactive 616c696365 - none\ninput 1\nsend - 060000000c7373682d7573657261757468\ninput 2\nerror UnsupportedAuthMethod\n",
+            written: b"\
+                call authentication_banner\n\
+                call auth_keyboard_interactive 616c696365 - none\n\
+                input 1\n\
+                send - 060000000c7373682d7573657261757468\n\
+                input 2\nerror UnsupportedAuthMethod\n",
         },
         // A request by bob ends alice's round: the response after it is refused unread, and
         // two rejections are the cap.
         Case {
-            script: b"config attempts 2\nanswer interactive ask\nrecv 050000000c7373682d7573657261757468\nrecv 3200000005616c6963650000000e7373682d636f6e6e656374696f6e000000146b6579626f6172642d696e7465726163746976650000000000000000\nrecv 3200000003626f620000000e7373682d636f6e6e656374696f6e000000046e6f6e65\nrecv 3d00000000\nrecv 3200000003626f620000000e7373682d636f6e6e656374696f6e000000046e6f6e65\n",
+            script: b"\
+                config attempts 2\n\
+                answer interactive ask\n\
+                recv 050000000c7373682d7573657261757468\n\
+                recv 3200000005616c6963650000000e7373682d636f6e6e656374696f6e000000146b6579626f61\
+                72642d696e7465726163746976650000000000000000\n\
+                recv 3200000003626f620000000e7373682d636f6e6e656374696f6e000000046e6f6e65\n\
+                recv 3d00000000\n\
+                recv 3200000003626f620000000e7373682d636f6e6e656374696f6e000000046e6f6e65\n",
             status: 0,
-            written: b"call authentication_banner\ncall auth_keyboard_interactive 616c696365 - none\ncall auth_none 626f62\ninput 1\nsend - 060000000c7373682d7573657261757468\ninput 2\nsend - 3c0000000000000000000000000000000100000006436f64653a2000\ninput 3\nsend - 330000003170617373776f72642c7075626c69636b65792c686f737462617365642c6b6579626f6172642d696e74657261637469766500 hold 1000\ninput 4\nsend - 330000003170617373776f72642c7075626c69636b65792c686f737462617365642c6b6579626f6172642d696e74657261637469766500 hold 1000\ninput 5\nsend - 010000000e00000020546f6f206d616e792061757468656e7469636174696f6e20617474656d70747300000000\nok\n",
+            written: b"\
+                call authentication_banner\n\
+                call auth_keyboard_interactive 616c696365 - none\n\
+                call auth_none 626f62\n\
+                input 1\n\
+                send - 060000000c7373682d7573657261757468\n\
+                input 2\n\
+                send - 3c0000000000000000000000000000000100000006436f64653a2000\n\
+                input 3\n\
+                send - 330000003170617373776f72642c7075626c69636b65792c686f737462617365642c6b6579\
+                626f6172642d696e74657261637469766500 hold 1000\n\
+                input 4\n\
+                send - 330000003170617373776f72642c7075626c69636b65792c686f737462617365642c6b6579\
+                626f6172642d696e74657261637469766500 hold 1000\n\
+                input 5\n\
+                send - 010000000e00000020546f6f206d616e792061757468656e7469636174696f6e2061747465\
+                6d70747300000000\n\
+                ok\n",
         },
         // Two responses are announced, and one is there.
         Case {
-            script: b"answer interactive ask\nrecv 050000000c7373682d7573657261757468\nrecv 3200000005616c6963650000000e7373682d636f6e6e656374696f6e000000146b6579626f6172642d696e7465726163746976650000000000000000\nrecv 3d000000020000000161\n",
+            script: b"\
+                answer interactive ask\n\
+                recv 050000000c7373682d7573657261757468\n\
+                recv 3200000005616c6963650000000e7373682d636f6e6e656374696f6e000000146b6579626f61\
+                72642d696e7465726163746976650000000000000000\n\
+                recv 3d000000020000000161\n",
             status: 1,
-            written: b"call authentication_banner\ncall auth_keyboard_interactive 616c696365 - none\ninput 1\nsend - 060000000c7373682d7573657261757468\ninput 2\nsend - 3c0000000000000000000000000000000100000006436f64653a2000\ninput 3\nerror Encoding\n",
+            written: b"\
+                call authentication_banner\n\
+                call auth_keyboard_interactive 616c696365 - none\n\
+                input 1\n\
+                send - 060000000c7373682d7573657261757468\n\
+                input 2\n\
+                send - 3c0000000000000000000000000000000100000006436f64653a2000\n\
+                input 3\nerror Encoding\n",
         },
         // Responses without end are announced.
         Case {
-            script: b"answer interactive ask\nrecv 050000000c7373682d7573657261757468\nrecv 3200000005616c6963650000000e7373682d636f6e6e656374696f6e000000146b6579626f6172642d696e7465726163746976650000000000000000\nrecv 3dffffffff\n",
+            script: b"\
+                answer interactive ask\n\
+                recv 050000000c7373682d7573657261757468\n\
+                recv 3200000005616c6963650000000e7373682d636f6e6e656374696f6e000000146b6579626f61\
+                72642d696e7465726163746976650000000000000000\n\
+                recv 3dffffffff\n",
             status: 1,
-            written: b"call authentication_banner\ncall auth_keyboard_interactive 616c696365 - none\ninput 1\nsend - 060000000c7373682d7573657261757468\ninput 2\nsend - 3c0000000000000000000000000000000100000006436f64653a2000\ninput 3\nerror Encoding\n",
+            written: b"\
+                call authentication_banner\n\
+                call auth_keyboard_interactive 616c696365 - none\n\
+                input 1\n\
+                send - 060000000c7373682d7573657261757468\n\
+                input 2\n\
+                send - 3c0000000000000000000000000000000100000006436f64653a2000\n\
+                input 3\nerror Encoding\n",
         },
         // A byte follows the last response.
         Case {
-            script: b"answer interactive ask\nrecv 050000000c7373682d7573657261757468\nrecv 3200000005616c6963650000000e7373682d636f6e6e656374696f6e000000146b6579626f6172642d696e7465726163746976650000000000000000\nrecv 3d00000001000000016100\n",
+            script: b"\
+                answer interactive ask\n\
+                recv 050000000c7373682d7573657261757468\n\
+                recv 3200000005616c6963650000000e7373682d636f6e6e656374696f6e000000146b6579626f61\
+                72642d696e7465726163746976650000000000000000\n\
+                recv 3d00000001000000016100\n",
             status: 1,
-            written: b"call authentication_banner\ncall auth_keyboard_interactive 616c696365 - none\ninput 1\nsend - 060000000c7373682d7573657261757468\ninput 2\nsend - 3c0000000000000000000000000000000100000006436f64653a2000\ninput 3\nerror Encoding\n",
+            written: b"\
+                call authentication_banner\n\
+                call auth_keyboard_interactive 616c696365 - none\n\
+                input 1\n\
+                send - 060000000c7373682d7573657261757468\n\
+                input 2\n\
+                send - 3c0000000000000000000000000000000100000006436f64653a2000\n\
+                input 3\nerror Encoding\n",
         },
         // A response before any request is refused unread, and the next request is still the
         // first.
         Case {
-            script: b"config reject-initial 10\nrecv 050000000c7373682d7573657261757468\nrecv 3dff\nrecv 3200000005616c6963650000000e7373682d636f6e6e656374696f6e000000046e6f6e65\n",
+            script: b"\
+                config reject-initial 10\n\
+                recv 050000000c7373682d7573657261757468\n\
+                recv 3dff\n\
+                recv 3200000005616c6963650000000e7373682d636f6e6e656374696f6e000000046e6f6e65\n",
             status: 0,
-            written: b"call authentication_banner\ncall auth_none 616c696365\ninput 1\nsend - 060000000c7373682d7573657261757468\ninput 2\nsend - 33000000366e6f6e652c70617373776f72642c7075626c69636b65792c686f737462617365642c6b6579626f6172642d696e74657261637469766500 hold 1000\ninput 3\nsend - 330000003170617373776f72642c7075626c69636b65792c686f737462617365642c6b6579626f6172642d696e74657261637469766500 hold 10\ninput 4\nok\n",
+            written: b"\
+                call authentication_banner\n\
+                call auth_none 616c696365\n\
+                input 1\n\
+                send - 060000000c7373682d7573657261757468\n\
+                input 2\n\
+                send - 33000000366e6f6e652c70617373776f72642c7075626c69636b65792c686f737462617365\
+                642c6b6579626f6172642d696e74657261637469766500 hold 1000\n\
+                input 3\n\
+                send - 330000003170617373776f72642c7075626c69636b65792c686f737462617365642c6b6579\
+                626f6172642d696e74657261637469766500 hold 10\n\
+                input 4\nok\n",
         },
         // A response before the service is asked for does nothing.
         Case {

@@ -61,7 +61,11 @@ fn runs(rt: HostRuntime) -> Result<(), Fail> {
         Case {
             script: b"recv 050000000c7373682d7573657261757468",
             status: 0,
-            written: b"call authentication_banner\ninput 1\nsend - 060000000c7373682d7573657261757468\ninput 2\nok\n",
+            written: b"\
+                call authentication_banner\n\
+                input 1\n\
+                send - 060000000c7373682d7573657261757468\n\
+                input 2\nok\n",
         },
         Case {
             script: b"recv 050000000c7373682d757365726175746800\n",
@@ -69,61 +73,204 @@ fn runs(rt: HostRuntime) -> Result<(), Fail> {
             written: b"input 1\nerror Encoding\n",
         },
         Case {
-            script: b"answer none accept\nrecv 050000000c7373682d7573657261757468\nrecv 3200000005616c6963650000000e7373682d636f6e6e656374696f6e000000046e6f6e65\n",
+            script: b"\
+                answer none accept\n\
+                recv 050000000c7373682d7573657261757468\n\
+                recv 3200000005616c6963650000000e7373682d636f6e6e656374696f6e000000046e6f6e65\n",
             status: 0,
-            written: b"call authentication_banner\ncall auth_none 616c696365\ncall auth_succeeded\ninput 1\nsend - 060000000c7373682d7573657261757468\ninput 2\nsend - 34\ninput 3\nok\n",
+            written: b"\
+                call authentication_banner\n\
+                call auth_none 616c696365\n\
+                call auth_succeeded\n\
+                input 1\n\
+                send - 060000000c7373682d7573657261757468\n\
+                input 2\n\
+                send - 34\n\
+                input 3\nok\n",
         },
         Case {
-            script: b"config reject-initial 10\nat 5000\nrecv 050000000c7373682d7573657261757468\nrecv 3200000005616c6963650000000e7373682d636f6e6e656374696f6e000000046e6f6e65\n",
+            script: b"\
+                config reject-initial 10\n\
+                at 5000\n\
+                recv 050000000c7373682d7573657261757468\n\
+                recv 3200000005616c6963650000000e7373682d636f6e6e656374696f6e000000046e6f6e65\n",
             status: 0,
-            written: b"call authentication_banner\ncall auth_none 616c696365\ninput 1\nsend - 060000000c7373682d7573657261757468\ninput 2\nsend - 330000003170617373776f72642c7075626c69636b65792c686f737462617365642c6b6579626f6172642d696e74657261637469766500 hold 5010\ninput 3\nok\n",
+            written: b"\
+                call authentication_banner\n\
+                call auth_none 616c696365\n\
+                input 1\n\
+                send - 060000000c7373682d7573657261757468\n\
+                input 2\n\
+                send - 330000003170617373776f72642c7075626c69636b65792c686f737462617365642c6b6579\
+                626f6172642d696e74657261637469766500 hold 5010\n\
+                input 3\nok\n",
         },
         // None by alice, a wrong password of hers, and none by bob, who has all methods again.
         Case {
-            script: b"recv 050000000c7373682d7573657261757468\nrecv 3200000005616c6963650000000e7373682d636f6e6e656374696f6e000000046e6f6e65\nrecv 3200000005616c6963650000000e7373682d636f6e6e656374696f6e0000000870617373776f7264000000000577726f6e67\nrecv 3200000003626f620000000e7373682d636f6e6e656374696f6e000000046e6f6e65\n",
+            script: b"\
+                recv 050000000c7373682d7573657261757468\n\
+                recv 3200000005616c6963650000000e7373682d636f6e6e656374696f6e000000046e6f6e65\n\
+                recv 3200000005616c6963650000000e7373682d636f6e6e656374696f6e0000000870617373776f\
+                7264000000000577726f6e67\n\
+                recv 3200000003626f620000000e7373682d636f6e6e656374696f6e000000046e6f6e65\n",
             status: 0,
-            written: b"call authentication_banner\ncall auth_none 616c696365\ncall auth_password 616c696365 77726f6e67\ncall auth_none 626f62\ninput 1\nsend - 060000000c7373682d7573657261757468\ninput 2\nsend - 330000003170617373776f72642c7075626c69636b65792c686f737462617365642c6b6579626f6172642d696e74657261637469766500 hold 1000\ninput 3\nsend - 33000000287075626c69636b65792c686f737462617365642c6b6579626f6172642d696e74657261637469766500 hold 1000\ninput 4\nsend - 330000003170617373776f72642c7075626c69636b65792c686f737462617365642c6b6579626f6172642d696e74657261637469766500 hold 1000\ninput 5\nok\n",
+            written: b"\
+                call authentication_banner\n\
+                call auth_none 616c696365\n\
+                call auth_password 616c696365 77726f6e67\n\
+                call auth_none 626f62\n\
+                input 1\n\
+                send - 060000000c7373682d7573657261757468\n\
+                input 2\n\
+                send - 330000003170617373776f72642c7075626c69636b65792c686f737462617365642c6b6579\
+                626f6172642d696e74657261637469766500 hold 1000\n\
+                input 3\n\
+                send - 33000000287075626c69636b65792c686f737462617365642c6b6579626f6172642d696e74\
+                657261637469766500 hold 1000\n\
+                input 4\n\
+                send - 330000003170617373776f72642c7075626c69636b65792c686f737462617365642c6b6579\
+                626f6172642d696e74657261637469766500 hold 1000\n\
+                input 5\nok\n",
         },
         // Those are three rejections: a fourth request meets a cap of three.
         Case {
-            script: b"config attempts 3\nrecv 050000000c7373682d7573657261757468\nrecv 3200000005616c6963650000000e7373682d636f6e6e656374696f6e000000046e6f6e65\nrecv 3200000005616c6963650000000e7373682d636f6e6e656374696f6e0000000870617373776f7264000000000577726f6e67\nrecv 3200000003626f620000000e7373682d636f6e6e656374696f6e000000046e6f6e65\nrecv 32\n",
+            script: b"\
+                config attempts 3\n\
+                recv 050000000c7373682d7573657261757468\n\
+                recv 3200000005616c6963650000000e7373682d636f6e6e656374696f6e000000046e6f6e65\n\
+                recv 3200000005616c6963650000000e7373682d636f6e6e656374696f6e0000000870617373776f\
+                7264000000000577726f6e67\n\
+                recv 3200000003626f620000000e7373682d636f6e6e656374696f6e000000046e6f6e65\n\
+                recv 32\n",
             status: 0,
-            written: b"call authentication_banner\ncall auth_none 616c696365\ncall auth_password 616c696365 77726f6e67\ncall auth_none 626f62\ninput 1\nsend - 060000000c7373682d7573657261757468\ninput 2\nsend - 330000003170617373776f72642c7075626c69636b65792c686f737462617365642c6b6579626f6172642d696e74657261637469766500 hold 1000\ninput 3\nsend - 33000000287075626c69636b65792c686f737462617365642c6b6579626f6172642d696e74657261637469766500 hold 1000\ninput 4\nsend - 330000003170617373776f72642c7075626c69636b65792c686f737462617365642c6b6579626f6172642d696e74657261637469766500 hold 1000\ninput 5\nsend - 010000000e00000020546f6f206d616e792061757468656e7469636174696f6e20617474656d70747300000000\nok\n",
+            written: b"\
+                call authentication_banner\n\
+                call auth_none 616c696365\n\
+                call auth_password 616c696365 77726f6e67\n\
+                call auth_none 626f62\n\
+                input 1\n\
+                send - 060000000c7373682d7573657261757468\n\
+                input 2\n\
+                send - 330000003170617373776f72642c7075626c69636b65792c686f737462617365642c6b6579\
+                626f6172642d696e74657261637469766500 hold 1000\n\
+                input 3\n\
+                send - 33000000287075626c69636b65792c686f737462617365642c6b6579626f6172642d696e74\
+                657261637469766500 hold 1000\n\
+                input 4\n\
+                send - 330000003170617373776f72642c7075626c69636b65792c686f737462617365642c6b6579\
+                626f6172642d696e74657261637469766500 hold 1000\n\
+                input 5\n\
+                send - 010000000e00000020546f6f206d616e792061757468656e7469636174696f6e2061747465\
+                6d70747300000000\n\
+                ok\n",
         },
         // And a fourth request is read under a cap of four.
         Case {
-            script: b"config attempts 4\nrecv 050000000c7373682d7573657261757468\nrecv 3200000005616c6963650000000e7373682d636f6e6e656374696f6e000000046e6f6e65\nrecv 3200000005616c6963650000000e7373682d636f6e6e656374696f6e0000000870617373776f7264000000000577726f6e67\nrecv 3200000003626f620000000e7373682d636f6e6e656374696f6e000000046e6f6e65\nrecv 32\n",
+            script: b"\
+                config attempts 4\n\
+                recv 050000000c7373682d7573657261757468\n\
+                recv 3200000005616c6963650000000e7373682d636f6e6e656374696f6e000000046e6f6e65\n\
+                recv 3200000005616c6963650000000e7373682d636f6e6e656374696f6e0000000870617373776f\
+                7264000000000577726f6e67\n\
+                recv 3200000003626f620000000e7373682d636f6e6e656374696f6e000000046e6f6e65\n\
+                recv 32\n",
             status: 1,
-            written: b"call authentication_banner\ncall auth_none 616c696365\ncall auth_password 616c696365 77726f6e67\ncall auth_none 626f62\ninput 1\nsend - 060000000c7373682d7573657261757468\ninput 2\nsend - 330000003170617373776f72642c7075626c69636b65792c686f737462617365642c6b6579626f6172642d696e74657261637469766500 hold 1000\ninput 3\nsend - 33000000287075626c69636b65792c686f737462617365642c6b6579626f6172642d696e74657261637469766500 hold 1000\ninput 4\nsend - 330000003170617373776f72642c7075626c69636b65792c686f737462617365642c6b6579626f6172642d696e74657261637469766500 hold 1000\ninput 5\nerror Encoding\n",
+            written: b"\
+                call authentication_banner\n\
+                call auth_none 616c696365\n\
+                call auth_password 616c696365 77726f6e67\n\
+                call auth_none 626f62\n\
+                input 1\n\
+                send - 060000000c7373682d7573657261757468\n\
+                input 2\n\
+                send - 330000003170617373776f72642c7075626c69636b65792c686f737462617365642c6b6579\
+                626f6172642d696e74657261637469766500 hold 1000\n\
+                input 3\n\
+                send - 33000000287075626c69636b65792c686f737462617365642c6b6579626f6172642d696e74\
+                657261637469766500 hold 1000\n\
+                input 4\n\
+                send - 330000003170617373776f72642c7075626c69636b65792c686f737462617365642c6b6579\
+                626f6172642d696e74657261637469766500 hold 1000\n\
+                input 5\nerror Encoding\n",
         },
         // A change of password is refused unheard, and the password that follows is served.
         Case {
-            script: b"config reject 0\nanswer password accept\nrecv 050000000c7373682d7573657261757468\nrecv 3200000005616c6963650000000e7373682d636f6e6e656374696f6e0000000870617373776f726401000000036f6c64000000036e6577\nrecv 3200000005616c6963650000000e7373682d636f6e6e656374696f6e0000000870617373776f726400000000057269676874\n",
+            script: b"\
+                config reject 0\n\
+                answer password accept\n\
+                recv 050000000c7373682d7573657261757468\n\
+                recv 3200000005616c6963650000000e7373682d636f6e6e656374696f6e0000000870617373776f\
+                726401000000036f6c64000000036e6577\n\
+                recv 3200000005616c6963650000000e7373682d636f6e6e656374696f6e0000000870617373776f\
+                726400000000057269676874\n",
             status: 0,
-            written: b"call authentication_banner\ncall auth_password 616c696365 7269676874\ncall auth_succeeded\ninput 1\nsend - 060000000c7373682d7573657261757468\ninput 2\nsend - 330000002d6e6f6e652c7075626c69636b65792c686f737462617365642c6b6579626f6172642d696e74657261637469766500 hold 0\ninput 3\nsend - 34\ninput 4\nok\n",
+            written: b"\
+                call authentication_banner\n\
+                call auth_password 616c696365 7269676874\n\
+                call auth_succeeded\n\
+                input 1\n\
+                send - 060000000c7373682d7573657261757468\n\
+                input 2\n\
+                send - 330000002d6e6f6e652c7075626c69636b65792c686f737462617365642c6b6579626f6172\
+                642d696e74657261637469766500 hold 0\n\
+                input 3\n\
+                send - 34\n\
+                input 4\nok\n",
         },
         // A method that no server has takes none away.
         Case {
-            script: b"config reject 5\nanswer password fail\nrecv 050000000c7373682d7573657261757468\nat 7\nrecv 3200000005616c6963650000000e7373682d636f6e6e656374696f6e00000003677373\nrecv 3200000005616c6963650000000e7373682d636f6e6e656374696f6e0000000870617373776f726400000000057269676874\n",
+            script: b"\
+                config reject 5\n\
+                answer password fail\n\
+                recv 050000000c7373682d7573657261757468\n\
+                at 7\n\
+                recv 3200000005616c6963650000000e7373682d636f6e6e656374696f6e00000003677373\n\
+                recv 3200000005616c6963650000000e7373682d636f6e6e656374696f6e0000000870617373776f\
+                726400000000057269676874\n",
             status: 1,
-            written: b"call authentication_banner\ncall auth_password 616c696365 7269676874\ninput 1\nsend - 060000000c7373682d7573657261757468\ninput 2\nsend - 33000000366e6f6e652c70617373776f72642c7075626c69636b65792c686f737462617365642c6b6579626f6172642d696e74657261637469766500 hold 12\ninput 3\nerror Handler\n",
+            written: b"\
+                call authentication_banner\n\
+                call auth_password 616c696365 7269676874\n\
+                input 1\n\
+                send - 060000000c7373682d7573657261757468\n\
+                input 2\n\
+                send - 33000000366e6f6e652c70617373776f72642c7075626c69636b65792c686f737462617365\
+                642c6b6579626f6172642d696e74657261637469766500 hold 12\n\
+                input 3\nerror Handler\n",
         },
         // Another service than ssh-connection.
         Case {
-            script: b"recv 050000000c7373682d7573657261757468\nrecv 3200000005616c6963650000000c7373682d7573657261757468000000046e6f6e65\n",
+            script: b"\
+                recv 050000000c7373682d7573657261757468\n\
+                recv 3200000005616c6963650000000c7373682d7573657261757468000000046e6f6e65\n",
             status: 1,
-            written: b"call authentication_banner\ninput 1\nsend - 060000000c7373682d7573657261757468\ninput 2\nerror Inconsistent\n",
+            written: b"\
+                call authentication_banner\n\
+                input 1\n\
+                send - 060000000c7373682d7573657261757468\n\
+                input 2\nerror Inconsistent\n",
         },
         // A byte after the password.
         Case {
-            script: b"recv 050000000c7373682d7573657261757468\nrecv 3200000005616c6963650000000e7373682d636f6e6e656374696f6e0000000870617373776f72640000000005726967687400\n",
+            script: b"\
+                recv 050000000c7373682d7573657261757468\n\
+                recv 3200000005616c6963650000000e7373682d636f6e6e656374696f6e0000000870617373776f\
+                72640000000005726967687400\n",
             status: 1,
-            written: b"call authentication_banner\ninput 1\nsend - 060000000c7373682d7573657261757468\ninput 2\nerror Encoding\n",
+            written: b"\
+                call authentication_banner\n\
+                input 1\n\
+                send - 060000000c7373682d7573657261757468\n\
+                input 2\nerror Encoding\n",
         },
         Case {
             script: b"inputs 1\nrecv 050000000c7373682d7573657261757468\n",
             status: 1,
-            written: b"call authentication_banner\ninput 1\nsend - 060000000c7373682d7573657261757468\nerror InputLimit\n",
+            written: b"\
+                call authentication_banner\n\
+                input 1\n\
+                send - 060000000c7373682d7573657261757468\n\
+                error InputLimit\n",
         },
         Case {
             script: b"inputs 1\ninputs 0\nrecv 050000000c7373682d7573657261757468\n",
@@ -136,9 +283,17 @@ fn runs(rt: HostRuntime) -> Result<(), Fail> {
             written: b"call authentication_banner\ninput 1\nerror Handler\n",
         },
         Case {
-            script: b"answer none fail\nrecv 050000000c7373682d7573657261757468\nrecv 3200000005616c6963650000000e7373682d636f6e6e656374696f6e000000046e6f6e65\n",
+            script: b"\
+                answer none fail\n\
+                recv 050000000c7373682d7573657261757468\n\
+                recv 3200000005616c6963650000000e7373682d636f6e6e656374696f6e000000046e6f6e65\n",
             status: 1,
-            written: b"call authentication_banner\ncall auth_none 616c696365\ninput 1\nsend - 060000000c7373682d7573657261757468\ninput 2\nerror Handler\n",
+            written: b"\
+                call authentication_banner\n\
+                call auth_none 616c696365\n\
+                input 1\n\
+                send - 060000000c7373682d7573657261757468\n\
+                input 2\nerror Handler\n",
         },
         Case {
             script: b"# any bytes: \xff\n\nsession -\nsession 00FFa0\nrecv -\nend\nat 7\nrecv 01\n",
@@ -150,16 +305,22 @@ fn runs(rt: HostRuntime) -> Result<(), Fail> {
 }
 
 // A wrong password of alice.
-const WRONG_PASSWORD: &[u8] =
-    b"recv 3200000005616c6963650000000e7373682d636f6e6e656374696f6e0000000870617373776f7264000000000577726f6e67\n";
+const WRONG_PASSWORD: &[u8] = b"\
+    recv 3200000005616c6963650000000e7373682d636f6e6e656374696f6e0000000870617373776f726400000000\
+    0577726f6e67\n";
 
 const TOLD_WRONG: &[u8] = b"call auth_password 616c696365 77726f6e67\n";
 // The refusal that is written for it.
-const REFUSED: &[u8] =
-    b"\nsend - 330000002d6e6f6e652c7075626c69636b65792c686f737462617365642c6b6579626f6172642d696e74657261637469766500 hold 1000\n";
+const REFUSED: &[u8] = b"\
+    \n\
+    send - 330000002d6e6f6e652c7075626c69636b65792c686f737462617365642c6b6579626f6172642d696e7465\
+    7261637469766500 hold 1000\n";
 
-const TOO_MANY: &[u8] =
-    b"\nsend - 010000000e00000020546f6f206d616e792061757468656e7469636174696f6e20617474656d70747300000000\nok\n";
+const TOO_MANY: &[u8] = b"\
+    \n\
+    send - 010000000e00000020546f6f206d616e792061757468656e7469636174696f6e20617474656d7074730000\
+    0000\n\
+    ok\n";
 
 // What is written where a peer sends wrong passwords, of which so many are read, and the next ends
 // the run.
