@@ -1,0 +1,252 @@
+//! A program to be timed: `table <workload> <channels> <count>` makes so many calls on a table of
+//! so many channels, and prints what was done and no time. `bench/run` times it.
+#![tactic(auto)]
+
+use bytes::Bytes;
+use ssh_channels::{Adjusted, ChannelParams, Encrypted, TableError};
+use ssh_wire::ChannelId;
+use std::alloc::Global;
+use std::env;
+use std::process::ExitCode;
+
+/// The status where the words are not a workload with its two numbers.
+const USAGE: u8 = 2;
+
+/// The status where standard output failed.
+const WRITE_FAULT: u8 = 4;
+
+/// The status where there was no memory, or a call was refused.
+const NO_MEMORY: u8 = 5;
+
+/// The packet size of both sides, in bytes.
+const PACKET: u32 = 32768;
+
+/// The room that is kept on each channel, in bytes.
+const TARGET: u32 = 2_097_152;
+
+const KIB_64: usize = 65536;
+
+const KIB_32: usize = 32768;
+
+const SMALL: usize = 64;
+
+/// A chunk that waits on a channel, in bytes.
+const WAITING: usize = 1_048_576;
+
+/// How many grants let out such a chunk.
+const GRANTS: u32 = 1024;
+
+/// The words that name a workload.
+const WORKLOADS: &str = "copy|copy-small|open|out|out-small|in|grant|flush-all";
+
+/// What the calls are.
+#[derive(Clone, Copy, PartialEq, Eq)]
+enum Workload {
+    /// No call: as many times 64 KiB are copied, each into a vector of its own.
+    Copy,
+    /// No call: as many times 64 bytes are copied, each into a vector of its own.
+    CopySmall,
+    /// A number is drawn, its channel is added, and closed again.
+    Open,
+    /// 64 KiB go out, and their frames are kept.
+    Out,
+    /// 64 bytes go out, and their frame is kept.
+    OutSmall,
+    /// 32 KiB come in.
+    In,
+    /// A grant of 1 KiB lets out as much of what waits, and its frame is kept.
+    Grant,
+    /// All channels are flushed, on which nothing waits.
+    FlushAll,
+}
+
+fn workload_named(word: &str) -> Option<Workload> {
+    match word {
+        "copy" => Some(Workload::Copy),
+        "copy-small" => Some(Workload::CopySmall),
+        "open" => Some(Workload::Open),
+        "out" => Some(Workload::Out),
+        "out-small" => Some(Workload::OutSmall),
+        "in" => Some(Workload::In),
+        "grant" => Some(Workload::Grant),
+        "flush-all" => Some(Workload::FlushAll),
+        _ => None,
+    }
+}
+
+fn piece(alloc: Global, length: usize) -> Result<Bytes, TableError> {
+    let bytes: Vec<u8> = vec![in alloc; 7; length]?;
+    Ok(Bytes::from_vec(bytes)?)
+}
+
+/// The channel of a call: each in turn.
+fn turn(call: u32, channels: u32) -> ChannelId {
+    ChannelId((call % channels.max(1)).wrapping_add(2))
+}
+
+fn params(alloc: Global, own: ChannelId, credit: u32) -> ChannelParams {
+    ChannelParams::new(alloc, own.0, own, credit, TARGET, PACKET, PACKET)
+}
+
+fn opened(alloc: Global, channels: u32, credit: u32) -> Result<Encrypted, TableError> {
+    let mut table = Encrypted::new(alloc);
+    for _ in 0..channels {
+        let own = table.new_channel_id()?;
+        table.insert(params(alloc, own, credit))?;
+    }
+    Ok(table)
+}
+
+fn copy(alloc: Global, length: usize, count: u32) -> Result<u64, TableError> {
+    let source = piece(alloc, length)?;
+    let mut copies = Vec::new(alloc);
+    for _ in 0..count {
+        let mut bytes: Vec<u8> = Vec::with_capacity(alloc, length)?;
+        bytes.extend_from_slice(source.as_slice())?;
+        copies.push(bytes)?;
+    }
+    Ok(copies.len() as u64)
+}
+
+fn open(alloc: Global, table: &mut Encrypted, count: u32) -> Result<u64, TableError> {
+    let mut done: u64 = 0;
+    for _ in 0..count {
+        let own = table.new_channel_id()?;
+        if table.insert(params(alloc, own, 0))? && table.close(own)? {
+            done = done.saturating_add(1);
+        }
+    }
+    Ok(done)
+}
+
+fn send(
+    table: &mut Encrypted,
+    channels: u32,
+    bytes: &Bytes,
+    count: u32,
+) -> Result<u64, TableError> {
+    let mut done: u64 = 0;
+    for call in 0..count {
+        if table.data(turn(call, channels), bytes.clone()?, false)? {
+            done = done.saturating_add(1);
+        }
+    }
+    Ok(done)
+}
+
+fn receive(
+    table: &mut Encrypted,
+    channels: u32,
+    bytes: &[u8],
+    count: u32,
+) -> Result<u64, TableError> {
+    let mut done: u64 = 0;
+    for call in 0..count {
+        let adjusted = table.adjust_window_size(turn(call, channels), bytes, TARGET)?;
+        if adjusted != Adjusted::Dropped {
+            done = done.saturating_add(1);
+        }
+    }
+    Ok(done)
+}
+
+fn grant(table: &mut Encrypted, channels: u32, count: u32) -> Result<u64, TableError> {
+    let mut done: u64 = 0;
+    for call in 0..count {
+        if table.grant(turn(call, channels), 1024, false)? == Some(0) {
+            done = done.saturating_add(1);
+        }
+    }
+    Ok(done)
+}
+
+fn flush_all(table: &mut Encrypted, count: u32) -> Result<u64, TableError> {
+    for _ in 0..count {
+        table.flush_all_pending()?;
+    }
+    Ok(u64::from(count))
+}
+
+/// How many calls did what they are for.
+fn run(alloc: Global, work: Workload, channels: u32, count: u32) -> Result<u64, TableError> {
+    match work {
+        Workload::Copy => copy(alloc, KIB_64, count),
+        Workload::CopySmall => copy(alloc, SMALL, count),
+        Workload::Open => open(alloc, &mut opened(alloc, channels, 0)?, count),
+        Workload::Out => {
+            let bytes = piece(alloc, KIB_64)?;
+            send(
+                &mut opened(alloc, channels, u32::MAX)?,
+                channels,
+                &bytes,
+                count,
+            )
+        }
+        Workload::OutSmall => {
+            let bytes = piece(alloc, SMALL)?;
+            send(
+                &mut opened(alloc, channels, u32::MAX)?,
+                channels,
+                &bytes,
+                count,
+            )
+        }
+        Workload::In => {
+            let bytes = piece(alloc, KIB_32)?;
+            receive(
+                &mut opened(alloc, channels, 0)?,
+                channels,
+                bytes.as_slice(),
+                count,
+            )
+        }
+        Workload::Grant => {
+            let bytes = piece(alloc, WAITING)?;
+            let mut table = opened(alloc, channels, 0)?;
+            let chunks = count / channels.max(1).saturating_mul(GRANTS) + 1;
+            send(
+                &mut table,
+                channels,
+                &bytes,
+                channels.saturating_mul(chunks),
+            )?;
+            grant(&mut table, channels, count)
+        }
+        Workload::FlushAll => flush_all(&mut opened(alloc, channels, 0)?, count),
+    }
+}
+
+/// The workload and its two numbers.
+fn asked(words: &[String]) -> Option<(Workload, u32, u32)> {
+    match words {
+        [_, table, name, channels, count] if table.as_str() == "table" => Some((
+            workload_named(name.as_str())?,
+            channels.as_str().parse().ok()?,
+            count.as_str().parse().ok()?,
+        )),
+        _ => None,
+    }
+}
+
+fn main(rt: HostRuntime) -> ExitCode {
+    let alloc = rt.alloc();
+    let mut words = Vec::new(alloc);
+    if let Ok(args) = env::args(&rt) {
+        for word in args {
+            if words.push(word).is_err() {
+                return ExitCode::from(NO_MEMORY);
+            }
+        }
+    }
+    let Some((work, channels, count)) = asked(words.as_slice()) else {
+        let _ = eprintln!(rt; "usage: ssh_bench_main table {WORKLOADS} <channels> <count>");
+        return ExitCode::from(USAGE);
+    };
+    let Ok(done) = run(alloc, work, channels, count) else {
+        return ExitCode::from(NO_MEMORY);
+    };
+    match println!(rt; "{done} of {count} calls on {channels} channels") {
+        Ok(()) => ExitCode::SUCCESS,
+        Err(_) => ExitCode::from(WRITE_FAULT),
+    }
+}

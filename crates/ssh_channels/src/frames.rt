@@ -1,0 +1,62 @@
+// The frames that a table writes. None of them takes memory.
+ghost use Rattle.std.specs.Prelude.{◌≡◌, ◌≤◌, ◌^◌, ◌-◌, length};
+ghost use Rattle.ssh_channels.specs.Layout as layout;
+
+use crate::DataKind;
+use bytes::Bytes;
+use ssh_link::Frame;
+use ssh_wire::ChannelId;
+use ssh_wire::message::{CHANNEL_CLOSE, CHANNEL_EOF, CHANNEL_WINDOW_ADJUST};
+
+/// The channel that a frame is for.
+#[derive(Clone, Copy)]
+pub(crate) struct Recipient {
+    /// This side's number of the channel.
+    pub(crate) own: ChannelId,
+    /// The peer's number of the channel.
+    pub(crate) peer: u32,
+}
+
+/// CHANNEL_DATA or CHANNEL_EXTENDED_DATA with this piece, which the frame shares (RFC 4254 section
+/// 5.2).
+pub(crate) fn data_frame(to: Recipient, kind: DataKind, piece: Bytes) -> Frame
+    requires { length piece ≤ 2 ^ 32 - 14 }
+    ensures { result ≡ layout.data_frame to.own.0 to.peer (layout.chunk kind piece) }
+{
+    match kind {
+        DataKind::Plain => Frame::data(to.own, to.peer, piece),
+        DataKind::Extended(code) => Frame::extended(to.own, to.peer, code, piece),
+    }
+}
+
+/// A message that says no more than its number and its channel.
+pub(crate) fn bare_frame(to: Recipient, message: u8) -> Frame
+    ensures { result ≡ layout.bare_frame message to.own.0 to.peer }
+{
+    let [a, b, c, d] = to.peer.to_be_bytes();
+    Frame::short(&[message, a, b, c, d], None, Some(to.own))
+}
+
+/// CHANNEL_EOF: no more data follow (RFC 4254 section 5.3).
+pub(crate) fn eof_frame(to: Recipient) -> Frame
+    ensures { result ≡ layout.eof_frame to.own.0 to.peer }
+{
+    bare_frame(to, CHANNEL_EOF)
+}
+
+/// CHANNEL_CLOSE: nothing more follows (RFC 4254 section 5.3).
+pub(crate) fn close_frame(to: Recipient) -> Frame
+    ensures { result ≡ layout.close_frame to.own.0 to.peer }
+{
+    bare_frame(to, CHANNEL_CLOSE)
+}
+
+/// CHANNEL_WINDOW_ADJUST: the peer may send `amount` bytes more (RFC 4254 section 5.2).
+pub(crate) fn adjust_frame(to: Recipient, amount: u32) -> Frame
+    ensures { result ≡ layout.adjust_frame to.own.0 to.peer amount }
+{
+    let [a, b, c, d] = to.peer.to_be_bytes();
+    let [e, f, g, h] = amount.to_be_bytes();
+    let payload = [CHANNEL_WINDOW_ADJUST, a, b, c, d, e, f, g, h];
+    Frame::short(&payload, None, Some(to.own))
+}

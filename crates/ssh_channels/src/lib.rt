@@ -1,0 +1,33 @@
+//! The channels of a connection (RFC 4254): their numbers, what waits to be sent on each, the room
+//! that each side gives the other, and the frames that are staged for the peer.
+//!
+//! What the crates above rely on: each call writes and leaves exactly what its definition says
+//! (`specs/Calls.antt`), so what went out on a channel is what was accepted there, as far as the
+//! peer granted it; and where there is no memory, a call leaves the table as it was.
+#![tactic(auto)]
+
+mod adjusted;
+mod chunk;
+mod closing;
+mod error;
+mod flushing;
+mod frames;
+mod opens;
+mod params;
+mod paths;
+mod sending;
+mod sink;
+mod table;
+#[cfg(test)]
+mod tests;
+mod waiting;
+mod windows;
+mod writers;
+
+pub use adjusted::Adjusted;
+pub use chunk::{Chunk, DataKind};
+pub use error::TableError;
+pub use params::ChannelParams;
+pub use paths::both_paths_agree;
+pub use sink::FrameSink;
+pub use table::Encrypted;

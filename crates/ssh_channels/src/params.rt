@@ -1,0 +1,351 @@
+// A channel of a table.
+ghost use Rattle.std.specs.Prelude.{◌≡◌, ◌++◌, ◌∷◌, [], true, length, IfOk, IfErr, OnOk, OnErr};
+ghost use Rattle.ssh_channels.specs.declared.error.TableError.TheVariants.{NoMemory};
+ghost use Rattle.ssh_channels.specs.Layout as layout;
+ghost use Rattle.ssh_channels.specs.Line as line;
+ghost use Rattle.ssh_channels.specs.Window as window;
+
+use crate::frames::{Recipient, adjust_frame, close_frame, data_frame, eof_frame};
+use crate::waiting::{Waiting, longest_piece};
+use crate::{Adjusted, Chunk, TableError};
+use bytes::Bytes;
+use ssh_link::Frame;
+use ssh_wire::ChannelId;
+use std::alloc::Global;
+
+/// A channel that this side opened and the peer has not confirmed, or that is established (RFC 4254
+/// section 5.1). What waits to be sent on it is private; a definition sees it as the list of its
+/// chunks. Sizes are in bytes.
+#[derive(Drop)]
+pub struct ChannelParams {
+    /// The peer's number of the channel, and 0 until it confirmed it.
+    pub recipient_channel: u32,
+    /// This side's number of the channel.
+    pub sender_channel: ChannelId,
+    /// The credit: what the peer granted and was not framed.
+    pub recipient_window_size: u32,
+    /// The room: what this side granted and the peer has not used up.
+    pub sender_window_size: u32,
+    /// The most data that the peer takes in one message.
+    pub recipient_maximum_packet_size: u32,
+    /// The most data that this side takes in one message.
+    pub sender_maximum_packet_size: u32,
+    /// It is established.
+    pub confirmed: bool,
+    /// The last request on it wants a reply.
+    pub wants_reply: bool,
+    /// An EOF waits behind data.
+    pub pending_eof: bool,
+    /// A CLOSE waits behind data.
+    pub pending_close: bool,
+    /// An EOF or a CLOSE was accepted, so no data are any more.
+    pub ended: bool,
+    pub(crate) waiting: Waiting,
+}
+
+impl ChannelParams {
+    ghost use Rattle.ssh_channels.specs.Line.{established};
+
+    /// An established channel on which nothing waits and nothing ended.
+    pub fn new(
+        alloc: Global,
+        recipient_channel: u32,
+        sender_channel: ChannelId,
+        recipient_window_size: u32,
+        sender_window_size: u32,
+        recipient_maximum_packet_size: u32,
+        sender_maximum_packet_size: u32,
+    ) -> ChannelParams
+        ensures { result
+            ≡ established recipient_channel sender_channel recipient_window_size sender_window_size
+            recipient_maximum_packet_size sender_maximum_packet_size }
+    {
+        ChannelParams {
+            recipient_channel,
+            sender_channel,
+            recipient_window_size,
+            sender_window_size,
+            recipient_maximum_packet_size,
+            sender_maximum_packet_size,
+            confirmed: true,
+            wants_reply: false,
+            pending_eof: false,
+            pending_close: false,
+            ended: false,
+            waiting: Waiting::new(alloc),
+        }
+    }
+
+    /// A channel that this side opens and the peer has not confirmed.
+    pub(crate) fn opening(alloc: Global, own: ChannelId, window: u32, packet: u32) -> ChannelParams
+        ensures { result ≡ line.opening own.0 window packet }
+    {
+        let mut params = ChannelParams::new(alloc, 0, own, 0, window, 0, packet);
+        params.confirmed = false;
+        params
+    }
+
+    pub(crate) fn recipient(&self, own: ChannelId) -> Recipient
+        ensures own { result.own ≡ own }
+        ensures peer { result.peer ≡ self.now.recipient_channel }
+    {
+        Recipient {
+            own,
+            peer: self.recipient_channel,
+        }
+    }
+
+    pub(crate) fn nothing_waits(&self) -> bool
+        ensures { result ≡ line.nothing_waits self.now }
+    {
+        self.waiting.is_empty()
+    }
+
+    pub(crate) fn may_send(&self) -> bool
+        ensures { result ≡ line.may_send self.now }
+    {
+        self.confirmed && !self.ended
+    }
+
+    pub(crate) fn may_close(&self) -> bool
+        ensures { result ≡ line.may_close self.now }
+    {
+        self.confirmed && !self.pending_close
+    }
+
+    /// Whether the channel is established and has room for so many bytes of the peer's.
+    fn fits(&self, count: usize) -> bool
+        ensures { result ≡ window.fits count self.now }
+    {
+        self.confirmed && count <= self.sender_window_size as usize
+    }
+
+    /// Whether one message takes these bytes, within the credit.
+    fn takes_whole(&self, bytes: &Bytes) -> bool
+        ensures { result ≡ line.takes_whole bytes.now self.now }
+    {
+        let count = bytes.len();
+        count > 0
+            && count <= self.recipient_window_size as usize
+            && count <= longest_piece(self.recipient_maximum_packet_size)
+    }
+
+    /// Data that one message takes go out, with no list of pieces. Where there is no memory, all is
+    /// as before.
+    fn push_whole(
+        &mut self,
+        own: ChannelId,
+        chunk: Chunk,
+        staged: &mut Vec<Frame>,
+    ) -> Result<(), TableError>
+        requires whole { line.takes_whole chunk.bytes self.old ≡ true }
+        ensures line { OnOk result (self.new ≡ line.spent (length chunk.bytes) self.old) }
+        ensures staged { OnOk result (staged.new.items
+            ≡ staged.old.items ++ layout.data_frame own.0 self.old.recipient_channel chunk ∷ []) }
+        ensures unchanged { OnErr result (self.new ≡ self.old) }
+        ensures kept { OnErr result (staged.new.items ≡ staged.old.items) }
+        ensures memory { IfErr result (λ e. e ≡ NoMemory) }
+    {
+        let count = chunk.bytes.len() as u32;
+        staged.push(data_frame(self.recipient(own), chunk.kind, chunk.bytes))?;
+        self.recipient_window_size -= count;
+        Ok(())
+    }
+
+    /// What waits goes out, as far as the credit goes. Where there is no memory, all is as before.
+    fn flush(
+        &mut self,
+        alloc: Global,
+        own: ChannelId,
+        staged: &mut Vec<Frame>,
+    ) -> Result<(), TableError>
+        ensures line { OnOk result (self.new ≡ line.flushed self.old) }
+        ensures staged { OnOk result (staged.new.items
+            ≡ staged.old.items ++ line.sent own.0 self.old) }
+        ensures unchanged { OnErr result (self.new ≡ self.old) }
+        ensures kept { OnErr result (staged.new.items ≡ staged.old.items) }
+        ensures memory { IfErr result (λ e. e ≡ NoMemory) }
+    {
+        let credit = self.recipient_window_size;
+        let packet = self.recipient_maximum_packet_size;
+        let to = self.recipient(own);
+        let mut frames = self.waiting.frames(alloc, to, packet, credit)?;
+        staged.append(&mut frames)?;
+        // No memory is taken from here on.
+        self.recipient_window_size = self.waiting.skip(credit);
+        Ok(())
+    }
+
+    /// The frames of the EOF and the CLOSE that were deferred, where all that waited is done.
+    fn push_deferred(
+        &self,
+        own: ChannelId,
+        done: bool,
+        frames: &mut Vec<Frame>,
+    ) -> Result<(), TableError>
+        ensures ok { OnOk result (frames.new.items
+            ≡ frames.old.items ++ line.deferred_if own.0 done self.now) }
+        ensures memory { IfErr result (λ e. e ≡ NoMemory) }
+    {
+        if !done {
+            return Ok(());
+        }
+        let to = self.recipient(own);
+        if self.pending_eof {
+            frames.push(eof_frame(to))?;
+        }
+        if self.pending_close {
+            frames.push(close_frame(to))?;
+        }
+        Ok(())
+    }
+
+    /// What waits goes out, as far as the credit goes, and the EOF and the CLOSE behind it. Answers
+    /// whether the CLOSE went out. Where there is no memory, all is as before.
+    pub(crate) fn go_on(
+        &mut self,
+        alloc: Global,
+        own: ChannelId,
+        staged: &mut Vec<Frame>,
+    ) -> Result<bool, TableError>
+        ensures closes { IfOk result (λ gone. gone ≡ line.closes self.old) }
+        ensures line { OnOk result (self.new ≡ line.settled self.old) }
+        ensures staged { OnOk result (staged.new.items
+            ≡ staged.old.items ++ line.goes own.0 self.old) }
+        ensures unchanged { OnErr result (self.new ≡ self.old) }
+        ensures kept { OnErr result (staged.new.items ≡ staged.old.items) }
+        ensures memory { IfErr result (λ e. e ≡ NoMemory) }
+    {
+        let credit = self.recipient_window_size;
+        let packet = self.recipient_maximum_packet_size;
+        let to = self.recipient(own);
+        let mut frames = self.waiting.frames(alloc, to, packet, credit)?;
+        let done = self.waiting.is_covered(credit);
+        self.push_deferred(own, done, &mut frames)?;
+        staged.append(&mut frames)?;
+        // No memory is taken from here on.
+        self.recipient_window_size = self.waiting.skip(credit);
+        self.pending_eof = self.pending_eof && !done;
+        Ok(done && self.pending_close)
+    }
+
+    /// The peer grants so many bytes more: what waits goes out within the old credit and then
+    /// within the new one, and the EOF and the CLOSE behind it. Answers whether the CLOSE went
+    /// out. Where there is no memory, all is as before.
+    pub(crate) fn grant(
+        &mut self,
+        alloc: Global,
+        own: ChannelId,
+        amount: u32,
+        staged: &mut Vec<Frame>,
+    ) -> Result<bool, TableError>
+        ensures closes { IfOk result (λ gone. gone ≡ line.closes (line.granted amount self.old)) }
+        ensures line { OnOk result (self.new ≡ line.settled (line.granted amount self.old)) }
+        ensures staged { OnOk result (staged.new.items
+            ≡ staged.old.items ++ line.granting_frames own.0 amount self.old) }
+        ensures unchanged { OnErr result (self.new ≡ self.old) }
+        ensures kept { OnErr result (staged.new.items ≡ staged.old.items) }
+        ensures memory { IfErr result (λ e. e ≡ NoMemory) }
+    {
+        let credit = self.recipient_window_size;
+        let packet = self.recipient_maximum_packet_size;
+        let to = self.recipient(own);
+        let (mut frames, done) = self
+            .waiting
+            .frames_within(alloc, to, packet, credit, amount)?;
+        self.push_deferred(own, done, &mut frames)?;
+        staged.append(&mut frames)?;
+        // No memory is taken from here on.
+        let raised = self.waiting.skip(credit).saturating_add(amount);
+        self.recipient_window_size = self.waiting.skip(raised);
+        self.pending_eof = self.pending_eof && !done;
+        Ok(done && self.pending_close)
+    }
+
+    /// An EOF command: EOF goes out, or waits behind the data. Where there is no memory, all is as
+    /// before.
+    pub(crate) fn end(&mut self, own: ChannelId, staged: &mut Vec<Frame>) -> Result<(), TableError>
+        ensures line { OnOk result (self.new ≡ line.ending self.old) }
+        ensures staged { OnOk result (staged.new.items
+            ≡ staged.old.items ++ line.ending_frames own.0 self.old) }
+        ensures unchanged { OnErr result (self.new ≡ self.old) }
+        ensures kept { OnErr result (staged.new.items ≡ staged.old.items) }
+        ensures memory { IfErr result (λ e. e ≡ NoMemory) }
+    {
+        if self.nothing_waits() {
+            staged.push(eof_frame(self.recipient(own)))?;
+            self.pending_eof = false;
+        } else {
+            self.pending_eof = true;
+        }
+        self.ended = true;
+        Ok(())
+    }
+
+    /// One data command's bytes go out, or wait. Where there is no memory, all is as before.
+    pub(crate) fn take(
+        &mut self,
+        alloc: Global,
+        own: ChannelId,
+        chunk: Chunk,
+        is_rekeying: bool,
+        staged: &mut Vec<Frame>,
+    ) -> Result<(), TableError>
+        ensures line { OnOk result (self.new ≡ line.taking chunk is_rekeying self.old) }
+        ensures staged { OnOk result (staged.new.items
+            ≡ staged.old.items ++ line.taking_frames own.0 chunk is_rekeying self.old) }
+        ensures unchanged { OnErr result (self.new ≡ self.old) }
+        ensures kept { OnErr result (staged.new.items ≡ staged.old.items) }
+        ensures memory { IfErr result (λ e. e ≡ NoMemory) }
+    {
+        if is_rekeying || !self.nothing_waits() {
+            if !chunk.bytes.is_empty() {
+                self.waiting.push(chunk)?;
+            }
+            return Ok(());
+        }
+        if self.takes_whole(&chunk.bytes) {
+            return self.push_whole(own, chunk, staged);
+        }
+        self.waiting.push(chunk)?;
+        match self.flush(alloc, own, staged) {
+            Ok(()) => Ok(()),
+            Err(why) => {
+                self.waiting.clear();
+                Err(why)
+            }
+        }
+    }
+
+    /// So many bytes came in, and the room is to be kept at `target`, in bytes. Where there is no
+    /// memory, all is as before.
+    pub(crate) fn adjust(
+        &mut self,
+        own: ChannelId,
+        count: usize,
+        target: u32,
+        staged: &mut Vec<Frame>,
+    ) -> Result<Adjusted, TableError>
+        ensures answer { IfOk result (λ r. r ≡ window.adjusting count target self.old) }
+        ensures waiting { self.new.waiting ≡ self.old.waiting }
+        ensures line { IfOk result (λ r. self.new ≡ window.room_after r count target self.old) }
+        ensures staged { IfOk result (λ r. staged.new.items
+            ≡ staged.old.items ++ window.adjust_frames r own.0 self.old) }
+        ensures unchanged { OnErr result (self.new ≡ self.old) }
+        ensures kept { OnErr result (staged.new.items ≡ staged.old.items) }
+        ensures memory { IfErr result (λ e. e ≡ NoMemory) }
+    {
+        if !self.fits(count) {
+            return Ok(Adjusted::Dropped);
+        }
+        let room = self.sender_window_size - count as u32;
+        if room < target / 2 {
+            let amount = target - room;
+            staged.push(adjust_frame(self.recipient(own), amount))?;
+            self.sender_window_size = target;
+            return Ok(Adjusted::Granted(amount));
+        }
+        self.sender_window_size = room;
+        Ok(Adjusted::Kept)
+    }
+}

@@ -1,0 +1,65 @@
+// What each side grants the other.
+ghost use Rattle.std.specs.Prelude.{◌≡◌, length, IfOk, IfErr, OnOk, OnErr};
+ghost use Rattle.ssh_channels.specs.declared.error.TableError.TheVariants.{NoMemory};
+ghost use Rattle.ssh_channels.specs.Calls as calls;
+
+use crate::table::recounted;
+use crate::{Adjusted, Encrypted, TableError};
+use ssh_wire::ChannelId;
+
+impl Encrypted {
+    /// The peer grants the channel `amount` bytes more (RFC 4254 section 5.2). What waits goes out
+    /// within the old credit, the amount is added, up to 2^32 - 1, and the rest goes out within the
+    /// new one, with the EOF and the CLOSE behind it. Its frames are staged during an exchange too.
+    /// Answers the credit that is left, and None exactly where the channel is not established.
+    pub fn grant(
+        &mut self,
+        channel: ChannelId,
+        amount: u32,
+        _is_rekeying: bool,
+    ) -> Result<Option<u32>, TableError>
+        ensures answer { IfOk result (λ r. r ≡ calls.credit_after channel.0 amount self.old) }
+        ensures table { OnOk result (self.new ≡ calls.grant channel.0 amount self.old) }
+        ensures unchanged { OnErr result (self.new ≡ self.old) }
+        ensures memory { IfErr result (λ e. e ≡ NoMemory) }
+    {
+        let _channels = self.lines.len();
+        let Some(line) = self.lines.get_mut(&channel.0) else {
+            return Ok(None);
+        };
+        if !line.confirmed {
+            return Ok(None);
+        }
+        let before = !line.nothing_waits();
+        let gone = line.grant(self.alloc, channel, amount, &mut self.staged)?;
+        let after = !line.nothing_waits();
+        let credit = line.recipient_window_size;
+        self.waiting = recounted(self.waiting, before, after);
+        if gone {
+            let _ = self.lines.remove(&channel.0);
+        }
+        Ok(Some(credit))
+    }
+
+    /// These bytes of data came in on the channel, whose room is to be kept at `target`, in bytes.
+    /// Where fewer than half of `target` are left, WINDOW_ADJUST with the rest of it is staged.
+    pub fn adjust_window_size(
+        &mut self,
+        channel: ChannelId,
+        bytes: &[u8],
+        target: u32,
+    ) -> Result<Adjusted, TableError>
+        ensures answer { IfOk result (λ r. r
+            ≡ calls.adjusting_at channel.0 (length bytes.now) target self.old) }
+        ensures table { OnOk result (self.new
+            ≡ calls.adjust channel.0 (length bytes.now) target self.old) }
+        ensures unchanged { OnErr result (self.new ≡ self.old) }
+        ensures memory { IfErr result (λ e. e ≡ NoMemory) }
+    {
+        let Some(line) = self.lines.get_mut(&channel.0) else {
+            return Ok(Adjusted::Dropped);
+        };
+        let adjusted = line.adjust(channel, bytes.len(), target, &mut self.staged)?;
+        Ok(adjusted)
+    }
+}
