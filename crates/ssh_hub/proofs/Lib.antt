@@ -1,0 +1,15 @@
+pub mod Maps
+pub mod Counts
+pub mod Begins
+pub mod Histories
+pub mod Views
+pub mod Stages
+pub mod Steps
+pub mod Handing
+pub mod Seating
+pub mod Made
+pub mod Did
+pub mod Order
+pub mod Found
+pub mod Bytes
+pub mod Ends

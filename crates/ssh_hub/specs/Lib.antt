@@ -1,0 +1,12 @@
+pub mod World
+pub mod Channels
+pub mod Lists
+pub mod Outcomes
+pub mod Slots
+pub mod Step
+pub mod History
+pub mod Rule
+pub mod Words
+pub mod Does
+pub mod Legality
+pub mod Laws

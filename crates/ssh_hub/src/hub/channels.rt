@@ -1,0 +1,129 @@
+// The calls on one channel.
+ghost use Rattle.std.specs.Prelude.{◌≡◌, IfOk, IfErr, OnErr};
+ghost use Rattle.ssh_hub.specs.Step.{act};
+ghost use Rattle.ssh_hub.specs.declared.history.HubCall.TheVariants.{ReserveBytes, ReleaseBytes, GrantBytes};
+ghost use Rattle.ssh_hub.specs.declared.history.HubCall.TheVariants.{MakeReady, DeliverMsg, ReceiveMsg};
+ghost use Rattle.ssh_hub.specs.declared.history.HubCall.TheVariants.{LookAt, ClaimChannel};
+ghost use Rattle.ssh_hub.specs.declared.history.HubReply.TheVariants.{Done, Reserved, Delivered};
+ghost use Rattle.ssh_hub.specs.declared.history.HubReply.TheVariants.{HasReceived, Saw, Claimed};
+
+use super::Hub;
+use crate::answers::{Deliver, Look, Received, Reserve};
+use crate::channel::Channel;
+use ssh_link::ChannelMsg;
+use ssh_wire::ChannelId;
+use std::alloc::AllocError;
+
+#[tactic(auto, unfolding(crate::specs::Step::act), using(std::proofs::lemmas::Map::Steps::set_value_same))]
+impl Hub {
+    // Takes up to `want` of what is left of the channel for the seat.
+    pub fn reserve(&mut self, by: u64, channel: ChannelId, want: u32) -> Result<Reserve, AllocError>
+        ensures ok { IfOk result (λ r. act self.old by (ReserveBytes channel want) ≡ (self.new, Reserved r)) }
+        ensures err { OnErr result (self.new ≡ self.old) }
+    {
+        if let Some(at) = self.ended {
+            return Ok(Reserve::Ended { at });
+        }
+        match self.channels.get_mut(&channel.0) {
+            Some(found) => found.reserve(by, want),
+            None => Ok(Reserve::Gone),
+        }
+    }
+
+    // Gives back what the seat has reserved, at most `amount` of it.
+    pub fn release(&mut self, by: u64, channel: ChannelId, amount: u32)
+        ensures { act self.old by (ReleaseBytes channel amount) ≡ (self.new, Done) }
+    {
+        if let Some(found) = self.channels.get_mut(&channel.0) {
+            found.release(by, amount);
+        }
+    }
+
+    // The window and the packet size of the channel are known.
+    pub fn ready(
+        &mut self,
+        by: u64,
+        channel: ChannelId,
+        window: u32,
+        packet: u32,
+    ) -> Result<(), AllocError>
+        ensures ok { IfOk result (λ _. act self.old by (MakeReady channel window packet) ≡ (self.new, Done)) }
+        ensures err { OnErr result (self.new ≡ self.old) }
+    {
+        let _ = by;
+        let alloc = self.alloc;
+        if let Some(found) = self.channels.get_mut(&channel.0) {
+            found.make_ready(alloc, window, packet);
+            return Ok(());
+        }
+        let mut made = Channel::waiting(alloc);
+        made.make_ready(alloc, window, packet);
+        match self.channels.insert(channel.0, made) {
+            Ok(_) => Ok(()),
+            Err(_) => Err(AllocError),
+        }
+    }
+
+    // The peer takes so many bytes more on the channel.
+    pub fn grant(&mut self, by: u64, channel: ChannelId, amount: u32)
+        ensures { act self.old by (GrantBytes channel amount) ≡ (self.new, Done) }
+    {
+        let _ = by;
+        if let Some(found) = self.channels.get_mut(&channel.0) {
+            found.grant(amount);
+        }
+    }
+
+    // Puts the message into the inbox of the channel.
+    pub fn deliver(
+        &mut self,
+        by: u64,
+        channel: ChannelId,
+        msg: ChannelMsg,
+    ) -> Result<Deliver, (ChannelMsg, AllocError)>
+        ensures ok { IfOk result (λ r. act self.old by (DeliverMsg channel msg) ≡ (self.new, Delivered r)) }
+        ensures back { IfErr result (λ e. e.0 ≡ msg) }
+        ensures err { OnErr result (self.new ≡ self.old) }
+    {
+        let _ = by;
+        let size = self.inbox_size;
+        match self.channels.get_mut(&channel.0) {
+            Some(found) => found.deliver(size, msg),
+            None => Ok(Deliver::Gone(msg)),
+        }
+    }
+
+    // Takes the first message out of the inbox of the channel.
+    pub fn receive(&mut self, by: u64, channel: ChannelId) -> Received
+        ensures { act self.old by (ReceiveMsg channel) ≡ (self.new, HasReceived result) }
+    {
+        let _ = by;
+        let ended = self.ended;
+        match self.channels.get_mut(&channel.0) {
+            Some(found) => found.receive(ended),
+            None => Received::Closed,
+        }
+    }
+
+    // What may be sent on the channel.
+    pub fn look(&self, by: u64, channel: ChannelId) -> Option<Look>
+        ensures { act self.now by (LookAt channel) ≡ (self.now, Saw result) }
+    {
+        let _ = by;
+        match self.channels.get(&channel.0) {
+            Some(found) => found.look(),
+            None => None,
+        }
+    }
+
+    // Whether the channel is there, and nobody claimed it before.
+    pub fn claim(&mut self, by: u64, channel: ChannelId) -> bool
+        ensures { act self.old by (ClaimChannel channel) ≡ (self.new, Claimed result) }
+    {
+        let _ = by;
+        match self.channels.get_mut(&channel.0) {
+            Some(found) => found.claim(),
+            None => false,
+        }
+    }
+}

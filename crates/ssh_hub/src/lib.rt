@@ -1,0 +1,28 @@
+//! A hub that threads share: what they ask of a session waits in it, and what the session tells them.
+//!
+//! What the crates above rely on: each call of a seat ends a history which is legal, begins with all
+//! that the seat had seen, and has of this seat just the calls that it made; and what holds of every
+//! legal history (the laws).
+#![tactic(auto)]
+
+mod answers;
+mod channel;
+mod history;
+mod hub;
+mod laws;
+mod lock;
+mod queued;
+mod reservations;
+mod rule;
+#[cfg(test)]
+mod tests;
+
+pub use answers::{
+    Config2, Deliver, HandleError, Look, Put, PutReply, Received, Reserve, SlotAnswer, Taken,
+};
+pub use history::{Entry, HubCall, HubReply, Stage, View};
+pub use laws::{
+    answers_before_commands, bytes_are_conserved, bytes_fit, calls_add_up, commands_in_order,
+    ends_at_the_first_end, one_call_does, replies_in_order,
+};
+pub use lock::{HubLock, Seat, crosses};
