@@ -6,3 +6,9 @@ pub mod Table
 pub mod Numbers
 pub mod Calls
 pub mod Paths
+pub mod Entry
+pub mod Room
+pub mod Lines
+pub mod Stands
+pub mod Sent
+pub mod Does
