@@ -1,5 +1,5 @@
 -- How a request is served: a call, and what its answer goes on to.
-use Rattle.std.proofs.Common.{◌≡◌, ◌≢◌, List, [], ◌∷◌, ◌++◌, map, ℕ, Bool, Option, Result, Ok, Err, IsErrAnd, true, false, refl, sym, ◌∙◌, ap, inl, inr, subst}
+use Rattle.std.proofs.Common.{◌≡◌, ◌≢◌, List, [], ◌∷◌, ◌++◌, ℕ, Bool, Option, Result, Ok, Err, IsErrAnd, true, false, refl, sym, ◌∙◌, ap, inl, inr, subst}
 use Rattle.std.specs.Prelude.{bytes_eq, codes}
 use Rattle.std.proofs.lemmas.Slice.Eq.{bytes_eq-Decides}
 use Rattle.ssh_wire.specs.declared.error.WireError.{WireError}
@@ -12,27 +12,28 @@ use Rattle.ssh_auth.specs.declared.auth_request.AuthRequest.{AuthRequest}
 use Rattle.ssh_auth.specs.declared.auth_step.AuthStep.{AuthStep}
 use Rattle.ssh_auth.specs.declared.error.AuthError.{AuthError}
 use Rattle.ssh_auth.specs.declared.error.AuthError.TheVariants as error
+use Rattle.ssh_auth.specs.declared.question.Question.{Question}
 use Rattle.ssh_auth.specs.Failure.{auth_error_of}
-use Rattle.ssh_auth.specs.Plan.{Plan, Finish, Ask, Question, Answer, Answered, Called}
+use Rattle.ssh_auth.specs.Plan.{Plan, Finish, Ask, Answer, Answered, Refused, Handler_error, Called}
 use Rattle.ssh_auth.specs.Request.{bound_to, begun}
 use Rattle.ssh_auth.specs.Publickey.{Circumstances}
 use Rattle.ssh_auth.specs.Requested.{head_fields, Method, Other_method, Unfit_method, Requested, Request, Unread, Is_other, named_by, SaysMethod, SaysRequest}
 use Rattle.ssh_auth.specs.Verdict.{AuthOutcome, Replies, Fails, Encoding, refused, verdict}
-use Rattle.ssh_auth.specs.Serve.{may_stop, Concludes, CarriesOut, CarriesOutMethod}
-use Rattle.ssh_auth.proofs.Plans.{breaks_more}
+use Rattle.ssh_auth.specs.Serve.{may_stop, calls_alone, Concludes, CarriesOut, CarriesOutMethod}
+use Rattle.ssh_auth.proofs.Plans.{breaks_first, breaks_more}
 
 -- ---- a call, and then the rest
 
 -- the events after a first call
 answers_then : {E : Type 0} (question : Question) (next : Answer question → Plan AuthOutcome) (answer : Answer question) (call : Call E) (calls : List (Call E))
-    (auth : AuthRequest) (result : Result AuthStep (AuthError E)) → Answered question (Ok answer) call → Concludes (next answer) (map Called calls) auth result →
-    Concludes (Ask question next) (map Called (call ∷ calls)) auth result
+    (auth : AuthRequest) (result : Result AuthStep (AuthError E)) → Answered {F = ⊥} question answer (Called call) → Concludes (next answer) (calls_alone calls) auth result →
+    Concludes (Ask question next) (calls_alone (call ∷ calls)) auth result
 answers_then question next answer call calls auth (Ok step) a h = (answer, a, h)
-answers_then question next answer call calls auth (Err error.NoMemory) a h = (answer, a, h)
+answers_then question next answer call calls auth (Err error.NoMemory) a h = (h.0, (answer, a, h.1))
 answers_then question next answer call calls auth (Err (error.Encoding why)) a h = (answer, a, h)
 answers_then question next answer call calls auth (Err error.Inconsistent) a h = (answer, a, h)
 answers_then question next answer call calls auth (Err (error.Key why)) a h = (h.0, (answer, a, h.1))
-answers_then question next answer call calls auth (Err (error.Handler e)) a h = breaks_more question next answer call (map Called calls) e a h
+answers_then question next answer call calls auth (Err (error.Handler e)) a h = breaks_more question next answer (Called call) (calls_alone calls) (Handler_error e) a h
 answers_then question next answer call calls auth (Err error.UnsupportedAuthMethod) a h = (answer, a, h)
 
 -- what was told, and then what was told after it
@@ -43,7 +44,7 @@ told_then false a b c xs ys h k = adds_both a b c xs ys h k
 -- the handler was asked, and what its answer goes on to was served
 pub asked : {E : Type 0} (question : Question) (next : Answer question → Plan AuthOutcome) (answer : Answer question) (call : Call E)
     (a b c : Option (List (Call E))) (auth : AuthRequest) (result : Result AuthStep (AuthError E)) →
-    Answered question (Ok answer) call → Adds a b (call ∷ []) → CarriesOut (next answer) b c auth result → CarriesOut (Ask question next) a c auth result
+    Answered {F = ⊥} question answer (Called call) → Adds a b (call ∷ []) → CarriesOut (next answer) b c auth result → CarriesOut (Ask question next) a c auth result
 asked question next answer call a b c auth result is h k = (
   call ∷ k.0,
   told_then (may_stop result) a b c (call ∷ []) k.0 h k.1,
@@ -57,17 +58,22 @@ told_nothing false told = adds_nil told
 -- the handler was asked, and this came of its answer
 pub asked_once : {E : Type 0} (question : Question) (next : Answer question → AuthOutcome) (answer : Answer question) (call : Call E)
     (a b : Option (List (Call E))) (auth : AuthRequest) (result : Result AuthStep (AuthError E)) →
-    Answered question (Ok answer) call → Adds a b (call ∷ []) → Concludes (Finish (next answer)) [] auth result →
+    Answered {F = ⊥} question answer (Called call) → Adds a b (call ∷ []) → Concludes (Finish (next answer)) [] auth result →
     CarriesOut (Ask question (λ answer. Finish (next answer))) a b auth result
 asked_once question next answer call a b auth result is h k =
     asked question (λ answer. Finish (next answer)) answer call a b b auth result is h ([], told_nothing (may_stop result) b, k)
+
+-- the handler was asked, and answered this error
+pub asked_in_vain : {E : Type 0} (question : Question) (next : Answer question → Plan AuthOutcome) (call : Call E) (a b : Option (List (Call E))) (auth : AuthRequest) (e : E) →
+    Refused {F = ⊥} question (Handler_error e) (Called call) → ToldBy true a b (call ∷ []) → CarriesOut (Ask question next) a b auth (Err (error.Handler e))
+asked_in_vain question next call a b auth e refused h = (call ∷ [], h, breaks_first question next (Called call) (Handler_error e) refused)
 
 -- ---- no call, or none after it
 
 -- nothing more is asked, and this comes of it
 pub finished : {E : Type 0} (outcome : AuthOutcome) (told : Option (List (Call E))) (auth : AuthRequest) (step : AuthStep) →
     outcome ≡ Replies step.reply step.verdict auth → CarriesOut (Finish outcome) told told auth (Ok step)
-finished outcome told auth step is = ([], adds_nil told, sym is)
+finished outcome told auth step is = ([], adds_nil told, ap Finish is)
 
 -- memory was wanting before any call
 pub starved : {E : Type 0} (plan : Plan AuthOutcome) (told : Option (List (Call E))) (auth : AuthRequest) (why : WireError) (result : Result AuthStep (AuthError E)) →
@@ -75,12 +81,12 @@ pub starved : {E : Type 0} (plan : Plan AuthOutcome) (told : Option (List (Call 
 starved plan told auth why (Ok step) is none = absurd is
 starved {E} plan told auth why (Err e) is none =
     let memory : e ≡ error.NoMemory = is ∙ ap (λ w. auth_error_of {E = E} w) none in
-    subst (λ x. CarriesOut plan told told auth (Err x)) (sym memory) ([], adds_nil told, tt)
+    subst (λ x. CarriesOut plan told told auth (Err x)) (sym memory) ([], adds_nil told, (plan, refl))
 
 -- memory was wanting after a call
 pub starved_after : {E : Type 0} (question : Question) (next : Answer question → Plan AuthOutcome) (answer : Answer question) (call : Call E)
     (a b : Option (List (Call E))) (auth : AuthRequest) (why : WireError) (result : Result AuthStep (AuthError E)) →
-    IsErrAnd result (λ e. e ≡ auth_error_of why) → why ≡ wire.NoMemory → Answered question (Ok answer) call → Adds a b (call ∷ []) →
+    IsErrAnd result (λ e. e ≡ auth_error_of why) → why ≡ wire.NoMemory → Answered {F = ⊥} question answer (Called call) → Adds a b (call ∷ []) →
     CarriesOut (Ask question next) a b auth result
 starved_after question next answer call a b auth why result is none how h =
     asked question next answer call a b b auth result how h (starved (next answer) b auth why result is none)

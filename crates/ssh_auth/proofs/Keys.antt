@@ -5,10 +5,8 @@ use Rattle.ssh_wire.specs.declared.error.WireError.TheVariants as wire
 use Rattle.ssh_wire.specs.Field.{SpellsAll, MisfitsWhole, string}
 use Rattle.ssh_link.specs.Told.{Adds}
 use Rattle.ssh_link.proofs.Tellings.{adds_nil}
-use Rattle.ssh_keys.specs.declared.algorithm.Algorithm.{Algorithm}
 use Rattle.ssh_keys.specs.declared.error.KeyError.{KeyError}
 use Rattle.ssh_keys.specs.declared.error.KeyError.TheVariants.{Blob, NoMemory}
-use Rattle.ssh_keys.specs.declared.key_or_certificate.PublicKeyOrCertificate.{PublicKeyOrCertificate}
 use Rattle.ssh_keys.specs.declared.signature.Signature.{Signature}
 use Rattle.ssh_keys.specs.Algorithms.{algorithm_name}
 use Rattle.ssh_keys.specs.Offers.{FailsOffer, offered_key}
@@ -19,12 +17,15 @@ use Rattle.ssh_auth.specs.declared.call.Call.{Call}
 use Rattle.ssh_auth.specs.declared.error.AuthError.{AuthError}
 use Rattle.ssh_auth.specs.declared.error.AuthError.TheVariants as error
 use Rattle.ssh_auth.specs.Failure.{auth_error_of, auth_error_of_key}
-use Rattle.ssh_auth.specs.Plan.{Finish, Ask, Question, Answer, Answered, Auth_publickey_offered}
+use Rattle.ssh_auth.specs.declared.question.Admission.TheVariants as by
+use Rattle.ssh_auth.specs.declared.question.Question.{Question}
+use Rattle.ssh_auth.specs.declared.question.Question.TheVariants.{Admits}
+use Rattle.ssh_auth.specs.Plan.{Finish, Ask, Answer, Answered, Called}
 use Rattle.ssh_auth.specs.Publickey.{Circumstances, Offer, offer_fields, Offers, IsAnswer}
 use Rattle.ssh_auth.specs.Read.{SignatureFails}
 use Rattle.ssh_auth.specs.Request.{is_probed}
 use Rattle.ssh_auth.specs.Requested.{Unfit_method, Broken_method, Probe_method, Misnamed_method, Signed_method, SaysPublickey}
-use Rattle.ssh_auth.specs.Verdict.{AuthOutcome, Replies, Fails, Encoding, refused, proof, signed, permitted, signed_verdict, method_verdict}
+use Rattle.ssh_auth.specs.Verdict.{AuthOutcome, Replies, Fails, Encoding, Starved, refused, proof, signed, permitted, signed_verdict, method_verdict}
 use Rattle.ssh_auth.specs.Serve.{CarriesOut, CarriesOutMethod}
 use Rattle.ssh_auth.proofs.Asks.{finished, starved_after, unfit_method}
 use Rattle.ssh_auth.proofs.Misfits.{whole_error}
@@ -34,12 +35,12 @@ use Rattle.ssh_auth.proofs.Signatures.{spells_front, up_to_rest}
 pub no_permit : {E : Type 0} (question : Question) (next : Answer question → AuthOutcome) (answer : Answer question) (call : Call E)
     (a b : Option (List (Call E))) (auth : AuthRequest) (why : WireError) (result : Result AuthStep (AuthError E)) →
     IsErrAnd result (λ e. e ≡ auth_error_of why) → (why ≡ wire.NoMemory) ⊎ ((why ≡ wire.TooLong) × (next answer ≡ Fails (Encoding wire.TooLong))) →
-    Answered question (Ok answer) call → Adds a b (call ∷ []) → CarriesOut (Ask question (λ answer. Finish (next answer))) a b auth result
+    Answered {F = ⊥} question answer (Called call) → Adds a b (call ∷ []) → CarriesOut (Ask question (λ answer. Finish (next answer))) a b auth result
 no_permit question next answer call a b auth why result is (inl none) how h = starved_after question (λ answer. Finish (next answer)) answer call a b auth why result is none how h
 no_permit question next answer call a b auth why (Ok step) is (inr long) how h = absurd is
 no_permit {E} question next answer call a b auth why (Err e) is (inr long) how h =
     let fails : e ≡ error.Encoding wire.TooLong = is ∙ ap (λ w. auth_error_of {E = E} w) long.0 in
-    subst (λ x. CarriesOut (Ask question (λ answer. Finish (next answer))) a b auth (Err x)) (sym fails) (call ∷ [], h, (answer, how, sym long.1))
+    subst (λ x. CarriesOut (Ask question (λ answer. Finish (next answer))) a b auth (Err x)) (sym fails) (call ∷ [], h, (answer, how, ap Finish long.1))
 
 -- the verifier refused the signature
 pub refused_signature : {E : Type 0} (auth : AuthRequest) (user : List ℕ) (offer : Offer) (accepted : Bool) (told : Option (List (Call E))) (auth' : AuthRequest) (step : AuthStep) →
@@ -56,14 +57,14 @@ accepted_signature auth user offer accepted a b auth' result is h = subst (λ x.
 -- a key without its probe is asked about first
 pub unprobed : {E : Type 0} (auth : AuthRequest) (user : List ℕ) (offer : Offer) (accepted : Option Bool) (a b : Option (List (Call E))) (auth' : AuthRequest)
     (result : Result AuthStep (AuthError E)) → is_probed auth.current offer.name offer.blob ≡ false →
-    CarriesOut (Ask (Auth_publickey_offered user (offered_key offer.key) offer.algorithm) (λ answer. permitted auth answer (signed auth user offer accepted))) a b auth' result →
+    CarriesOut (Ask (Admits (by.PublickeyOffered user (offered_key offer.key) offer.algorithm)) (λ answer. permitted auth answer (signed auth user offer accepted))) a b auth' result →
     CarriesOut (signed_verdict auth user offer accepted) a b auth' result
 unprobed auth user offer accepted a b auth' result is h = rw is h
 
 -- a signature that was not read
 pub unsigned_request : {E : Type 0} (given : Circumstances) (all fields rest : List ℕ) (offer : Offer) (auth : AuthRequest) (user : List ℕ) (told : Option (List (Call E))) (auth' : AuthRequest)
     (e : AuthError E) → Offers given true offer fields rest → SignatureFails rest e → CarriesOutMethod (SaysPublickey given all fields) auth user told told auth' (Err e)
-unsigned_request given all fields rest offer auth user told auth' error.NoMemory offers h = inr ([], adds_nil told, tt)
+unsigned_request given all fields rest offer auth user told auth' error.NoMemory offers h = inr ([], adds_nil told, (Finish (Fails Starved), refl))
 unsigned_request given all fields rest offer auth user told auth' (error.Encoding why) offers h =
     inl (Unfit_method why, inr (inr (offer, rest, offers, h)), ([], adds_nil told, refl))
 unsigned_request given all fields rest offer auth user told auth' error.Inconsistent offers h = absurd h
@@ -78,7 +79,7 @@ pub no_offer : {E : Type 0} (given : Circumstances) (all fields rest name blob :
     (e ≡ NoMemory) ⊎ ((e ≡ Blob) × FailsOffer name blob Blob) → CarriesOutMethod (SaysPublickey given all fields) auth user told told auth' (Err result)
 no_offer {E} given all fields rest name blob is-signed auth user told auth' e result is spelled (inl none) =
     let memory : result ≡ error.NoMemory = is ∙ ap (λ k. auth_error_of_key {E = E} k) none in
-    subst (λ x. CarriesOutMethod (SaysPublickey given all fields) auth user told told auth' (Err x)) (sym memory) (inr ([], adds_nil told, tt))
+    subst (λ x. CarriesOutMethod (SaysPublickey given all fields) auth user told told auth' (Err x)) (sym memory) (inr ([], adds_nil told, (Finish (Fails Starved), refl)))
 no_offer {E} given all fields rest name blob is-signed auth user told auth' e result is spelled (inr fails) =
     let key : result ≡ error.Key Blob = is ∙ ap (λ k. auth_error_of_key {E = E} k) fails.0 in
     subst (λ x. CarriesOutMethod (SaysPublickey given all fields) auth user told told auth' (Err x)) (sym key)

@@ -1,8 +1,10 @@
 pub mod Asks
+pub mod Back
 pub mod Keys
 pub mod Misfits
 pub mod Plans
 pub mod Proving
+pub mod Raising
 pub mod Signatures
 pub mod Responses
 pub mod Prompting

@@ -1,8 +1,8 @@
 -- A key or a certificate is asked about to let a user in only where it has signed the request.
-use Rattle.std.proofs.Common.{◌≡◌, ℕ, List, [], ◌∷◌, ◌++◌, map, Bool, true, false, Option, Some, None, Result, Ok, Err, refl, sym, subst}
+use Rattle.std.proofs.Common.{◌≡◌, ℕ, List, [], ◌∷◌, ◌++◌, Bool, true, false, Option, Some, None, Result, Ok, Err, refl, sym, subst}
 use Rattle.std.specs.Prelude.{All, bytes_eq, codes, if◌then◌else◌}
 use Rattle.std.proofs.lemmas.List.{append_cancel_left}
-use Rattle.std.proofs.lemmas.List.Elements.{All-nil, All-cons}
+use Rattle.std.proofs.lemmas.List.Elements.{All-nil, All-cons, All-head, All-tail, All-same, All-push}
 use Rattle.std.proofs.lemmas.Slice.Eq.{bytes_eq-Decides}
 use Rattle.ssh_wire.specs.Field.{SpellsAll}
 use Rattle.ssh_link.specs.Told.{ToldBy}
@@ -19,45 +19,66 @@ use Rattle.ssh_auth.specs.declared.call.Call.{Call}
 use Rattle.ssh_auth.specs.declared.call.Call.TheVariants.{AuthKeyboardInteractive}
 use Rattle.ssh_auth.specs.declared.error.AuthError.{AuthError}
 use Rattle.ssh_auth.specs.declared.error.AuthError.TheVariants as error
-use Rattle.ssh_auth.specs.Plan.{Question, Authentication_banner, Auth_none, Auth_password, Auth_publickey_offered, Auth_publickey, Auth_openssh_certificate, Auth_keyboard_interactive, Auth_succeeded, Channel_open_session, Channel_eof, Channel_close, Window_adjusted, Command_done, Answer, Answered, Plan, Finish, Ask, Tell, Called, Follows, Begins, Breaks}
+use Rattle.ssh_auth.specs.declared.question.Admission.TheVariants as by
+use Rattle.ssh_auth.specs.declared.question.Question.{Question}
+use Rattle.ssh_auth.specs.declared.question.Question.TheVariants.{Admits}
+use Rattle.ssh_auth.specs.Plan.{Plan, Finish, Ask, Tell, Event, Called, asked_in, Reaches, Breaks, OutsideError, Handler_error}
 use Rattle.ssh_auth.specs.Proven.{IsProven, IsSignedBy, IsProvenCall, IsPromptCall, AsksOnly, AllAdded}
 use Rattle.ssh_auth.specs.Publickey.{Circumstances, Offer}
 use Rattle.ssh_auth.specs.Request.{begun, is_probed}
 use Rattle.ssh_auth.specs.Requested.{head_fields, Method, None_method, Password_method, Change_method, Unusable_method, Broken_method, Probe_method, Misnamed_method, Signed_method, Interactive_method, Other_method, Unfit_method, Named, Is_none, Is_password, Is_publickey, Is_interactive, Is_other, named_by, SaysMethod, Requested, Request, Other_service, Unfit, Unread, SaysRequest}
 use Rattle.ssh_auth.specs.Verdict.{AuthOutcome, proof, signed, permitted, method_verdict, verdict}
-use Rattle.ssh_auth.specs.Serve.{may_stop, Concludes, CarriesOut}
-use Rattle.ssh_auth.proofs.Plans.{follows_is_begun}
+use Rattle.ssh_auth.specs.Serve.{may_stop, calls_alone, Concludes, CarriesOut}
+use Rattle.ssh_auth.specs.Was.{asked_of}
+use Rattle.ssh_auth.proofs.Back.{asked_so, refused_so}
 
--- ---- where a plan asks only such questions, its calls are such
+-- ---- where a plan asks only such questions, only such are asked in its events
 
-module _ {E : Type 0} (P : Question → Type 0) (Q : Call E → Type 0)
-    (lifts : (question : Question) (answer : Result (Answer question) E) (call : Call E) → Answered question answer call → P question → Q call) where
-  begins_only : {O : Type 0} (plan : Plan O) (calls : List (Call E)) → AsksOnly P plan → Begins plan (map Called calls) → All Q calls
-  begins_only plan [] h b = All-nil Q
-  begins_only (Finish outcome) (call ∷ calls) h b = absurd b
-  begins_only (Ask question next) (call ∷ calls) h b = All-cons Q call calls (lifts question (Ok b.0) call b.1 h.0) (begins_only (next b.0) calls (h.1 b.0) b.2)
-  begins_only (Tell entry next) (call ∷ calls) h b = absurd b
+-- the question of an event, where it has one, is such
+abbrev IsSuch : (Question → Type 0) → Option Question → Type 0
+IsSuch P None = Unit {0}
+IsSuch P (Some question) = P question
 
-  breaks_only : {O : Type 0} (plan : Plan O) (calls : List (Call E)) (e : E) → AsksOnly P plan → Breaks plan (map Called calls) e → All Q calls
-  breaks_only plan [] e h b = All-nil Q
-  breaks_only (Finish outcome) (call ∷ calls) e h b = absurd b
-  breaks_only (Ask question next) (call ∷ []) e h b = All-cons Q call [] (lifts question (Err e) call b h.0) (All-nil Q)
-  breaks_only (Ask question next) (call ∷ more ∷ calls) e h b =
-      All-cons Q call (more ∷ calls) (lifts question (Ok b.0) call b.1 h.0) (breaks_only (next b.0) (more ∷ calls) e (h.1 b.0) b.2)
-  breaks_only (Tell entry next) (call ∷ calls) e h b = absurd b
+module _ {E F : Type 0} (P : Question → Type 0) where
+  abbrev AsksSuch : Event E F → Type 0
+  AsksSuch event = IsSuch P (asked_in event)
 
-  follows_only : {O : Type 0} (plan : Plan O) (calls : List (Call E)) (outcome : O) → AsksOnly P plan → Follows plan (map Called calls) outcome → All Q calls
-  follows_only plan calls outcome h f = begins_only plan calls h (follows_is_begun plan (map Called calls) outcome f)
+  -- and the rest asks only such ones too
+  reaches_only : {O : Type 0} (plan rest : Plan O) (events : List (Event E F)) → AsksOnly P plan → Reaches plan events rest → All AsksSuch events × AsksOnly P rest
+  reaches_only plan rest [] h r = (All-nil AsksSuch, subst (AsksOnly P) r h)
+  reaches_only (Finish outcome) rest (event ∷ events) h r = absurd r
+  reaches_only (Ask question next) rest (event ∷ events) h r =
+      let later = reaches_only (next r.0) rest events (h.1 r.0) r.2 in
+      let such : AsksSuch event = subst (IsSuch P) (sym (asked_so question r.0 event r.1)) h.0 in
+      (All-cons AsksSuch event events such later.0, later.1)
+  reaches_only (Tell entry next) rest (event ∷ events) h r =
+      let later = reaches_only next rest events h r.1 in
+      let such : AsksSuch event = subst AsksSuch (sym r.0) tt in
+      (All-cons AsksSuch event events such later.0, later.1)
 
-  concludes_only : (plan : Plan AuthOutcome) (calls : List (Call E)) (auth : AuthRequest) (result : Result AuthStep (AuthError E)) → AsksOnly P plan →
-      Concludes plan (map Called calls) auth result → All Q calls
-  concludes_only plan calls auth (Ok step) h c = follows_only plan calls _ h c
-  concludes_only plan calls auth (Err error.NoMemory) h c = begins_only plan calls h c
-  concludes_only plan calls auth (Err (error.Encoding why)) h c = follows_only plan calls _ h c
-  concludes_only plan calls auth (Err error.Inconsistent) h c = follows_only plan calls _ h c
-  concludes_only plan calls auth (Err (error.Key why)) h c = follows_only plan calls _ h c.1
-  concludes_only plan calls auth (Err error.UnsupportedAuthMethod) h c = follows_only plan calls _ h c
-  concludes_only plan calls auth (Err (error.Handler e)) h c = breaks_only plan calls e h c
+  breaks_only : {O : Type 0} (plan : Plan O) (events : List (Event E F)) (error : OutsideError E F) → AsksOnly P plan → Breaks plan events error → All AsksSuch events
+  breaks_only plan events error h b =
+      let so_far = reaches_only plan (Ask b.question b.next) b.before h b.reaches in
+      let such : AsksSuch b.last = subst (IsSuch P) (sym (refused_so b.question error b.last b.refused)) so_far.1.0 in
+      All-same AsksSuch events (b.before ++ b.last ∷ []) b.is (All-push AsksSuch b.before b.last so_far.0 such)
+
+module _ {E : Type 0} (P : Question → Type 0) where
+  concludes_only : (plan : Plan AuthOutcome) (events : List (Event E ⊥)) (auth : AuthRequest) (result : Result AuthStep (AuthError E)) → AsksOnly P plan →
+      Concludes plan events auth result → All (AsksSuch P) events
+  concludes_only plan events auth (Ok step) h c = (reaches_only P plan _ events h c).0
+  concludes_only plan events auth (Err error.NoMemory) h c = (reaches_only P plan c.0 events h c.1).0
+  concludes_only plan events auth (Err (error.Encoding why)) h c = (reaches_only P plan _ events h c).0
+  concludes_only plan events auth (Err error.Inconsistent) h c = (reaches_only P plan _ events h c).0
+  concludes_only plan events auth (Err (error.Key why)) h c = (reaches_only P plan _ events h c.1).0
+  concludes_only plan events auth (Err error.UnsupportedAuthMethod) h c = (reaches_only P plan _ events h c).0
+  concludes_only plan events auth (Err (error.Handler e)) h c = breaks_only P plan events (Handler_error e) h c
+
+-- the same of calls alone
+all_asked : {E : Type 0} (P : Question → Type 0) (calls : List (Call E)) → All (AsksSuch {F = ⊥} P) (calls_alone calls) → All (λ call. P (asked_of call)) calls
+all_asked P [] h = All-nil (λ call. P (asked_of call))
+all_asked P (call ∷ calls) h =
+    All-cons (λ call. P (asked_of call)) call calls (All-head (AsksSuch {F = ⊥} P) (Called call) (calls_alone calls) h)
+    (all_asked P calls (All-tail (AsksSuch {F = ⊥} P) (Called call) (calls_alone calls) h))
 
 -- what is added to a list that is told is what was told
 all_added : {A : Type 0} (holds : A → Type 0) (may_stop : Bool) (a b : Option (List A)) (xs : List A) → ToldBy may_stop a b xs → All holds xs → AllAdded holds a b
@@ -85,18 +106,17 @@ one_prompt {E} may_stop a b user submethods response answer t =
     all_added (IsPromptCall {E = E}) may_stop a b (call ∷ []) t (All-cons (IsPromptCall {E = E}) call [] tt (All-nil (IsPromptCall {E = E})))
 
 -- so each call that is told is such
-carried_only : {E : Type 0} (P : Question → Type 0) (Q : Call E → Type 0)
-    (lifts : (question : Question) (answer : Result (Answer question) E) (call : Call E) → Answered question answer call → P question → Q call)
-    (plan : Plan AuthOutcome) (a b : Option (List (Call E))) (auth : AuthRequest) (result : Result AuthStep (AuthError E)) → AsksOnly P plan →
-    CarriesOut plan a b auth result → AllAdded Q a b
-carried_only P Q lifts plan a b auth result h c = all_added Q (may_stop result) a b c.0 c.1 (concludes_only P Q lifts plan c.0 auth result h c.2)
+carried_only : {E : Type 0} (P : Question → Type 0) (plan : Plan AuthOutcome) (a b : Option (List (Call E))) (auth : AuthRequest) (result : Result AuthStep (AuthError E)) →
+    AsksOnly P plan → CarriesOut plan a b auth result → AllAdded (λ call. P (asked_of call)) a b
+carried_only P plan a b auth result h c =
+    all_added (λ call. P (asked_of call)) (may_stop result) a b c.0 c.1 (all_asked P c.0 (concludes_only P plan (calls_alone c.0) auth result h c.2))
 
 -- ---- a signed request is proven
 
 -- the question by which this key or certificate lets the user in is proven
 abbrev pub ProvesKey : Circumstances → (fields user : List ℕ) → PublicKeyOrCertificate → Algorithm → Type 0
-ProvesKey given fields user (Plain key hash) algorithm = IsProven given fields (Auth_publickey user key algorithm)
-ProvesKey given fields user (Certificate certificate) algorithm = IsProven given fields (Auth_openssh_certificate user certificate)
+ProvesKey given fields user (Plain key hash) algorithm = IsProven given fields (Admits (by.Publickey user key algorithm))
+ProvesKey given fields user (Certificate certificate) algorithm = IsProven given fields (Admits (by.OpensshCertificate user certificate))
 
 -- where the verifier accepts its signature, a signed request is proven
 abbrev pub Proves : Circumstances → (fields user : List ℕ) → Method → Type 0
@@ -156,7 +176,7 @@ module _ (given : Circumstances) (fields : List ℕ) where
 
   asked_first_only : (auth : AuthRequest) (user : List ℕ) (offer : Offer) (accepted : Option Bool) (is_asked : Bool) → Proves given fields user (Signed_method offer accepted) →
       AsksOnly (IsProven given fields) (if is_asked then signed auth user offer accepted
-      else Ask (Auth_publickey_offered user (offered_key offer.key) offer.algorithm) (λ answer. permitted auth answer (signed auth user offer accepted)))
+      else Ask (Admits (by.PublickeyOffered user (offered_key offer.key) offer.algorithm)) (λ answer. permitted auth answer (signed auth user offer accepted)))
   asked_first_only auth user offer accepted true h = signed_only auth user offer accepted h
   asked_first_only auth user offer accepted false h = (tt, λ answer. permitted_only auth answer (signed auth user offer accepted) (signed_only auth user offer accepted h))
 
@@ -180,32 +200,11 @@ module _ (given : Circumstances) (fields : List ℕ) where
   verdict_only auth (Unfit why) h = tt
   verdict_only auth Unread h = tt
 
-  -- a proven question makes a proven call
-  proven_call : {E : Type 0} (question : Question) (answer : Result (Answer question) E) (call : Call E) → Answered question answer call → IsProven given fields question → IsProvenCall given fields call
-  proven_call Authentication_banner answer call is h = subst (IsProvenCall given fields) (sym is) tt
-  proven_call (Auth_none user) answer call is h = subst (IsProvenCall given fields) (sym is) tt
-  proven_call (Auth_password user password) answer call is h = subst (IsProvenCall given fields) (sym is) tt
-  proven_call (Auth_publickey_offered user key algorithm) answer call is h = subst (IsProvenCall given fields) (sym is) tt
-  proven_call (Auth_publickey user key algorithm) answer call is h = subst (IsProvenCall given fields) (sym is) h
-  proven_call (Auth_openssh_certificate user certificate) answer call is h = subst (IsProvenCall given fields) (sym is) h
-  proven_call (Auth_keyboard_interactive user submethods response) answer call is h = subst (IsProvenCall given fields) (sym is) tt
-  proven_call Auth_succeeded (Ok commands) call is h = subst (IsProvenCall given fields) (sym is) tt
-  proven_call Auth_succeeded (Err e) call is h = subst (IsProvenCall given fields) (sym is.1) tt
-  proven_call (Channel_open_session channel) (Ok commands) call is h = subst (IsProvenCall given fields) (sym is) tt
-  proven_call (Channel_open_session channel) (Err e) call is h = subst (IsProvenCall given fields) (sym is.1) tt
-  proven_call (Channel_eof channel) (Ok commands) call is h = subst (IsProvenCall given fields) (sym is) tt
-  proven_call (Channel_eof channel) (Err e) call is h = subst (IsProvenCall given fields) (sym is.1) tt
-  proven_call (Channel_close channel) (Ok commands) call is h = subst (IsProvenCall given fields) (sym is) tt
-  proven_call (Channel_close channel) (Err e) call is h = subst (IsProvenCall given fields) (sym is.1) tt
-  proven_call (Window_adjusted channel new_size) (Ok commands) call is h = subst (IsProvenCall given fields) (sym is) tt
-  proven_call (Window_adjusted channel new_size) (Err e) call is h = subst (IsProvenCall given fields) (sym is.1) tt
-  proven_call (Command_done place outcome) answer call is h = subst (IsProvenCall given fields) (sym is) tt
-
   -- where a request is served as it says, each call that is told is proven
   pub all_proven : {E : Type 0} (auth : AuthRequest) (said : Requested) (a b : Option (List (Call E))) (auth' : AuthRequest) (result : Result AuthStep (AuthError E)) → SaysRequest given fields said →
       CarriesOut (verdict auth said) a b auth' result → AllAdded (IsProvenCall given fields) a b
   all_proven {E} auth said a b auth' result says served =
-      carried_only (IsProven given fields) (IsProvenCall {E = E} given fields) proven_call (verdict auth said) a b auth' result (verdict_only auth said says) served
+      carried_only (IsProven given fields) (verdict auth said) a b auth' result (verdict_only auth said says) served
 
   -- where no call is made, none is unproven
   pub none_unproven : {E : Type 0} (a : Option (List (Call E))) → AllAdded (IsProvenCall {E = E} given fields) a a

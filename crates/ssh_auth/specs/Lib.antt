@@ -1,3 +1,4 @@
+pub mod Calls
 pub mod Failure
 pub mod Layout
 pub mod Plan
@@ -10,3 +11,4 @@ pub mod Response
 pub mod Requested
 pub mod Serve
 pub mod Verdict
+pub mod Was

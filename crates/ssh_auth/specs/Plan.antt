@@ -1,88 +1,101 @@
--- What is owed to a handler and to a link: questions one after another, each going on by its answer,
--- notices between them, and what comes of them.
-use Rattle.std.specs.Prelude.{◌≡◌, ℕ, List, [], ◌∷◌, Option, Result, Ok, Err}
-use Rattle.ssh_wire.specs.declared.channel_id.ChannelId.{ChannelId}
-use Rattle.ssh_keys.specs.declared.algorithm.Algorithm.{Algorithm}
-use Rattle.ssh_keys.specs.declared.certificate.Certificate.{Certificate}
-use Rattle.ssh_keys.specs.declared.public_key.PublicKey.{PublicKey}
+-- What is owed to a handler, to an exchange and to a link: questions one after another, each going on by
+-- its answer, notices between them, and what comes of them.
+use Rattle.std.specs.Prelude.{◌≡◌, ℕ, List, [], ◌∷◌, ◌++◌, Bool, Option, Some, None, Ok, Err}
 use Rattle.ssh_link.specs.declared.command.Command.{Command}
-use Rattle.ssh_link.specs.declared.outcome.CommandOutcome.{CommandOutcome}
 use Rattle.ssh_link.specs.declared.link.TraceEntry.{TraceEntry}
+use Rattle.ssh_link.specs.declared.kex.KexCall.{KexCall}
+use Rattle.ssh_link.specs.declared.kex.KexCall.TheVariants as kex
+use Rattle.ssh_link.specs.declared.kex.KexStep.{KexStep}
 use Rattle.ssh_auth.specs.declared.auth.Auth.{Auth}
 use Rattle.ssh_auth.specs.declared.call.Call.{Call}
-use Rattle.ssh_auth.specs.declared.call.Call.TheVariants.{AuthenticationBanner, AuthNone, AuthPassword, AuthPublickeyOffered, AuthPublickey, AuthOpensshCertificate, AuthKeyboardInteractive, AuthSucceeded, ChannelOpenSession, ChannelEof, ChannelClose, WindowAdjusted, CommandDone}
+use Rattle.ssh_auth.specs.declared.call.Call.TheVariants.{AuthenticationBanner, TcpipForward, AdjustWindow, CommandDone}
+use Rattle.ssh_auth.specs.declared.question.Question.{Question}
+use Rattle.ssh_auth.specs.declared.question.Question.TheVariants as asked
+use Rattle.ssh_auth.specs.Calls.{admission_call, lent_call, judged_call}
+use Rattle.ssh_auth.specs.Was.{asked_of}
 
--- what a handler is asked, or is told
-pub data Question : Type 0 where
-  -- for the banner that is shown before authentication (RFC 4252 section 5.4)
-  Authentication_banner : Question
-  -- whether this user is let in without a proof (RFC 4252 section 5.2)
-  Auth_none : (user : List ℕ) → Question
-  -- whether this user is let in by this password (RFC 4252 section 8)
-  Auth_password : (user password : List ℕ) → Question
-  -- whether this user may sign with this key by this algorithm (RFC 4252 section 7)
-  Auth_publickey_offered : (user : List ℕ) → (public_key : PublicKey) → (algorithm : Algorithm) → Question
-  -- whether this user is let in by this key, which has signed by this algorithm
-  Auth_publickey : (user : List ℕ) → (public_key : PublicKey) → (algorithm : Algorithm) → Question
-  -- whether this user is let in by this certificate, whose key has signed (OpenSSH PROTOCOL.certkeys)
-  Auth_openssh_certificate : (user : List ℕ) → (certificate : Certificate) → Question
-  -- whether this user is let in by these responses, or what to prompt for; there are none before the first prompt
-  -- (RFC 4256)
-  Auth_keyboard_interactive : (user submethods : List ℕ) → (response : Option (List (List ℕ))) → Question
-  -- that the user is authenticated (RFC 4252 section 5.1)
-  Auth_succeeded : Question
-  -- for the answer to a session channel that the peer opens under this number (RFC 4254 section 6.1)
-  Channel_open_session : (channel : ChannelId) → Question
-  -- that the peer sends no more data on the channel (RFC 4254 section 5.3)
-  Channel_eof : (channel : ChannelId) → Question
-  -- that the peer closed the channel (RFC 4254 section 5.3)
-  Channel_close : (channel : ChannelId) → Question
-  -- that so many bytes may still be sent on the channel (RFC 4254 section 5.2)
-  Window_adjusted : (channel : ChannelId) → (new_size : ℕ) → Question
-  -- that this came of the command at this place among those of the last callback
-  Command_done : (place : ℕ) → (outcome : CommandOutcome) → Question
+-- what a callback answered that says whether something is granted
+pub record Judgement : Type 0 where
+  pub granted : Bool
+  -- what it asked of the session
+  pub commands : List Command
 
--- what it answers where it answers no error: of most callbacks, the commands that they recorded
+-- what a callback answered that says whether connections to an address are forwarded
+pub record Listening : Type 0 where
+  pub granted : Bool
+  -- the port that is listened at
+  pub port : ℕ
+  -- what it asked of the session
+  pub commands : List Command
+
+-- what is answered to a question where no error is: of most callbacks, the commands that they recorded
 abbrev pub Answer : Question → Type 0
-Answer Authentication_banner = Option (List ℕ)
-Answer (Auth_none user) = Auth
-Answer (Auth_password user password) = Auth
-Answer (Auth_publickey_offered user public_key algorithm) = Auth
-Answer (Auth_publickey user public_key algorithm) = Auth
-Answer (Auth_openssh_certificate user certificate) = Auth
-Answer (Auth_keyboard_interactive user submethods response) = Auth
-Answer Auth_succeeded = List Command
-Answer (Channel_open_session channel) = List Command
-Answer (Channel_eof channel) = List Command
-Answer (Channel_close channel) = List Command
-Answer (Window_adjusted channel new_size) = List Command
-Answer (Command_done place outcome) = Unit {0}
+Answer asked.Banner = Option (List ℕ)
+Answer (asked.Admits admission) = Auth
+Answer (asked.Lends lent) = List Command
+Answer (asked.Judges judged) = Judgement
+Answer (asked.Listens address port) = Listening
+-- the window from now on; 0 leaves it as it is
+Answer (asked.Adjusts channel current) = ℕ
+Answer (asked.Done place outcome) = Unit {0}
+Answer asked.Begins = List ℕ
+Answer (asked.Steps payload) = KexStep
 
--- the callback recorded these commands; after an error they are of no account
-abbrev pub Recorded : {E : Type 0} → Result (List Command) E → (Result (Unit {0}) E → List Command → Call E) → Call E → Type 0
-Recorded (Ok commands) call_of call = call ≡ call_of (Ok tt) commands
-Recorded (Err error) call_of call = (commands : List Command) × (call ≡ call_of (Err error) commands)
+-- a call of the handler, a step of the exchange, or what the link was told
+pub data Event (E F : Type 0) : Type 0 where
+  Called : (call : Call E) → Event E F
+  Stepped : (step : KexCall F) → Event E F
+  Told : (entry : TraceEntry) → Event E F
 
--- the call in which this was asked, and so answered
-abbrev pub Answered : {E : Type 0} (question : Question) → Result (Answer question) E → Call E → Type 0
-Answered Authentication_banner answer call = call ≡ AuthenticationBanner answer
-Answered (Auth_none user) answer call = call ≡ AuthNone user answer
-Answered (Auth_password user password) answer call = call ≡ AuthPassword user password answer
-Answered (Auth_publickey_offered user public_key algorithm) answer call = call ≡ AuthPublickeyOffered user public_key algorithm answer
-Answered (Auth_publickey user public_key algorithm) answer call = call ≡ AuthPublickey user public_key algorithm answer
-Answered (Auth_openssh_certificate user certificate) answer call = call ≡ AuthOpensshCertificate user certificate answer
-Answered (Auth_keyboard_interactive user submethods response) answer call = call ≡ AuthKeyboardInteractive user submethods response answer
-Answered Auth_succeeded answer call = Recorded answer AuthSucceeded call
-Answered (Channel_open_session channel) answer call = Recorded answer (ChannelOpenSession channel) call
-Answered (Channel_eof channel) answer call = Recorded answer (ChannelEof channel) call
-Answered (Channel_close channel) answer call = Recorded answer (ChannelClose channel) call
-Answered (Window_adjusted channel new_size) answer call = Recorded answer (WindowAdjusted channel new_size) call
-Answered (Command_done place outcome) answer call = call ≡ CommandDone place outcome answer
+-- an error of the handler, or of the exchange
+pub data OutsideError (E F : Type 0) : Type 0 where
+  Handler_error : (error : E) → OutsideError E F
+  Exchange_error : (error : F) → OutsideError E F
+
+-- the event in which this was asked, and so answered
+abbrev pub answered : {E F : Type 0} (question : Question) → Answer question → Event E F
+answered asked.Banner banner = Called (AuthenticationBanner (Ok banner))
+answered (asked.Admits admission) auth = Called (admission_call admission (Ok auth))
+answered (asked.Lends lent) commands = Called (lent_call lent (Ok tt) commands)
+answered (asked.Judges judged) judgement = Called (judged_call judged (Ok judgement.granted) judgement.commands)
+answered (asked.Listens address port) listening = Called (TcpipForward address port listening.port (Ok listening.granted) listening.commands)
+answered (asked.Adjusts channel current) window = Called (AdjustWindow channel current (Ok window))
+answered (asked.Done place outcome) done = Called (CommandDone place outcome (Ok done))
+answered asked.Begins payload = Stepped (kex.Begun (Ok payload))
+answered (asked.Steps payload) step = Stepped (kex.Stepped payload (Ok step))
+
+abbrev pub Answered : {E F : Type 0} (question : Question) → Answer question → Event E F → Type 0
+Answered question answer event = event ≡ answered question answer
+
+-- the event in which this was asked, and answered by this error: the commands that were recorded then, and the port, are of no account
+abbrev pub Refused : {E F : Type 0} → Question → OutsideError E F → Event E F → Type 0
+Refused asked.Banner (Handler_error e) event = event ≡ Called (AuthenticationBanner (Err e))
+Refused (asked.Admits admission) (Handler_error e) event = event ≡ Called (admission_call admission (Err e))
+Refused (asked.Lends lent) (Handler_error e) event = (commands : List Command) × (event ≡ Called (lent_call lent (Err e) commands))
+Refused (asked.Judges judged) (Handler_error e) event = (commands : List Command) × (event ≡ Called (judged_call judged (Err e) commands))
+Refused (asked.Listens address port) (Handler_error e) event =
+    (port_after : ℕ) × (commands : List Command) × (event ≡ Called (TcpipForward address port port_after (Err e) commands))
+Refused (asked.Adjusts channel current) (Handler_error e) event = event ≡ Called (AdjustWindow channel current (Err e))
+Refused (asked.Done place outcome) (Handler_error e) event = event ≡ Called (CommandDone place outcome (Err e))
+Refused asked.Begins (Exchange_error f) event = event ≡ Stepped (kex.Begun (Err f))
+Refused (asked.Steps payload) (Exchange_error f) event = event ≡ Stepped (kex.Stepped payload (Err f))
+Refused _ _ event = ⊥
+
+-- what was asked in a step of the exchange
+abbrev pub asked_in_step : {F : Type 0} → KexCall F → Question
+asked_in_step (kex.Begun answer) = asked.Begins
+asked_in_step (kex.Stepped payload answer) = asked.Steps payload
+
+-- what was asked in an event: nothing, where the link was told something
+abbrev pub asked_in : {E F : Type 0} → Event E F → Option Question
+asked_in (Called call) = Some (asked_of call)
+asked_in (Stepped step) = Some (asked_in_step step)
+asked_in (Told entry) = None
 
 pub data Plan (O : Type 0) : Type 0 where
   -- nothing more is asked, and this comes of it
   Finish : (outcome : O) → Plan O
-  -- the handler is asked this, and its answer says how to go on
+  -- the handler or the exchange is asked this, and the answer says how to go on
   Ask : (question : Question) → (next : Answer question → Plan O) → Plan O
   -- the link is told this
   Tell : (entry : TraceEntry) → (next : Plan O) → Plan O
@@ -93,50 +106,45 @@ after (Finish outcome) later = later outcome
 after (Ask question next) later = Ask question (λ answer. after (next answer) later)
 after (Tell entry next) later = Tell entry (after next later)
 
--- a call of the handler, or what the link was told
-pub data Event (E : Type 0) : Type 0 where
-  Called : (call : Call E) → Event E
-  Told : (entry : TraceEntry) → Event E
-
--- the calls among these, and what the link was told
-abbrev pub calls_in : {E : Type 0} → List (Event E) → List (Call E)
+-- the calls among these, the steps of the exchange, and what the link was told
+abbrev pub calls_in : {E F : Type 0} → List (Event E F) → List (Call E)
 calls_in [] = []
 calls_in (Called call ∷ events) = call ∷ calls_in events
-calls_in (Told entry ∷ events) = calls_in events
+calls_in (_ ∷ events) = calls_in events
 
-abbrev pub told_in : {E : Type 0} → List (Event E) → List TraceEntry
+abbrev pub steps_in : {E F : Type 0} → List (Event E F) → List (KexCall F)
+steps_in [] = []
+steps_in (Stepped step ∷ events) = step ∷ steps_in events
+steps_in (_ ∷ events) = steps_in events
+
+abbrev pub told_in : {E F : Type 0} → List (Event E F) → List TraceEntry
 told_in [] = []
-told_in (Called call ∷ events) = told_in events
 told_in (Told entry ∷ events) = entry ∷ told_in events
+told_in (_ ∷ events) = told_in events
 
--- these are all events of the plan, no call answered an error, and this comes of them
-abbrev pub Follows : {E O : Type 0} → Plan O → List (Event E) → O → Type 0
-Follows (Finish planned) [] outcome = outcome ≡ planned
-Follows (Ask question next) (Called call ∷ events) outcome =
-    (answer : Answer question) × Answered question (Ok answer) call × Follows (next answer) events outcome
-Follows (Tell entry next) (Told told ∷ events) outcome = (told ≡ entry) × Follows next events outcome
-Follows _ _ outcome = ⊥
-
--- these are the first events of the plan, and no call answered an error
-abbrev pub Begins : {E O : Type 0} → Plan O → List (Event E) → Type 0
-Begins plan [] = Unit {0}
-Begins (Ask question next) (Called call ∷ events) =
-    (answer : Answer question) × Answered question (Ok answer) call × Begins (next answer) events
-Begins (Tell entry next) (Told told ∷ events) = (told ≡ entry) × Begins next events
-Begins _ (event ∷ events) = ⊥
-
--- these are the first events of the plan, and the last of them alone is a call that answered an error, this one
-abbrev pub Breaks : {E O : Type 0} → Plan O → List (Event E) → E → Type 0
-Breaks (Ask question next) (Called call ∷ []) error = Answered question (Err error) call
-Breaks (Ask question next) (Called call ∷ later ∷ events) error =
-    (answer : Answer question) × Answered question (Ok answer) call × Breaks (next answer) (later ∷ events) error
-Breaks (Tell entry next) (Told told ∷ events) error = (told ≡ entry) × Breaks next events error
-Breaks _ _ error = ⊥
-
--- after these events, in which no call answered an error, the plan has come to this rest
-abbrev pub Reaches : {E O : Type 0} → Plan O → List (Event E) → Plan O → Type 0
+-- after these events, in which nobody answered an error, the plan has come to this rest
+abbrev pub Reaches : {E F O : Type 0} → Plan O → List (Event E F) → Plan O → Type 0
 Reaches plan [] rest = plan ≡ rest
-Reaches (Ask question next) (Called call ∷ events) rest =
-    (answer : Answer question) × Answered question (Ok answer) call × Reaches (next answer) events rest
-Reaches (Tell entry next) (Told told ∷ events) rest = (told ≡ entry) × Reaches next events rest
-Reaches _ (event ∷ events) rest = ⊥
+Reaches (Ask question next) (event ∷ events) rest = (answer : Answer question) × Answered question answer event × Reaches (next answer) events rest
+Reaches (Tell entry next) (event ∷ events) rest = (event ≡ Told entry) × Reaches next events rest
+Reaches (Finish outcome) (event ∷ events) rest = ⊥
+
+-- these are all events of the plan, nobody answered an error, and this comes of them
+abbrev pub Follows : {E F O : Type 0} → Plan O → List (Event E F) → O → Type 0
+Follows plan events outcome = Reaches plan events (Finish outcome)
+
+-- these are the first events of the plan, and nobody answered an error
+abbrev pub Begins : {E F O : Type 0} → Plan O → List (Event E F) → Type 0
+Begins {E} {F} {O} plan events = (rest : Plan O) × Reaches plan events rest
+
+-- these are the first events of the plan, and the last of them alone is an answer that was an error, this one
+pub record Breaks {E F O : Type 0} (plan : Plan O) (events : List (Event E F)) (error : OutsideError E F) : Type 0 where
+  -- what was asked last, and what would have come of it
+  pub question : Question
+  pub next : Answer question → Plan O
+  -- the events before it, and its own
+  pub before : List (Event E F)
+  pub last : Event E F
+  pub is : events ≡ before ++ last ∷ []
+  pub reaches : Reaches plan before (Ask question next)
+  pub refused : Refused question error last

@@ -8,10 +8,13 @@ use Rattle.ssh_keys.specs.Algorithms.{algorithm_name}
 use Rattle.ssh_keys.specs.Offers.{offered_key}
 use Rattle.ssh_keys.specs.Signatures.{EndsInSignature}
 use Rattle.ssh_auth.specs.declared.call.Call.{Call}
-use Rattle.ssh_auth.specs.declared.call.Call.TheVariants.{AuthPublickey, AuthOpensshCertificate, AuthKeyboardInteractive}
-use Rattle.ssh_auth.specs.Plan.{Question, Auth_publickey, Auth_openssh_certificate, Answer, Plan, Finish, Ask, Tell}
+use Rattle.ssh_auth.specs.declared.question.Admission.TheVariants as by
+use Rattle.ssh_auth.specs.declared.question.Question.TheVariants.{Admits}
+use Rattle.ssh_auth.specs.declared.question.Question.{Question}
+use Rattle.ssh_auth.specs.Plan.{Answer, Plan, Finish, Ask, Tell}
 use Rattle.ssh_auth.specs.Publickey.{Circumstances, Offer, Offers, question}
 use Rattle.ssh_auth.specs.Requested.{head_fields}
+use Rattle.ssh_auth.specs.Was.{asked_of}
 
 -- the request is this user's, by this offer, which can be used, and it ends in a signature that the verifier accepts:
 -- of the offered key, by the algorithm that the request names, of the session id and all of the request before it
@@ -27,9 +30,9 @@ IsSignedBy given fields user offer =
 
 -- a question by which a key or a certificate may let a user in is about one that has signed the request so
 abbrev pub IsProven : Circumstances → List ℕ → Question → Type 0
-IsProven given fields (Auth_publickey user key algorithm) =
+IsProven given fields (Admits (by.Publickey user key algorithm)) =
     (offer : Offer) × (hash : Option HashAlg) × (offer.key ≡ Plain key hash) × (offer.algorithm ≡ algorithm) × IsSignedBy given fields user offer
-IsProven given fields (Auth_openssh_certificate user certificate) =
+IsProven given fields (Admits (by.OpensshCertificate user certificate)) =
     (offer : Offer) × (offer.key ≡ Certificate certificate) × IsSignedBy given fields user offer
 IsProven given fields question = Unit {0}
 
@@ -42,14 +45,16 @@ AsksOnly P (Tell entry next) = AsksOnly P next
 -- a call by which a key or a certificate may let a user in is about one that has signed the request so, whatever it
 -- was answered
 abbrev pub IsProvenCall : {E : Type 0} → Circumstances → (fields : List ℕ) → Call E → Type 0
-IsProvenCall given fields (AuthPublickey user public_key algorithm answer) = IsProven given fields (Auth_publickey user public_key algorithm)
-IsProvenCall given fields (AuthOpensshCertificate user certificate answer) = IsProven given fields (Auth_openssh_certificate user certificate)
-IsProvenCall given fields call = Unit {0}
+IsProvenCall given fields call = IsProven given fields (asked_of call)
+
+-- the question is one of a round of keyboard-interactive
+abbrev pub IsPrompt : Question → Type 0
+IsPrompt (Admits (by.KeyboardInteractive user submethods response)) = Unit {0}
+IsPrompt question = ⊥
 
 -- the call asks in a round of keyboard-interactive
 abbrev pub IsPromptCall : {E : Type 0} → Call E → Type 0
-IsPromptCall (AuthKeyboardInteractive user submethods response answer) = Unit {0}
-IsPromptCall call = ⊥
+IsPromptCall call = IsPrompt (asked_of call)
 
 -- of each that is told now and was not before, this holds
 abbrev pub AllAdded : {A : Type 0} → (A → Type 0) → Option (List A) → Option (List A) → Type 0

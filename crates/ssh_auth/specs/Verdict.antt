@@ -15,9 +15,11 @@ use Rattle.ssh_auth.specs.declared.auth_request.AuthRequest.{AuthRequest}
 use Rattle.ssh_auth.specs.declared.auth_request.CurrentRequest.TheVariants as round
 use Rattle.ssh_auth.specs.declared.auth_step.AuthVerdict.{AuthVerdict}
 use Rattle.ssh_auth.specs.declared.auth_step.AuthVerdict.TheVariants.{Accepted, Rejected, Continued}
+use Rattle.ssh_auth.specs.declared.question.Admission.TheVariants as by
+use Rattle.ssh_auth.specs.declared.question.Question.TheVariants.{Admits}
 use Rattle.ssh_auth.specs.declared.reply.Rejection.{Rejection}
 use Rattle.ssh_auth.specs.Layout.{failure, success, pk_ok, info_request}
-use Rattle.ssh_auth.specs.Plan.{Plan, Finish, Ask, Auth_none, Auth_password, Auth_publickey_offered, Auth_publickey, Auth_openssh_certificate, Auth_keyboard_interactive}
+use Rattle.ssh_auth.specs.Plan.{Plan, Finish, Ask}
 use Rattle.ssh_auth.specs.Request.{begun, count_after, is_probed, prompt_of}
 use Rattle.ssh_auth.specs.Response.{Responded, Responses, Unfit_responses, Unread_responses}
 use Rattle.ssh_auth.specs.Publickey.{Offer}
@@ -104,12 +106,12 @@ after_prompts auth (Partial name instructions prompts) =
 
 -- the handler is asked in a round of keyboard-interactive
 abbrev pub interactive : AuthRequest → (user submethods : List ℕ) → Option (List (List ℕ)) → Plan AuthOutcome
-interactive auth user submethods response = Ask (Auth_keyboard_interactive user submethods response) (λ answer. Finish (after_prompts auth answer))
+interactive auth user submethods response = Ask (Admits (by.KeyboardInteractive user submethods response)) (λ answer. Finish (after_prompts auth answer))
 
 -- the handler is asked whether a key, or a certificate, lets the user in
 abbrev pub proof : AuthRequest → List ℕ → PublicKeyOrCertificate → Algorithm → Plan AuthOutcome
-proof auth user (Plain key hash) algorithm = Ask (Auth_publickey user key algorithm) (λ answer. Finish (after_proof auth answer))
-proof auth user (Certificate certificate) algorithm = Ask (Auth_openssh_certificate user certificate) (λ answer. Finish (after_proof auth answer))
+proof auth user (Plain key hash) algorithm = Ask (Admits (by.Publickey user key algorithm)) (λ answer. Finish (after_proof auth answer))
+proof auth user (Certificate certificate) algorithm = Ask (Admits (by.OpensshCertificate user certificate)) (λ answer. Finish (after_proof auth answer))
 
 -- the verifier refuses or accepts the signature of a key that may sign
 abbrev pub signed : AuthRequest → List ℕ → Offer → (accepted : Option Bool) → Plan AuthOutcome
@@ -127,12 +129,12 @@ abbrev pub signed_verdict : AuthRequest → List ℕ → Offer → (accepted : O
 signed_verdict auth user offer accepted =
     if is_probed auth.current offer.name offer.blob
     then signed auth user offer accepted
-    else Ask (Auth_publickey_offered user (offered_key offer.key) offer.algorithm) (λ answer. permitted auth answer (signed auth user offer accepted))
+    else Ask (Admits (by.PublickeyOffered user (offered_key offer.key) offer.algorithm)) (λ answer. permitted auth answer (signed auth user offer accepted))
 
 -- a request by the method that it names, once its principal is bound
 abbrev pub method_verdict : AuthRequest → List ℕ → Method → Plan AuthOutcome
-method_verdict auth user None_method = Ask (Auth_none user) (λ answer. Finish (after_method auth kind.None answer))
-method_verdict auth user (Password_method password) = Ask (Auth_password user password) (λ answer. Finish (after_method auth kind.Password answer))
+method_verdict auth user None_method = Ask (Admits (by.None user)) (λ answer. Finish (after_method auth kind.None answer))
+method_verdict auth user (Password_method password) = Ask (Admits (by.Password user password)) (λ answer. Finish (after_method auth kind.Password answer))
 -- a change is not served, and its method is taken away
 method_verdict auth user (Change_method password new_password) = Finish (taken_away auth kind.Password)
 -- an unusable key, or a signature of another name
@@ -140,7 +142,7 @@ method_verdict auth user Unusable_method = Finish (refused auth)
 method_verdict auth user Misnamed_method = Finish (refused auth)
 method_verdict auth user Broken_method = Finish (Fails Key)
 method_verdict auth user (Probe_method offer) =
-    Ask (Auth_publickey_offered user (offered_key offer.key) offer.algorithm) (λ answer. Finish (after_offer auth offer answer))
+    Ask (Admits (by.PublickeyOffered user (offered_key offer.key) offer.algorithm)) (λ answer. Finish (after_offer auth offer answer))
 method_verdict auth user (Signed_method offer accepted) = signed_verdict auth user offer accepted
 -- a round begins, in which nothing was prompted for yet
 method_verdict auth user (Interactive_method submethods) = interactive (record auth { current = Some (round.KeyboardInteractive submethods) }) user submethods None

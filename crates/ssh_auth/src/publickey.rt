@@ -4,7 +4,9 @@ ghost use Rattle.ssh_wire.specs.Field.{string};
 ghost use Rattle.ssh_link.specs.Told.{Tells};
 ghost use Rattle.ssh_keys.specs.Offers.{offered_key};
 ghost use Rattle.ssh_auth.specs.declared.call.Call.TheVariants.{AuthPublickeyOffered};
-ghost use Rattle.ssh_auth.specs.Plan.{Finish, Ask, Auth_publickey, Auth_openssh_certificate};
+ghost use Rattle.ssh_auth.specs.declared.question.Admission.TheVariants as by;
+ghost use Rattle.ssh_auth.specs.declared.question.Question.TheVariants.{Admits};
+ghost use Rattle.ssh_auth.specs.Plan.{Finish, Ask};
 ghost use Rattle.ssh_auth.specs.Publickey.{Offers, IsAnswer};
 ghost use Rattle.ssh_auth.specs.Requested.{SaysPublickey, Probe_method, Signed_method};
 ghost use Rattle.ssh_auth.specs.Verdict.{method_verdict, signed as signed_plan, proof, after_proof};
@@ -205,7 +207,7 @@ fn let_in_by_key<H: AuthHandler>(
     public_key: &PublicKey,
     algorithm: Algorithm,
 ) -> Result<AuthStep, AuthError<H::Error>>
-    ensures { CarriesOut (Ask (Auth_publickey user.now public_key.now algorithm) (λ answer. Finish (after_proof auth.old answer))) (H.told handler.old) (H.told handler.new) auth.new result }
+    ensures { CarriesOut (Ask (Admits (by.Publickey user.now public_key.now algorithm)) (λ answer. Finish (after_proof auth.old answer))) (H.told handler.old) (H.told handler.new) auth.new result }
 {
     let key = VerifiedPublicKey {
         public_key,
@@ -225,7 +227,7 @@ fn let_in_by_certificate<H: AuthHandler>(
     user: &str,
     certificate: &Certificate,
 ) -> Result<AuthStep, AuthError<H::Error>>
-    ensures { CarriesOut (Ask (Auth_openssh_certificate user.now certificate.now) (λ answer. Finish (after_proof auth.old answer))) (H.told handler.old) (H.told handler.new) auth.new result }
+    ensures { CarriesOut (Ask (Admits (by.OpensshCertificate user.now certificate.now)) (λ answer. Finish (after_proof auth.old answer))) (H.told handler.old) (H.told handler.new) auth.new result }
 {
     match handler.auth_openssh_certificate(user, certificate) {
         Ok(verdict) => Ok(answer_proof(alloc, auth, &verdict)?),

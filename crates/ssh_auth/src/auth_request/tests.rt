@@ -7,124 +7,139 @@ use ssh_wire::{Blobs, MethodKind, MethodSet, Text};
 use std::alloc::Global;
 use std::test::*;
 
-fn bytes(alloc: Global, value: &[u8]) -> Result<Bytes, Fail> {
-    Ok(Bytes::copy_from_slice(alloc, value)?)
-}
-
-fn key(alloc: Global) -> Result<PublicKey, Fail> {
-    Ok(PublicKey::Ed25519 {
-        key: bytes(alloc, &[7; 32])?,
-    })
+fn key() -> PublicKey {
+    PublicKey::Ed25519 {
+        key: Bytes::from_static(b"a key of a user"),
+    }
 }
 
 fn certificate(alloc: Global) -> Result<Certificate, Fail> {
+    let key_id = Text::new(alloc, "ada's laptop")?;
+    let name = Text::new(alloc, "ssh-ed25519")?;
     Ok(Certificate {
-        nonce: bytes(alloc, b"nonce")?,
-        public_key: key(alloc)?,
+        nonce: Bytes::from_static(b"nonce"),
+        public_key: key(),
         serial: 1,
         cert_type: CertType::User,
-        key_id: Text::new(alloc, "ada's laptop")?,
-        valid_principals: bytes(alloc, b"")?,
+        key_id,
+        valid_principals: Bytes::new(),
         valid_after: 0,
         valid_before: u64::MAX,
-        critical_options: bytes(alloc, b"")?,
-        extensions: bytes(alloc, b"")?,
-        reserved: bytes(alloc, b"")?,
-        signature_key: key(alloc)?,
+        critical_options: Bytes::new(),
+        extensions: Bytes::new(),
+        reserved: Bytes::new(),
+        signature_key: key(),
         signature: Signature {
-            name: Text::new(alloc, "ssh-ed25519")?,
-            blob: bytes(alloc, &[9; 64])?,
+            name,
+            blob: Bytes::from_static(b"a signature"),
         },
-        signed: bytes(alloc, b"")?,
+        signed: Bytes::new(),
     })
 }
 
-fn prompts(alloc: Global, submethods: &str) -> Result<CurrentRequest, Fail> {
-    Ok(CurrentRequest::KeyboardInteractive {
-        submethods: Text::new(alloc, submethods)?,
-    })
+// The fields, with the submethods of the prompts that were begun, and the name of any other round.
+#[derive(Clone, Copy, Debug, PartialEq, Eq)]
+struct Fields<'a> {
+    methods: MethodSet,
+    partial_success: bool,
+    round: Option<(&'static str, &'a str)>,
+    rejection_count: usize,
+    principal: Option<(&'a str, &'a str)>,
+    initial: MethodSet,
 }
 
-// A method, and the round that a client begins with.
-#[derive(Drop)]
-struct Beginning {
-    shows: &'static str,
-    method: Method,
-    current: Option<CurrentRequest>,
+fn fields_of(auth: &AuthRequest) -> Fields<'_> {
+    let round = match &auth.current {
+        Some(CurrentRequest::KeyboardInteractive { submethods }) => {
+            Some(("prompts", submethods.as_str()))
+        }
+        Some(CurrentRequest::GssapiWithMic) => Some(("GSS-API", "")),
+        Some(CurrentRequest::PublicKey { algo, .. }) => Some(("a key", algo.as_str())),
+        None => None,
+    };
+    Fields {
+        methods: auth.methods,
+        partial_success: auth.partial_success,
+        round,
+        rejection_count: auth.rejection_count,
+        principal: auth.principal(),
+        initial: auth.initial_methods(),
+    }
 }
 
-fn beginnings(alloc: Global) -> Result<Vec<Beginning>, Fail> {
-    Ok(vec![in alloc;
-        Beginning {
-            shows: "the method none begins nothing",
-            method: Method::None,
-            current: None,
-        },
-        Beginning {
-            shows: "a password begins nothing",
-            method: Method::Password {
-                password: Text::new(alloc, "secret")?,
-            },
-            current: None,
-        },
-        Beginning {
-            shows: "a key begins nothing",
-            method: Method::FuturePublicKey {
-                key: key(alloc)?,
-                hash_alg: None,
-            },
-            current: None,
-        },
-        Beginning {
-            shows: "a certificate begins nothing",
-            method: Method::FutureCertificate {
-                cert: certificate(alloc)?,
-                hash_alg: Some(HashAlg::Sha512),
-            },
-            current: None,
-        },
-        Beginning {
-            shows: "prompts begin with their submethods",
-            method: Method::KeyboardInteractive {
-                submethods: Text::new(alloc, "pam,otp")?,
-            },
-            current: Some(prompts(alloc, "pam,otp")?),
-        },
-        Beginning {
-            shows: "prompts without submethods begin too",
-            method: Method::KeyboardInteractive {
-                submethods: Text::new(alloc, "")?,
-            },
-            current: Some(prompts(alloc, "")?),
-        },
-        Beginning {
-            shows: "GSS-API begins",
-            method: Method::GssapiWithMic {
-                mechanism_oids: Blobs::new(alloc),
-            },
-            current: Some(CurrentRequest::GssapiWithMic),
-        },
-    ]?)
+// Whether a client that would go on with this method begins with all methods and this round.
+fn begins(method: Method, round: Option<(&'static str, &'static str)>) -> bool {
+    let all = MethodSet::client_supported();
+    let wanted = Fields {
+        methods: all,
+        partial_success: false,
+        round,
+        rejection_count: 0,
+        principal: None,
+        initial: all,
+    };
+    let begun = AuthRequest::new(&method);
+    let is_wanted = matches!(&begun, Ok(auth) if fields_of(auth) == wanted);
+    drop(begun);
+    drop(method);
+    is_wanted
 }
 
 #[test]
-fn a_client_begins_with_all_methods_and_the_round_of_its_own(rt: HostRuntime) -> Result<(), Fail> {
-    let all = MethodSet::client_supported();
-    for row in beginnings(rt.alloc())? {
-        let wanted = AuthRequest {
-            methods: all,
-            partial_success: false,
-            current: row.current,
-            rejection_count: 0,
-            bound: None,
-            initial: all,
-        };
-        let auth = AuthRequest::new(&row.method)?;
-        assert!(rt; auth == wanted, "{}", row.shows);
-        assert_eq!(rt; auth.principal(), None, "{}", row.shows);
-        assert_eq!(rt; auth.initial_methods(), all, "{}", row.shows);
-    }
+fn a_client_begins_with_all_methods_and_no_round(rt: HostRuntime) -> Result<(), Fail> {
+    let alloc = rt.alloc();
+    assert!(rt;
+        begins(Method::None, None),
+        "the method none begins nothing"
+    );
+    let password = Text::new(alloc, "secret")?;
+    assert!(rt;
+        begins(Method::Password { password }, None),
+        "a password begins nothing"
+    );
+    let hash_alg = None;
+    assert!(rt;
+        begins(
+            Method::FuturePublicKey {
+                key: key(),
+                hash_alg
+            },
+            None
+        ),
+        "a key begins nothing"
+    );
+    let cert = certificate(alloc)?;
+    let hash_alg = Some(HashAlg::Sha512);
+    assert!(rt;
+        begins(Method::FutureCertificate { cert, hash_alg }, None),
+        "a certificate begins nothing"
+    );
     Ok(())
+}
+
+#[test]
+fn a_client_that_is_prompted_or_goes_by_gss_api_begins(rt: HostRuntime) -> Result<(), Fail> {
+    let alloc = rt.alloc();
+    for (shows, names) in [
+        ("prompts begin with their submethods", "pam,otp"),
+        ("prompts without submethods begin too", ""),
+    ] {
+        let submethods = Text::new(alloc, names)?;
+        let method = Method::KeyboardInteractive { submethods };
+        assert!(rt; begins(method, Some(("prompts", names))), "{shows}");
+    }
+    let mechanism_oids = Blobs::new(alloc);
+    let method = Method::GssapiWithMic { mechanism_oids };
+    assert!(rt; begins(method, Some(("GSS-API", ""))), "GSS-API begins");
+    Ok(())
+}
+
+// Whether both are equal in all fields.
+fn are_equal(one: AuthRequest, other: AuthRequest) -> bool {
+    let are_equal = one == other;
+    drop(one);
+    drop(other);
+    are_equal
 }
 
 #[test]
@@ -147,10 +162,9 @@ fn a_server_begins_with_its_methods_and_nobody_bound(rt: HostRuntime) {
             bound: None,
             initial: methods,
         };
-        let auth = AuthRequest::server(methods);
-        assert!(rt; auth == wanted, "{shows}");
-        assert_eq!(rt; auth.principal(), None, "{shows}");
-        assert_eq!(rt; auth.initial_methods(), methods, "{shows}");
+        assert_eq!(rt; wanted.principal(), None, "{shows}");
+        assert_eq!(rt; wanted.initial_methods(), methods, "{shows}");
+        assert!(rt; are_equal(AuthRequest::server(methods), wanted), "{shows}");
     }
 }
 
@@ -166,82 +180,93 @@ fn principal(alloc: Global, pair: Option<(&str, &str)>) -> Result<Option<Princip
 
 // After some requests by this user for this service.
 fn underway(alloc: Global, pair: Option<(&str, &str)>) -> Result<AuthRequest, Fail> {
+    let submethods = Text::new(alloc, "pam")?;
+    let bound = principal(alloc, pair)?;
     Ok(AuthRequest {
         methods: MethodSet::from_slice(&[MethodKind::Password]),
         partial_success: true,
-        current: Some(prompts(alloc, "pam")?),
+        current: Some(CurrentRequest::KeyboardInteractive { submethods }),
         rejection_count: 3,
-        bound: principal(alloc, pair)?,
+        bound,
         initial: MethodSet::from_slice(&[MethodKind::PublicKey, MethodKind::Password]),
     })
 }
 
-// The same, once it begins anew for another pair.
-fn begun_anew(alloc: Global, pair: (&str, &str)) -> Result<AuthRequest, Fail> {
-    let initial = MethodSet::from_slice(&[MethodKind::PublicKey, MethodKind::Password]);
-    Ok(AuthRequest {
-        methods: initial,
-        partial_success: false,
-        current: None,
+// Whether the next request, by this pair, begins anew just where that differs from the bound one.
+fn goes_on(
+    alloc: Global,
+    mut auth: AuthRequest,
+    bound: Option<(&'static str, &'static str)>,
+    named: (&'static str, &'static str),
+    differs: bool,
+) -> bool {
+    let before = fields_of(&auth);
+    let was_bound = before.principal == bound;
+    let (methods, initial) = (before.methods, before.initial);
+    let answer = auth.bind_or_reset_principal(alloc, named.0, named.1);
+    let wanted = Fields {
+        methods: if differs { initial } else { methods },
+        partial_success: !differs,
+        round: if differs {
+            None
+        } else {
+            Some(("prompts", "pam"))
+        },
         rejection_count: 3,
-        bound: principal(alloc, Some(pair))?,
+        principal: Some(named),
         initial,
-    })
+    };
+    let is_wanted = fields_of(&auth) == wanted;
+    drop(auth);
+    was_bound && answer == Ok(differs) && is_wanted
 }
+
+const ADA: (&str, &str) = ("ada", "ssh-connection");
+
+// Who was bound, whom the next request names, and whether they differ.
+const PAIRS: [(&str, Option<(&str, &str)>, (&str, &str), bool); 9] = [
+    ("the first request binds its pair", None, ADA, true),
+    ("the same pair changes nothing", Some(ADA), ADA, false),
+    ("another user", Some(ADA), ("bob", "ssh-connection"), true),
+    ("another service", Some(ADA), ("ada", "ssh-userauth"), true),
+    (
+        "case tells users apart",
+        Some(ADA),
+        ("Ada", "ssh-connection"),
+        true,
+    ),
+    (
+        "a user's name is compared whole",
+        Some(ADA),
+        ("ad", "ssh-connection"),
+        true,
+    ),
+    (
+        "a pair is not its two names joined",
+        Some(("ad", "a")),
+        ("a", "da"),
+        true,
+    ),
+    (
+        "empty names are nobody's until they are bound",
+        None,
+        ("", ""),
+        true,
+    ),
+    (
+        "empty names are bound like others",
+        Some(("", "")),
+        ("", ""),
+        false,
+    ),
+];
 
 #[test]
 fn another_user_or_service_begins_anew(rt: HostRuntime) -> Result<(), Fail> {
     let alloc = rt.alloc();
-    let ada = ("ada", "ssh-connection");
-    let rows = [
-        ("the first request binds its pair", None, ada, true),
-        ("the same pair changes nothing", Some(ada), ada, false),
-        ("another user", Some(ada), ("bob", "ssh-connection"), true),
-        ("another service", Some(ada), ("ada", "ssh-userauth"), true),
-        (
-            "case tells users apart",
-            Some(ada),
-            ("Ada", "ssh-connection"),
-            true,
-        ),
-        (
-            "a user's name is compared whole",
-            Some(ada),
-            ("ad", "ssh-connection"),
-            true,
-        ),
-        (
-            "a pair is not its two names joined",
-            Some(("ad", "a")),
-            ("a", "da"),
-            true,
-        ),
-        (
-            "empty names are nobody's until they are bound",
-            None,
-            ("", ""),
-            true,
-        ),
-        (
-            "empty names are bound like others",
-            Some(("", "")),
-            ("", ""),
-            false,
-        ),
-    ];
-    for (shows, bound, named, differs) in rows {
-        let mut auth = underway(alloc, bound)?;
-        assert_eq!(rt; auth.principal(), bound, "{shows}");
-        let answer = auth.bind_or_reset_principal(alloc, named.0, named.1)?;
-        assert_eq!(rt; answer, differs, "{shows}");
-        let wanted = if differs {
-            begun_anew(alloc, named)?
-        } else {
-            underway(alloc, bound)?
-        };
-        assert!(rt; auth == wanted, "{shows}");
-        assert_eq!(rt; auth.principal(), Some(named), "{shows}");
-        assert_eq!(rt; auth.initial_methods(), wanted.initial, "{shows}");
+    for (shows, bound, named, differs) in PAIRS {
+        let auth = underway(alloc, bound)?;
+        assert!(rt; goes_on(alloc, auth, bound, named, differs), "{shows}");
     }
     Ok(())
 }

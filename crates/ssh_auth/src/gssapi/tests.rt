@@ -2,126 +2,116 @@
 use crate::{GssapiError, GssapiStep};
 use bytes::Bytes;
 use ssh_wire::Text;
-use std::alloc::Global;
 use std::test::*;
 
-fn token(alloc: Global, value: &[u8]) -> Result<Bytes, Fail> {
-    Ok(Bytes::copy_from_slice(alloc, value)?)
+fn are_equal<T: PartialEq + Drop>(one: T, other: T) -> bool {
+    let are_equal = one == other;
+    drop(one);
+    drop(other);
+    are_equal
 }
 
-fn steps(alloc: Global) -> Result<Vec<(&'static str, GssapiStep)>, Fail> {
-    Ok(vec![in alloc;
-        (
-            "a token for the peer",
-            GssapiStep::Continue {
-                token: token(alloc, b"one")?
-            }
-        ),
-        (
-            "another token for the peer",
-            GssapiStep::Continue {
-                token: token(alloc, b"two")?
-            }
-        ),
-        (
-            "an end with nothing to send",
-            GssapiStep::Complete {
-                token: None,
-                mic: None
-            }
-        ),
+// What a step is made of.
+#[derive(Clone, Copy)]
+enum Parts {
+    Continue(&'static [u8]),
+    Complete(Option<&'static [u8]>, Option<&'static [u8]>),
+}
+
+fn token(bytes: Option<&'static [u8]>) -> Option<Bytes> {
+    match bytes {
+        Some(bytes) => Some(Bytes::from_static(bytes)),
+        None => None,
+    }
+}
+
+fn step(parts: Parts) -> GssapiStep {
+    match parts {
+        Parts::Continue(bytes) => GssapiStep::Continue {
+            token: Bytes::from_static(bytes),
+        },
+        Parts::Complete(last, mic) => GssapiStep::Complete {
+            token: token(last),
+            mic: token(mic),
+        },
+    }
+}
+
+#[test]
+fn steps_are_equal_where_their_fields_are(rt: HostRuntime) {
+    let rows = [
+        ("a token for the peer", Parts::Continue(b"one")),
+        ("another token for the peer", Parts::Continue(b"two")),
+        ("an end with nothing to send", Parts::Complete(None, None)),
         (
             "an end with a last token",
-            GssapiStep::Complete {
-                token: Some(token(alloc, b"one")?),
-                mic: None
-            },
+            Parts::Complete(Some(b"one"), None),
         ),
         (
             "an end with an empty last token",
-            GssapiStep::Complete {
-                token: Some(token(alloc, b"")?),
-                mic: None
-            },
+            Parts::Complete(Some(b""), None),
         ),
         (
             "an end with a check of the request",
-            GssapiStep::Complete {
-                token: None,
-                mic: Some(token(alloc, b"one")?)
-            },
+            Parts::Complete(None, Some(b"one")),
         ),
         (
             "an end with both",
-            GssapiStep::Complete {
-                token: Some(token(alloc, b"one")?),
-                mic: Some(token(alloc, b"mic")?)
-            },
+            Parts::Complete(Some(b"one"), Some(b"mic")),
         ),
-    ]?)
-}
-
-#[test]
-fn steps_are_equal_where_their_fields_are(rt: HostRuntime) -> Result<(), Fail> {
-    let others = steps(rt.alloc())?;
-    for (place, (shows, step)) in steps(rt.alloc())?.iter().enumerate() {
-        for (other, (against, another)) in others.iter().enumerate() {
-            assert_eq!(rt; *step == *another, place == other, "{shows}, and {against}");
-        }
-    }
-    Ok(())
-}
-
-fn status(
-    alloc: Global,
-    major_status: u32,
-    minor_status: u32,
-    message: &str,
-) -> Result<GssapiError, Fail> {
-    Ok(GssapiError::Status {
-        major_status,
-        minor_status,
-        message: Text::new(alloc, message)?,
-    })
-}
-
-fn errors(alloc: Global) -> Result<Vec<(&'static str, GssapiError)>, Fail> {
-    Ok(vec![in alloc;
-        (
-            "a status with its message",
-            status(alloc, 1, 2, "no credentials")?
-        ),
-        (
-            "another error of the GSS-API",
-            status(alloc, 3, 2, "no credentials")?
-        ),
-        (
-            "another code of the mechanism",
-            status(alloc, 1, 3, "no credentials")?
-        ),
-        ("another message", status(alloc, 1, 2, "expired")?),
-        (
-            "a token that tells of an error",
-            GssapiError::ErrorToken(token(alloc, b"one")?)
-        ),
-        (
-            "another token that tells of one",
-            GssapiError::ErrorToken(token(alloc, b"two")?)
-        ),
-    ]?)
-}
-
-#[test]
-fn errors_are_equal_where_their_fields_are(rt: HostRuntime) -> Result<(), Fail> {
-    let others = errors(rt.alloc())?;
-    for (place, (shows, error)) in errors(rt.alloc())?.iter().enumerate() {
-        for (other, (against, another)) in others.iter().enumerate() {
+    ];
+    for (place, (shows, parts)) in rows.iter().enumerate() {
+        for (other, (against, others)) in rows.iter().enumerate() {
             assert_eq!(rt;
-                *error == *another,
+                are_equal(step(*parts), step(*others)),
                 place == other,
                 "{shows}, and {against}"
             );
         }
     }
+}
+
+fn status(major_status: u32, minor_status: u32, message: Text) -> GssapiError {
+    GssapiError::Status {
+        major_status,
+        minor_status,
+        message,
+    }
+}
+
+#[test]
+fn statuses_are_equal_where_their_fields_are(rt: HostRuntime) -> Result<(), Fail> {
+    let rows = [
+        ("a status with its message", 1, 2, "no credentials"),
+        ("another error of the GSS-API", 3, 2, "no credentials"),
+        ("another code of the mechanism", 1, 3, "no credentials"),
+        ("another message", 1, 2, "expired"),
+    ];
+    for (place, (shows, major, minor, text)) in rows.iter().enumerate() {
+        for (other, (against, others, code, message)) in rows.iter().enumerate() {
+            let text = Text::new(rt.alloc(), text)?;
+            let message = Text::new(rt.alloc(), message)?;
+            let one = status(*major, *minor, text);
+            assert_eq!(rt;
+                are_equal(one, status(*others, *code, message)),
+                place == other,
+                "{shows}, and {against}"
+            );
+        }
+    }
+    Ok(())
+}
+
+fn error_token(bytes: &'static [u8]) -> GssapiError {
+    GssapiError::ErrorToken(Bytes::from_static(bytes))
+}
+
+#[test]
+fn tokens_that_tell_of_an_error_are_equal_where_they_are(rt: HostRuntime) -> Result<(), Fail> {
+    assert!(rt; are_equal(error_token(b"one"), error_token(b"one")));
+    assert!(rt; !are_equal(error_token(b"one"), error_token(b"two")));
+    let message = Text::new(rt.alloc(), "one")?;
+    let no_token = status(1, 2, message);
+    assert!(rt; !are_equal(error_token(b"one"), no_token));
     Ok(())
 }

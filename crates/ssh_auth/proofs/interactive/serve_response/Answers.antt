@@ -1,10 +1,12 @@
-use Rattle.std.proofs.Common.{[], ◌∷◌, map, Some, true, false, Ok, Err, inl, inr, refl, sym, ap, ◌∙◌, subst}
+use Rattle.std.proofs.Common.{map, Some, true, false, Ok, Err, inl, inr, refl, sym, ap, ◌∙◌, subst}
 use Rattle.ssh_auth.specs.declared.call.Call.TheVariants.{AuthKeyboardInteractive}
 use Rattle.ssh_auth.specs.declared.error.AuthError.TheVariants as error
-use Rattle.ssh_auth.specs.Plan.{Finish, Auth_keyboard_interactive}
+use Rattle.ssh_auth.specs.declared.question.Admission.TheVariants as by
+use Rattle.ssh_auth.specs.declared.question.Question.TheVariants.{Admits}
+use Rattle.ssh_auth.specs.Plan.{Finish}
 use Rattle.ssh_auth.specs.Response.{SaysResponses, Responses, Unfit_responses, Unread_responses}
 use Rattle.ssh_auth.specs.Verdict.{Fails, Starved, after_prompts}
-use Rattle.ssh_auth.proofs.Asks.{asked_once, starved, unfit}
+use Rattle.ssh_auth.proofs.Asks.{asked_once, asked_in_vain, starved, unfit}
 use Rattle.ssh_auth.proofs.Proving.{no_prompts, one_prompt}
 use Rattle.ssh_auth.proofs.Rounds.{prompted_response, responses_error}
 use Rattle.ssh_auth.proofs.interactive.serve_response.Goals as goal
@@ -47,7 +49,7 @@ returns-in-Ok g c =
         Responses texts,
         subst (λ fields. SaysResponses fields (Responses texts)) c.fields_of.ensures (subst (λ t. SaysResponses c.fields_of.result.now (Responses t)) (sym are) c.in_ok-responses.ensures),
         prompted_response auth user submethods (Responses texts) _ _ c.answer_prompted.new.auth c.answer_prompted.result c.in-Some.ensures
-            (asked_once (Auth_keyboard_interactive user submethods (Some texts)) (λ answer. after_prompts (record auth { partial_success = false }) answer) c.in-Ok.verdict
+            (asked_once (Admits (by.KeyboardInteractive user submethods (Some texts))) (λ answer. after_prompts (record auth { partial_success = false }) answer) c.in-Ok.verdict
             call _ _ c.answer_prompted.new.auth c.answer_prompted.result refl c.in-Ok.ensures c.answer_prompted.ensures),
       );
       prompts = one_prompt false _ _ user submethods (Some texts) (Ok c.in-Ok.verdict) c.in-Ok.ensures;
@@ -65,7 +67,8 @@ returns g c =
       verdict = (
         Responses texts,
         subst (λ fields. SaysResponses fields (Responses texts)) c.fields_of.ensures (subst (λ t. SaysResponses c.fields_of.result.now (Responses t)) (sym are) c.in_ok-responses.ensures),
-        prompted_response auth user submethods (Responses texts) _ _ (record auth { partial_success = false }) (Err (error.Handler c.in-Err.e)) c.in-Some.ensures (call ∷ [], c.in-Err.ensures, refl),
+        prompted_response auth user submethods (Responses texts) _ _ (record auth { partial_success = false }) (Err (error.Handler c.in-Err.e)) c.in-Some.ensures (asked_in_vain (Admits (by.KeyboardInteractive user submethods (Some texts))) (λ answer. Finish (after_prompts (record auth { partial_success = false }) answer)) call _ _
+            (record auth { partial_success = false }) c.in-Err.e refl c.in-Err.ensures),
       );
       prompts = one_prompt true _ _ user submethods (Some texts) (Err c.in-Err.e) c.in-Err.ensures;
     }

@@ -1,8 +1,10 @@
-use Rattle.std.proofs.Common.{◌≡◌, rules, true, false, refl}
+use Rattle.std.proofs.Common.{◌≡◌, rules, true, false, inr}
 use Rattle.std.specs.Prelude.{bytes_eq}
 use Rattle.ssh_keys.specs.Algorithms.{algorithm_name}
 use Rattle.ssh_auth.specs.Read.{circumstances, all_fields}
-use Rattle.ssh_auth.proofs.Asks.{same_text, other_text}
+use Rattle.ssh_auth.specs.Plan.{Finish}
+use Rattle.ssh_auth.specs.Verdict.{Fails, Starved}
+use Rattle.ssh_auth.proofs.Asks.{same_text, other_text, starved}
 use Rattle.ssh_auth.proofs.Keys.{unsigned_request, misnamed, signed_request}
 use Rattle.ssh_auth.proofs.publickey.read_signed.Goals as goal
 
@@ -28,4 +30,10 @@ returns g c =
     let same : bytes_eq name (algorithm_name c.args.offer.now.algorithm) ≡ true = search rules in
     signed_request (circumstances (g.V.Verifier.accepts c.args.verifier.now) request) request.payload.now c.requires.whole.1.0 request.fields.now c.args.rest.now _ c.args.offer.now
     c.in-Ok.signature c.args.auth.now request.user.now _ _ c.permit_signed.new.auth c.permit_signed.result c.requires.offered c.in-Ok.ensures
-    (same_text name (algorithm_name c.args.offer.now.algorithm) same) c.requires.whole.1.1 refl c.permit_signed.ensures
+    (same_text name (algorithm_name c.args.offer.now.algorithm) same) c.requires.whole.1.1 (search rules) c.permit_signed.ensures
+
+pub returns-in_err-refuse : goal.returns-in_err-refuse
+returns-in_err-refuse g c = inr (
+    starved (Finish (Fails Starved)) (g.H.AuthHandler.told c.args.handler.now) c.refuse.new.auth c.in_err-refuse.field-0.0 c.from_residual.result c.from_residual.ensures.1
+    c.in_err-refuse.ensures.memory
+    )
