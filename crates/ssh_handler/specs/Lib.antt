@@ -1,3 +1,3 @@
 pub mod Settings
-pub mod Lent
+pub mod Loan
 pub mod Recording

@@ -5,12 +5,6 @@ use Rattle.ssh_auth.specs.declared.call.Call.{Call}
 use Rattle.ssh_handler.specs.declared.recorded.RecordError.{RecordError}
 use Rattle.ssh_handler.specs.declared.recorded.RecordError.TheVariants.{NoMemory, Inner}
 
-pub record Recording (H E : Type 0) : Type 0 where
-  -- the handler that the calls are passed on to
-  pub inner : H
-  -- the calls that are told
-  pub told : Option (List (Call (RecordError E)))
-
 -- these calls, as long as calls are told
 abbrev pub told_while : {A : Type 0} → Bool → List A → Option (List A)
 told_while true calls = Some calls
@@ -26,7 +20,19 @@ abbrev pub passed_on : {T E : Type 0} → Result T E → Result T (RecordError E
 passed_on (Ok value) = Ok value
 passed_on (Err error) = Err (Inner error)
 
+-- a call that was made is told; where it was not, or memory was wanting, no call is told any more
+abbrev pub Keeps : {T E F : Type 0} → Option (List (Call (RecordError E))) → Option (List (Call (RecordError E))) → Result T (RecordError E) → Result (Call (RecordError E)) F → Type 0
+Keeps old new (Err NoMemory) made = new ≡ None
+Keeps old new _ (Ok call) = AddsOne old new call
+Keeps old new _ (Err error) = ⊥
+
+-- the answer of the inner handler was passed on unless memory was wanting
+pub record IsPassed {T E : Type 0} (answer : Result T E) (result : Result T (RecordError E)) : Type 0 where
+  pub is : (result ≡ Err NoMemory) ⊎ (result ≡ passed_on answer)
+
 -- the inner handler was called, and its answer was passed on unless memory was wanting
-abbrev pub Passes : {T E : Type 0} → Option (List (Call E)) → Option (List (Call E)) → Result T (RecordError E) → (Result T E → Call E) → Type 0
-Passes {T} {E} old new result call =
-    (answer : Result T E) × Tells old new answer (call answer) × ((result ≡ Err NoMemory) ⊎ (result ≡ passed_on answer))
+pub record Passes {T E : Type 0} (old new : Option (List (Call E))) (result : Result T (RecordError E)) (call : Result T E → Call E) : Type 0 where
+  -- what it answered
+  pub answer : Result T E
+  pub tells : Tells old new answer (call answer)
+  pub passed : IsPassed answer result

@@ -8,6 +8,7 @@ mod commands;
 mod config;
 mod handler;
 mod made;
+mod questions;
 mod recorded;
 #[cfg(test)]
 mod tests;
@@ -15,4 +16,5 @@ mod tests;
 pub use commands::Commands;
 pub use config::Config;
 pub use handler::Handler;
+pub use questions::{ask, judge};
 pub use recorded::{RecordError, Recorded};

@@ -2,20 +2,19 @@
 ghost use Rattle.std.specs.Prelude.{◌≡◌, [], ◌∷◌, ◌++◌, Some, None, OnOk, OnErr, IfOk, IfErr, IfSome, IsOk};
 ghost use Rattle.ssh_link.specs.Told.{AddsOne, Tells};
 ghost use Rattle.ssh_handler.specs.declared.recorded.RecordError.TheVariants.{NoMemory};
-ghost use Rattle.ssh_handler.specs.Recording.{Passes, Records, passed_on};
-ghost use Rattle.ssh_auth.specs.declared.call.Call.TheVariants.{AuthenticationBanner, AuthNone, AuthPassword, AuthPublickeyOffered, AuthPublickey, AuthOpensshCertificate, AuthKeyboardInteractive, AuthSucceeded, ChannelOpenSession, ChannelEof, ChannelClose, WindowAdjusted, CommandDone};
+ghost use Rattle.ssh_handler.specs.Recording.{IsPassed, Keeps, Passes, Records, passed_on};
+ghost use Rattle.ssh_auth.specs.declared.call.Call.TheVariants.{AuthenticationBanner, AuthNone, AuthPassword, AuthPublickeyOffered, AuthPublickey, AuthOpensshCertificate, AuthKeyboardInteractive};
+
+mod handler;
 
 use crate::made::{
     made_auth_keyboard_interactive, made_auth_none, made_auth_openssh_certificate,
-    made_auth_password, made_auth_publickey, made_auth_publickey_offered, made_auth_succeeded,
-    made_authentication_banner, made_channel_close, made_channel_eof, made_channel_open_session,
-    made_window_adjusted,
+    made_auth_password, made_auth_publickey, made_auth_publickey_offered,
+    made_authentication_banner,
 };
-use crate::{Commands, Handler};
 use ssh_auth::{Auth, AuthHandler, Call, PublicKeyOffer, Response, Unwritten, VerifiedPublicKey};
 use ssh_keys::Certificate;
-use ssh_link::{ChannelOpenHandle, CommandOutcome};
-use ssh_wire::{ChannelId, Text, WireError};
+use ssh_wire::{Text, WireError};
 use std::alloc::Global;
 use std::marker::Model;
 
@@ -28,21 +27,96 @@ pub enum RecordError<E> {
     Inner(E),
 }
 
+// The calls so far, as long as there is memory for them. A clause sees those that are told.
+#[derive(Drop)]
+struct Telling<E> {
+    calls: Vec<Call<RecordError<E>>>,
+    goes_on: bool,
+}
+
+impl<E> Model for Telling<E> {
+    ghost use Rattle.std.specs.Prelude.{List, Option};
+    ghost use Rattle.ssh_auth.specs.declared.call.Call.{Call};
+    ghost use Rattle.ssh_handler.specs.declared.recorded.RecordError.{RecordError};
+    ghost use Rattle.ssh_handler.specs.Recording.{told_while};
+
+    ghost Value = { Option (List (Call (RecordError E))) };
+
+    ghost view = { λ telling. told_while telling.goes_on telling.calls.items };
+}
+
+// Adds the item at the end.
+fn pushed<T: Drop>(items: &mut Vec<T>, item: T) -> Result<(), WireError>
+    ensures ok { OnOk result (items.new.items ≡ items.old.items ++ item ∷ []) }
+    ensures err { OnErr result (items.new.items ≡ items.old.items) }
+{
+    items.push(item)?;
+    Ok(())
+}
+
+impl<E: Copy> Telling<E> {
+    fn new(alloc: Global) -> Telling<E>
+        ensures { result ≡ Some [] }
+    {
+        Telling {
+            calls: Vec::new(alloc),
+            goes_on: true,
+        }
+    }
+
+    // The calls, as long as they are told.
+    fn calls(&self) -> &[Call<RecordError<E>>]
+        ensures { IfSome self.now (λ calls. result.now ≡ calls) }
+    {
+        self.calls.as_slice()
+    }
+
+    // From now on no call is told.
+    fn stop(&mut self)
+        ensures { self.new ≡ None }
+    {
+        self.goes_on = false;
+    }
+
+    // Tells the call from now on; where there is no memory for it, no call is told any more.
+    fn keep(&mut self, call: Result<Call<RecordError<E>>, WireError>) -> Result<(), RecordError<E>>
+        ensures ok { OnOk result (IfOk call (AddsOne self.old self.new)) }
+        ensures made { OnOk result (IsOk call) }
+        ensures err { OnErr result (self.new ≡ None) }
+        ensures memory { IfErr result (λ e. e ≡ NoMemory) }
+    {
+        let kept = match call {
+            Ok(call) => pushed(&mut self.calls, call),
+            Err(e) => Err(e),
+        };
+        if kept.is_err() {
+            self.goes_on = false;
+            return Err(RecordError::NoMemory);
+        }
+        Ok(())
+    }
+
+    // Tells the call from now on, and passes its answer on; where there is no memory for it, no call
+    // is told any more.
+    fn pass<T: Drop>(
+        &mut self,
+        answer: Result<T, E>,
+        call: Result<Call<RecordError<E>>, WireError>,
+    ) -> Result<T, RecordError<E>>
+        ensures keeps { Keeps self.old self.new result call }
+        ensures passed { IsPassed answer result }
+    {
+        self.keep(call)?;
+        passed(answer)
+    }
+}
+
 /// A handler that passes each call on to another, and tells them with their answers.
 #[derive(Drop)]
 pub struct Recorded<H: AuthHandler> {
-    inner: H,
-    calls: Vec<Call<RecordError<H::Error>>>,
-    telling: bool,
+    pub(crate) inner: H,
+    told: Telling<H::Error>,
     alloc: Global,
-}
-
-impl<H: AuthHandler> Model for Recorded<H> {
-    ghost use Rattle.ssh_handler.specs.Recording.{Recording, told_while};
-
-    ghost Value = { Recording H H.Error };
-
-    ghost view = { λ r. record { inner = r.inner; told = told_while r.telling r.calls.items } };
 }
 
 impl<H: AuthHandler> Recorded<H>
@@ -56,8 +130,7 @@ where
     {
         Recorded {
             inner,
-            calls: Vec::new(alloc),
-            telling: true,
+            told: Telling::new(alloc),
             alloc,
         }
     }
@@ -67,48 +140,12 @@ where
     pub fn calls(&self) -> &[Call<RecordError<H::Error>>]
         ensures { IfSome self.now.told (λ calls. result.now ≡ calls) }
     {
-        self.calls.as_slice()
-    }
-}
-
-// Adds the item at the end.
-fn pushed<T: Drop>(items: &mut Vec<T>, item: T) -> Result<(), WireError>
-    ensures ok { OnOk result (items.new.items ≡ items.old.items ++ item ∷ []) }
-    ensures err { OnErr result (items.new.items ≡ items.old.items) }
-{
-    items.push(item)?;
-    Ok(())
-}
-
-impl<H: AuthHandler> Recorded<H>
-where
-    H::Error: Copy,
-{
-    // Tells the call from now on; where there is no memory for it, no call is told any more.
-    fn keep(
-        &mut self,
-        call: Result<Call<RecordError<H::Error>>, WireError>,
-    ) -> Result<(), RecordError<H::Error>>
-        ensures inner { self.new.inner ≡ self.old.inner }
-        ensures ok { OnOk result (IfOk call (AddsOne self.old.told self.new.told)) }
-        ensures made { OnOk result (IsOk call) }
-        ensures err { OnErr result (self.new.told ≡ None) }
-        ensures memory { IfErr result (λ e. e ≡ NoMemory) }
-    {
-        let kept = match call {
-            Ok(call) => pushed(&mut self.calls, call),
-            Err(e) => Err(e),
-        };
-        if kept.is_err() {
-            self.telling = false;
-            return Err(RecordError::NoMemory);
-        }
-        Ok(())
+        self.told.calls()
     }
 }
 
 // The answer of the inner handler as it is passed on.
-fn passed<T, E>(answer: Result<T, E>) -> Result<T, RecordError<E>>
+pub(crate) fn passed<T, E>(answer: Result<T, E>) -> Result<T, RecordError<E>>
     ensures { result ≡ passed_on answer }
 {
     match answer {
@@ -126,7 +163,7 @@ where
     ghost told = { λ r. r.told };
 
     fn untold(&mut self, _by: Unwritten) -> Result<(), RecordError<H::Error>> {
-        self.telling = false;
+        self.told.stop();
         Err(RecordError::NoMemory)
     }
 
@@ -135,9 +172,9 @@ where
         ensures records { Records self.old.told self.new.told result (AuthenticationBanner result) }
         ensures passes { Passes (H.told self.old.inner) (H.told self.new.inner) result AuthenticationBanner }
     {
-        let answer = passed(self.inner.authentication_banner());
-        self.keep(made_authentication_banner(&answer))?;
-        answer
+        let answer = self.inner.authentication_banner();
+        let call = made_authentication_banner(&answer);
+        self.told.pass(answer, call)
     }
 
     fn auth_none(&mut self, user: &str) -> Result<Auth, RecordError<H::Error>>
@@ -145,9 +182,9 @@ where
         ensures records { Records self.old.told self.new.told result (AuthNone user.now result) }
         ensures passes { Passes (H.told self.old.inner) (H.told self.new.inner) result (AuthNone user.now) }
     {
-        let answer = passed(self.inner.auth_none(user));
-        self.keep(made_auth_none(self.alloc, user, &answer))?;
-        answer
+        let answer = self.inner.auth_none(user);
+        let call = made_auth_none(self.alloc, user, &answer);
+        self.told.pass(answer, call)
     }
 
     fn auth_password(&mut self, user: &str, password: &str) -> Result<Auth, RecordError<H::Error>>
@@ -155,9 +192,9 @@ where
         ensures records { Records self.old.told self.new.told result (AuthPassword user.now password.now result) }
         ensures passes { Passes (H.told self.old.inner) (H.told self.new.inner) result (AuthPassword user.now password.now) }
     {
-        let answer = passed(self.inner.auth_password(user, password));
-        self.keep(made_auth_password(self.alloc, user, password, &answer))?;
-        answer
+        let answer = self.inner.auth_password(user, password);
+        let call = made_auth_password(self.alloc, user, password, &answer);
+        self.told.pass(answer, call)
     }
 
     fn auth_publickey_offered(
@@ -173,10 +210,9 @@ where
             public_key,
             algorithm,
         } = offer;
-        let answer = passed(self.inner.auth_publickey_offered(user, offer));
+        let answer = self.inner.auth_publickey_offered(user, offer);
         let call = made_auth_publickey_offered(self.alloc, user, public_key, algorithm, &answer);
-        self.keep(call)?;
-        answer
+        self.told.pass(answer, call)
     }
 
     fn auth_publickey(
@@ -192,10 +228,9 @@ where
             public_key,
             algorithm,
         } = key;
-        let answer = passed(self.inner.auth_publickey(user, key));
+        let answer = self.inner.auth_publickey(user, key);
         let call = made_auth_publickey(self.alloc, user, public_key, algorithm, &answer);
-        self.keep(call)?;
-        answer
+        self.told.pass(answer, call)
     }
 
     fn auth_openssh_certificate(
@@ -207,9 +242,9 @@ where
         ensures records { Records self.old.told self.new.told result (AuthOpensshCertificate user.now certificate.now result) }
         ensures passes { Passes (H.told self.old.inner) (H.told self.new.inner) result (AuthOpensshCertificate user.now certificate.now) }
     {
-        let answer = passed(self.inner.auth_openssh_certificate(user, certificate));
-        self.keep(made_auth_openssh_certificate(self.alloc, user, certificate, &answer))?;
-        answer
+        let answer = self.inner.auth_openssh_certificate(user, certificate);
+        let call = made_auth_openssh_certificate(self.alloc, user, certificate, &answer);
+        self.told.pass(answer, call)
     }
 
     fn auth_keyboard_interactive(
@@ -226,116 +261,10 @@ where
             Some(response) => Some(response.copy()),
             None => None,
         };
-        let answer = passed(
-            self.inner
-                .auth_keyboard_interactive(user, submethods, response),
-        );
+        let answer = self
+            .inner
+            .auth_keyboard_interactive(user, submethods, response);
         let call = made_auth_keyboard_interactive(self.alloc, user, submethods, told, &answer);
-        self.keep(call)?;
-        answer
-    }
-}
-
-impl<H: Handler> Handler for Recorded<H>
-where
-    H::Error: Copy,
-{
-    ghost suits = { H.suits };
-
-    fn auth_succeeded(&mut self, session: &mut Commands<'_>) -> Result<(), RecordError<H::Error>>
-        requires fresh { session.old.recorded ≡ [] }
-        requires suits { H.suits session.old.config session.old.remote_sshid }
-        ensures tells { Tells self.old.told self.new.told result (AuthSucceeded result session.new.recorded) }
-        ensures records { Records self.old.told self.new.told result (AuthSucceeded result session.new.recorded) }
-        ensures passes { Passes (H.AuthHandler.told self.old.inner) (H.AuthHandler.told self.new.inner) result (λ answer. AuthSucceeded answer session.new.recorded) }
-    {
-        let answer = passed(self.inner.auth_succeeded(session));
-        self.keep(made_auth_succeeded(answer, session))?;
-        answer
-    }
-
-    fn channel_close(
-        &mut self,
-        channel: ChannelId,
-        session: &mut Commands<'_>,
-    ) -> Result<(), RecordError<H::Error>>
-        requires fresh { session.old.recorded ≡ [] }
-        requires suits { H.suits session.old.config session.old.remote_sshid }
-        ensures tells { Tells self.old.told self.new.told result (ChannelClose channel result session.new.recorded) }
-        ensures records { Records self.old.told self.new.told result (ChannelClose channel result session.new.recorded) }
-        ensures passes { Passes (H.AuthHandler.told self.old.inner) (H.AuthHandler.told self.new.inner) result (λ answer. ChannelClose channel answer session.new.recorded) }
-    {
-        let answer = passed(self.inner.channel_close(channel, session));
-        self.keep(made_channel_close(channel, answer, session))?;
-        answer
-    }
-
-    fn channel_eof(
-        &mut self,
-        channel: ChannelId,
-        session: &mut Commands<'_>,
-    ) -> Result<(), RecordError<H::Error>>
-        requires fresh { session.old.recorded ≡ [] }
-        requires suits { H.suits session.old.config session.old.remote_sshid }
-        ensures tells { Tells self.old.told self.new.told result (ChannelEof channel result session.new.recorded) }
-        ensures records { Records self.old.told self.new.told result (ChannelEof channel result session.new.recorded) }
-        ensures passes { Passes (H.AuthHandler.told self.old.inner) (H.AuthHandler.told self.new.inner) result (λ answer. ChannelEof channel answer session.new.recorded) }
-    {
-        let answer = passed(self.inner.channel_eof(channel, session));
-        self.keep(made_channel_eof(channel, answer, session))?;
-        answer
-    }
-
-    fn channel_open_session(
-        &mut self,
-        channel: ChannelId,
-        reply: ChannelOpenHandle,
-        session: &mut Commands<'_>,
-    ) -> Result<(), RecordError<H::Error>>
-        requires of { reply ≡ channel }
-        requires fresh { session.old.recorded ≡ [] }
-        requires suits { H.suits session.old.config session.old.remote_sshid }
-        ensures tells { Tells self.old.told self.new.told result (ChannelOpenSession channel result session.new.recorded) }
-        ensures records { Records self.old.told self.new.told result (ChannelOpenSession channel result session.new.recorded) }
-        ensures passes { Passes (H.AuthHandler.told self.old.inner) (H.AuthHandler.told self.new.inner) result (λ answer. ChannelOpenSession channel answer session.new.recorded) }
-    {
-        let answer = passed(self.inner.channel_open_session(channel, reply, session));
-        self.keep(made_channel_open_session(channel, answer, session))?;
-        answer
-    }
-
-    fn window_adjusted(
-        &mut self,
-        channel: ChannelId,
-        new_size: u32,
-        session: &mut Commands<'_>,
-    ) -> Result<(), RecordError<H::Error>>
-        requires fresh { session.old.recorded ≡ [] }
-        requires suits { H.suits session.old.config session.old.remote_sshid }
-        ensures tells { Tells self.old.told self.new.told result (WindowAdjusted channel new_size result session.new.recorded) }
-        ensures records { Records self.old.told self.new.told result (WindowAdjusted channel new_size result session.new.recorded) }
-        ensures passes { Passes (H.AuthHandler.told self.old.inner) (H.AuthHandler.told self.new.inner) result (λ answer. WindowAdjusted channel new_size answer session.new.recorded) }
-    {
-        let answer = passed(self.inner.window_adjusted(channel, new_size, session));
-        self.keep(made_window_adjusted(channel, new_size, answer, session))?;
-        answer
-    }
-
-    fn command_done(
-        &mut self,
-        place: usize,
-        outcome: CommandOutcome,
-    ) -> Result<(), RecordError<H::Error>>
-        ensures tells { Tells self.old.told self.new.told result (CommandDone place outcome result) }
-        ensures records { Records self.old.told self.new.told result (CommandDone place outcome result) }
-        ensures passes { Passes (H.AuthHandler.told self.old.inner) (H.AuthHandler.told self.new.inner) result (CommandDone place outcome) }
-    {
-        let answer = passed(self.inner.command_done(place, outcome));
-        self.keep(Ok(Call::CommandDone {
-            place,
-            outcome,
-            answer,
-        }))?;
-        answer
+        self.told.pass(answer, call)
     }
 }

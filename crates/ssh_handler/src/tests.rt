@@ -1,14 +1,17 @@
 // Handlers by example, through the traits alone.
 ghost use Rattle.std.specs.Prelude.{◌≡◌, []};
 
+mod commands;
+mod handlers;
+mod told;
+
 use crate::{Commands, Config, Handler, RecordError, Recorded};
 use bytes::Bytes;
-use ssh_auth::{
-    Auth, AuthHandler, Call, Prompts, PublicKeyOffer, Response, Unwritten, VerifiedPublicKey,
-};
+use handlers::{Greeter, LINE, Late, Silent, prompt};
+use ssh_auth::{Auth, AuthHandler, Call, PublicKeyOffer, Response, VerifiedPublicKey};
 use ssh_keys::{Algorithm, CertType, Certificate, PublicKey, Signature};
 use ssh_link::{ChannelOpenHandle, Command, CommandList, CommandOutcome, Refusal};
-use ssh_wire::{ChannelId, Text, WireError};
+use ssh_wire::{Blobs, ChannelId, Text};
 use std::alloc::Global;
 use std::test::Fail;
 
@@ -43,214 +46,84 @@ fn tell<H: Handler>(
     }
 }
 
-// Writes no callback.
-#[derive(Drop)]
-struct Silent;
-
-impl AuthHandler for Silent {
-    type Error = ();
-
-    fn untold(&mut self, _by: Unwritten) -> Result<(), ()> {
-        Ok(())
-    }
-}
-
-impl Handler for Silent {
-    fn channel_open_session(
-        &mut self,
-        _channel: ChannelId,
-        reply: ChannelOpenHandle,
-        _session: &mut Commands<'_>,
-    ) -> Result<(), ()> {
-        let _answered_later = reply.into_channel();
-        Ok(())
-    }
-}
-
-// Keeps the window and the line that each callback is lent.
-#[derive(Drop)]
-struct Reader {
-    alloc: Global,
-    read: Vec<(u32, Bytes)>,
-}
-
-impl Reader {
-    fn read(&mut self, session: &Commands<'_>) -> Result<(), WireError> {
-        let line = Bytes::copy_from_slice(self.alloc, session.remote_sshid())?;
-        self.read.push((session.config().window_size, line))?;
-        Ok(())
-    }
-}
-
-impl AuthHandler for Reader {
-    type Error = WireError;
-
-    fn untold(&mut self, _by: Unwritten) -> Result<(), WireError> {
-        Ok(())
-    }
-}
-
-impl Handler for Reader {
-    fn auth_succeeded(&mut self, session: &mut Commands<'_>) -> Result<(), WireError> {
-        self.read(session)
-    }
-
-    fn channel_close(
-        &mut self,
-        _channel: ChannelId,
-        session: &mut Commands<'_>,
-    ) -> Result<(), WireError> {
-        self.read(session)
-    }
-
-    fn channel_eof(
-        &mut self,
-        _channel: ChannelId,
-        session: &mut Commands<'_>,
-    ) -> Result<(), WireError> {
-        self.read(session)
-    }
-
-    fn channel_open_session(
-        &mut self,
-        _channel: ChannelId,
-        reply: ChannelOpenHandle,
-        session: &mut Commands<'_>,
-    ) -> Result<(), WireError> {
-        let _answered_later = reply.into_channel();
-        self.read(session)
-    }
-
-    fn window_adjusted(
-        &mut self,
-        _channel: ChannelId,
-        _new_size: u32,
-        session: &mut Commands<'_>,
-    ) -> Result<(), WireError> {
-        self.read(session)
-    }
-}
-
-// Lets anna in, and has no time for anyone.
-#[derive(Drop)]
-struct Greeter {
-    alloc: Global,
-}
-
-#[derive(Clone, Copy, Debug, Drop, PartialEq, Eq)]
-struct Late;
-
-impl AuthHandler for Greeter {
-    type Error = Late;
-
-    fn untold(&mut self, _by: Unwritten) -> Result<(), Late> {
-        Ok(())
-    }
-
-    fn authentication_banner(&mut self) -> Result<Option<Text>, Late> {
-        Ok(Text::new(self.alloc, "hello").ok())
-    }
-
-    fn auth_none(&mut self, user: &str) -> Result<Auth, Late> {
-        if user == "anna" {
-            Ok(Auth::Accept)
-        } else {
-            Ok(Auth::reject())
-        }
-    }
-
-    fn auth_keyboard_interactive(
-        &mut self,
-        _user: &str,
-        _submethods: &str,
-        response: Option<Response<'_>>,
-    ) -> Result<Auth, Late> {
-        let Some(mut response) = response else {
-            return prompt(self.alloc).or(Err(Late));
-        };
-        match (response.next(), response.next()) {
-            (Some(b"1234"), None) => Ok(Auth::Accept),
-            _ => Ok(Auth::reject()),
-        }
-    }
-}
-
-// Asks for a code, which is not shown.
-fn prompt(alloc: Global) -> Result<Auth, WireError> {
-    let mut prompts = Prompts::new(alloc);
-    prompts.push(Text::new(alloc, "Code: ")?, false)?;
-    Ok(Auth::Partial {
-        name: Text::new(alloc, "")?,
-        instructions: Text::new(alloc, "")?,
-        prompts,
-    })
-}
-
-impl Handler for Greeter {
-    fn auth_succeeded(&mut self, _session: &mut Commands<'_>) -> Result<(), Late> {
-        Err(Late)
-    }
-
-    fn channel_open_session(
-        &mut self,
-        _channel: ChannelId,
-        reply: ChannelOpenHandle,
-        session: &mut Commands<'_>,
-    ) -> Result<(), Late> {
-        match session.answer_open(reply.accept()) {
-            Ok(()) => Ok(()),
-            Err(_) => Err(Late),
-        }
-    }
-}
-
 // A key of these bytes.
-fn key(alloc: Global, bytes: &[u8]) -> Result<PublicKey, Fail> {
-    Ok(PublicKey::Ed25519 {
-        key: Bytes::copy_from_slice(alloc, bytes)?,
-    })
+fn key(bytes: &'static [u8]) -> PublicKey {
+    PublicKey::Ed25519 {
+        key: Bytes::from_static(bytes),
+    }
 }
 
 // A certificate without a limit, for everyone.
 fn certificate(alloc: Global) -> Result<Certificate, Fail> {
+    let key_id = Text::new(alloc, "anna")?;
+    let name = Text::new(alloc, "ssh-ed25519")?;
     Ok(Certificate {
-        nonce: Bytes::copy_from_slice(alloc, b"nonce")?,
-        public_key: key(alloc, b"certified")?,
+        nonce: Bytes::from_static(b"nonce"),
+        public_key: key(b"certified"),
         serial: 1,
         cert_type: CertType::User,
-        key_id: Text::new(alloc, "anna")?,
-        valid_principals: Bytes::copy_from_slice(alloc, b"")?,
+        key_id,
+        valid_principals: Bytes::new(),
         valid_after: 0,
         valid_before: u64::MAX,
-        critical_options: Bytes::copy_from_slice(alloc, b"")?,
-        extensions: Bytes::copy_from_slice(alloc, b"")?,
-        reserved: Bytes::copy_from_slice(alloc, b"")?,
-        signature_key: key(alloc, b"signer")?,
+        critical_options: Bytes::new(),
+        extensions: Bytes::new(),
+        reserved: Bytes::new(),
+        signature_key: key(b"signer"),
         signature: Signature {
-            name: Text::new(alloc, "ssh-ed25519")?,
-            blob: Bytes::copy_from_slice(alloc, b"signature")?,
+            name,
+            blob: Bytes::from_static(b"signature"),
         },
-        signed: Bytes::copy_from_slice(alloc, b"signed")?,
+        signed: Bytes::from_static(b"signed"),
     })
 }
 
+// What the answer to a request of authentication is.
+fn verdict<E>(answer: &Result<Auth, E>) -> &'static str {
+    match answer {
+        Ok(Auth::Accept) => "accept",
+        Ok(
+            Auth::Reject {
+                proceed_with_methods: None,
+                partial_success: false,
+            },
+        ) => "plain refusal",
+        Ok(_) => "another verdict",
+        Err(_) => "error",
+    }
+}
+
+// The same of an answer that is done with.
+fn spent<E: Drop>(answer: Result<Auth, E>) -> &'static str {
+    let verdict = verdict(&answer);
+    drop(answer);
+    verdict
+}
+
 // The user and the answer of a request of authentication.
-fn request<E>(call: &Call<E>) -> Option<(&str, &Result<Auth, E>)> {
+fn request<E>(call: &Call<E>) -> Option<(&str, &'static str)> {
     match call {
         Call::AuthNone { user, answer }
         | Call::AuthPassword { user, answer, .. }
         | Call::AuthPublickeyOffered { user, answer, .. }
         | Call::AuthPublickey { user, answer, .. }
         | Call::AuthOpensshCertificate { user, answer, .. }
-        | Call::AuthKeyboardInteractive { user, answer, .. } => Some((user.as_str(), answer)),
+        | Call::AuthKeyboardInteractive { user, answer, .. } => {
+            Some((user.as_str(), verdict(answer)))
+        }
         _ => None,
     }
 }
 
-#[test]
-fn callbacks_that_are_not_written_let_nobody_in(rt: HostRuntime) -> Result<(), Fail> {
-    let alloc = rt.alloc();
-    let public_key = &key(alloc, b"anna's")?;
+// What it answers to each way of asking to be let in.
+fn verdicts<H: AuthHandler>(
+    handler: &mut H,
+    public_key: &PublicKey,
+    certificate: &Certificate,
+) -> [&'static str; 6]
+where
+    H::Error: Drop,
+{
     let algorithm = Algorithm::Ed25519;
     let offer = PublicKeyOffer {
         public_key,
@@ -260,112 +133,139 @@ fn callbacks_that_are_not_written_let_nobody_in(rt: HostRuntime) -> Result<(), F
         public_key,
         algorithm,
     };
+    [
+        spent(handler.auth_none("anna")),
+        spent(handler.auth_password("anna", "please")),
+        spent(handler.auth_publickey_offered("anna", offer)),
+        spent(handler.auth_publickey("anna", verified)),
+        spent(handler.auth_openssh_certificate("anna", certificate)),
+        spent(handler.auth_keyboard_interactive("anna", "", None)),
+    ]
+}
+
+// Whether both are equal.
+fn are_equal<T: PartialEq + Drop>(one: T, other: T) -> bool {
+    let are_equal = one == other;
+    drop(one);
+    drop(other);
+    are_equal
+}
+
+// Whether anna's requests were told with these answers.
+fn are_told<E>(calls: &[Call<E>], expected: &[&'static str]) -> bool {
+    for (call, verdict) in calls.iter().zip(expected) {
+        if request(call) != Some(("anna", *verdict)) {
+            return false;
+        }
+    }
+    calls.len() == expected.len()
+}
+
+#[test]
+fn callbacks_that_are_not_written_let_nobody_in(rt: HostRuntime) -> Result<(), Fail> {
+    let alloc = rt.alloc();
+    let certificate = certificate(alloc)?;
+    let public_key = key(b"anna's");
     let mut handler = Recorded::new(alloc, Silent);
-    let answers = [
-        handler.auth_none("anna"),
-        handler.auth_password("anna", "please"),
-        handler.auth_publickey_offered("anna", offer),
-        handler.auth_publickey("anna", verified),
-        handler.auth_openssh_certificate("anna", &certificate(alloc)?),
-        handler.auth_keyboard_interactive("anna", "", None),
-    ];
-    let refused = Auth::reject();
-    let expected = [
-        ("none", &refused),
-        ("a password", &refused),
-        ("an offered key may sign", &Auth::Accept),
-        ("a key", &refused),
-        ("a certificate", &refused),
-        ("prompts", &refused),
-    ];
-    for (answer, (shows, auth)) in answers.iter().zip(expected) {
-        assert!(rt; matches!(answer, Ok(given) if given == auth), "{shows}");
-    }
-    for (call, (shows, auth)) in handler.calls().iter().zip(expected) {
-        assert!(rt;
-            matches!(request(call), Some(("anna", Ok(told))) if told == auth),
-            "{shows}"
-        );
-    }
-    assert_eq!(rt; handler.calls().len(), expected.len());
-    assert!(rt; handler.authentication_banner() == Ok(None));
+    let answers = verdicts(&mut handler, &public_key, &certificate);
+    drop(public_key);
+    drop(certificate);
+    let refusal = "plain refusal";
+    // an offered key may sign, but nothing lets the user in
+    let expected = [refusal, refusal, "accept", refusal, refusal, refusal];
+    assert_eq!(rt; answers, expected);
+    assert!(rt; are_told(handler.calls(), &expected));
+    assert!(rt; are_equal(handler.authentication_banner(), Ok(None)));
     Ok(())
+}
+
+// What a handler that writes no callback answers, and whether it asks nothing.
+fn unwritten(alloc: Global, event: Event) -> (Result<(), ()>, bool) {
+    let config = Config::standard();
+    let mut session = Commands::new(alloc, &config, &[]);
+    let answer = tell(&mut Silent, event, &mut session);
+    (answer, session.recorded().is_empty())
 }
 
 #[test]
 fn callbacks_that_are_not_written_go_on_and_ask_nothing(rt: HostRuntime) {
-    let config = Config::standard();
     for (shows, event) in [
         ("an accepted user", Event::Succeeded),
         ("a grant", Event::Granted),
         ("an end of file", Event::Ended),
         ("a close", Event::Closed),
     ] {
-        let mut session = Commands::new(rt.alloc(), &config, &[]);
-        assert_eq!(rt; tell(&mut Silent, event, &mut session), Ok(()), "{shows}");
-        assert!(rt; session.recorded().is_empty(), "{shows}");
+        assert_eq!(rt; unwritten(rt.alloc(), event), (Ok(()), true), "{shows}");
     }
     assert_eq!(rt; Silent.command_done(0, CommandOutcome::Accepted), Ok(()));
 }
 
+// What the callback is lent, under a config with this window.
+fn lent_to(alloc: Global, event: Event, window_size: u32) -> Option<(u32, bool)> {
+    let mut config = Config::standard();
+    config.window_size = window_size;
+    let mut handler = Greeter::new(alloc);
+    let mut session = Commands::new(alloc, &config, LINE);
+    let _answer = tell(&mut handler, event, &mut session);
+    handler.lent
+}
+
 #[test]
 fn each_callback_reads_the_config_and_the_line_that_it_is_lent(rt: HostRuntime) {
-    let alloc = rt.alloc();
-    let line = b"SSH-2.0-test".as_slice();
-    for (shows, event, window_size) in [
+    for (shows, event, window) in [
         ("an accepted user", Event::Succeeded, 1),
         ("an open", Event::Opened, 2),
         ("a grant", Event::Granted, 3),
         ("an end of file", Event::Ended, 4),
         ("a close", Event::Closed, 5),
     ] {
-        let read = Vec::new(alloc);
-        let mut handler = Reader { alloc, read };
-        let mut config = Config::standard();
-        config.window_size = window_size;
-        let mut session = Commands::new(alloc, &config, line);
-        assert_eq!(rt; tell(&mut handler, event, &mut session), Ok(()), "{shows}");
-        assert_eq!(rt; handler.read.len(), 1, "{shows}");
-        assert_eq!(rt; handler.read[0].0, window_size, "{shows}");
-        assert_eq!(rt; handler.read[0].1.as_slice(), line, "{shows}");
+        let lent = lent_to(rt.alloc(), event, window);
+        assert_eq!(rt; lent, Some((window, true)), "{shows}");
     }
 }
 
 #[test]
 fn a_request_is_told_with_its_user_and_its_answer(rt: HostRuntime) {
     let alloc = rt.alloc();
-    let mut handler = Recorded::new(alloc, Greeter { alloc });
-    for (name, expected) in [("anna", Auth::Accept), ("bert", Auth::reject())] {
-        assert!(rt;
-            matches!(handler.auth_none(name), Ok(auth) if auth == expected),
-            "{name}"
-        );
-        let told = matches!(handler.calls().last(), Some(Call::AuthNone { user, answer: Ok(auth) })
-            if user.as_str() == name && *auth == expected);
-        assert!(rt; told, "{name}");
+    let mut handler = Recorded::new(alloc, Greeter::new(alloc));
+    for (name, expected) in [("anna", "accept"), ("bert", "plain refusal")] {
+        assert_eq!(rt; spent(handler.auth_none(name)), expected, "{name}");
+        let told = match handler.calls().last() {
+            Some(call) => request(call),
+            None => None,
+        };
+        assert_eq!(rt; told, Some((name, expected)), "{name}");
     }
     assert_eq!(rt; handler.calls().len(), 2);
+}
+
+// Whether the call has these responses.
+fn has_responses<E>(call: Option<&Call<E>>, sent: Blobs) -> bool {
+    let has_responses = matches!(call,
+        Some(Call::AuthKeyboardInteractive { response: Some(told), .. })
+        if told.as_slice() == sent.as_slice());
+    drop(sent);
+    has_responses
 }
 
 #[test]
 fn responses_are_told_as_they_came(rt: HostRuntime) -> Result<(), Fail> {
     let alloc = rt.alloc();
-    let mut handler = Recorded::new(alloc, Greeter { alloc });
+    let mut handler = Recorded::new(alloc, Greeter::new(alloc));
+    let expected = prompt(alloc)?;
     let prompted = handler.auth_keyboard_interactive("anna", "pam", None);
-    assert!(rt; prompted == Ok(prompt(alloc)?));
+    assert!(rt; are_equal(prompted, Ok(expected)));
     let right = [b"1234".as_slice()];
     let more = [b"1234".as_slice(), b"".as_slice()];
     for (shows, texts, expected) in [
-        ("the right one", right.as_slice(), Auth::Accept),
-        ("one too many", more.as_slice(), Auth::reject()),
+        ("the right one", right.as_slice(), "accept"),
+        ("one too many", more.as_slice(), "plain refusal"),
     ] {
-        let answer = handler.auth_keyboard_interactive("anna", "pam", Some(Response::new(texts)));
-        assert!(rt; answer == Ok(expected), "{shows}");
+        let response = Some(Response::new(texts));
+        let answer = handler.auth_keyboard_interactive("anna", "pam", response);
+        assert_eq!(rt; spent(answer), expected, "{shows}");
         let sent = Response::new(texts).into_blobs(alloc)?;
-        let told = matches!(handler.calls().last(),
-            Some(Call::AuthKeyboardInteractive { response: Some(told), .. })
-            if told.as_slice() == sent.as_slice());
-        assert!(rt; told, "{shows}");
+        assert!(rt; has_responses(handler.calls().last(), sent), "{shows}");
     }
     Ok(())
 }
@@ -399,47 +299,56 @@ fn lent<E>(call: &Call<E>) -> Option<(&Result<(), E>, &CommandList)> {
     }
 }
 
-// Whether the list is this command alone, or is empty where there is none.
-fn is_only(commands: &CommandList, command: Option<&Command>) -> bool {
-    commands.get(0) == command && commands.get(1).is_none()
+// Whether the list is empty, or the acceptance of channel 2 alone.
+fn is_acceptance(commands: &CommandList, accepts: bool) -> bool {
+    if !accepts {
+        return commands.get(0).is_none();
+    }
+    let accepted = Command::Answer(ChannelOpenHandle::new(ChannelId(2)).accept());
+    let is_first = commands.get(0) == Some(&accepted);
+    drop(accepted);
+    is_first && commands.get(1).is_none()
+}
+
+// What the callback answers, and whether its commands are told, recorded and kept.
+fn greeted(
+    alloc: Global,
+    event: Event,
+    accepts: bool,
+) -> (Result<(), RecordError<Late>>, [bool; 3]) {
+    let config = Config::standard();
+    let mut handler = Recorded::new(alloc, Greeter::new(alloc));
+    let mut session = Commands::new(alloc, &config, &[]);
+    let answer = tell(&mut handler, event, &mut session);
+    let is_told = matches!(handler.calls(), [call]
+        if matches!(lent(call), Some((told, commands))
+            if *told == answer && is_acceptance(commands, accepts)));
+    let is_recorded = is_acceptance(session.recorded(), accepts);
+    let commands = session.into_list();
+    let is_kept = is_acceptance(&commands, accepts);
+    (answer, [is_told, is_recorded, is_kept])
 }
 
 #[test]
 fn a_callback_is_told_with_the_commands_that_it_recorded(rt: HostRuntime) {
-    let alloc = rt.alloc();
-    let config = Config::standard();
-    let accepted = Command::Answer(ChannelOpenHandle::new(ChannelId(2)).accept());
-    for (shows, event, expected, recorded) in [
-        (
-            "an error",
-            Event::Succeeded,
-            Err(RecordError::Inner(Late)),
-            None,
-        ),
-        ("an open", Event::Opened, Ok(()), Some(&accepted)),
-        ("a grant", Event::Granted, Ok(()), None),
-        ("an end of file", Event::Ended, Ok(()), None),
-        ("a close", Event::Closed, Ok(()), None),
+    let late = Err(RecordError::Inner(Late));
+    for (shows, event, expected, accepts) in [
+        ("an error", Event::Succeeded, late, false),
+        ("an open", Event::Opened, Ok(()), true),
+        ("a grant", Event::Granted, Ok(()), false),
+        ("an end of file", Event::Ended, Ok(()), false),
+        ("a close", Event::Closed, Ok(()), false),
     ] {
-        let mut handler = Recorded::new(alloc, Greeter { alloc });
-        let mut session = Commands::new(alloc, &config, &[]);
-        assert_eq!(rt;
-            tell(&mut handler, event, &mut session),
-            expected,
-            "{shows}"
-        );
-        assert!(rt; is_only(session.recorded(), recorded), "{shows}");
-        let told = matches!(handler.calls(), [call]
-            if matches!(lent(call), Some((answer, commands)) if *answer == expected && is_only(commands, recorded)));
-        assert!(rt; told, "{shows}");
-        assert!(rt; is_only(&session.into_list(), recorded), "{shows}");
+        let (answer, holds) = greeted(rt.alloc(), event, accepts);
+        assert_eq!(rt; answer, expected, "{shows}");
+        assert_eq!(rt; holds, [true, true, true], "{shows}");
     }
 }
 
 #[test]
 fn the_end_of_a_command_is_told_with_its_place(rt: HostRuntime) {
     let alloc = rt.alloc();
-    let mut handler = Recorded::new(alloc, Greeter { alloc });
+    let mut handler = Recorded::new(alloc, Greeter::new(alloc));
     let refused = CommandOutcome::Refused(Refusal::UnknownOpen);
     assert_eq!(rt; handler.command_done(3, refused), Ok(()));
     let told = match handler.calls() {

@@ -1,5 +1,0 @@
-use Rattle.std.proofs.Common.{inl, rules}
-use Rattle.ssh_handler.proofs.recorded.RecordedAuthHandler.auth_publickey.Goals as goal
-
-pub returns-in_err-keep-clause-passes : goal.returns-in_err-keep-clause-passes
-returns-in_err-keep-clause-passes g c = (c.auth_publickey.result, rw (c.keep.ensures.inner, ← c.self.view_is) c.auth_publickey.ensures, inl (search rules))

@@ -1,8 +1,0 @@
-use Rattle.std.proofs.Common.{inl, inr, rules}
-use Rattle.ssh_handler.proofs.recorded.RecordedHandler.window_adjusted.Goals as goal
-
-pub returns-in_err-keep-clause-passes : goal.returns-in_err-keep-clause-passes
-returns-in_err-keep-clause-passes g c = (c.window_adjusted.result, rw (c.keep.ensures.inner, ← c.self.view_is) c.window_adjusted.ensures, inl (search rules))
-
-pub returns-clause-passes : goal.returns-clause-passes
-returns-clause-passes g c = (c.window_adjusted.result, rw (c.keep.ensures.inner, ← c.self.view_is) c.window_adjusted.ensures, inr c.passed-answer.ensures)

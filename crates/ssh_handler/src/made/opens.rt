@@ -1,0 +1,124 @@
+// The calls about opens, as they are recorded.
+ghost use Rattle.std.specs.Prelude.{◌≡◌, IfOk};
+ghost use Rattle.ssh_auth.specs.declared.call.Call.TheVariants as call;
+ghost use Rattle.ssh_handler.specs.Recording.{passed_on};
+
+use crate::recorded::passed;
+use crate::{Commands, RecordError};
+use ssh_auth::Call;
+use ssh_wire::{ChannelId, Text, WireError};
+use std::alloc::Global;
+
+pub(crate) fn session<E: Copy>(
+    channel: ChannelId,
+    answer: Result<(), E>,
+    session: &Commands<'_>,
+) -> Result<Call<RecordError<E>>, WireError>
+    ensures { IfOk result (λ made. made ≡ call.ChannelOpenSession channel (passed_on answer) session.now.recorded) }
+{
+    Ok(Call::ChannelOpenSession {
+        channel,
+        answer: passed(answer),
+        commands: session.copy_recorded()?,
+    })
+}
+
+pub(crate) fn x11<E: Copy>(
+    alloc: Global,
+    channel: ChannelId,
+    originator_address: &str,
+    originator_port: u32,
+    answer: Result<(), E>,
+    session: &Commands<'_>,
+) -> Result<Call<RecordError<E>>, WireError>
+    ensures { IfOk result (λ made. made ≡ call.ChannelOpenX11 channel originator_address.now originator_port (passed_on answer) session.now.recorded) }
+{
+    Ok(Call::ChannelOpenX11 {
+        channel,
+        originator_address: Text::new(alloc, originator_address)?,
+        originator_port,
+        answer: passed(answer),
+        commands: session.copy_recorded()?,
+    })
+}
+
+pub(crate) fn direct_tcpip<E: Copy>(
+    alloc: Global,
+    channel: ChannelId,
+    host_to_connect: &str,
+    port_to_connect: u32,
+    originator_address: &str,
+    originator_port: u32,
+    answer: Result<(), E>,
+    session: &Commands<'_>,
+) -> Result<Call<RecordError<E>>, WireError>
+    ensures { IfOk result (λ made. made ≡ call.ChannelOpenDirectTcpip channel host_to_connect.now port_to_connect originator_address.now originator_port (passed_on answer) session.now.recorded) }
+{
+    Ok(Call::ChannelOpenDirectTcpip {
+        channel,
+        host_to_connect: Text::new(alloc, host_to_connect)?,
+        port_to_connect,
+        originator_address: Text::new(alloc, originator_address)?,
+        originator_port,
+        answer: passed(answer),
+        commands: session.copy_recorded()?,
+    })
+}
+
+pub(crate) fn forwarded_tcpip<E: Copy>(
+    alloc: Global,
+    channel: ChannelId,
+    host_to_connect: &str,
+    port_to_connect: u32,
+    originator_address: &str,
+    originator_port: u32,
+    answer: Result<(), E>,
+    session: &Commands<'_>,
+) -> Result<Call<RecordError<E>>, WireError>
+    ensures { IfOk result (λ made. made ≡ call.ChannelOpenForwardedTcpip channel host_to_connect.now port_to_connect originator_address.now originator_port (passed_on answer) session.now.recorded) }
+{
+    Ok(Call::ChannelOpenForwardedTcpip {
+        channel,
+        host_to_connect: Text::new(alloc, host_to_connect)?,
+        port_to_connect,
+        originator_address: Text::new(alloc, originator_address)?,
+        originator_port,
+        answer: passed(answer),
+        commands: session.copy_recorded()?,
+    })
+}
+
+pub(crate) fn direct_streamlocal<E: Copy>(
+    alloc: Global,
+    channel: ChannelId,
+    socket_path: &str,
+    answer: Result<(), E>,
+    session: &Commands<'_>,
+) -> Result<Call<RecordError<E>>, WireError>
+    ensures { IfOk result (λ made. made ≡ call.ChannelOpenDirectStreamlocal channel socket_path.now (passed_on answer) session.now.recorded) }
+{
+    Ok(Call::ChannelOpenDirectStreamlocal {
+        channel,
+        socket_path: Text::new(alloc, socket_path)?,
+        answer: passed(answer),
+        commands: session.copy_recorded()?,
+    })
+}
+
+pub(crate) fn confirmation<E: Copy>(
+    id: ChannelId,
+    max_packet_size: u32,
+    window_size: u32,
+    answer: Result<(), E>,
+    session: &Commands<'_>,
+) -> Result<Call<RecordError<E>>, WireError>
+    ensures { IfOk result (λ made. made ≡ call.ChannelOpenConfirmation id max_packet_size window_size (passed_on answer) session.now.recorded) }
+{
+    Ok(Call::ChannelOpenConfirmation {
+        id,
+        max_packet_size,
+        window_size,
+        answer: passed(answer),
+        commands: session.copy_recorded()?,
+    })
+}
