@@ -2,6 +2,9 @@ mod Accepting
 mod Admitting
 mod Asks
 mod Branches
+mod Built
+mod CloseFrames
+pub mod Commanding
 mod Closing
 mod Complete
 pub mod Cuts
@@ -18,6 +21,7 @@ pub mod KeyFields
 mod Methods
 mod Misfits
 pub mod Places
+mod Replying
 mod Requests
 mod Responses
 pub mod Runs

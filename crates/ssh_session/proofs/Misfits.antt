@@ -21,20 +21,44 @@ use Rattle.ssh_session.specs.World.{Settings, World}
 use Rattle.ssh_session.proofs.Asks.{hears_nothing, starved}
 
 -- fields that do not fit fail the input, and nothing is told
-fails : {E : Type 0} (settings : Settings) (why : WireError) (a : Heard E) (staged : List Frame) (session : Session) → Serves settings (Finish (Fails (Encoding why))) a a staged staged session (Err (run_error_of why))
-fails settings wire.Short a staged session = ([], hears_nothing {T = Flow} (Err (error.Encoding wire.Short)) a, refl)
-fails settings wire.NotUtf8 a staged session = ([], hears_nothing {T = Flow} (Err (error.Encoding wire.NotUtf8)) a, refl)
-fails settings (wire.Trailing left) a staged session = ([], hears_nothing {T = Flow} (Err (error.Encoding (wire.Trailing left))) a, refl)
-fails settings wire.TooLong a staged session = ([], hears_nothing {T = Flow} (Err (error.Encoding wire.TooLong)) a, refl)
-fails settings wire.NoMemory a staged session = starved settings (Finish (Fails (Encoding wire.NoMemory))) a staged staged session
+fails : {E : Type 0} (settings : Settings) (why : WireError) (a : Heard E) (staged : List Frame)
+    (session : Session) → Serves settings (Finish (Fails (Encoding why))) a a staged staged session
+    (Err (run_error_of why))
+fails settings wire.Short a staged session =
+    ([], hears_nothing {T = Flow} (Err (error.Encoding wire.Short)) a, refl)
+fails settings wire.NotUtf8 a staged session =
+    ([], hears_nothing {T = Flow} (Err (error.Encoding wire.NotUtf8)) a, refl)
+fails settings (wire.Trailing left) a staged session =
+    ([], hears_nothing {T = Flow} (Err (error.Encoding (wire.Trailing left))) a, refl)
+fails settings wire.TooLong a staged session =
+    ([], hears_nothing {T = Flow} (Err (error.Encoding wire.TooLong)) a, refl)
+fails settings wire.NoMemory a staged session =
+    starved settings (Finish (Fails (Encoding wire.NoMemory))) a staged staged session
 
-pub unfit : {E : Type 0} (settings : Settings) (why : WireError) (a : Heard E) (staged : List Frame) (session : Session) (result : Result Flow (RunError E)) →
-    result ≡ Err (run_error_of why) → Serves settings (Finish (Fails (Encoding why))) a a staged staged session result
-unfit settings why a staged session result is = subst (Serves settings (Finish (Fails (Encoding why))) a a staged staged session) (sym is) (fails settings why a staged session)
+pub unfit : {E : Type 0} (settings : Settings) (why : WireError) (a : Heard E) (staged : List Frame)
+    (session : Session) (result : Result Flow (RunError E)) →
+    result ≡ Err (run_error_of why) → Serves settings (Finish (Fails (Encoding why))) a a staged
+    staged session result
+unfit settings why a staged session result is =
+    subst (Serves settings (Finish (Fails (Encoding why))) a a staged staged session) (sym is)
+    (fails settings why a staged session)
 
 -- an open that is not read fails the input, and nothing is told
-pub unread_open : {E : Type 0} (settings : Settings) (moment : ℕ) (w : World) (fields : List ℕ) (why : LayoutError) (a : Heard E) (staged : List Frame) (session : Session) (result : Result Flow (RunError E)) →
-    result ≡ Err (error_of_layout why) → MisfitsRead fields why → (said : Said) × Fits gate.ChannelOpen fields said × Serves settings (row settings moment w said) a a staged staged session result
-unread_open settings moment w fields (layout.Wire why) a staged session result is h = (Unfit why, h, unfit settings why a staged session result is)
-unread_open settings moment w fields layout.Inconsistent a staged session result is h =
-    (Open_without_packets, h, subst (Serves settings (row settings moment w Open_without_packets) a a staged staged session) (sym is) ([], hears_nothing {T = Flow} (Err error.Inconsistent) a, refl))
+pub unread_open : {E : Type 0} (settings : Settings) (moment : ℕ) (w : World) (fields : List ℕ)
+    (why : LayoutError) (a : Heard E) (staged : List Frame) (session : Session)
+    (result : Result Flow (RunError E)) →
+    result ≡ Err (error_of_layout why) → MisfitsRead fields why → (said : Said)
+    × Fits gate.ChannelOpen fields said × Serves settings (row settings moment w said) a a
+    staged staged session result
+unread_open settings moment w fields (layout.Wire why) a staged session result is h =
+    (Unfit why, h, unfit settings why a staged session result is)
+unread_open settings moment w fields layout.Inconsistent a staged session result is h = (
+  Open_without_packets,
+  h,
+  subst (Serves settings (row settings moment w Open_without_packets) a
+      a staged staged session) (sym is) (
+        [],
+        hears_nothing {T = Flow} (Err error.Inconsistent) a,
+        refl,
+      ),
+)

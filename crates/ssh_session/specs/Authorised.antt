@@ -6,10 +6,13 @@ use Rattle.ssh_link.specs.declared.frame.InputKind.{InputKind}
 use Rattle.ssh_link.specs.declared.frame.InputKind.TheVariants.{Payload}
 use Rattle.ssh_auth.specs.declared.auth.Auth.TheVariants.{Accept}
 use Rattle.ssh_auth.specs.declared.call.Call.{Call}
-use Rattle.ssh_auth.specs.declared.call.Call.TheVariants.{AuthenticationBanner, AuthNone, AuthPassword, AuthPublickeyOffered, AuthPublickey, AuthOpensshCertificate, AuthKeyboardInteractive}
-use Rattle.ssh_auth.specs.Plan.{Question, Auth_publickey, Auth_openssh_certificate}
+use Rattle.ssh_auth.specs.declared.question.Question.{Question}
+use Rattle.ssh_auth.specs.declared.question.Question.TheVariants.{Banner, Admits}
+use Rattle.ssh_auth.specs.declared.question.Admission.{Admission}
+use Rattle.ssh_auth.specs.declared.question.Admission.TheVariants as by
 use Rattle.ssh_auth.specs.Proven.{IsProven}
 use Rattle.ssh_auth.specs.Publickey.{Acceptance, Circumstances}
+use Rattle.ssh_auth.specs.Was.{Was, Admitted_so, was, asked_of}
 use Rattle.ssh_session.specs.World.{Settings, circumstances}
 use Rattle.ssh_session.specs.Run.{Turn, calls_of}
 
@@ -35,27 +38,35 @@ abbrev pub IsProvenRequest : Circumstances → InputKind → Question → Type 0
 IsProvenRequest given (Payload payload) question = (fields : List ℕ) × (payload ≡ 50 ∷ fields) × IsProven given fields question
 IsProvenRequest given _ question = ⊥
 
--- the call accepted the user of its input's request, and of one by a key or a certificate the signature was accepted; or
+-- whoever is let in so is the user of this input's request, and of one by a key or a certificate the signature was accepted; or
 -- the user whom the last request before a response named
-abbrev pub IsAccepting : {E : Type 0} → Circumstances → (named : List ℕ → Type 0) → InputKind → Call E → Type 0
-IsAccepting given named kind (AuthNone user (Ok Accept)) = IsRequestOf user kind
-IsAccepting given named kind (AuthPassword user password (Ok Accept)) = IsRequestOf user kind
-IsAccepting given named kind (AuthPublickey user key algorithm (Ok Accept)) = IsProvenRequest given kind (Auth_publickey user key algorithm)
-IsAccepting given named kind (AuthOpensshCertificate user certificate (Ok Accept)) = IsProvenRequest given kind (Auth_openssh_certificate user certificate)
-IsAccepting given named kind (AuthKeyboardInteractive user submethods None (Ok Accept)) = IsRequestOf user kind
-IsAccepting given named kind (AuthKeyboardInteractive user submethods (Some responses) (Ok Accept)) = IsResponse kind × named user
-IsAccepting given named kind _ = ⊥
+abbrev pub IsAdmitted : Circumstances → (named : List ℕ → Type 0) → InputKind → Admission → Type 0
+IsAdmitted given named kind (by.None user) = IsRequestOf user kind
+IsAdmitted given named kind (by.Password user password) = IsRequestOf user kind
+-- nobody is let in because a key may sign
+IsAdmitted given named kind (by.PublickeyOffered user key algorithm) = ⊥
+IsAdmitted given named kind (by.Publickey user key algorithm) = IsProvenRequest given kind (Admits (by.Publickey user key algorithm))
+IsAdmitted given named kind (by.OpensshCertificate user certificate) = IsProvenRequest given kind (Admits (by.OpensshCertificate user certificate))
+IsAdmitted given named kind (by.KeyboardInteractive user submethods None) = IsRequestOf user kind
+IsAdmitted given named kind (by.KeyboardInteractive user submethods (Some responses)) = IsResponse kind × named user
 
--- a callback of the connection: every one but those that authenticate
+-- the call accepted such a user
+abbrev pub IsAcceptingSo : {E : Type 0} → Circumstances → (named : List ℕ → Type 0) → InputKind → Was E → Type 0
+IsAcceptingSo given named kind (Admitted_so admission (Ok Accept)) = IsAdmitted given named kind admission
+IsAcceptingSo given named kind _ = ⊥
+
+abbrev pub IsAccepting : {E : Type 0} → Circumstances → (named : List ℕ → Type 0) → InputKind → Call E → Type 0
+IsAccepting given named kind call = IsAcceptingSo given named kind (was call)
+
+-- a question of the connection: every one but those that authenticate
+abbrev pub AsksConnection : Question → Type 0
+AsksConnection Banner = ⊥
+AsksConnection (Admits admission) = ⊥
+AsksConnection _ = Unit {0}
+
+-- a callback of the connection
 abbrev pub IsOfConnection : {E : Type 0} → Call E → Type 0
-IsOfConnection (AuthenticationBanner answer) = ⊥
-IsOfConnection (AuthNone user answer) = ⊥
-IsOfConnection (AuthPassword user password answer) = ⊥
-IsOfConnection (AuthPublickeyOffered user key algorithm answer) = ⊥
-IsOfConnection (AuthPublickey user key algorithm answer) = ⊥
-IsOfConnection (AuthOpensshCertificate user certificate answer) = ⊥
-IsOfConnection (AuthKeyboardInteractive user submethods response answer) = ⊥
-IsOfConnection _ = Unit {0}
+IsOfConnection call = AsksConnection (asked_of call)
 
 -- a frame of a channel: its number is 90 to 100
 abbrev pub IsOfChannel : Frame → Type 0

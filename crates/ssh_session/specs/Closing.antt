@@ -6,8 +6,8 @@ use Rattle.ssh_link.specs.Frames.{Frame}
 use Rattle.ssh_link.specs.declared.frame.InputKind.{InputKind}
 use Rattle.ssh_link.specs.declared.frame.InputKind.TheVariants.{Payload, Command}
 use Rattle.ssh_auth.specs.declared.call.Call.{Call}
-use Rattle.ssh_auth.specs.declared.call.Call.TheVariants.{AuthSucceeded, ChannelOpenSession, ChannelEof, ChannelClose, WindowAdjusted}
 use Rattle.ssh_auth.specs.Publickey.{Acceptance}
+use Rattle.ssh_auth.specs.Was.{Was, Lent_so, Judged_so, Listened_so, was}
 use Rattle.ssh_session.specs.declared.phase.Phase.TheVariants.{Accepted}
 use Rattle.ssh_session.specs.World.{Settings, World, opening_world}
 use Rattle.ssh_session.specs.Said.{channel_field}
@@ -43,13 +43,14 @@ MayClose own w kind = (e : Entry) × (find own w.entries ≡ Some e)
     × (IsPeerClose own w kind ⊎ (IsOwnClose own kind × (length (accepted e) ≤ e.granted)))
 
 -- the call recorded no commands but answers to opens
+abbrev pub RecordsAnswersSo : {E : Type 0} → Was E → Type 0
+RecordsAnswersSo (Lent_so lent answer commands) = AreAnswers commands
+RecordsAnswersSo (Judged_so judged answer commands) = AreAnswers commands
+RecordsAnswersSo (Listened_so address port port_after answer commands) = AreAnswers commands
+RecordsAnswersSo _ = Unit {0}
+
 abbrev pub RecordsAnswers : {E : Type 0} → Call E → Type 0
-RecordsAnswers (AuthSucceeded answer commands) = AreAnswers commands
-RecordsAnswers (ChannelOpenSession channel answer commands) = AreAnswers commands
-RecordsAnswers (ChannelEof channel answer commands) = AreAnswers commands
-RecordsAnswers (ChannelClose channel answer commands) = AreAnswers commands
-RecordsAnswers (WindowAdjusted channel new_size answer commands) = AreAnswers commands
-RecordsAnswers _ = Unit {0}
+RecordsAnswers call = RecordsAnswersSo (was call)
 
 -- each call did
 abbrev pub RecordAnswers : {E : Type 0} → List (Call E) → Type 0

@@ -6,7 +6,8 @@ use Rattle.ssh_link.specs.declared.link.TraceEntry.{TraceEntry}
 use Rattle.ssh_link.specs.declared.link.TraceEntry.TheVariants.{Noticed, Answered}
 use Rattle.ssh_link.specs.declared.outcome.CommandOutcome.{CommandOutcome}
 use Rattle.ssh_link.specs.declared.outcome.CommandOutcome.TheVariants.{Accepted, Opened, Refused}
-use Rattle.ssh_auth.specs.Plan.{Plan, Finish, Ask, Tell, Command_done}
+use Rattle.ssh_auth.specs.declared.question.Question.TheVariants.{Done}
+use Rattle.ssh_auth.specs.Plan.{Plan, Finish, Ask, Tell}
 use Rattle.ssh_session.specs.World.{Settings, World}
 use Rattle.ssh_session.specs.Outcome.{Outcome, Goes, Fails}
 use Rattle.ssh_session.specs.Outcome as outcome
@@ -25,8 +26,8 @@ done Not_built next = Finish (Fails outcome.Not_built)
 -- the handler is told of a command that opens a channel, or was refused, by its place
 abbrev pub tell_done : ℕ → CommandOutcome → Plan Outcome → Plan Outcome
 tell_done place Accepted next = next
-tell_done place (Opened channel) next = Ask (Command_done place (Opened channel)) (λ _. next)
-tell_done place (Refused why) next = Ask (Command_done place (Refused why)) (λ _. next)
+tell_done place (Opened channel) next = Ask (Done place (Opened channel)) (λ _. next)
+tell_done place (Refused why) next = Ask (Done place (Refused why)) (λ _. next)
 
 -- what callbacks recorded is done in order, and then the input's frames go out: those so far, and those of the commands
 abbrev pub done_all : Settings → World → List Frame → (place : ℕ) → List Command → Plan Outcome

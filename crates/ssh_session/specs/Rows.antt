@@ -8,7 +8,11 @@ use Rattle.ssh_link.specs.declared.notice.ChannelMsg.TheVariants as msg
 use Rattle.ssh_link.specs.declared.notice.Notice.TheVariants.{Channel, Granted}
 use Rattle.ssh_auth.specs.declared.auth_step.AuthVerdict.{AuthVerdict}
 use Rattle.ssh_auth.specs.declared.auth_step.AuthVerdict.TheVariants as verdict
-use Rattle.ssh_auth.specs.Plan.{Plan, Finish, Ask, Tell, after, Authentication_banner, Auth_succeeded, Channel_open_session, Channel_eof, Channel_close, Window_adjusted}
+use Rattle.ssh_auth.specs.declared.question.Question.TheVariants.{Banner, Lends}
+use Rattle.ssh_auth.specs.declared.question.Lent.TheVariants.{Succeeded, Opens, Happened}
+use Rattle.ssh_auth.specs.declared.question.OpenType.TheVariants as type
+use Rattle.ssh_auth.specs.declared.question.Happening.TheVariants as what
+use Rattle.ssh_auth.specs.Plan.{Plan, Finish, Ask, Tell, after}
 use Rattle.ssh_auth.specs.Response.{Responded}
 use Rattle.ssh_auth.specs.Requested.{Requested as Asked}
 use Rattle.ssh_auth.specs.Verdict.{verdict as verdict_on, response_verdict, AuthOutcome as Reply, Replies}
@@ -36,7 +40,7 @@ accept_row w (Some message) =
 abbrev pub service_row : World → List ℕ → Plan Outcome
 service_row w name =
     if bytes_eq name (codes "ssh-userauth")
-    then Ask Authentication_banner (accept_row w)
+    then Ask Banner (accept_row w)
     else Finish (Goes [] w)
 
 -- how long a rejection is held, in milliseconds: one of method none before any finished request has a time of its own
@@ -52,7 +56,7 @@ moment_after moment time = min (moment + time) (2 ^ 64 - 1)
 -- that a USERAUTH_REQUEST was finished
 abbrev pub reply_row : Settings → ℕ → World → (requested : Bool) → List ℕ → AuthVerdict → Plan Outcome
 reply_row settings moment w requested reply verdict.Accepted =
-    Ask Auth_succeeded (done_all settings (record w { phase = Accepted; requested = requested }) (at_once reply ∷ []) 0)
+    Ask (Lends Succeeded) (done_all settings (record w { phase = Accepted; requested = requested }) (at_once reply ∷ []) 0)
 reply_row settings moment w requested reply (verdict.Rejected none_method) =
     Finish (Goes (held reply (moment_after moment (rejection_hold settings.config none_method w.requested)) ∷ []) (record w { requested = requested }))
 reply_row settings moment w requested reply verdict.Continued = Finish (Goes (at_once reply ∷ []) (record w { requested = requested }))
@@ -93,13 +97,13 @@ drawn w peer window packet = record w {
 abbrev pub open_session_row : Settings → World → (peer window packet : ℕ) → Plan Outcome
 open_session_row settings w peer window packet =
     if has_no_channel w
-    then Ask (Channel_open_session (own (next_number w))) (done_all settings (drawn w peer window packet) [] 0)
+    then Ask (Lends (Opens (own (next_number w)) type.Session)) (done_all settings (drawn w peer window packet) [] 0)
     else Finish (Fails Not_built)
 
 -- it is told how many bytes may still be sent (RFC 4254 section 5.2)
 abbrev pub window_told : Settings → World → List Frame → ChannelId → (new_size : ℕ) → Plan Outcome
 window_told settings w frames channel new_size =
-    Tell (Noticed (Channel channel (msg.WindowAdjusted new_size))) (Ask (Window_adjusted channel new_size) (done_all settings w frames 0))
+    Tell (Noticed (Channel channel (msg.WindowAdjusted new_size))) (Ask (Lends (Happened channel (what.WindowAdjusted new_size))) (done_all settings w frames 0))
 
 -- the peer has granted more on this channel (RFC 4254 section 5.2)
 abbrev pub granted_row : Settings → World → (amount : ℕ) → Entry → Plan Outcome
@@ -115,14 +119,14 @@ grant_row settings w amount (Some e) = granted_row settings w amount (granting e
 -- the peer sends no more data (RFC 4254 section 5.3)
 abbrev pub peer_eof_row : Settings → World → Option Entry → Plan Outcome
 peer_eof_row settings w None = Finish (Goes [] w)
-peer_eof_row settings w (Some e) = Tell (Noticed (Channel (own e.number) msg.Eof)) (Ask (Channel_eof (own e.number)) (done_all settings w [] 0))
+peer_eof_row settings w (Some e) = Tell (Noticed (Channel (own e.number) msg.Eof)) (Ask (Lends (Happened (own e.number) what.Eof)) (done_all settings w [] 0))
 
 -- the peer closes, and is answered by a close; what still waited is dropped (RFC 4254 section 5.3)
 abbrev pub peer_close_row : Settings → World → Option Entry → Plan Outcome
 peer_close_row settings w None = Finish (Goes [] w)
 peer_close_row settings w (Some e) =
     Tell (Noticed (Channel (own e.number) msg.Close))
-    (Ask (Channel_close (own e.number)) (done_all settings (record w { entries = without e.number w.entries }) (close_frame e.number e.peer ∷ []) 0))
+    (Ask (Lends (Happened (own e.number) what.Close)) (done_all settings (record w { entries = without e.number w.entries }) (close_frame e.number e.peer ∷ []) 0))
 
 -- what a payload owes by what it says
 abbrev pub row : Settings → ℕ → World → Said → Plan Outcome

@@ -10,7 +10,7 @@ use Rattle.ssh_link.specs.declared.link.TraceEntry.{TraceEntry}
 use Rattle.ssh_link.specs.declared.link.TraceEntry.TheVariants.{Took, Sent}
 use Rattle.ssh_auth.specs.declared.call.Call.{Call}
 use Rattle.ssh_auth.specs.Publickey.{Acceptance}
-use Rattle.ssh_auth.specs.Plan.{Plan, Finish, Event, calls_in, told_in, Follows}
+use Rattle.ssh_auth.specs.Plan.{Plan, Finish, Event, calls_in, steps_in, told_in, Follows}
 use Rattle.ssh_session.specs.World.{Settings, World, circumstances}
 use Rattle.ssh_session.specs.Gate.{gate_of}
 use Rattle.ssh_session.specs.Said.{Said, Says}
@@ -37,16 +37,17 @@ Owes accepts settings w input plan = OwesKind accepts settings w input.moment in
 pub record Turn (E : Type 0) : Type 0 where
   pub input : Input
   pub commands : Bool
-  pub events : List (Event E)
+  pub events : List (Event E ⊥)
   pub frames : List Frame
 
 -- the calls that a turn made
 abbrev pub calls_of : {E : Type 0} → Turn E → List (Call E)
 calls_of turn = calls_in turn.events
 
--- commands are asked for exactly where on no channel data wait, and replies to opens always; a link gives only what is asked for
+-- commands are asked for exactly where on no channel data wait, and replies to opens always; a link gives only what is asked for; and
+-- no exchange is asked for anything
 abbrev pub IsTaken : {E : Type 0} → World → Turn E → Type 0
-IsTaken w turn = (turn.commands ≡ nothing_waits w.entries) × IsAsked turn.commands true turn.input.kind
+IsTaken w turn = (turn.commands ≡ nothing_waits w.entries) × IsAsked turn.commands true turn.input.kind × (steps_in turn.events ≡ [])
 
 -- the turn is the row of its input, and leads from world to world
 abbrev pub Turns : {E : Type 0} → Acceptance → Settings → World → Turn E → World → Type 0

@@ -9,7 +9,7 @@ use Rattle.ssh_link.specs.declared.link.TraceEntry.TheVariants.{Sent}
 use Rattle.ssh_keys.specs.declared.error.KeyError.TheVariants.{Blob}
 use Rattle.ssh_auth.specs.declared.call.Call.{Call}
 use Rattle.ssh_auth.specs.Publickey.{Acceptance}
-use Rattle.ssh_auth.specs.Plan.{Plan, Event, calls_in, told_in, Follows, Begins, Breaks}
+use Rattle.ssh_auth.specs.Plan.{Plan, Event, Handler_error, calls_in, steps_in, told_in, Follows, Begins, Breaks}
 use Rattle.ssh_session.specs.declared.error.Flow.{Flow}
 use Rattle.ssh_session.specs.declared.error.Flow.TheVariants.{Continue, Ended}
 use Rattle.ssh_session.specs.declared.error.RunError.{RunError}
@@ -21,16 +21,16 @@ use Rattle.ssh_session.specs.Serve.{Refines, may_stop}
 use Rattle.ssh_session.specs.Run.{Owes, Turn, Run, IsTaken, calls_of, entries}
 
 -- the plan comes to frames that begin with those that were handed on
-abbrev pub SendsPart : {E : Type 0} → Plan Outcome → List (Event E) → List Frame → Type 0
+abbrev pub SendsPart : {E : Type 0} → Plan Outcome → List (Event E ⊥) → List Frame → Type 0
 SendsPart plan events sent = (rest : List Frame) ×
     (((world : World) × Follows plan events (Goes (sent ++ rest) world)) ⊎ Follows plan events (Ends (sent ++ rest)))
 
 -- the input was left before any frame was handed on, or while they were
-abbrev pub IsLeft : {E : Type 0} → Plan Outcome → List (Event E) → List Frame → Type 0
+abbrev pub IsLeft : {E : Type 0} → Plan Outcome → List (Event E ⊥) → List Frame → Type 0
 IsLeft plan events sent = ((sent ≡ []) × Begins plan events) ⊎ SendsPart plan events sent
 
 -- an input was not finished, by this error; rose says that the link's faults rose
-abbrev pub Stops : {E : Type 0} → Plan Outcome → List (Event E) → List Frame → Type 0 → RunError E → Type 0
+abbrev pub Stops : {E : Type 0} → Plan Outcome → List (Event E ⊥) → List Frame → Type 0 → RunError E → Type 0
 Stops plan events sent rose error.NoMemory = IsLeft plan events sent
 Stops plan events sent rose error.LinkFault = rose × IsLeft plan events sent
 Stops plan events sent rose error.InputLimit = ⊥
@@ -38,10 +38,10 @@ Stops plan events sent rose (error.Encoding why) = (sent ≡ []) × Follows plan
 Stops plan events sent rose error.Inconsistent = (sent ≡ []) × Follows plan events (Fails Inconsistent)
 Stops plan events sent rose (error.Key why) = (sent ≡ []) × (why ≡ Blob) × Follows plan events (Fails Key)
 Stops plan events sent rose error.UnsupportedAuthMethod = (sent ≡ []) × Follows plan events (Fails Unsupported)
-Stops plan events sent rose (error.Handler e) = (sent ≡ []) × Breaks plan events e
+Stops plan events sent rose (error.Handler e) = (sent ≡ []) × Breaks plan events (Handler_error e)
 Stops plan events sent rose error.NotBuilt = (sent ≡ []) × Follows plan events (Fails Not_built)
 
-abbrev pub Finishes : {E : Type 0} → Settings → Plan Outcome → List (Event E) → List Frame → Type 0 → Session → Result Flow (RunError E) → Type 0
+abbrev pub Finishes : {E : Type 0} → Settings → Plan Outcome → List (Event E ⊥) → List Frame → Type 0 → Session → Result Flow (RunError E) → Type 0
 Finishes settings plan events sent rose session (Ok Continue) = (world : World) × Follows plan events (Goes sent world) × Refines settings session world
 Finishes settings plan events sent rose session (Ok Ended) = Follows plan events (Ends sent)
 Finishes settings plan events sent rose session (Err e) = Stops plan events sent rose e
@@ -51,11 +51,12 @@ pub record Steps {E : Type 0} (accepts : Acceptance) (settings : Settings) (w : 
     (faults faults' : ℕ) (session : Session) (result : Result Flow (RunError E)) : Type 0 where
   pub plan : Plan Outcome
   pub owes : Owes accepts settings w input plan
-  pub events : List (Event E)
+  pub events : List (Event E ⊥)
   pub told : ToldBy (may_stop result) before after (calls_in events)
   pub sent : List Frame
   pub traced : Adds trace trace' (told_in events ++ map Sent sent)
   pub later : faults ≤ faults'
+  pub unstepped : steps_in events ≡ []
   pub finishes : Finishes settings plan events sent (Rose faults faults') session result
 
 -- how a run ends: in this world, after so many finished inputs, with one more that ended it or was not finished

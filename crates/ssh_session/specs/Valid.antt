@@ -1,5 +1,5 @@
 -- Which inputs a session can finish, said positively.
-use Rattle.std.specs.Prelude.{◌≡◌, ◌≢◌, ◌<◌, ◌^◌, ◌⊎◌, ℕ, List, [], ◌∷◌, length, Some, None, Bool, true, false, Result, Ok, Err, codes, drop}
+use Rattle.std.specs.Prelude.{◌≡◌, ◌≢◌, ◌<◌, ◌^◌, ◌⊎◌, ℕ, List, [], ◌∷◌, length, Option, Some, None, Bool, true, false, Result, Ok, Err, codes, drop}
 use Rattle.ssh_wire.specs.Field.{Flag, Number, Text, SpellsAll, SpellsWhole}
 use Rattle.ssh_wire.specs.Open.{Leads}
 use Rattle.ssh_link.specs.declared.command.Command.{Command as Commanded}
@@ -13,9 +13,15 @@ use Rattle.ssh_auth.specs.Layout.{pk_ok, info_request}
 use Rattle.ssh_auth.specs.Request.{prompt_of}
 use Rattle.ssh_auth.specs.Response.{strings, values}
 use Rattle.ssh_auth.specs.Publickey.{Acceptance, Circumstances, Offer, OffersNothing, offer_fields, Offers}
+use Rattle.ssh_auth.specs.declared.auth.Auth.{Auth}
 use Rattle.ssh_auth.specs.declared.auth.Auth.TheVariants.{Accept, UnsupportedMethod, Partial}
 use Rattle.ssh_auth.specs.declared.call.Call.{Call}
-use Rattle.ssh_auth.specs.declared.call.Call.TheVariants.{AuthenticationBanner, AuthNone, AuthPassword, AuthPublickeyOffered, AuthPublickey, AuthOpensshCertificate, AuthKeyboardInteractive, AuthSucceeded, ChannelOpenSession, ChannelEof, ChannelClose, WindowAdjusted, CommandDone}
+use Rattle.ssh_auth.specs.declared.question.Admission.{Admission}
+use Rattle.ssh_auth.specs.declared.question.Admission.TheVariants as by
+use Rattle.ssh_auth.specs.declared.question.Question.{Question}
+use Rattle.ssh_auth.specs.declared.question.Question.TheVariants as ask
+use Rattle.ssh_auth.specs.Plan.{Answer}
+use Rattle.ssh_auth.specs.Was.{Was, Banner_so, Admitted_so, Lent_so, Judged_so, Listened_so, Adjusted_so, Done_so, was}
 use Rattle.ssh_session.specs.declared.error.RunError.{RunError}
 use Rattle.ssh_session.specs.declared.error.RunError.TheVariants as error
 use Rattle.ssh_session.specs.declared.gate.Gate.{Gate}
@@ -89,45 +95,55 @@ HasShortReply (Payload payload) = (user name blob rest : List ℕ) →
     SpellsAll offer_fields (false, (name, (blob, tt))) rest [] → length (pk_ok name blob) < 2 ^ 32
 HasShortReply _ = Unit {0}
 
--- a callback records nothing but answers to opens, for which alone `Commands` has a call
+-- a callback records nothing but answers to opens: the other commands are not built
 abbrev pub AreAnswers : List Commanded → Type 0
 AreAnswers [] = Unit {0}
 AreAnswers (command.Answer answer ∷ commands) = AreAnswers commands
 AreAnswers (_ ∷ commands) = ⊥
 
--- a callback of the connection answered no error
-abbrev pub IsDone : {E : Type 0} → Result (Unit {0}) E → List Commanded → Type 0
-IsDone (Ok done) commands = AreAnswers commands
-IsDone (Err e) commands = ⊥
+-- the banner is not too long
+abbrev pub IsFineBanner : Option (List ℕ) → Type 0
+IsFineBanner None = Unit {0}
+IsFineBanner (Some message) = length (banner message) < 2 ^ 32
 
--- the call answered no error, no banner and no prompts that are too long, and no acceptance of a probe whose reply is; and
--- the handler has keyboard-interactive
+-- keyboard-interactive is had, and the prompts are not too long
+abbrev pub IsFinePrompt : Auth → Type 0
+IsFinePrompt UnsupportedMethod = ⊥
+IsFinePrompt (Partial name instructions prompts) = length (info_request name instructions prompts) < 2 ^ 32
+IsFinePrompt _ = Unit {0}
+
+-- a probe is accepted only where its reply is not too long
+abbrev pub IsFineProbe : InputKind → Auth → Type 0
+IsFineProbe kind Accept = HasShortReply kind
+IsFineProbe kind _ = Unit {0}
+
+abbrev pub IsFineAdmission : InputKind → Admission → Auth → Type 0
+IsFineAdmission kind (by.PublickeyOffered user key algorithm) answer = IsFineProbe kind answer
+IsFineAdmission kind (by.KeyboardInteractive user submethods response) answer = IsFinePrompt answer
+IsFineAdmission kind _ answer = Unit {0}
+
+-- the answer to a question asks for nothing that is too long, or not built
+abbrev pub IsFineAnswer : InputKind → (question : Question) → Answer question → Type 0
+IsFineAnswer kind ask.Banner message = IsFineBanner message
+IsFineAnswer kind (ask.Admits admission) answer = IsFineAdmission kind admission answer
+IsFineAnswer kind (ask.Lends lent) commands = AreAnswers commands
+IsFineAnswer kind (ask.Judges judged) judgement = AreAnswers judgement.commands
+IsFineAnswer kind (ask.Listens address port) listening = AreAnswers listening.commands
+IsFineAnswer kind _ answer = Unit {0}
+
+-- the call answered no error, and is fine so
+abbrev pub IsFineSo : {E : Type 0} → InputKind → Was E → Type 0
+IsFineSo kind (Banner_so (Ok message)) = IsFineBanner message
+IsFineSo kind (Admitted_so admission (Ok answer)) = IsFineAdmission kind admission answer
+IsFineSo kind (Lent_so lent (Ok done) commands) = AreAnswers commands
+IsFineSo kind (Judged_so judged (Ok granted) commands) = AreAnswers commands
+IsFineSo kind (Listened_so address port port_after (Ok granted) commands) = AreAnswers commands
+IsFineSo kind (Adjusted_so channel current (Ok window)) = Unit {0}
+IsFineSo kind (Done_so place outcome (Ok done)) = Unit {0}
+IsFineSo kind _ = ⊥
+
 abbrev pub IsFine : {E : Type 0} → InputKind → Call E → Type 0
-IsFine kind (AuthenticationBanner (Ok None)) = Unit {0}
-IsFine kind (AuthenticationBanner (Ok (Some message))) = length (banner message) < 2 ^ 32
-IsFine kind (AuthenticationBanner (Err e)) = ⊥
-IsFine kind (AuthNone user (Ok auth)) = Unit {0}
-IsFine kind (AuthNone user (Err e)) = ⊥
-IsFine kind (AuthPassword user password (Ok auth)) = Unit {0}
-IsFine kind (AuthPassword user password (Err e)) = ⊥
-IsFine kind (AuthPublickeyOffered user key algorithm (Ok Accept)) = HasShortReply kind
-IsFine kind (AuthPublickeyOffered user key algorithm (Ok auth)) = Unit {0}
-IsFine kind (AuthPublickeyOffered user key algorithm (Err e)) = ⊥
-IsFine kind (AuthPublickey user key algorithm (Ok auth)) = Unit {0}
-IsFine kind (AuthPublickey user key algorithm (Err e)) = ⊥
-IsFine kind (AuthOpensshCertificate user certificate (Ok auth)) = Unit {0}
-IsFine kind (AuthOpensshCertificate user certificate (Err e)) = ⊥
-IsFine kind (AuthKeyboardInteractive user submethods response (Ok UnsupportedMethod)) = ⊥
-IsFine kind (AuthKeyboardInteractive user submethods response (Ok (Partial name instructions prompts))) = length (info_request name instructions prompts) < 2 ^ 32
-IsFine kind (AuthKeyboardInteractive user submethods response (Ok auth)) = Unit {0}
-IsFine kind (AuthKeyboardInteractive user submethods response (Err e)) = ⊥
-IsFine kind (AuthSucceeded answer commands) = IsDone answer commands
-IsFine kind (ChannelOpenSession channel answer commands) = IsDone answer commands
-IsFine kind (ChannelEof channel answer commands) = IsDone answer commands
-IsFine kind (ChannelClose channel answer commands) = IsDone answer commands
-IsFine kind (WindowAdjusted channel new_size answer commands) = IsDone answer commands
-IsFine kind (CommandDone place outcome (Ok done)) = Unit {0}
-IsFine kind (CommandDone place outcome (Err e)) = ⊥
+IsFine kind call = IsFineSo kind (was call)
 
 abbrev pub AreFine : {E : Type 0} → InputKind → List (Call E) → Type 0
 AreFine kind [] = Unit {0}

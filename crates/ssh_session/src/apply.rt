@@ -62,7 +62,10 @@ impl Session {
             Command::Eof { channel } => self.send_eof(channel, staged),
             Command::Close { channel } => self.close(channel, staged),
             Command::Answer(answer) => self.answer_open(answer, staged),
-            _unbuilt => Err(RunError::NotBuilt),
+            unbuilt => {
+                drop(unbuilt);
+                Err(RunError::NotBuilt)
+            }
         }
     }
 

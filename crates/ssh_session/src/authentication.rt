@@ -14,7 +14,7 @@ use crate::frames::too_many_attempts_frame;
 use crate::phase::Phase;
 use crate::{Flow, RunError, Session};
 use bytes::Bytes;
-use ssh_auth::{AuthStep, AuthVerdict, serve_request, serve_response};
+use ssh_auth::{AuthStep, AuthVerdict, Lent, serve_request, serve_response};
 use ssh_handler::Handler;
 use ssh_keys::Verifier;
 use ssh_link::{Frame, Link};
@@ -145,7 +145,7 @@ impl Session {
             (heard (H.AuthHandler.told handler.old) (L.trace link.old) (L.faults link.old)) (heard (H.AuthHandler.told handler.new) (L.trace link.new) (L.faults link.new)) staged.old.items staged.new.items self.new result }
     {
         staged.push(Frame::new(reply, None, None))?;
-        match self.ask_succeeded(handler) {
+        match self.ask(handler, Lent::Succeeded) {
             Ok(commands) => {
                 self.phase = Phase::Accepted;
                 self.requested = requested;

@@ -11,6 +11,7 @@ ghost use Rattle.ssh_session.specs.Serve.{Refines, Serves, heard, IsSuited};
 use crate::message::{read_channel, read_grant};
 use crate::table::place_of;
 use crate::{Flow, RunError, Session};
+use ssh_auth::{Happening, Lent};
 use ssh_handler::Handler;
 use ssh_link::{ChannelMsg, Frame, Link, Notice};
 use ssh_wire::ChannelId;
@@ -110,7 +111,8 @@ impl Session {
         if let Err(fault) = link.notice(Notice::Channel(channel, msg)) {
             return Err(RunError::from(fault));
         }
-        match self.ask_window_adjusted(handler, channel, new_size) {
+        let adjusted = Happening::WindowAdjusted { new_size };
+        match self.ask(handler, Lent::Happened(channel, adjusted)) {
             Ok(commands) => self.finish_commands(handler, link, commands, staged),
             Err(e) => Err(RunError::Handler(e)),
         }
@@ -135,7 +137,7 @@ impl Session {
         if let Err(fault) = link.notice(Notice::Channel(channel, ChannelMsg::Eof)) {
             return Err(RunError::from(fault));
         }
-        match self.ask_eof(handler, channel) {
+        match self.ask(handler, Lent::Happened(channel, Happening::Eof)) {
             Ok(commands) => self.finish_commands(handler, link, commands, staged),
             Err(e) => Err(RunError::Handler(e)),
         }
@@ -162,7 +164,7 @@ impl Session {
         if let Err(fault) = link.notice(Notice::Channel(channel, ChannelMsg::Close)) {
             return Err(RunError::from(fault));
         }
-        match self.ask_close(handler, channel) {
+        match self.ask(handler, Lent::Happened(channel, Happening::Close)) {
             Ok(commands) => self.finish_commands(handler, link, commands, staged),
             Err(e) => Err(RunError::Handler(e)),
         }

@@ -10,6 +10,7 @@ ghost use Rattle.ssh_session.specs.Serve.{Refines, Serves, heard, IsSuited};
 use crate::message::{OpenRequest, read_open};
 use crate::pending::PendingOpen;
 use crate::{Flow, RunError, Session};
+use ssh_auth::{Lent, OpenType};
 use ssh_handler::Handler;
 use ssh_link::{Frame, Link};
 use ssh_wire::WireError;
@@ -63,7 +64,7 @@ impl Session {
         }
         let number = self.next_number();
         self.draw(peer, window, packet)?;
-        match self.ask_open_session(handler, number) {
+        match self.ask(handler, Lent::Opens(number, OpenType::Session)) {
             Ok(commands) => self.finish_commands(handler, link, commands, staged),
             Err(e) => Err(RunError::Handler(e)),
         }

@@ -56,6 +56,7 @@ impl Session {
         ensures unsent { is_spent self.old ≡ true → (L.trace link.new ≡ L.trace link.old) × (L.faults link.new ≡ L.faults link.old) }
     {
         if self.spent {
+            drop(input);
             return Err(RunError::Inconsistent);
         }
         let outcome = self.take(handler, verifier, link, input);

@@ -10,5 +10,6 @@ invariant-loop-chunk l = record {
   items : l.yielded ++ l.chunk-iterator.rest.items ≡ l.fn.chunks.items;
   left : l.left.items ≡ left_of l.credit l.yielded;
   credit : l.credit_left ≡ l.credit - length (concat l.yielded);
-  staged : l.staged.items ≡ l.fn.staged.items ++ map (data_frame l.to.own.0 l.to.peer) (cut (piece_limit l.to.packet) l.credit l.yielded);
+  staged : l.staged.items ≡ l.fn.staged.items ++ map (data_frame l.to.own.0 l.to.peer)
+      (cut (piece_limit l.to.packet) l.credit l.yielded);
 }

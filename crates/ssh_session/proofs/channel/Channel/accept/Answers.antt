@@ -12,7 +12,8 @@ returns-clause-ok c = λ e h.
       limit = h.limit;
       credit = h.credit;
       waiting = accept_waiting c.args.self.now c.push.new.self.items e c.args.bytes
-          (pushed c.args.self.now.waiting.items c.push.new.self.items c.args.bytes t c.in_ok-push.ensures.items) h;
+          (pushed c.args.self.now.waiting.items c.push.new.self.items c.args.bytes t
+          c.in_ok-push.ensures.items) h;
       room = h.room;
       eof = h.eof;
       low = accepted_low e c.args.bytes h.low;

@@ -14,12 +14,18 @@ returns g c = λ settings w r.
     let room = settings.config.window_size in
     let f = confirmation_frame n o.peer room settings.config.maximum_packet_size in
     let left = c.take_pending.new.self in
-    let l = waits_no_longer settings a.self.now left w n r c.in_ok-take_pending.ensures.ok c.in_ok-take_pending.ensures.answered in (
+    let l = waits_no_longer settings a.self.now left w n r c.in_ok-take_pending.ensures.ok
+    c.in_ok-take_pending.ensures.answered in (
       f ∷ [],
-      record w { pending = answered n w.pending; entries = w.entries ++ opened n o.peer o.window o.packet room ∷ [] },
+      record w {
+        pending = answered n w.pending;
+        entries = w.entries ++ opened n o.peer o.window
+            o.packet room ∷ [];
+      },
       ap (confirms settings w) (sym c.opening.view_is),
       staged_one c.in_ok-frame.frame f a.staged.now.items c.push.new.self.items
-          (c.in_ok-frame.ensures.ok ∙ ap (λ k. confirmation_frame n o.peer k.window_size k.maximum_packet_size) r.config) c.in_ok-push.ensures.items,
+          (c.in_ok-frame.ensures.ok ∙ ap (λ k. confirmation_frame n o.peer k.window_size
+          k.maximum_packet_size) r.config) c.in_ok-push.ensures.items,
       record {
         config = l.config;
         session_id = l.session_id;
@@ -30,7 +36,9 @@ returns g c = λ settings w r.
         last = l.last;
         pending = l.pending;
         live = l.live;
-        channels = joins left.channels.items c.push-2.new.self.items w.entries c.open.result n o.peer o.window o.packet a.self.now.config.window_size room
-            (ap (λ k. k.window_size) r.config) l.channels c.open.ensures c.in_ok-push-2.ensures.items;
+        channels = joins left.channels.items c.push-2.new.self.items w.entries c.open.result n
+            o.peer o.window o.packet a.self.now.config.window_size room
+            (ap (λ k. k.window_size) r.config) l.channels c.open.ensures
+            c.in_ok-push-2.ensures.items;
       },
     )

@@ -15,8 +15,19 @@ returns-clause-drawn c = λ settings w r.
       requested = r.requested;
       last = n;
       pending = c.in_ok-push.ensures.items
-          ∙ ap (λ ps. ps ++ (record { number = c.next_number-number.result; peer = c.args.peer; window = c.args.window; packet = c.args.packet }) ∷ []) r.pending
-          ∙ ap (λ k. w.pending ++ (record { number = k; peer = c.args.peer; window = c.args.window; packet = c.args.packet }) ∷ []) (own_is c.next_number-number.result (next_number w) n);
+          ∙ ap (λ ps. ps ++ (record {
+            number = c.next_number-number.result;
+            peer = c.args.peer;
+            window = c.args.window;
+            packet = c.args.packet;
+          }) ∷ []) r.pending
+          ∙ ap (λ k. w.pending ++ (record {
+            number = k;
+            peer = c.args.peer;
+            window = c.args.window;
+            packet = c.args.packet;
+          }) ∷ []) (own_is c.next_number-number.result (next_number w)
+          n);
       channels = r.channels;
       live = r.live;
     }

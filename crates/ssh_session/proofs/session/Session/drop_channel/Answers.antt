@@ -14,6 +14,7 @@ returns-clause-gone c = λ settings w r.
       last = r.last;
       pending = r.pending;
       live = r.live;
-      channels = gone c.args.channel.0 c.args.channel.0 c.args.self.now.channels.items c.replace-channels.result.items c.in_ok-self.field-0.items w.entries
+      channels = gone c.args.channel.0 c.args.channel.0 c.args.self.now.channels.items
+          c.replace-channels.result.items c.in_ok-self.field-0.items w.entries
           r.channels refl (ap (λ v. v.items) c.replace-channels.ensures.value) c.in_ok-self.ensures;
     }

@@ -9,8 +9,12 @@ use Rattle.ssh_session.proofs.session.Session.finish_commands.Given as goal
 abbrev pub invariant-loop-place : goal.invariant-loop-place
 invariant-loop-place g l = record {
   left : l.place + length l.commands ≡ length l.fn.commands;
-  does : (settings : Settings) (w : World) (base frames : List Frame) → Refines settings l.fn.self w → l.fn.staged.items ≡ base ++ frames →
-      DoesOne settings (done_all settings w frames 0 l.fn.commands) (rest settings l.place l.commands)
-      (heard (g.H.AuthHandler.told l.fn.handler) (g.L.Link.trace l.fn.link) (g.L.Link.faults l.fn.link)) (heard (g.H.AuthHandler.told l.handler) (g.L.Link.trace l.link) (g.L.Link.faults l.link))
+  does : (settings : Settings) (w : World) (base frames : List Frame) → Refines settings l.fn.self w
+      → l.fn.staged.items ≡ base ++ frames →
+      DoesOne settings (done_all settings w frames 0 l.fn.commands)
+      (rest settings l.place l.commands)
+      (heard (g.H.AuthHandler.told l.fn.handler) (g.L.Link.trace l.fn.link)
+      (g.L.Link.faults l.fn.link)) (heard (g.H.AuthHandler.told l.handler)
+      (g.L.Link.trace l.link) (g.L.Link.faults l.link))
       base l.staged.items l.self (Ok tt);
 }

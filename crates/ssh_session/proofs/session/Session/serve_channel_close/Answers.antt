@@ -13,4 +13,8 @@ returns-in_err-channel g c = λ settings w moment r.
     )
 
 pub returns : goal.returns
-returns g c = λ settings w moment r. (Peer_close c.in_ok-channel.channel.0, c.in_ok-channel.ensures, c.peer_close.ensures settings w r)
+returns g c = λ settings w moment r. (
+  Peer_close c.in_ok-channel.channel.0,
+  c.in_ok-channel.ensures,
+  c.peer_close.ensures settings w r,
+)

@@ -12,4 +12,5 @@ returns-in-Ok-Session g c = λ settings w moment r. (
 
 pub returns-in-Err : goal.returns-in-Err
 returns-in-Err g c = λ settings w moment r.
-    unread_open settings moment w c.args.fields.now c.in-Err.e _ c.args.staged.now.items c.args.self.now (Err c.from.result) (ap Err c.from.ensures) c.in-Err.ensures
+    unread_open settings moment w c.args.fields.now c.in-Err.e _ c.args.staged.now.items
+    c.args.self.now (Err c.from.result) (ap Err c.from.ensures) c.in-Err.ensures

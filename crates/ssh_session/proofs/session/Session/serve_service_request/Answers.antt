@@ -13,4 +13,8 @@ returns-in_err-name g c = λ settings w moment trace faults r.
     )
 
 pub returns : goal.returns
-returns g c = λ settings w moment trace faults r. (Service c.in_ok-name.name.now, c.in_ok-name.ensures, c.serve_service.ensures settings w trace faults r)
+returns g c = λ settings w moment trace faults r. (
+  Service c.in_ok-name.name.now,
+  c.in_ok-name.ensures,
+  c.serve_service.ensures settings w trace faults r,
+)

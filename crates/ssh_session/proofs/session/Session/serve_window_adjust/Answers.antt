@@ -13,4 +13,8 @@ returns-in_err-channel g c = λ settings w moment r.
     )
 
 pub returns : goal.returns
-returns g c = λ settings w moment r. (Grant c.in_ok-channel.channel.0 c.in_ok-channel.amount, c.in_ok-channel.ensures, c.grant.ensures settings w r)
+returns g c = λ settings w moment r. (
+  Grant c.in_ok-channel.channel.0 c.in_ok-channel.amount,
+  c.in_ok-channel.ensures,
+  c.grant.ensures settings w r,
+)
