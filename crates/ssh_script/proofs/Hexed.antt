@@ -2,7 +2,7 @@
 use Rattle.std.proofs.Common.{◌≡◌, ℕ, ◌/◌, ◌%◌, List, [], ◌∷◌, ◌++◌, ◌==◌, false, length, slice_index, Result, Ok, Err, refl, sym, ap, ◌∙◌, append_assoc}
 use Rattle.std.specs.Prelude.{OnOk}
 use Rattle.hex.specs.Hex.{encode_with, encode_lower, lower_digits}
-use Rattle.ssh_script.specs.Print.{hex_text}
+use Rattle.ssh_script.specs.CallLines.{hex_text}
 
 encode_joined : (digits front back : List ℕ) → encode_with digits (front ++ back) ≡ encode_with digits front ++ encode_with digits back
 unfolding encode_with

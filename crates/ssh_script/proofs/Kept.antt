@@ -1,13 +1,20 @@
 -- What was kept in a run is what is owed.
-use Rattle.std.proofs.Common.{◌≡◌, ◌<◌, ℕ, List, [], ◌∷◌, ◌++◌, length, Option, Some, None, Result, Ok, Err, Bool, true, false, arith, refl, sym, ◌∙◌, ap, subst}
+use Rattle.std.proofs.Common.{◌≡◌, ◌<◌, ◌⊎◌, ℕ, List, [], ◌∷◌, ◌++◌, length, Option, Some, None, Result, Ok, Err, Bool, true, false, arith, refl, sym, ◌∙◌, ap, subst, inl, inr}
 use Rattle.std.specs.Prelude.{flat_map, option_to_list}
 use Rattle.std.proofs.lemmas.List.{append-nil}
+use Rattle.std.proofs.lemmas.List.Concat.{flat_map-append}
 use Rattle.ssh_link.specs.declared.frame.Input.{Input}
 use Rattle.ssh_link.specs.declared.link.TraceEntry.{TraceEntry}
 use Rattle.ssh_link.specs.declared.link.TraceEntry.TheVariants as entry
 use Rattle.ssh_link.specs.Supply.{Supply, left_until, after_next}
 use Rattle.ssh_link.specs.Told.{ToldBy}
 use Rattle.ssh_auth.specs.declared.call.Call.{Call}
+use Rattle.ssh_auth.specs.declared.call.Call.TheVariants as call
+use Rattle.ssh_auth.specs.declared.question.Question.{Question}
+use Rattle.ssh_auth.specs.declared.question.Question.TheVariants as ask
+use Rattle.ssh_auth.specs.Calls.{admission_call, lent_call, judged_call}
+use Rattle.ssh_auth.specs.Was.{question_of, asked_of}
+use Rattle.ssh_auth.proofs.Back.{admitted_back, lent_back, judged_back}
 use Rattle.ssh_auth.specs.Publickey.{Acceptance}
 use Rattle.ssh_session.specs.declared.error.RunError.{RunError}
 use Rattle.ssh_session.specs.declared.error.RunError.TheVariants as error
@@ -15,55 +22,61 @@ use Rattle.ssh_session.specs.World.{Settings, settings_of, World}
 use Rattle.ssh_session.specs.Serve.{may_stop}
 use Rattle.ssh_session.specs.Run.{Turn, calls_of, entries}
 use Rattle.ssh_session.specs.Step.{Closes, Ran}
-use Rattle.ssh_script.specs.declared.asked.Asked.{Asked}
-use Rattle.ssh_script.specs.declared.asked.Asked.TheVariants as asked
 use Rattle.ssh_script.specs.Scene.{Scene}
-use Rattle.ssh_script.specs.Played.{Failure, Queues, after, played, IsAnswered, heading, told_of}
+use Rattle.ssh_script.specs.Played.{Failure, Queues, banner_answer, interactive_answer, verdict_on, records, grants, answered, after, played, IsAnswered, heading, told_of}
 use Rattle.ssh_script.specs.Given.{IsGiven, as_given, trace_of}
 use Rattle.ssh_script.specs.Given.{heading as input_heading}
-use Rattle.ssh_script.specs.Print.{asked_line, call_line, entry_lines, last_line}
+use Rattle.ssh_script.specs.CallLines.{question_line, call_line}
+use Rattle.ssh_script.specs.Print.{entry_lines, last_line}
 use Rattle.ssh_script.specs.Transcript.{status_of, scene_settings, scene_accepts, IsRun}
 use Rattle.ssh_script.proofs.Heads.{heads, input_heads}
 
+abbrev done : Unit {0}
+done = tt
+
+-- a question has one call, or it is one of an exchange and has none, nor a line
+abbrev IsHeard : Queues → Question → Type 0
+IsHeard queues one =
+    ((call : Call Failure) × (answered queues one ≡ call ∷ []) × (asked_of call ≡ one))
+    ⊎ ((answered queues one ≡ []) × (after queues one ≡ queues) × (question_line one ≡ []))
+
+heard : (queues : Queues) (one : Question) → IsHeard queues one
+heard queues ask.Banner = inl (call.AuthenticationBanner (banner_answer queues.banners queues.banner), refl, refl)
+heard queues (ask.Admits admission) =
+    let answer = interactive_answer (verdict_on queues admission) in
+    inl (admission_call admission answer, refl, ap question_of (admitted_back Failure admission answer))
+heard queues (ask.Lends lent) =
+    inl (lent_call lent (Ok done) (records queues.opens lent), refl, ap question_of (lent_back Failure lent (Ok done) (records queues.opens lent)))
+heard queues (ask.Judges judged) =
+    inl (judged_call judged (Ok (grants judged)) [], refl, ap question_of (judged_back Failure judged (Ok (grants judged)) []))
+heard queues (ask.Listens address port) = inl (call.TcpipForward address port port (Ok false) [], refl, refl)
+heard queues (ask.Adjusts channel current) = inl (call.AdjustWindow channel current (Ok current), refl, refl)
+heard queues (ask.Done place outcome) = inl (call.CommandDone place outcome (Ok done), refl, refl)
+heard queues ask.Begins = inr (refl, refl, refl)
+heard queues (ask.Steps payload) = inr (refl, refl, refl)
+
 -- what was played was answered by the script
-is_answered : (queues : Queues) (all : List Asked) → IsAnswered queues (played queues all)
+first_answered : (queues : Queues) (one : Question) (rest : List (Call Failure)) → IsHeard queues one → IsAnswered (after queues one) rest → IsAnswered queues (answered queues one ++ rest)
+first_answered queues one rest (inl h) k =
+    subst (λ l. IsAnswered queues (l ++ rest)) (sym h.1)
+    (sym h.1 ∙ ap (answered queues) (sym h.2), subst (λ q. IsAnswered (after queues q) rest) (sym h.2) k)
+first_answered queues one rest (inr h) k = subst (λ l. IsAnswered queues (l ++ rest)) (sym h.0) (subst (λ q. IsAnswered q rest) h.1 k)
+
+is_answered : (queues : Queues) (all : List Question) → IsAnswered queues (played queues all)
 is_answered queues [] = tt
-is_answered queues (asked.AuthenticationBanner ∷ all) = (refl, is_answered (after queues asked.AuthenticationBanner) all)
-is_answered queues (asked.AuthNone user ∷ all) = (refl, is_answered (after queues (asked.AuthNone user)) all)
-is_answered queues (asked.AuthPassword user password ∷ all) = (refl, is_answered (after queues (asked.AuthPassword user password)) all)
-is_answered queues (asked.AuthPublickeyOffered user key algorithm ∷ all) = (refl, is_answered (after queues (asked.AuthPublickeyOffered user key algorithm)) all)
-is_answered queues (asked.AuthPublickey user key algorithm ∷ all) = (refl, is_answered (after queues (asked.AuthPublickey user key algorithm)) all)
-is_answered queues (asked.AuthOpensshCertificate user certificate ∷ all) = (refl, is_answered (after queues (asked.AuthOpensshCertificate user certificate)) all)
-is_answered queues (asked.AuthKeyboardInteractive user submethods response ∷ all) =
-    (refl, is_answered (after queues (asked.AuthKeyboardInteractive user submethods response)) all)
-is_answered queues (asked.AuthSucceeded ∷ all) = (refl, is_answered queues all)
-is_answered queues (asked.ChannelOpenSession channel ∷ all) = (refl, is_answered queues all)
-is_answered queues (asked.ChannelEof channel ∷ all) = (refl, is_answered queues all)
-is_answered queues (asked.ChannelClose channel ∷ all) = (refl, is_answered queues all)
-is_answered queues (asked.WindowAdjusted channel new_size ∷ all) = (refl, is_answered queues all)
-is_answered queues (asked.CommandDone place outcome ∷ all) = (refl, is_answered queues all)
+is_answered queues (one ∷ more) = first_answered queues one (played (after queues one) more) (heard queues one) (is_answered (after queues one) more)
 
 -- it prints as it was kept
-calls_print : (queues : Queues) (all : List Asked) → flat_map asked_line all ≡ flat_map call_line (played queues all)
+first_prints : (queues : Queues) (one : Question) → IsHeard queues one → question_line one ≡ flat_map call_line (answered queues one)
+first_prints queues one (inl h) = sym (ap (flat_map call_line) h.1 ∙ append-nil (call_line h.0) ∙ ap question_line h.2)
+first_prints queues one (inr h) = h.2 ∙ sym (ap (flat_map (call_line {E = Failure})) h.0)
+
+calls_print : (queues : Queues) (all : List Question) → flat_map question_line all ≡ flat_map call_line (played queues all)
 calls_print queues [] = refl
-calls_print queues (asked.AuthenticationBanner ∷ all) = ap (λ t. asked_line asked.AuthenticationBanner ++ t) (calls_print (after queues asked.AuthenticationBanner) all)
-calls_print queues (asked.AuthNone user ∷ all) = ap (λ t. asked_line (asked.AuthNone user) ++ t) (calls_print (after queues (asked.AuthNone user)) all)
-calls_print queues (asked.AuthPassword user password ∷ all) =
-    ap (λ t. asked_line (asked.AuthPassword user password) ++ t) (calls_print (after queues (asked.AuthPassword user password)) all)
-calls_print queues (asked.AuthPublickeyOffered user key algorithm ∷ all) =
-    ap (λ t. asked_line (asked.AuthPublickeyOffered user key algorithm) ++ t) (calls_print (after queues (asked.AuthPublickeyOffered user key algorithm)) all)
-calls_print queues (asked.AuthPublickey user key algorithm ∷ all) =
-    ap (λ t. asked_line (asked.AuthPublickey user key algorithm) ++ t) (calls_print (after queues (asked.AuthPublickey user key algorithm)) all)
-calls_print queues (asked.AuthOpensshCertificate user certificate ∷ all) =
-    ap (λ t. asked_line (asked.AuthOpensshCertificate user certificate) ++ t) (calls_print (after queues (asked.AuthOpensshCertificate user certificate)) all)
-calls_print queues (asked.AuthKeyboardInteractive user submethods response ∷ all) =
-    ap (λ t. asked_line (asked.AuthKeyboardInteractive user submethods response) ++ t) (calls_print (after queues (asked.AuthKeyboardInteractive user submethods response)) all)
-calls_print queues (asked.AuthSucceeded ∷ all) = ap (λ t. asked_line asked.AuthSucceeded ++ t) (calls_print queues all)
-calls_print queues (asked.ChannelOpenSession channel ∷ all) = ap (λ t. asked_line (asked.ChannelOpenSession channel) ++ t) (calls_print queues all)
-calls_print queues (asked.ChannelEof channel ∷ all) = ap (λ t. asked_line (asked.ChannelEof channel) ++ t) (calls_print queues all)
-calls_print queues (asked.ChannelClose channel ∷ all) = ap (λ t. asked_line (asked.ChannelClose channel) ++ t) (calls_print queues all)
-calls_print queues (asked.WindowAdjusted channel new_size ∷ all) = ap (λ t. asked_line (asked.WindowAdjusted channel new_size) ++ t) (calls_print queues all)
-calls_print queues (asked.CommandDone place outcome ∷ all) = ap (λ t. asked_line (asked.CommandDone place outcome) ++ t) (calls_print queues all)
+calls_print queues (one ∷ more) =
+    ap (λ t. t ++ flat_map question_line more) (first_prints queues one (heard queues one))
+    ∙ ap (λ t. flat_map call_line (answered queues one) ++ t) (calls_print (after queues one) more)
+    ∙ sym (flat_map-append call_line (answered queues one) (played (after queues one) more))
 
 -- what a supply gives is given by it
 is_given : (supply : Supply) (all : List TraceEntry) → IsGiven supply (as_given supply all)
@@ -78,7 +91,7 @@ told_some : (may_stop : Bool) (old new calls : List (Call Failure)) → ToldBy m
 told_some true old new calls h = h
 told_some false old new calls h = let z : Some new ≡ Some (old ++ calls) = h in cc
 
-told_is : (result : Result (Unit {0}) (RunError Failure)) (lost lost' : Bool) (queues queues' : Queues) (old all : List Asked) (calls : List (Call Failure)) →
+told_is : (result : Result (Unit {0}) (RunError Failure)) (lost lost' : Bool) (queues queues' : Queues) (old all : List Question) (calls : List (Call Failure)) →
     lost ≡ false → lost' ≡ false → old ≡ [] → ToldBy (may_stop result) (told_of lost queues old) (told_of lost' queues' all) calls → (queues' ≡ queues) × (played queues' all ≡ calls)
 told_is result true lost' queues queues' old all calls l m o h = absurd (let z : true ≡ false = l in cc)
 told_is result false true queues queues' old all calls l m o h = absurd (let z : true ≡ false = m in cc)
@@ -106,8 +119,8 @@ given_same inputs inputs' moment moment' all entries e f g h =
 -- where no fault rose, a run ends as one of a link without faults
 without_faults : {E : Type 0} (accepts : Acceptance) (settings : Settings) (w : World) (count max : ℕ) (last : Option (Turn E)) (rose : Type 0) (result : Result (Unit {0}) (RunError E)) →
     (rose → ⊥) → Closes accepts settings w count max last rose result → Closes accepts settings w count max last ⊥ result
-without_faults accepts settings w count max (Some turn) rose (Ok done) n c = c
-without_faults accepts settings w count max None rose (Ok done) n c = c
+without_faults accepts settings w count max (Some turn) rose (Ok _) n c = c
+without_faults accepts settings w count max None rose (Ok _) n c = c
 without_faults accepts settings w count max (Some turn) rose (Err error.NoMemory) n c = c
 without_faults accepts settings w count max (Some turn) rose (Err error.LinkFault) n c = absurd (n c.2.0)
 without_faults accepts settings w count max (Some turn) rose (Err error.InputLimit) n c = c
@@ -130,11 +143,11 @@ without_faults accepts settings w count max None rose (Err error.NotBuilt) n c =
 not_below : 0 < 0 → ⊥
 not_below h = absurd (omega (arith, h))
 
-pub kept : (scene : Scene) (status : ℕ) (result : Result (Unit {0}) (RunError Failure)) (lost lost' : Bool) (queues queues' : Queues) (old all : List Asked)
+pub kept : (scene : Scene) (status : ℕ) (result : Result (Unit {0}) (RunError Failure)) (lost lost' : Bool) (queues queues' : Queues) (old all : List Question)
     (inputs inputs' : List Input) (moment moment' : ℕ) (trace trace' : List TraceEntry) (id text : List ℕ) → lost ≡ false → lost' ≡ false → queues ≡ scene.queues → old ≡ [] →
     inputs ≡ scene.inputs → moment ≡ scene.moment → trace ≡ [] → as_given (left_until moment' inputs') trace' ≡ trace' → status_of result ≡ Some status → id ≡ scene.session_id →
     Ran (scene_accepts scene) (settings_of scene.config id []) (told_of lost queues old) (told_of lost' queues' all) (trace_of inputs moment trace) (trace_of inputs' moment' trace') 0 0 scene.max_inputs result →
-    text ≡ flat_map asked_line all ++ entry_lines 0 trace' ++ last_line result → IsRun scene status text
+    text ≡ flat_map question_line all ++ entry_lines 0 trace' ++ last_line result → IsRun scene status text
 kept scene status result lost lost' queues queues' old all inputs inputs' moment moment' trace trace' id text l m qe oe ie me te given h de given_ran texts =
     let ran : Ran (scene_accepts scene) (scene_settings scene) (told_of lost queues old) (told_of lost' queues' all) (trace_of inputs moment trace) (trace_of inputs' moment' trace') 0 0 scene.max_inputs result =
     subst (λ x. Ran (scene_accepts scene) (settings_of scene.config x []) (told_of lost queues old) (told_of lost' queues' all) (trace_of inputs moment trace) (trace_of inputs' moment' trace') 0 0 scene.max_inputs result)
@@ -144,7 +157,7 @@ kept scene status result lost lost' queues queues' old all inputs inputs' moment
     let t = told_is result lost lost' queues queues' old all calls l m oe ran.told in
     let u = traced_is inputs inputs' moment moment' trace trace' told te ran.traced in
     let c : played scene.queues all ≡ calls = ap (λ q. played q all) (sym (t.0 ∙ qe)) ∙ t.1 in
-    let f : flat_map asked_line all ≡ flat_map call_line calls = calls_print scene.queues all ∙ ap (λ x. flat_map call_line x) c in
+    let f : flat_map question_line all ≡ flat_map call_line calls = calls_print scene.queues all ∙ ap (λ x. flat_map call_line x) c in
     let g : entry_lines 0 trace' ≡ entry_lines 0 told = ap (entry_lines 0) u.2 in
     record {
       turns = ran.turns;

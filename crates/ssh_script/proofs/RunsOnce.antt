@@ -37,7 +37,7 @@ given_both supply (entry.Answered ticket outcome ∷ xs) ys h = given_both suppl
 abbrev less : Supply → Turn Failure → Supply
 less supply turn = left_after supply (entries turn)
 
-kind_meet : (accepts : Acceptance) (settings : Settings) (w : World) (moment : ℕ) (kind : InputKind) (p q : Plan Outcome) (xs ys : List (Event Failure)) (o o' : Result Outcome Failure) →
+kind_meet : (accepts : Acceptance) (settings : Settings) (w : World) (moment : ℕ) (kind : InputKind) (p q : Plan Outcome) (xs ys : List (Event Failure ⊥)) (o o' : Result Outcome Failure) →
     OwesKind accepts settings w moment kind p → OwesKind accepts settings w moment kind q → IsFed o → IsFed o' → Comes p xs o → Comes q ys o' → Meet xs ys o o'
 kind_meet accepts settings w moment (Payload payload) p q xs ys o o' h k f g c d =
     said_meet settings moment w h.0 k.0 xs ys o o' (said_once (circumstances accepts settings moment) (gate_of settings w payload) payload h.0 k.0 h.1 k.1) f g
@@ -153,7 +153,7 @@ same_turn : (accepts : Acceptance) (settings : Settings) (w : World) (queues : Q
 same_turn accepts settings w queues supply t u plan plan' o o' i j a b fed fed' f g x y =
     let m = kind_meet accepts settings w t.input.moment t.input.kind plan plan' t.events u.events o o' a
     (subst (λ i. Owes accepts settings w i plan') (same_input w supply u t j i) b) fed fed' f g in
-    plan_once m.0 queues t.events u.events o o' m.1 m.2 x y
+    plan_once m.0 queues t.events u.events o o' m.1 m.2 i.0.2 j.0.2 x y
 
 tail_next : (accepts : Acceptance) (settings : Settings) (w : World) (queues : Queues) (supply : Supply) (n max : ℕ) (t : Turn Failure) (turns : List (Turn Failure)) (last : Option (Turn Failure))
     (result : Result (Unit {0}) (RunError Failure)) → (h : Tail accepts settings w queues supply n max (t ∷ turns) last result) →

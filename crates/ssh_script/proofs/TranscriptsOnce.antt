@@ -89,16 +89,19 @@ transcript_once words script m n s t (inr (inr (inr h))) (inr (inr (inr k))) = (
 not_two : (n : ℕ) → n < 2 → Some n ≡ Some 2 → ⊥
 not_two n l e = let z : n ≡ 2 = cc in absurd (omega arith)
 
+none_is_some : (n : ℕ) → None ≡ Some n → ⊥
+none_is_some n e = cc
+
 run_not_two : (result : Result (Unit {0}) (RunError Failure)) → status_of result ≡ Some 2 → ⊥
 run_not_two (Ok done) h = not_two 0 (omega arith) h
-run_not_two (Err error.NoMemory) h = let z : None ≡ Some 2 = h in cc
+run_not_two (Err error.NoMemory) h = absurd (none_is_some 2 h)
 run_not_two (Err error.LinkFault) h = not_two 1 (omega arith) h
 run_not_two (Err error.InputLimit) h = not_two 1 (omega arith) h
 run_not_two (Err (error.Encoding why)) h = not_two 1 (omega arith) h
 run_not_two (Err error.Inconsistent) h = not_two 1 (omega arith) h
 run_not_two (Err (error.Key why)) h = not_two 1 (omega arith) h
 run_not_two (Err error.UnsupportedAuthMethod) h = not_two 1 (omega arith) h
-run_not_two (Err (error.Handler record_error.NoMemory)) h = let z : None ≡ Some 2 = h in cc
+run_not_two (Err (error.Handler record_error.NoMemory)) h = absurd (none_is_some 2 h)
 run_not_two (Err (error.Handler (record_error.Inner e))) h = not_two 1 (omega arith) h
 run_not_two (Err error.NotBuilt) h = not_two 1 (omega arith) h
 

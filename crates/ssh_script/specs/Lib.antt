@@ -3,7 +3,9 @@ pub mod Opens
 pub mod Grammar
 pub mod Queue
 pub mod Played
+pub mod Telling
 pub mod Given
+pub mod CallLines
 pub mod Print
 pub mod Scene
 pub mod Transcript

@@ -1,13 +1,25 @@
 -- What the handler of a script answers.
 use Rattle.std.specs.Prelude.{◌≡◌, ℕ, ◌-◌, ◌==◌, List, [], ◌∷◌, ◌++◌, codes, map, drop, Bool, true, false, Option, Some}
 use Rattle.std.specs.Prelude.{None, Result, Ok, Err, if◌then◌else◌}
+use Rattle.ssh_wire.specs.declared.channel_id.ChannelId.{ChannelId}
+use Rattle.ssh_link.specs.declared.command.Command.{Command}
+use Rattle.ssh_link.specs.declared.command.Command.TheVariants as command
 use Rattle.ssh_auth.specs.declared.auth.Auth.{Auth}
 use Rattle.ssh_auth.specs.declared.auth.Auth.TheVariants.{Reject, Accept, UnsupportedMethod, Partial}
 use Rattle.ssh_auth.specs.declared.call.Call.{Call}
-use Rattle.ssh_auth.specs.declared.call.Call.TheVariants.{AuthenticationBanner, AuthNone, AuthPassword}
-use Rattle.ssh_auth.specs.declared.call.Call.TheVariants.{AuthPublickeyOffered, AuthPublickey, AuthOpensshCertificate}
-use Rattle.ssh_auth.specs.declared.call.Call.TheVariants.{AuthKeyboardInteractive, AuthSucceeded, ChannelOpenSession}
-use Rattle.ssh_auth.specs.declared.call.Call.TheVariants.{ChannelEof, ChannelClose, WindowAdjusted, CommandDone}
+use Rattle.ssh_auth.specs.declared.call.Call.TheVariants as call
+use Rattle.ssh_auth.specs.declared.question.Admission.{Admission}
+use Rattle.ssh_auth.specs.declared.question.Admission.TheVariants as by
+use Rattle.ssh_auth.specs.declared.question.Happening.{Happening}
+use Rattle.ssh_auth.specs.declared.question.Happening.TheVariants as what
+use Rattle.ssh_auth.specs.declared.question.Judged.{Judged}
+use Rattle.ssh_auth.specs.declared.question.Judged.TheVariants as whether
+use Rattle.ssh_auth.specs.declared.question.Lent.{Lent}
+use Rattle.ssh_auth.specs.declared.question.Lent.TheVariants.{Succeeded, Opens, Happened}
+use Rattle.ssh_auth.specs.declared.question.Question.{Question}
+use Rattle.ssh_auth.specs.declared.question.Question.TheVariants as question
+use Rattle.ssh_auth.specs.Calls.{admission_call, lent_call, judged_call}
+use Rattle.ssh_auth.specs.Was.{asked_of}
 use Rattle.ssh_auth.specs.Prompts.{Prompt}
 use Rattle.ssh_handler.specs.declared.recorded.RecordError.{RecordError}
 use Rattle.ssh_handler.specs.declared.recorded.RecordError.TheVariants.{Inner}
@@ -20,8 +32,6 @@ use Rattle.ssh_script.specs.declared.answers.InteractiveVerdict.TheVariants as i
 use Rattle.ssh_script.specs.declared.answers.OpenVerdict.{OpenVerdict}
 use Rattle.ssh_script.specs.declared.answers.Verdict.{Verdict}
 use Rattle.ssh_script.specs.declared.answers.Verdict.TheVariants as verdict
-use Rattle.ssh_script.specs.declared.asked.Asked.{Asked}
-use Rattle.ssh_script.specs.declared.asked.Asked.TheVariants as asked
 use Rattle.ssh_script.specs.declared.script_handler.ScriptError.{ScriptError}
 
 -- the error of a script's handler: the script's own, or want of memory
@@ -103,77 +113,81 @@ interactive_answer interactive.Ask = Ok (Partial [] [] (code_prompt ∷ []))
 abbrev pub banner_answer : ℕ → Option (List ℕ) → Result (Option (List ℕ)) Failure
 banner_answer left banner = if left == 0 then Ok banner else fails
 
--- the callback, and what it is answered: without a verdict an offer of a key is accepted, and all else is refused
-abbrev pub answered : Queues → Asked → Call Failure
-answered queues asked.AuthenticationBanner = AuthenticationBanner (banner_answer queues.banners queues.banner)
-answered queues (asked.AuthNone user) = AuthNone user (verdict_answer (first_verdict verdict.Reject queues.none))
-answered queues (asked.AuthPassword user password) =
-    AuthPassword user password (verdict_answer (first_verdict verdict.Reject queues.password))
-answered queues (asked.AuthPublickeyOffered user key algorithm) =
-    AuthPublickeyOffered user key algorithm (verdict_answer (first_verdict verdict.Accept queues.offered))
-answered queues (asked.AuthPublickey user key algorithm) =
-    AuthPublickey user key algorithm (verdict_answer (first_verdict verdict.Reject queues.publickey))
-answered queues (asked.AuthOpensshCertificate user certificate) =
-    AuthOpensshCertificate user certificate (verdict_answer (first_verdict verdict.Reject queues.certificate))
-answered queues (asked.AuthKeyboardInteractive user submethods response) =
-    AuthKeyboardInteractive user submethods response
-    (interactive_answer (first_verdict (interactive.Plain verdict.Reject) queues.interactive))
-answered queues asked.AuthSucceeded = AuthSucceeded (Ok tt) []
-answered queues (asked.ChannelOpenSession channel) =
-    ChannelOpenSession channel (Ok tt) (recorded (open_answer queues.opens channel))
-answered queues (asked.ChannelEof channel) = ChannelEof channel (Ok tt) []
-answered queues (asked.ChannelClose channel) = ChannelClose channel (Ok tt) []
-answered queues (asked.WindowAdjusted channel new_size) = WindowAdjusted channel new_size (Ok tt) []
-answered queues (asked.CommandDone place outcome) = CommandDone place outcome (Ok tt)
+-- what a user who asks to be let in is answered by: without a verdict an offer of a key is accepted, and all else is refused
+abbrev pub verdict_on : Queues → Admission → InteractiveVerdict
+verdict_on queues (by.None user) = interactive.Plain (first_verdict verdict.Reject queues.none)
+verdict_on queues (by.Password user password) = interactive.Plain (first_verdict verdict.Reject queues.password)
+verdict_on queues (by.PublickeyOffered user key algorithm) = interactive.Plain (first_verdict verdict.Accept queues.offered)
+verdict_on queues (by.Publickey user key algorithm) = interactive.Plain (first_verdict verdict.Reject queues.publickey)
+verdict_on queues (by.OpensshCertificate user certificate) = interactive.Plain (first_verdict verdict.Reject queues.certificate)
+verdict_on queues (by.KeyboardInteractive user submethods response) =
+    first_verdict (interactive.Plain verdict.Reject) queues.interactive
+
+-- the verdicts that are left after it
+abbrev pub after_admission : Queues → Admission → Queues
+after_admission queues (by.None user) = record queues { none = rest queues.none }
+after_admission queues (by.Password user password) = record queues { password = rest queues.password }
+after_admission queues (by.PublickeyOffered user key algorithm) = record queues { offered = rest queues.offered }
+after_admission queues (by.Publickey user key algorithm) = record queues { publickey = rest queues.publickey }
+after_admission queues (by.OpensshCertificate user certificate) = record queues { certificate = rest queues.certificate }
+after_admission queues (by.KeyboardInteractive user submethods response) =
+    record queues { interactive = rest queues.interactive }
+
+-- what a callback records of what happens on a channel: a request is answered by success
+abbrev pub replies : ChannelId → Happening → List Command
+replies channel (what.Confirmed packet window) = []
+replies channel (what.Data bytes) = []
+replies channel (what.ExtendedData code bytes) = []
+replies channel what.Eof = []
+replies channel what.Close = []
+replies channel (what.WindowAdjusted new_size) = []
+replies channel _ = command.ChannelSuccess channel ∷ []
+
+-- what a callback records that answers nothing: of a channel that the peer opens, the answer
+abbrev pub records : OpenVerdict → Lent → List Command
+records opens Succeeded = []
+records opens (Opens channel type) = recorded (open_answer opens channel)
+records opens (Happened channel happening) = replies channel happening
+
+-- whether it is granted: the agent is reached, as for every request on a channel, and nothing is forwarded
+abbrev pub grants : Judged → Bool
+grants (whether.AgentRequest channel) = true
+grants _ = false
+
+-- the call of a question, which is answered so; those of an exchange are put to no handler
+abbrev pub answered : Queues → Question → List (Call Failure)
+answered queues question.Banner = call.AuthenticationBanner (banner_answer queues.banners queues.banner) ∷ []
+answered queues (question.Admits admission) = admission_call admission (interactive_answer (verdict_on queues admission)) ∷ []
+answered queues (question.Lends lent) = lent_call lent (Ok tt) (records queues.opens lent) ∷ []
+answered queues (question.Judges judged) = judged_call judged (Ok (grants judged)) [] ∷ []
+-- nobody listens, and the port is as it was
+answered queues (question.Listens address port) = call.TcpipForward address port port (Ok false) [] ∷ []
+-- a window stays as large as it is
+answered queues (question.Adjusts channel current) = call.AdjustWindow channel current (Ok current) ∷ []
+answered queues (question.Done place outcome) = call.CommandDone place outcome (Ok tt) ∷ []
+answered queues question.Begins = []
+answered queues (question.Steps payload) = []
 
 -- the answers that are left after it
-abbrev pub after : Queues → Asked → Queues
-after queues asked.AuthenticationBanner = record queues { banners = queues.banners - 1 }
-after queues (asked.AuthNone user) = record queues { none = rest queues.none }
-after queues (asked.AuthPassword user password) = record queues { password = rest queues.password }
-after queues (asked.AuthPublickeyOffered user key algorithm) = record queues { offered = rest queues.offered }
-after queues (asked.AuthPublickey user key algorithm) = record queues { publickey = rest queues.publickey }
-after queues (asked.AuthOpensshCertificate user certificate) = record queues { certificate = rest queues.certificate }
-after queues (asked.AuthKeyboardInteractive user submethods response) =
-    record queues { interactive = rest queues.interactive }
-after queues asked.AuthSucceeded = queues
-after queues (asked.ChannelOpenSession channel) = queues
-after queues (asked.ChannelEof channel) = queues
-after queues (asked.ChannelClose channel) = queues
-after queues (asked.WindowAdjusted channel new_size) = queues
-after queues (asked.CommandDone place outcome) = queues
+abbrev pub after : Queues → Question → Queues
+after queues question.Banner = record queues { banners = queues.banners - 1 }
+after queues (question.Admits admission) = after_admission queues admission
+after queues _ = queues
 
 -- the callbacks in order, each with its answer
-abbrev pub played : Queues → List Asked → List (Call Failure)
+abbrev pub played : Queues → List Question → List (Call Failure)
 played queues [] = []
-played queues (one ∷ more) = answered queues one ∷ played (after queues one) more
+played queues (one ∷ more) = answered queues one ++ played (after queues one) more
 
-abbrev pub left_after : Queues → List Asked → Queues
+abbrev pub left_after : Queues → List Question → Queues
 left_after queues [] = queues
 left_after queues (one ∷ more) = left_after (after queues one) more
-
--- a call without its answer
-abbrev pub asked_of : {E : Type 0} → Call E → Asked
-asked_of (AuthenticationBanner answer) = asked.AuthenticationBanner
-asked_of (AuthNone user answer) = asked.AuthNone user
-asked_of (AuthPassword user password answer) = asked.AuthPassword user password
-asked_of (AuthPublickeyOffered user key algorithm answer) = asked.AuthPublickeyOffered user key algorithm
-asked_of (AuthPublickey user key algorithm answer) = asked.AuthPublickey user key algorithm
-asked_of (AuthOpensshCertificate user certificate answer) = asked.AuthOpensshCertificate user certificate
-asked_of (AuthKeyboardInteractive user submethods response answer) =
-    asked.AuthKeyboardInteractive user submethods response
-asked_of (AuthSucceeded answer commands) = asked.AuthSucceeded
-asked_of (ChannelOpenSession channel answer commands) = asked.ChannelOpenSession channel
-asked_of (ChannelEof channel answer commands) = asked.ChannelEof channel
-asked_of (ChannelClose channel answer commands) = asked.ChannelClose channel
-asked_of (WindowAdjusted channel new_size answer commands) = asked.WindowAdjusted channel new_size
-asked_of (CommandDone place outcome answer) = asked.CommandDone place outcome
 
 -- each of these calls was answered by the script, in order
 abbrev pub IsAnswered : Queues → List (Call Failure) → Type 0
 IsAnswered queues [] = Unit {0}
 IsAnswered queues (call ∷ calls) =
-    (call ≡ answered queues (asked_of call)) × IsAnswered (after queues (asked_of call)) calls
+    (call ∷ [] ≡ answered queues (asked_of call)) × IsAnswered (after queues (asked_of call)) calls
 
 -- the answers as a handler tells them before its calls: a call for each queue, which names its verdicts by their
 -- numbers, one for the number of banners that fail, one for the banner, and one for the opens
@@ -183,7 +197,7 @@ verdict_number verdict.Reject = 1
 verdict_number verdict.Fail = 2
 
 abbrev pub told_queue : List Verdict → Call Failure
-told_queue queue = AuthNone (map verdict_number queue) (Ok Accept)
+told_queue queue = call.AuthNone (map verdict_number queue) (Ok Accept)
 
 abbrev pub interactive_number : InteractiveVerdict → ℕ
 interactive_number (interactive.Plain one) = verdict_number one
@@ -191,16 +205,16 @@ interactive_number interactive.Unsupported = 3
 interactive_number interactive.Ask = 4
 
 abbrev pub told_interactive : List InteractiveVerdict → Call Failure
-told_interactive queue = AuthNone (map interactive_number queue) (Ok Accept)
+told_interactive queue = call.AuthNone (map interactive_number queue) (Ok Accept)
 
 abbrev pub told_banners : ℕ → Call Failure
-told_banners count = AuthenticationBanner (Ok (Some (count ∷ [])))
+told_banners count = call.AuthenticationBanner (Ok (Some (count ∷ [])))
 
 abbrev pub told_banner : Option (List ℕ) → Call Failure
-told_banner banner = AuthenticationBanner (Ok banner)
+told_banner banner = call.AuthenticationBanner (Ok banner)
 
 abbrev pub told_opens : OpenVerdict → Call Failure
-told_opens opens = ChannelOpenSession (own 0) (Ok tt) (recorded (open_answer opens (own 0)))
+told_opens opens = call.ChannelOpenSession (own 0) (Ok tt) (recorded (open_answer opens (own 0)))
 
 abbrev pub heading : Queues → List (Call Failure)
 heading queues =
@@ -215,7 +229,7 @@ heading queues =
     ∷ told_opens queues.opens
     ∷ []
 
--- what a handler tells that has these answers and was called so; one that lost a call tells nothing
-abbrev pub told_of : Bool → Queues → List Asked → Option (List (Call Failure))
+-- what a handler tells that has these answers and was asked so; one that lost a question tells nothing
+abbrev pub told_of : Bool → Queues → List Question → Option (List (Call Failure))
 told_of true queues all = None
 told_of false queues all = Some (heading queues ++ played queues all)

@@ -1,174 +1,202 @@
-// What the handler of a script was asked.
-ghost use Rattle.std.specs.Prelude.{◌≡◌, IfOk};
-ghost use Rattle.ssh_script.specs.declared.asked.Asked.TheVariants as asked;
+// What a script's handler keeps of what it is asked, and so tells.
+ghost use Rattle.std.specs.Prelude.{◌≡◌, [], ◌∷◌, ◌++◌, Ok, true, OnOk, OnErr, IfOk};
+ghost use Rattle.ssh_link.specs.Told.{Tells};
+ghost use Rattle.ssh_link.specs.declared.command.Command.TheVariants.{ChannelSuccess};
+ghost use Rattle.ssh_auth.specs.declared.call.Call.{Call};
+ghost use Rattle.ssh_auth.specs.declared.question.Lent.TheVariants.{Happened, Opens};
+ghost use Rattle.ssh_auth.specs.Calls.{admission_call, lent_call, judged_call};
+ghost use Rattle.ssh_script.specs.Played.{Failure, records, replies, grants};
+ghost use Rattle.ssh_script.specs.Opens.{recorded};
+ghost use Rattle.ssh_script.specs.Telling.{told_by};
 
-use ssh_auth::{PublicKeyOffer, Response, VerifiedPublicKey, copied_response};
-use ssh_keys::{Algorithm, Certificate, PublicKey};
-use ssh_link::CommandOutcome;
-use ssh_wire::{Blobs, ChannelId, Text, WireError};
-use std::alloc::Global;
+use crate::interactive::interactive_answer_of;
+use crate::script_handler::{ScriptError, ScriptHandler, open_answer_of, places_after, verdict_of};
+use ssh_auth::{Admission, Auth, Happening, Judged, Lent, OpenType, Question};
+use ssh_handler::{Commands, RecordError};
+use ssh_link::{ChannelOpenHandle, OpenAnswer};
+use ssh_wire::{ChannelId, WireError};
 
-/// A callback that was made, without its answer.
-#[derive(Debug, Drop)]
-pub(crate) enum Asked {
-    /// The banner was asked for.
-    AuthenticationBanner,
-    /// A user asked to be let in by method none.
-    AuthNone {
-        /// The user's name.
-        user: Text,
-    },
-    /// A user asked to be let in by a password.
-    AuthPassword {
-        /// The user's name.
-        user: Text,
-        /// The password.
-        password: Text,
-    },
-    /// A user offered a key.
-    AuthPublickeyOffered {
-        /// The user's name.
-        user: Text,
-        /// The key.
-        public_key: PublicKey,
-        /// The algorithm by which it would sign.
-        algorithm: Algorithm,
-    },
-    /// A user asked to be let in by a key that has signed.
-    AuthPublickey {
-        /// The user's name.
-        user: Text,
-        /// The key.
-        public_key: PublicKey,
-        /// The algorithm by which it signed.
-        algorithm: Algorithm,
-    },
-    /// A user asked to be let in by a certificate whose key has signed.
-    AuthOpensshCertificate {
-        /// The user's name.
-        user: Text,
-        /// The certificate.
-        certificate: Certificate,
-    },
-    /// A user asked to be let in by prompts, or responded to them.
-    AuthKeyboardInteractive {
-        /// The user's name.
-        user: Text,
-        /// The submethods that the user would like, joined by commas.
-        submethods: Text,
-        /// The responses to the last prompts, in order; none before the first prompts.
-        response: Option<Blobs>,
-    },
-    /// The user was authenticated.
-    AuthSucceeded,
-    /// The peer opens a session channel.
-    ChannelOpenSession {
-        /// This side's number of the channel.
-        channel: ChannelId,
-    },
-    /// The peer sends no more data on the channel.
-    ChannelEof {
-        /// This side's number of the channel.
-        channel: ChannelId,
-    },
-    /// The peer closed the channel.
-    ChannelClose {
-        /// This side's number of the channel.
-        channel: ChannelId,
-    },
-    /// The peer lets more data through.
-    WindowAdjusted {
-        /// This side's number of the channel.
-        channel: ChannelId,
-        /// How many bytes may still be sent.
-        new_size: u32,
-    },
-    /// A command that a callback recorded opens a channel, or was refused.
-    CommandDone {
-        /// Its place among the commands of that callback, from 0.
-        place: usize,
-        /// What came of it.
-        outcome: CommandOutcome,
-    },
+// The answer to a callback, where there was memory for it.
+pub(crate) fn or_lost<T>(
+    lost: &mut bool,
+    answer: Result<T, WireError>,
+) -> Result<T, RecordError<ScriptError>>
+    ensures made { IfOk result (λ value. answer ≡ Ok value) }
+    ensures same { OnOk result (lost.new ≡ lost.old) }
+    ensures lost { OnErr result (lost.new ≡ true) }
+{
+    match answer {
+        Ok(value) => Ok(value),
+        Err(_) => {
+            *lost = true;
+            Err(RecordError::NoMemory)
+        }
+    }
 }
 
-impl Asked {
-    /// A request of method none.
-    pub(crate) fn none(alloc: Global, user: &str) -> Result<Asked, WireError>
-        ensures { IfOk result (λ one. one ≡ asked.AuthNone user.now) }
+// Keeps a question.
+pub(crate) fn keep(
+    all: &mut Vec<Question>,
+    lost: &mut bool,
+    question: Question,
+) -> Result<(), RecordError<ScriptError>>
+    ensures ok { OnOk result (all.new.items ≡ all.old.items ++ question ∷ []) }
+    ensures same { OnOk result (lost.new ≡ lost.old) }
+    ensures err { OnErr result (all.new.items ≡ all.old.items) }
+    ensures lost { OnErr result (lost.new ≡ true) }
+{
+    if all.push(question).is_err() {
+        *lost = true;
+        return Err(RecordError::NoMemory);
+    }
+    Ok(())
+}
+
+// Records the answer to an open, where there is one.
+fn answer_open(
+    session: &mut Commands<'_>,
+    lost: &mut bool,
+    answer: Option<OpenAnswer>,
+) -> Result<(), RecordError<ScriptError>>
+    requires fresh { session.old.recorded ≡ [] }
+    ensures recorded { OnOk result (session.new.recorded ≡ recorded answer) }
+    ensures same { OnOk result (lost.new ≡ lost.old) }
+    ensures lost { OnErr result (lost.new ≡ true) }
+{
+    let Some(answer) = answer else {
+        return Ok(());
+    };
+    match session.answer_open(answer) {
+        Ok(()) => Ok(()),
+        Err(_unrecorded) => {
+            *lost = true;
+            Err(RecordError::NoMemory)
+        }
+    }
+}
+
+// Records that a request on a channel succeeded.
+fn succeed(
+    session: &mut Commands<'_>,
+    lost: &mut bool,
+    channel: ChannelId,
+) -> Result<(), RecordError<ScriptError>>
+    requires fresh { session.old.recorded ≡ [] }
+    ensures recorded { OnOk result (session.new.recorded ≡ ChannelSuccess channel ∷ []) }
+    ensures same { OnOk result (lost.new ≡ lost.old) }
+    ensures lost { OnErr result (lost.new ≡ true) }
+{
+    match session.channel_success(channel) {
+        Ok(()) => Ok(()),
+        Err(_unrecorded) => {
+            *lost = true;
+            Err(RecordError::NoMemory)
+        }
+    }
+}
+
+impl ScriptHandler {
+    /// A question that cannot be kept: from now on nothing is told.
+    pub(crate) fn loses<T>(&mut self) -> Result<T, RecordError<ScriptError>>
+        ensures { (call : Call Failure) → Tells (told_by self.old) (told_by self.new) result call }
     {
-        Ok(Asked::AuthNone {
-            user: Text::new(alloc, user)?,
-        })
+        self.lost = true;
+        Err(RecordError::NoMemory)
     }
 
-    /// A request of method password.
-    pub(crate) fn password(alloc: Global, user: &str, password: &str) -> Result<Asked, WireError>
-        ensures { IfOk result (λ one. one ≡ asked.AuthPassword user.now password.now) }
+    /// The same of a channel that the peer opens, which is not answered.
+    pub(crate) fn loses_open(
+        &mut self,
+        reply: ChannelOpenHandle,
+    ) -> Result<(), RecordError<ScriptError>>
+        ensures { (call : Call Failure) → Tells (told_by self.old) (told_by self.new) result call }
     {
-        Ok(Asked::AuthPassword {
-            user: Text::new(alloc, user)?,
-            password: Text::new(alloc, password)?,
-        })
+        let _number = reply.into_channel();
+        self.loses()
     }
 
-    /// The offer of a key.
-    pub(crate) fn offered(
-        alloc: Global,
-        user: &str,
-        offer: PublicKeyOffer<'_>,
-    ) -> Result<Asked, WireError>
-        ensures { IfOk result (λ one. one ≡ asked.AuthPublickeyOffered user.now offer.entry.public_key.now offer.entry.algorithm) }
+    /// A user asks to be let in.
+    pub(crate) fn admits(&mut self, admission: Admission) -> Result<Auth, RecordError<ScriptError>>
+        ensures { Tells (told_by self.old) (told_by self.new) result (admission_call admission result) }
     {
-        Ok(Asked::AuthPublickeyOffered {
-            user: Text::new(alloc, user)?,
-            public_key: offer.public_key.copy()?,
-            algorithm: offer.algorithm,
-        })
+        let verdict = verdict_of(&self.answers, self.next, &admission);
+        let answer = or_lost(&mut self.lost, interactive_answer_of(self.alloc, verdict))?;
+        let next = places_after(&self.answers, self.next, &admission);
+        keep(&mut self.asked, &mut self.lost, Question::Admits(admission))?;
+        self.next = next;
+        answer
     }
 
-    /// A request that a key has signed.
-    pub(crate) fn publickey(
-        alloc: Global,
-        user: &str,
-        key: VerifiedPublicKey<'_>,
-    ) -> Result<Asked, WireError>
-        ensures { IfOk result (λ one. one ≡ asked.AuthPublickey user.now key.entry.public_key.now key.entry.algorithm) }
+    /// A callback that answers nothing, and recorded what the script says.
+    pub(crate) fn hears(
+        &mut self,
+        lent: Lent,
+        session: &Commands<'_>,
+    ) -> Result<(), RecordError<ScriptError>>
+        requires recorded { records self.old.answers.opens lent ≡ session.now.recorded }
+        ensures { Tells (told_by self.old) (told_by self.new) result (lent_call lent result session.now.recorded) }
     {
-        Ok(Asked::AuthPublickey {
-            user: Text::new(alloc, user)?,
-            public_key: key.public_key.copy()?,
-            algorithm: key.algorithm,
-        })
+        keep(&mut self.asked, &mut self.lost, Question::Lends(lent))
     }
 
-    /// A request that the key of a certificate has signed.
-    pub(crate) fn certificate(
-        alloc: Global,
-        user: &str,
-        certificate: &Certificate,
-    ) -> Result<Asked, WireError>
-        ensures { IfOk result (λ one. one ≡ asked.AuthOpensshCertificate user.now certificate.now) }
+    /// Something happens on a channel, and nothing is to be recorded.
+    pub(crate) fn happens(
+        &mut self,
+        channel: ChannelId,
+        happening: Happening,
+        session: &Commands<'_>,
+    ) -> Result<(), RecordError<ScriptError>>
+        requires quiet { replies channel happening ≡ [] }
+        requires fresh { session.now.recorded ≡ [] }
+        ensures { Tells (told_by self.old) (told_by self.new) result (lent_call (Happened channel happening) result session.now.recorded) }
     {
-        Ok(Asked::AuthOpensshCertificate {
-            user: Text::new(alloc, user)?,
-            certificate: certificate.copy()?,
-        })
+        self.hears(Lent::Happened(channel, happening), session)
     }
 
-    /// A request by prompts, or a response to them.
-    pub(crate) fn interactive(
-        alloc: Global,
-        user: &str,
-        submethods: &str,
-        response: Option<Response<'_>>,
-    ) -> Result<Asked, WireError>
-        ensures { IfOk result (λ one. one ≡ asked.AuthKeyboardInteractive user.now submethods.now response.entry) }
+    /// A request on a channel is answered by success.
+    pub(crate) fn succeeds(
+        &mut self,
+        channel: ChannelId,
+        happening: Happening,
+        session: &mut Commands<'_>,
+    ) -> Result<(), RecordError<ScriptError>>
+        requires request { replies channel happening ≡ ChannelSuccess channel ∷ [] }
+        requires fresh { session.old.recorded ≡ [] }
+        ensures { Tells (told_by self.old) (told_by self.new) result (lent_call (Happened channel happening) result session.new.recorded) }
     {
-        Ok(Asked::AuthKeyboardInteractive {
-            user: Text::new(alloc, user)?,
-            submethods: Text::new(alloc, submethods)?,
-            response: copied_response(alloc, response)?,
-        })
+        succeed(session, &mut self.lost, channel)?;
+        self.hears(Lent::Happened(channel, happening), session)
+    }
+
+    /// The peer opens a channel, which is answered as the script says.
+    pub(crate) fn opens(
+        &mut self,
+        channel: ChannelId,
+        opening: OpenType,
+        reply: ChannelOpenHandle,
+        session: &mut Commands<'_>,
+    ) -> Result<(), RecordError<ScriptError>>
+        requires of { reply ≡ channel }
+        requires fresh { session.old.recorded ≡ [] }
+        ensures { Tells (told_by self.old) (told_by self.new) result (lent_call (Opens channel opening) result session.new.recorded) }
+    {
+        let answer = open_answer_of(self.answers.opens, reply);
+        answer_open(session, &mut self.lost, answer)?;
+        self.hears(Lent::Opens(channel, opening), session)
+    }
+
+    /// Whether something is granted.
+    pub(crate) fn judges(
+        &mut self,
+        judged: Judged,
+        granted: bool,
+        session: &Commands<'_>,
+    ) -> Result<bool, RecordError<ScriptError>>
+        requires granted { grants judged ≡ granted }
+        requires fresh { session.now.recorded ≡ [] }
+        ensures { Tells (told_by self.old) (told_by self.new) result (judged_call judged result session.now.recorded) }
+    {
+        keep(&mut self.asked, &mut self.lost, Question::Judges(judged))?;
+        Ok(granted)
     }
 }

@@ -6,13 +6,17 @@
 #![tactic(auto)]
 
 mod answers;
+mod argument;
 mod asked;
+mod authentication;
+mod callbacks;
 mod command_lines;
 mod grammar;
 mod interactive;
 mod lines;
+mod made;
 mod print;
-mod print_interactive;
+mod print_call;
 mod print_notice;
 mod queue;
 mod run;

@@ -2,8 +2,10 @@
 ghost use Rattle.std.specs.Prelude.{◌≡◌, ◌++◌, codes, OnOk};
 ghost use Rattle.std.specs.Fmt.{decimal};
 ghost use Rattle.std.specs.String.{string_bytes};
-ghost use Rattle.ssh_script.specs.Print.{refusal_name, outcome_text, msg_text, port_text, flag_text, notice_text, notice_line, answer_line};
+ghost use Rattle.ssh_script.specs.CallLines.{flag_text, refusal_name, outcome_text};
+ghost use Rattle.ssh_script.specs.Print.{msg_text, port_text, notice_text, notice_line, answer_line};
 
+use crate::argument::print_flag;
 use crate::print::{print_field, print_id};
 use ssh_link::{ChannelMsg, CommandOutcome, Notice, Refusal};
 use ssh_wire::ChannelId;
@@ -68,19 +70,8 @@ fn print_port(alloc: Global, out: &mut String, port: Option<u32>) -> Result<(), 
     }
 }
 
-/// A flag behind other fields.
-fn print_flag(out: &mut String, flag: bool) -> Result<(), AllocError>
-    ensures { OnOk result (string_bytes out.new ≡ string_bytes out.old ++ flag_text flag) }
-{
-    if flag {
-        out.push_str(" 1")
-    } else {
-        out.push_str(" 0")
-    }
-}
-
 fn print_cancelled(alloc: Global, out: &mut String, slot: u64, ok: bool) -> Result<(), AllocError>
-    ensures { OnOk result (string_bytes out.new ≡ string_bytes out.old ++ (codes "- Cancelled " ++ decimal slot ++ flag_text ok)) }
+    ensures { OnOk result (string_bytes out.new ≡ string_bytes out.old ++ (codes "- Cancelled " ++ decimal slot ++ codes " " ++ flag_text ok)) }
 {
     print_field(alloc, out, "- Cancelled ", slot)?;
     print_flag(out, ok)

@@ -8,7 +8,8 @@ ghost use Rattle.ssh_script.specs.Scene.{scene_of};
 ghost use Rattle.ssh_script.specs.Transfer.{IsReadTo, IsReadWithin};
 ghost use Rattle.ssh_script.specs.Transcript.{status_of, IsRun, Scripted, IsBadScript, IsUnknown, Transcript, Owed, IsUnread, IsCutShort, Ends, longest, run_words};
 
-use crate::print::{print_calls, print_number, print_trace};
+use crate::print::{print_number, print_trace};
+use crate::print_call::print_calls;
 use crate::scene::read_script;
 use crate::script::Script;
 use crate::script_handler::{ScriptError, ScriptHandler};

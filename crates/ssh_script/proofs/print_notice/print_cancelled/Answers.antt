@@ -1,9 +1,11 @@
 use Rattle.std.specs.Prelude.{codes}
 use Rattle.std.specs.Fmt.{decimal}
 use Rattle.std.proofs.Common.{◌++◌}
-use Rattle.ssh_script.specs.Print.{flag_text}
-use Rattle.ssh_script.proofs.Printing.{two_pieces}
+use Rattle.ssh_script.specs.CallLines.{flag_text}
+use Rattle.ssh_script.proofs.Printing.{split_pieces}
 use Rattle.ssh_script.proofs.print_notice.print_cancelled.Goals as goal
 
 pub returns : goal.returns
-returns c = two_pieces c.print_flag.result _ _ _ (codes "- Cancelled " ++ decimal c.args.slot) (flag_text c.args.ok) c.in_ok-print_field.ensures c.print_flag.ensures
+returns c = split_pieces c.print_flag.result _ _ _
+    (codes "- Cancelled " ++ decimal c.args.slot) (codes " ") (flag_text c.args.ok)
+    c.in_ok-print_field.ensures c.print_flag.ensures

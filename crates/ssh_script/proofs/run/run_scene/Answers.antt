@@ -3,7 +3,8 @@ use Rattle.std.specs.Prelude.{flat_map}
 use Rattle.std.specs.String.{string_bytes}
 use Rattle.ssh_script.specs.Scene.{scene_of}
 use Rattle.ssh_script.specs.Played.{queues_in}
-use Rattle.ssh_script.specs.Print.{asked_line, entry_lines}
+use Rattle.ssh_script.specs.CallLines.{question_line}
+use Rattle.ssh_script.specs.Print.{entry_lines}
 use Rattle.ssh_script.proofs.Kept.{kept, text_of}
 use Rattle.ssh_script.proofs.run.run_scene.Goals as goal
 
@@ -19,5 +20,5 @@ returns c = kept (scene_of c.args.script) c.in-Some.status c.run_stream-run.resu
     (sym c.status_of.ensures ∙ c.in-Some.is) c.as_slice.ensures c.run_stream-run.ensures.run
     (text_of (string_bytes c.new-text.result) (string_bytes c.print_calls.new.out) (string_bytes c.print_trace.new.out) (string_bytes c.print_last.new.out) _ _ _
     c.new-text.ensures.bytes
-    (c.in_ok-print_calls.ensures ∙ ap (λ l. string_bytes c.new-text.result ++ flat_map asked_line l) c.deref.ensures.value)
+    (c.in_ok-print_calls.ensures ∙ ap (λ l. string_bytes c.new-text.result ++ flat_map question_line l) c.deref.ensures.value)
     (c.in_ok-print_trace.ensures ∙ ap (λ l. string_bytes c.print_calls.new.out ++ entry_lines 0 l) c.trace.ensures) c.in_ok-print_last.ensures)
