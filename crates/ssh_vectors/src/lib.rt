@@ -9,6 +9,8 @@ mod channels;
 #[cfg(test)]
 mod documented;
 #[cfg(test)]
+mod handlers;
+#[cfg(test)]
 mod keys;
 #[cfg(test)]
 mod prompts;

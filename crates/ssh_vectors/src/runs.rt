@@ -1,13 +1,10 @@
 // Runs over links in memory, with handlers of the tests' own.
-ghost use Rattle.std.specs.Prelude.{◌≤◌, length};
-
+use crate::handlers::{Naming, NoBanner, Open, Silent, Tired};
 use bytes::Bytes;
-use ssh_auth::{Auth, AuthHandler, Unwritten};
-use ssh_handler::{Commands, Config, Handler, RecordError, Recorded};
+use ssh_handler::{Config, RecordError, Recorded};
 use ssh_keys::TableVerifier;
-use ssh_link::{Calls, ChannelOpenHandle, Input, InputKind, Inputs, MemoryLink, TraceEntry};
+use ssh_link::{Calls, Input, InputKind, Inputs, MemoryLink, TraceEntry};
 use ssh_session::{Flow, RunError, Session, run_stream};
-use ssh_wire::{ChannelId, Text};
 use std::alloc::Global;
 use std::test::Fail;
 
@@ -16,133 +13,6 @@ const SERVICE: &[u8] = b"\x05\x00\x00\x00\x0cssh-userauth";
 
 // USERAUTH_REQUEST of alice by method none.
 const NONE: &[u8] = b"\x32\x00\x00\x00\x05alice\x00\x00\x00\x0essh-connection\x00\x00\x00\x04none";
-
-// Why a handler of the tests fails.
-#[derive(Clone, Copy, Debug, Drop, PartialEq, Eq)]
-struct Tired;
-
-// A handler that fails where it is asked for a banner.
-#[derive(Drop)]
-struct NoBanner;
-
-impl AuthHandler for NoBanner {
-    type Error = Tired;
-
-    fn untold(&mut self, _by: Unwritten) -> Result<(), Tired> {
-        Ok(())
-    }
-
-    fn authentication_banner(&mut self) -> Result<Option<Text>, Tired> {
-        Err(Tired)
-    }
-}
-
-impl Handler for NoBanner {
-    fn channel_open_session(
-        &mut self,
-        _channel: ChannelId,
-        reply: ChannelOpenHandle,
-        _session: &mut Commands<'_>,
-    ) -> Result<(), Tired> {
-        let _number = reply.into_channel();
-        Err(Tired)
-    }
-}
-
-// A handler that lets everybody in.
-#[derive(Drop)]
-struct Open;
-
-impl AuthHandler for Open {
-    type Error = Tired;
-
-    fn untold(&mut self, _by: Unwritten) -> Result<(), Tired> {
-        Ok(())
-    }
-
-    fn auth_none(&mut self, _user: &str) -> Result<Auth, Tired> {
-        Ok(Auth::Accept)
-    }
-}
-
-impl Handler for Open {
-    fn auth_succeeded(&mut self, _session: &mut Commands<'_>) -> Result<(), Tired> {
-        Ok(())
-    }
-
-    fn channel_open_session(
-        &mut self,
-        _channel: ChannelId,
-        reply: ChannelOpenHandle,
-        session: &mut Commands<'_>,
-    ) -> Result<(), Tired> {
-        session.answer_open(reply.accept()).map_err(|_| Tired)
-    }
-}
-
-// A handler that writes no callback that it need not write.
-#[derive(Drop)]
-struct Silent;
-
-impl AuthHandler for Silent {
-    type Error = Tired;
-
-    fn untold(&mut self, _by: Unwritten) -> Result<(), Tired> {
-        Ok(())
-    }
-}
-
-impl Handler for Silent {
-    fn channel_open_session(
-        &mut self,
-        _channel: ChannelId,
-        reply: ChannelOpenHandle,
-        _session: &mut Commands<'_>,
-    ) -> Result<(), Tired> {
-        let _number = reply.into_channel();
-        Err(Tired)
-    }
-}
-
-// A handler that lets everybody in, and keeps the name of the peer's software.
-#[derive(Drop)]
-struct Naming {
-    alloc: Global,
-    software: Bytes,
-}
-
-impl AuthHandler for Naming {
-    type Error = Tired;
-
-    fn untold(&mut self, _by: Unwritten) -> Result<(), Tired> {
-        Ok(())
-    }
-
-    fn auth_none(&mut self, _user: &str) -> Result<Auth, Tired> {
-        Ok(Auth::Accept)
-    }
-}
-
-impl Handler for Naming {
-    // The name stands behind `SSH-2.0-`.
-    ghost suits = { λ _ remote_sshid. 8 ≤ length remote_sshid };
-
-    fn auth_succeeded(&mut self, session: &mut Commands<'_>) -> Result<(), Tired> {
-        let (_, software) = session.remote_sshid().split_at(8);
-        self.software = Bytes::copy_from_slice(self.alloc, software).or(Err(Tired))?;
-        Ok(())
-    }
-
-    fn channel_open_session(
-        &mut self,
-        _channel: ChannelId,
-        reply: ChannelOpenHandle,
-        _session: &mut Commands<'_>,
-    ) -> Result<(), Tired> {
-        let _number = reply.into_channel();
-        Err(Tired)
-    }
-}
 
 fn input(alloc: Global, payload: &[u8]) -> Result<Input, Fail> {
     Ok(Input {
