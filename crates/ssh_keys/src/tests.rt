@@ -6,7 +6,7 @@ use crate::{
     PublicKeyOrCertificate, Signature, TableVerifier,
 };
 use bytes::Bytes;
-use ssh_wire::Reader;
+use ssh_wire::{Reader, Text};
 use std::alloc::Global;
 use std::test::Fail;
 
@@ -14,74 +14,169 @@ fn unhex(alloc: Global, digits: &str) -> Result<Bytes, Fail> {
     Ok(Bytes::from_vec(hex::decode(alloc, digits)?)?)
 }
 
-// A key by its parts, its blob, and a certificate of it.
-#[derive(Drop)]
+// The parts of a key: of an RSA key there is one.
+#[derive(Clone, Copy)]
+enum Parts {
+    Ed25519(&'static [u8]),
+    Ecdsa(EcdsaCurve, &'static [u8]),
+    Rsa,
+}
+
+fn key_of(parts: Parts) -> PublicKey {
+    match parts {
+        Parts::Ed25519(key) => PublicKey::Ed25519 {
+            key: Bytes::from_static(key),
+        },
+        Parts::Ecdsa(curve, point) => PublicKey::Ecdsa {
+            curve,
+            point: Bytes::from_static(point),
+        },
+        Parts::Rsa => PublicKey::Rsa {
+            e: Bytes::from_static(vectors::RSA_E),
+            n: Bytes::from_static(vectors::RSA_N),
+        },
+    }
+}
+
+// A key by its parts, its blob, and a certificate of it with what is that certificate's own.
+#[derive(Clone, Copy)]
 struct Row {
-    key: PublicKey,
+    key: Parts,
     blob: &'static str,
     certificate: &'static str,
+    serial: u64,
+    nonce: &'static [u8],
+    signature: &'static [u8],
 }
 
-fn ecdsa(alloc: Global, curve: EcdsaCurve, point: &str) -> Result<PublicKey, Fail> {
-    Ok(PublicKey::Ecdsa {
-        curve,
-        point: unhex(alloc, point)?,
-    })
-}
-
-fn ed25519(alloc: Global, key: &str) -> Result<PublicKey, Fail> {
-    Ok(PublicKey::Ed25519 {
-        key: unhex(alloc, key)?,
-    })
-}
-
-fn rsa(alloc: Global) -> Result<PublicKey, Fail> {
-    Ok(PublicKey::Rsa {
-        e: unhex(alloc, vectors::RSA_E)?,
-        n: unhex(alloc, vectors::RSA_N)?,
-    })
-}
-
-fn rows(alloc: Global) -> Result<Vec<Row>, Fail> {
-    let mut rows = Vec::new(alloc);
-    rows.push(Row {
-        key: ed25519(alloc, vectors::ED25519_KEY)?,
-        blob: vectors::ED25519_BLOB,
-        certificate: vectors::ED25519_CERTIFICATE,
-    })?;
-    rows.push(Row {
-        key: ecdsa(alloc, EcdsaCurve::NistP256, vectors::P256_POINT)?,
-        blob: vectors::P256_BLOB,
-        certificate: vectors::P256_CERTIFICATE,
-    })?;
-    rows.push(Row {
-        key: ecdsa(alloc, EcdsaCurve::NistP384, vectors::P384_POINT)?,
-        blob: vectors::P384_BLOB,
-        certificate: vectors::P384_CERTIFICATE,
-    })?;
-    rows.push(Row {
-        key: ecdsa(alloc, EcdsaCurve::NistP521, vectors::P521_POINT)?,
-        blob: vectors::P521_BLOB,
-        certificate: vectors::P521_CERTIFICATE,
-    })?;
-    rows.push(Row {
-        key: rsa(alloc)?,
-        blob: vectors::RSA_BLOB,
-        certificate: vectors::RSA_CERTIFICATE,
-    })?;
-    Ok(rows)
+fn rows() -> [Row; 5] {
+    [
+        Row {
+            key: Parts::Ed25519(vectors::ED25519_KEY),
+            blob: vectors::ED25519_BLOB,
+            certificate: vectors::ED25519_CERTIFICATE,
+            serial: 1,
+            nonce: vectors::ED25519_NONCE,
+            signature: vectors::ED25519_SIGNED_BY_CA,
+        },
+        Row {
+            key: Parts::Ecdsa(EcdsaCurve::NistP256, vectors::P256_POINT),
+            blob: vectors::P256_BLOB,
+            certificate: vectors::P256_CERTIFICATE,
+            serial: 2,
+            nonce: vectors::P256_NONCE,
+            signature: vectors::P256_SIGNED_BY_CA,
+        },
+        Row {
+            key: Parts::Ecdsa(EcdsaCurve::NistP384, vectors::P384_POINT),
+            blob: vectors::P384_BLOB,
+            certificate: vectors::P384_CERTIFICATE,
+            serial: 3,
+            nonce: vectors::P384_NONCE,
+            signature: vectors::P384_SIGNED_BY_CA,
+        },
+        Row {
+            key: Parts::Ecdsa(EcdsaCurve::NistP521, vectors::P521_POINT),
+            blob: vectors::P521_BLOB,
+            certificate: vectors::P521_CERTIFICATE,
+            serial: 4,
+            nonce: vectors::P521_NONCE,
+            signature: vectors::P521_SIGNED_BY_CA,
+        },
+        Row {
+            key: Parts::Rsa,
+            blob: vectors::RSA_BLOB,
+            certificate: vectors::RSA_CERTIFICATE,
+            serial: 5,
+            nonce: vectors::RSA_NONCE,
+            signature: vectors::RSA_SIGNED_BY_CA,
+        },
+    ]
 }
 
 #[test]
 fn a_key_is_read_as_its_parts_and_written_as_its_blob(rt: HostRuntime) -> Result<(), Fail> {
     let alloc = rt.alloc();
-    let rows = rows(alloc)?;
-    for row in &rows {
+    for row in rows() {
+        let wanted = key_of(row.key);
         let blob = unhex(alloc, row.blob)?;
         let key = PublicKey::decode(alloc, blob.as_slice())?;
-        assert!(rt; key == row.key);
-        assert!(rt; key.copy()? == row.key);
+        assert!(rt; key == wanted);
+        assert!(rt; key.copy()? == wanted);
         assert_eq!(rt; key.blob(alloc)?, blob);
+    }
+    Ok(())
+}
+
+fn signature_of(alloc: Global, name: &str, blob: Bytes) -> Result<Signature, Fail> {
+    Ok(Signature {
+        name: Text::new(alloc, name)?,
+        blob,
+    })
+}
+
+// What ssh-keygen was told to certify, of a blob: a user's key, from 2024-01-01 to 2030-01-01.
+fn certified(alloc: Global, row: Row, blob: &[u8]) -> Result<Certificate, Fail> {
+    let key_id = Text::new(alloc, "id")?;
+    let signature = signature_of(alloc, "ssh-ed25519", Bytes::from_static(row.signature))?;
+    // After the signed part come the length of the signature, and its 83 bytes.
+    let (signed, _) = blob.split_at(blob.len().saturating_sub(87));
+    let signed = Bytes::copy_from_slice(alloc, signed)?;
+    Ok(Certificate {
+        nonce: Bytes::from_static(row.nonce),
+        public_key: key_of(row.key),
+        serial: row.serial,
+        cert_type: CertType::User,
+        key_id,
+        valid_principals: Bytes::from_static(b"\0\0\0\x05alice"),
+        valid_after: 1704067200,
+        valid_before: 1893456000,
+        critical_options: Bytes::new(),
+        extensions: Bytes::from_static(vectors::EXTENSIONS),
+        reserved: Bytes::new(),
+        signature_key: key_of(Parts::Ed25519(vectors::CA_KEY)),
+        signature,
+        signed,
+    })
+}
+
+fn are_equal(one: Certificate, other: Certificate) -> bool {
+    let equal = one == other;
+    drop(one);
+    drop(other);
+    equal
+}
+
+// Whether a certificate was made, and is the one that is wanted.
+fn is_made<E: Drop>(made: Result<Certificate, E>, wanted: Certificate) -> bool {
+    match made {
+        Ok(certificate) => are_equal(certificate, wanted),
+        Err(e) => {
+            drop(e);
+            drop(wanted);
+            false
+        }
+    }
+}
+
+fn is_read_so(alloc: Global, row: Row, blob: &[u8]) -> Result<bool, Fail> {
+    let wanted = certified(alloc, row, blob)?;
+    Ok(is_made(Certificate::decode(alloc, blob), wanted))
+}
+
+fn is_copied_so(alloc: Global, row: Row, blob: &[u8]) -> Result<bool, Fail> {
+    let wanted = certified(alloc, row, blob)?;
+    let copied = wanted.copy();
+    Ok(is_made(copied, wanted))
+}
+
+#[test]
+fn a_certificate_says_what_was_certified(rt: HostRuntime) -> Result<(), Fail> {
+    let alloc = rt.alloc();
+    for row in rows() {
+        let blob = unhex(alloc, row.certificate)?;
+        assert!(rt; is_read_so(alloc, row, blob.as_slice())?);
+        assert!(rt; is_copied_so(alloc, row, blob.as_slice())?);
     }
     Ok(())
 }
@@ -89,60 +184,6 @@ fn a_key_is_read_as_its_parts_and_written_as_its_blob(rt: HostRuntime) -> Result
 fn decoded(alloc: Global, digits: &str) -> Result<Certificate, Fail> {
     let blob = unhex(alloc, digits)?;
     Ok(Certificate::decode(alloc, blob.as_slice())?)
-}
-
-// What the certificates have in common: a user's, from 2024-01-01 to 2030-01-01.
-fn is_of_a_user(certificate: &Certificate) -> bool {
-    certificate.cert_type == CertType::User
-        && certificate.key_id.as_str() == "id"
-        && certificate.valid_principals.as_slice() == b"\x00\x00\x00\x05alice".as_slice()
-        && certificate.valid_after == 1704067200
-        && certificate.valid_before == 1893456000
-}
-
-// The strings without a meaning of their own have these lengths.
-fn has_lengths(certificate: &Certificate) -> bool {
-    certificate.nonce.len() == 32
-        && certificate.critical_options.len() == 0
-        && certificate.extensions.len() == 130
-        && certificate.reserved.len() == 0
-}
-
-fn is_signed_by_ed25519(certificate: &Certificate) -> bool {
-    certificate.signature.name.as_str() == "ssh-ed25519" && certificate.signature.blob.len() == 64
-}
-
-#[test]
-fn a_certificate_says_what_was_certified(rt: HostRuntime) -> Result<(), Fail> {
-    let alloc = rt.alloc();
-    let rows = rows(alloc)?;
-    let mut serial = 0u64;
-    for row in &rows {
-        let certificate = decoded(alloc, row.certificate)?;
-        serial = serial.wrapping_add(1);
-        assert!(rt; certificate.public_key == row.key);
-        assert_eq!(rt; certificate.serial, serial);
-        assert!(rt; is_of_a_user(&certificate));
-        assert!(rt; has_lengths(&certificate));
-    }
-    Ok(())
-}
-
-#[test]
-fn a_certificate_has_its_signature_and_the_signed_part(rt: HostRuntime) -> Result<(), Fail> {
-    let alloc = rt.alloc();
-    let rows = rows(alloc)?;
-    let ca = ed25519(alloc, vectors::CA_KEY)?;
-    for row in &rows {
-        let blob = unhex(alloc, row.certificate)?;
-        let certificate = Certificate::decode(alloc, blob.as_slice())?;
-        assert!(rt; certificate.signature_key == ca);
-        assert!(rt; is_signed_by_ed25519(&certificate));
-        // After the signed part come the length of the signature, and its 83 bytes.
-        let (signed, _) = blob.as_slice().split_at(blob.len().saturating_sub(87));
-        assert_eq!(rt; certificate.signed.as_slice(), signed);
-    }
-    Ok(())
 }
 
 // A verifier that accepts this certificate's signature.
@@ -162,22 +203,22 @@ fn a_certificate_holds_from_its_first_second_to_its_last(rt: HostRuntime) -> Res
     let alloc = rt.alloc();
     let mut certificate = decoded(alloc, vectors::ED25519_CERTIFICATE)?;
     let table = verifier_of(alloc, &certificate)?;
-    let late = Some(KeyError::Time);
+    let late = Err(KeyError::Time);
     // From, up to, and a moment in milliseconds.
     let rows = [
         (1704067200, 1893456000, 1704067199999, late),
-        (1704067200, 1893456000, 1704067200000, None),
-        (1704067200, 1893456000, 1893456000000, None),
+        (1704067200, 1893456000, 1704067200000, Ok(())),
+        (1704067200, 1893456000, 1893456000000, Ok(())),
         (1704067200, 1893456000, 1893456000001, late),
-        (0, 10, 10000, None),
+        (0, 10, 10000, Ok(())),
         (0, 10, 10001, late),
-        (0, u64::MAX, 0, None),
-        (0, u64::MAX, u64::MAX, None),
+        (0, u64::MAX, 0, Ok(())),
+        (0, u64::MAX, u64::MAX, Ok(())),
     ];
-    for (valid_after, valid_before, moment, error) in rows {
+    for (valid_after, valid_before, moment, answer) in rows {
         certificate.valid_after = valid_after;
         certificate.valid_before = valid_before;
-        assert_eq!(rt; certificate.check(moment, &table).err(), error);
+        assert_eq!(rt; certificate.check(moment, &table), answer);
     }
     Ok(())
 }
@@ -185,16 +226,17 @@ fn a_certificate_holds_from_its_first_second_to_its_last(rt: HostRuntime) -> Res
 #[test]
 fn a_certificate_whose_signature_is_not_accepted_is_refused(rt: HostRuntime) -> Result<(), Fail> {
     let alloc = rt.alloc();
-    let certificate = decoded(alloc, vectors::ED25519_CERTIFICATE)?.copy()?;
+    let certificate = decoded(alloc, vectors::ED25519_CERTIFICATE)?;
     let empty = TableVerifier::new(alloc);
     let answer = certificate.check(1704067200000, &empty);
-    assert_eq!(rt; answer.err(), Some(KeyError::CertificateValidation));
+    assert_eq!(rt; answer, Err(KeyError::CertificateValidation));
     Ok(())
 }
 
 #[test]
 fn a_signature_is_read_to_its_end(rt: HostRuntime) -> Result<(), Fail> {
     let alloc = rt.alloc();
+    // The name of the algorithm, and how many bytes of the signature's own come last.
     let rows = [
         (vectors::ED25519_SIGNATURE, "ssh-ed25519", 64),
         (vectors::P256_SIGNATURE, "ecdsa-sha2-nistp256", 74),
@@ -204,43 +246,67 @@ fn a_signature_is_read_to_its_end(rt: HostRuntime) -> Result<(), Fail> {
     ];
     for (digits, name, length) in rows {
         let bytes = unhex(alloc, digits)?;
-        let mut r = Reader::new(bytes.as_slice());
-        let signature = Signature::decode(alloc, &mut r)?;
-        assert_eq!(rt; signature.name.as_str(), name);
-        assert_eq!(rt; signature.blob.len(), length);
-        assert_eq!(rt; r.rest().len(), 0);
-        let (_, blob) = bytes
+        let (_, own) = bytes
             .as_slice()
             .split_at(bytes.len().saturating_sub(length));
-        assert_eq!(rt; signature.copy()?.blob.as_slice(), blob);
+        let wanted = signature_of(alloc, name, Bytes::copy_from_slice(alloc, own)?)?;
+        let mut r = Reader::new(bytes.as_slice());
+        let signature = Signature::decode(alloc, &mut r)?;
+        assert!(rt; signature == wanted);
+        assert!(rt; signature.copy()? == wanted);
+        assert_eq!(rt; r.end(), Ok(()));
     }
     Ok(())
 }
 
-#[test]
-fn a_plain_key_is_offered_with_the_hash_of_the_name(rt: HostRuntime) -> Result<(), Fail> {
-    let alloc = rt.alloc();
-    let blob = unhex(alloc, vectors::RSA_BLOB)?;
-    let plain = PublicKeyOrCertificate::decode(alloc, "rsa-sha2-256", blob.as_slice())?;
-    let hash = match &plain {
+// What an offer shows: the hash that its name says, whether it is a certificate, and whether its key
+// is this one.
+fn shown(offer: &PublicKeyOrCertificate, key: &PublicKey) -> (Option<HashAlg>, bool, bool) {
+    let hash = match offer {
         PublicKeyOrCertificate::PublicKey { hash_alg, .. } => *hash_alg,
         PublicKeyOrCertificate::Certificate(_) => None,
     };
-    assert_eq!(rt; hash, Some(HashAlg::Sha256));
-    assert!(rt; plain.certificate().is_none());
+    (
+        hash,
+        offer.certificate().is_some(),
+        *offer.public_key() == *key,
+    )
+}
+
+fn offered(alloc: Global, name: &str, digits: &str) -> Result<PublicKeyOrCertificate, Fail> {
+    let blob = unhex(alloc, digits)?;
+    Ok(PublicKeyOrCertificate::decode(alloc, name, blob.as_slice())?)
+}
+
+#[test]
+fn a_plain_key_is_offered_with_the_hash_of_the_name(rt: HostRuntime) -> Result<(), Fail> {
+    let key = key_of(Parts::Rsa);
+    let offer = offered(rt.alloc(), "rsa-sha2-256", vectors::RSA_BLOB)?;
+    let shown = shown(&offer, &key);
+    drop(offer);
+    assert_eq!(rt; shown, (Some(HashAlg::Sha256), false, true));
     Ok(())
 }
 
 #[test]
 fn a_certificate_is_offered_by_the_name_of_certificates(rt: HostRuntime) -> Result<(), Fail> {
-    let alloc = rt.alloc();
-    let blob = unhex(alloc, vectors::P256_CERTIFICATE)?;
+    let key = key_of(Parts::Ecdsa(EcdsaCurve::NistP256, vectors::P256_POINT));
     let name = "ecdsa-sha2-nistp256-cert-v01@openssh.com";
-    let offered = PublicKeyOrCertificate::decode(alloc, name, blob.as_slice())?;
-    let key = ecdsa(alloc, EcdsaCurve::NistP256, vectors::P256_POINT)?;
-    assert!(rt; offered.certificate().is_some());
-    assert!(rt; *offered.public_key() == key);
+    let offer = offered(rt.alloc(), name, vectors::P256_CERTIFICATE)?;
+    let shown = shown(&offer, &key);
+    drop(offer);
+    assert_eq!(rt; shown, (None, true, true));
     Ok(())
+}
+
+fn refusal(alloc: Global, name: &str, blob: &[u8]) -> Option<KeyError> {
+    match PublicKeyOrCertificate::decode(alloc, name, blob) {
+        Ok(offer) => {
+            drop(offer);
+            None
+        }
+        Err(e) => Some(e),
+    }
 }
 
 #[test]
@@ -273,37 +339,59 @@ fn an_offer_that_does_not_fit_is_refused(rt: HostRuntime) -> Result<(), Fail> {
     ];
     for (algorithm, digits, error) in refused {
         let blob = unhex(alloc, digits)?;
-        let answer = PublicKeyOrCertificate::decode(alloc, algorithm, blob.as_slice());
-        assert_eq!(rt; answer.err(), Some(error), "{algorithm}");
+        let answer = refusal(alloc, algorithm, blob.as_slice());
+        assert_eq!(rt; answer, Some(error), "{algorithm}");
     }
     Ok(())
 }
 
+fn ecdsa(curve: EcdsaCurve) -> Algorithm {
+    Algorithm::Ecdsa { curve }
+}
+
+fn rsa(hash: Option<HashAlg>) -> Algorithm {
+    Algorithm::Rsa { hash }
+}
+
 #[test]
-fn an_algorithm_has_the_names_of_the_standards(rt: HostRuntime) -> Result<(), Fail> {
-    let names = [
-        ("ssh-ed25519", "ssh-ed25519-cert-v01@openssh.com"),
+fn an_algorithm_has_the_names_of_the_standards(rt: HostRuntime) {
+    let rows = [
         (
+            Algorithm::Ed25519,
+            "ssh-ed25519",
+            "ssh-ed25519-cert-v01@openssh.com",
+        ),
+        (
+            ecdsa(EcdsaCurve::NistP256),
             "ecdsa-sha2-nistp256",
             "ecdsa-sha2-nistp256-cert-v01@openssh.com",
         ),
         (
+            ecdsa(EcdsaCurve::NistP384),
             "ecdsa-sha2-nistp384",
             "ecdsa-sha2-nistp384-cert-v01@openssh.com",
         ),
         (
+            ecdsa(EcdsaCurve::NistP521),
             "ecdsa-sha2-nistp521",
             "ecdsa-sha2-nistp521-cert-v01@openssh.com",
         ),
-        ("ssh-rsa", "ssh-rsa-cert-v01@openssh.com"),
-        ("rsa-sha2-256", "rsa-sha2-256-cert-v01@openssh.com"),
-        ("rsa-sha2-512", "rsa-sha2-512-cert-v01@openssh.com"),
+        (rsa(None), "ssh-rsa", "ssh-rsa-cert-v01@openssh.com"),
+        (
+            rsa(Some(HashAlg::Sha256)),
+            "rsa-sha2-256",
+            "rsa-sha2-256-cert-v01@openssh.com",
+        ),
+        (
+            rsa(Some(HashAlg::Sha512)),
+            "rsa-sha2-512",
+            "rsa-sha2-512-cert-v01@openssh.com",
+        ),
     ];
-    for (plain, certificate) in names {
-        let algorithm = Algorithm::new(plain);
-        assert_eq!(rt; algorithm.map(|a| a.as_str()), Some(plain));
-        assert_eq!(rt; Algorithm::new_certificate(certificate), algorithm);
+    for (algorithm, plain, certificate) in rows {
+        assert_eq!(rt; algorithm.as_str(), plain);
+        assert_eq!(rt; Algorithm::new(plain), Some(algorithm));
+        assert_eq!(rt; Algorithm::new_certificate(certificate), Some(algorithm));
     }
     assert_eq!(rt; Algorithm::new("ssh-dss"), None);
-    Ok(())
 }
