@@ -1,5 +1,6 @@
 -- How long prompts are as they are written.
-use Rattle.std.proofs.Common.{◌≡◌, ◌≤◌, ◌<◌, ◌+◌, ℕ, List, [], ◌∷◌, length, get_or, Result, Ok, Err, IsErrAnd, IfErr, sym, ap, subst, arith}
+use Rattle.std.proofs.Common.{◌≡◌, ◌≤◌, ◌<◌, ◌+◌, ℕ, List, [], ◌∷◌, length, get_or, Result, Ok, Err}
+use Rattle.std.proofs.Common.{IsErrAnd, IfErr, sym, ap, subst, arith}
 use Rattle.std.specs.List.{flat_map}
 use Rattle.std.proofs.lemmas.List.{length-append}
 use Rattle.std.proofs.lemmas.List.Folds.{length-flat_map-take}
@@ -9,20 +10,32 @@ use Rattle.ssh_auth.specs.Layout.{flag, prompt_fields}
 
 -- a prompt is longer than its text
 longer : (prompt : Prompt) → length prompt.0 + 1 ≤ length (prompt_fields prompt)
-longer prompt = omega (arith, length-append (string prompt.0) (flag prompt.1 ∷ []), length-append (number (length prompt.0)) prompt.0)
+longer prompt = omega (
+  arith,
+  length-append (string prompt.0) (flag prompt.1 ∷ []),
+  length-append (number (length prompt.0)) prompt.0,
+)
 
 -- each prompt has a byte at least
 pub count_fits : (prompts : List Prompt) → length prompts ≤ length (flat_map prompt_fields prompts)
 count_fits [] = omega (arith)
-count_fits (prompt ∷ prompts) = omega (arith, count_fits prompts, longer prompt, length-append (prompt_fields prompt) (flat_map prompt_fields prompts))
+count_fits (prompt ∷ prompts) = omega (
+  arith,
+  count_fits prompts,
+  longer prompt,
+  length-append (prompt_fields prompt) (flat_map prompt_fields prompts),
+)
 
 -- the text of each prompt is among them
-pub text_fits : (prompts : List Prompt) (i : ℕ) (prompt : Prompt) → prompt ≡ get_or prompts i prompt → i < length prompts → length prompt.0 ≤ length (flat_map prompt_fields prompts)
+pub text_fits : (prompts : List Prompt) (i : ℕ) (prompt : Prompt) → prompt ≡ get_or prompts i prompt
+    → i < length prompts → length prompt.0 ≤ length (flat_map prompt_fields prompts)
 text_fits prompts i prompt is below =
-    let at : length (prompt_fields (get_or prompts i prompt)) ≡ length (prompt_fields prompt) = ap (λ p. length (prompt_fields p)) (sym is) in
+    let at : length (prompt_fields (get_or prompts i prompt)) ≡ length (prompt_fields prompt) =
+    ap (λ p. length (prompt_fields p)) (sym is) in
     omega (arith, longer prompt, at, length-flat_map-take prompt_fields prompts i prompt below)
 
 -- an error for this reason
-pub refused_for : {T E : Type 0} (result : Result T E) (why : E) (P : E → Type 0) → IsErrAnd result (λ e. e ≡ why) → P why → IfErr result P
+pub refused_for : {T E : Type 0} (result : Result T E) (why : E) (P : E → Type 0)
+    → IsErrAnd result (λ e. e ≡ why) → P why → IfErr result P
 refused_for (Ok x) why P is h = tt
 refused_for (Err e) why P is h = subst P (sym is) h

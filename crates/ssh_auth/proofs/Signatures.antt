@@ -1,5 +1,7 @@
 -- Signature fields that do not fit, and the part of a request that a signature covers.
-use Rattle.std.proofs.Common.{◌≡◌, ◌⊎◌, ℕ, ◌-◌, List, [], ◌∷◌, ◌++◌, length, take, Result, Ok, Err, IsErrAnd, MatchResult, inl, inr, refl, sym, ◌∙◌, ap, subst, append_assoc, arith, length-append}
+use Rattle.std.proofs.Common.{◌≡◌, ◌⊎◌, ℕ, ◌-◌, List, [], ◌∷◌, ◌++◌, length, take, Result, Ok, Err}
+use Rattle.std.proofs.Common.{IsErrAnd, MatchResult, inl, inr, refl, sym, ◌∙◌, ap, subst}
+use Rattle.std.proofs.Common.{append_assoc, arith, length-append}
 use Rattle.std.proofs.Math.Seq.{take-append_seam}
 use Rattle.ssh_wire.specs.declared.error.WireError.{WireError}
 use Rattle.ssh_wire.specs.declared.error.WireError.TheVariants.{Trailing}
@@ -16,32 +18,55 @@ use Rattle.ssh_auth.specs.Publickey.{MisfitsSignature}
 use Rattle.ssh_auth.specs.Read.{SignatureFails}
 
 -- a field that was read from the front of these bytes
-pub field_first : (field : Field) (old new : Reading) (bytes : List ℕ) (value : Value field) → old.left ≡ bytes → Reads field old new value → SpellsAll (field ∷ []) (value, tt) bytes new.left
-field_first field old new bytes value is read = subst (λ b. SpellsAll (field ∷ []) (value, tt) b new.left) is (read.0, new.left, read.1, read.2.0, refl)
+pub field_first : (field : Field) (old new : Reading) (bytes : List ℕ) (value : Value field)
+    → old.left ≡ bytes → Reads field old new value → SpellsAll (field ∷ []) (value, tt) bytes
+    new.left
+field_first field old new bytes value is read =
+    subst (λ b. SpellsAll (field ∷ []) (value, tt) b new.left) is (
+      read.0,
+      new.left,
+      read.1,
+      read.2.0,
+      refl,
+    )
 
 -- a signature field that holds no signature
-pub no_signature : {E : Type 0} (result : Result Signature (AuthError E)) (e : KeyError) (bytes inner after : List ℕ) → IsErrAnd result (λ x. x ≡ auth_error_of_key e) →
-    (e ≡ NoMemory) ⊎ ((e ≡ Blob) × LacksFields signature_fields inner) → SpellsAll (Bytes ∷ []) (inner, tt) bytes after →
+pub no_signature : {E : Type 0} (result : Result Signature (AuthError E)) (e : KeyError)
+    (bytes inner after : List ℕ) → IsErrAnd result (λ x. x ≡ auth_error_of_key e) →
+    (e ≡ NoMemory) ⊎ ((e ≡ Blob) × LacksFields signature_fields inner) → SpellsAll (Bytes ∷ [])
+    (inner, tt) bytes after →
     MatchResult result (λ signature. EndsInSignature signature bytes) (SignatureFails bytes)
 no_signature (Ok signature) e bytes inner after is why s = absurd is
-no_signature {E} (Err x) e bytes inner after is (inl memory) s = subst (SignatureFails bytes) (sym (is ∙ ap (λ k. auth_error_of_key {E = E} k) memory)) tt
-no_signature {E} (Err x) e bytes inner after is (inr lacks) s = subst (SignatureFails bytes) (sym (is ∙ ap (λ k. auth_error_of_key {E = E} k) lacks.0)) (refl, (inner, after, s, lacks.1))
+no_signature {E} (Err x) e bytes inner after is (inl memory) s = subst (SignatureFails bytes)
+    (sym (is ∙ ap (λ k. auth_error_of_key {E = E} k) memory)) tt
+no_signature {E} (Err x) e bytes inner after is (inr lacks) s = subst (SignatureFails bytes)
+    (sym (is ∙ ap (λ k. auth_error_of_key {E = E} k) lacks.0)) (refl, (inner, after, s, lacks.1))
 
 -- bytes that follow a signature, in its field or after it
-pub more_than_signature : {E : Type 0} (result : Result Signature (AuthError E)) (why : WireError) (left : ℕ) (bytes : List ℕ) → IsErrAnd result (λ x. x ≡ auth_error_of why) →
-    why ≡ Trailing left → MisfitsSignature bytes (Trailing left) → MatchResult result (λ signature. EndsInSignature signature bytes) (SignatureFails bytes)
+pub more_than_signature : {E : Type 0} (result : Result Signature (AuthError E)) (why : WireError)
+    (left : ℕ) (bytes : List ℕ) → IsErrAnd result (λ x. x ≡ auth_error_of why) →
+    why ≡ Trailing left → MisfitsSignature bytes (Trailing left)
+    → MatchResult result (λ signature. EndsInSignature signature bytes) (SignatureFails bytes)
 more_than_signature (Ok signature) why left bytes is trailing h = absurd is
-more_than_signature {E} (Err x) why left bytes is trailing h = subst (SignatureFails bytes) (sym (is ∙ ap (λ w. auth_error_of {E = E} w) trailing)) h
+more_than_signature {E} (Err x) why left bytes is trailing h = subst (SignatureFails bytes)
+    (sym (is ∙ ap (λ w. auth_error_of {E = E} w) trailing)) h
 
 -- fields stand before their rest
-pub spells_front : (fields : List Field) (values : Values fields) (bytes rest : List ℕ) → SpellsAll fields values bytes rest → (front : List ℕ) × (bytes ≡ front ++ rest)
+pub spells_front : (fields : List Field) (values : Values fields) (bytes rest : List ℕ)
+    → SpellsAll fields values bytes rest → (front : List ℕ) × (bytes ≡ front ++ rest)
 spells_front [] values bytes rest h = ([], h)
 spells_front (field ∷ fields) values bytes rest h =
     let more = spells_front fields values.1 h.1 rest h.4 in
     (h.0 ++ more.0, h.3 ∙ ap (λ x. h.0 ++ x) more.1 ∙ sym (append_assoc h.0 more.0 rest))
 
 -- the payload up to a rest, whatever its length, is what stands before that rest
-pub up_to_rest : (payload before rest : List ℕ) → payload ≡ before ++ rest → take (length payload - length rest) payload ≡ before
+pub up_to_rest : (payload before rest : List ℕ) → payload ≡ before ++ rest
+    → take (length payload - length rest) payload ≡ before
 up_to_rest payload before rest is =
-    let size : length payload - length rest ≡ length before = omega (arith, ap length is, length-append before rest) in
-    ap (λ n. take n payload) size ∙ ap (λ x. take (length before) x) is ∙ take-append_seam before rest
+    let size : length payload - length rest ≡ length before = omega (
+      arith,
+      ap length is,
+      length-append before rest,
+    ) in
+    ap (λ n. take n payload) size ∙ ap (λ x. take (length before) x) is ∙ take-append_seam before
+    rest

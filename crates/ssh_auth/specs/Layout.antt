@@ -29,7 +29,8 @@ prompt_fields prompt = string prompt.0 ++ flag prompt.1 ∷ []
 abbrev pub prompts_fields : List Prompt → List ℕ
 prompts_fields prompts = number (length prompts) ++ flat_map prompt_fields prompts
 
--- USERAUTH_INFO_REQUEST: byte 60, string name, string instruction, string language tag, which is empty, and the prompts
--- (RFC 4256 section 3.2)
+-- USERAUTH_INFO_REQUEST: byte 60, string name, string instruction, string language tag, which is
+-- empty, and the prompts (RFC 4256 section 3.2)
 abbrev pub info_request : (name instructions : List ℕ) → List Prompt → List ℕ
-info_request name instructions prompts = 60 ∷ string name ++ string instructions ++ string [] ++ prompts_fields prompts
+info_request name instructions prompts = 60 ∷ string name ++ string instructions ++ string []
+    ++ prompts_fields prompts

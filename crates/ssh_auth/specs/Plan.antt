@@ -1,5 +1,5 @@
--- What is owed to a handler, to an exchange and to a link: questions one after another, each going on by
--- its answer, notices between them, and what comes of them.
+-- What is owed to a handler, to an exchange and to a link: questions one after another, each going
+-- on by its answer, notices between them, and what comes of them.
 use Rattle.std.specs.Prelude.{◌≡◌, ℕ, List, [], ◌∷◌, ◌++◌, Bool, Option, Some, None, Ok, Err}
 use Rattle.ssh_link.specs.declared.command.Command.{Command}
 use Rattle.ssh_link.specs.declared.link.TraceEntry.{TraceEntry}
@@ -8,7 +8,8 @@ use Rattle.ssh_link.specs.declared.kex.KexCall.TheVariants as kex
 use Rattle.ssh_link.specs.declared.kex.KexStep.{KexStep}
 use Rattle.ssh_auth.specs.declared.auth.Auth.{Auth}
 use Rattle.ssh_auth.specs.declared.call.Call.{Call}
-use Rattle.ssh_auth.specs.declared.call.Call.TheVariants.{AuthenticationBanner, TcpipForward, AdjustWindow, CommandDone}
+use Rattle.ssh_auth.specs.declared.call.Call.TheVariants.{AuthenticationBanner, TcpipForward}
+use Rattle.ssh_auth.specs.declared.call.Call.TheVariants.{AdjustWindow, CommandDone}
 use Rattle.ssh_auth.specs.declared.question.Question.{Question}
 use Rattle.ssh_auth.specs.declared.question.Question.TheVariants as asked
 use Rattle.ssh_auth.specs.Calls.{admission_call, lent_call, judged_call}
@@ -28,7 +29,8 @@ pub record Listening : Type 0 where
   -- what it asked of the session
   pub commands : List Command
 
--- what is answered to a question where no error is: of most callbacks, the commands that they recorded
+-- what is answered to a question where no error is: of most callbacks, the commands that they
+-- recorded
 abbrev pub Answer : Question → Type 0
 Answer asked.Banner = Option (List ℕ)
 Answer (asked.Admits admission) = Auth
@@ -57,8 +59,10 @@ abbrev pub answered : {E F : Type 0} (question : Question) → Answer question �
 answered asked.Banner banner = Called (AuthenticationBanner (Ok banner))
 answered (asked.Admits admission) auth = Called (admission_call admission (Ok auth))
 answered (asked.Lends lent) commands = Called (lent_call lent (Ok tt) commands)
-answered (asked.Judges judged) judgement = Called (judged_call judged (Ok judgement.granted) judgement.commands)
-answered (asked.Listens address port) listening = Called (TcpipForward address port listening.port (Ok listening.granted) listening.commands)
+answered (asked.Judges judged) judgement =
+    Called (judged_call judged (Ok judgement.granted) judgement.commands)
+answered (asked.Listens address port) listening =
+    Called (TcpipForward address port listening.port (Ok listening.granted) listening.commands)
 answered (asked.Adjusts channel current) window = Called (AdjustWindow channel current (Ok window))
 answered (asked.Done place outcome) done = Called (CommandDone place outcome (Ok done))
 answered asked.Begins payload = Stepped (kex.Begun (Ok payload))
@@ -67,18 +71,26 @@ answered (asked.Steps payload) step = Stepped (kex.Stepped payload (Ok step))
 abbrev pub Answered : {E F : Type 0} (question : Question) → Answer question → Event E F → Type 0
 Answered question answer event = event ≡ answered question answer
 
--- the event in which this was asked, and answered by this error: the commands that were recorded then, and the port, are of no account
+-- the event in which this was asked, and answered by this error: the commands that were recorded
+-- then, and the port, are of no account
 abbrev pub Refused : {E F : Type 0} → Question → OutsideError E F → Event E F → Type 0
 Refused asked.Banner (Handler_error e) event = event ≡ Called (AuthenticationBanner (Err e))
-Refused (asked.Admits admission) (Handler_error e) event = event ≡ Called (admission_call admission (Err e))
-Refused (asked.Lends lent) (Handler_error e) event = (commands : List Command) × (event ≡ Called (lent_call lent (Err e) commands))
-Refused (asked.Judges judged) (Handler_error e) event = (commands : List Command) × (event ≡ Called (judged_call judged (Err e) commands))
+Refused (asked.Admits admission) (Handler_error e) event = event
+    ≡ Called (admission_call admission (Err e))
+Refused (asked.Lends lent) (Handler_error e) event = (commands : List Command)
+    × (event ≡ Called (lent_call lent (Err e) commands))
+Refused (asked.Judges judged) (Handler_error e) event = (commands : List Command)
+    × (event ≡ Called (judged_call judged (Err e) commands))
 Refused (asked.Listens address port) (Handler_error e) event =
-    (port_after : ℕ) × (commands : List Command) × (event ≡ Called (TcpipForward address port port_after (Err e) commands))
-Refused (asked.Adjusts channel current) (Handler_error e) event = event ≡ Called (AdjustWindow channel current (Err e))
-Refused (asked.Done place outcome) (Handler_error e) event = event ≡ Called (CommandDone place outcome (Err e))
+    (port_after : ℕ) × (commands : List Command)
+    × (event ≡ Called (TcpipForward address port port_after (Err e) commands))
+Refused (asked.Adjusts channel current) (Handler_error e) event = event
+    ≡ Called (AdjustWindow channel current (Err e))
+Refused (asked.Done place outcome) (Handler_error e) event = event
+    ≡ Called (CommandDone place outcome (Err e))
 Refused asked.Begins (Exchange_error f) event = event ≡ Stepped (kex.Begun (Err f))
-Refused (asked.Steps payload) (Exchange_error f) event = event ≡ Stepped (kex.Stepped payload (Err f))
+Refused (asked.Steps payload) (Exchange_error f) event = event
+    ≡ Stepped (kex.Stepped payload (Err f))
 Refused _ _ event = ⊥
 
 -- what was asked in a step of the exchange
@@ -125,7 +137,8 @@ told_in (_ ∷ events) = told_in events
 -- after these events, in which nobody answered an error, the plan has come to this rest
 abbrev pub Reaches : {E F O : Type 0} → Plan O → List (Event E F) → Plan O → Type 0
 Reaches plan [] rest = plan ≡ rest
-Reaches (Ask question next) (event ∷ events) rest = (answer : Answer question) × Answered question answer event × Reaches (next answer) events rest
+Reaches (Ask question next) (event ∷ events) rest = (answer : Answer question)
+    × Answered question answer event × Reaches (next answer) events rest
 Reaches (Tell entry next) (event ∷ events) rest = (event ≡ Told entry) × Reaches next events rest
 Reaches (Finish outcome) (event ∷ events) rest = ⊥
 
@@ -137,8 +150,10 @@ Follows plan events outcome = Reaches plan events (Finish outcome)
 abbrev pub Begins : {E F O : Type 0} → Plan O → List (Event E F) → Type 0
 Begins {E} {F} {O} plan events = (rest : Plan O) × Reaches plan events rest
 
--- these are the first events of the plan, and the last of them alone is an answer that was an error, this one
-pub record Breaks {E F O : Type 0} (plan : Plan O) (events : List (Event E F)) (error : OutsideError E F) : Type 0 where
+-- these are the first events of the plan, and the last of them alone is an answer that was an
+-- error, this one
+pub record Breaks {E F O : Type 0} (plan : Plan O) (events : List (Event E F))
+    (error : OutsideError E F) : Type 0 where
   -- what was asked last, and what would have come of it
   pub question : Question
   pub next : Answer question → Plan O

@@ -17,4 +17,5 @@ abbrev pub are_same : List Prompt → List Prompt → Bool
 are_same prompts others = pointwise is_same prompts others
 
 pub are_same-laws : IsEquivalence are_same
-are_same-laws = lists_equiv (and_equiv (on_equiv (λ prompt. prompt.0) nat_list_eq_equiv) (on_equiv (λ prompt. prompt.1) bool_eq_equiv))
+are_same-laws = lists_equiv (and_equiv (on_equiv (λ prompt. prompt.0) nat_list_eq_equiv)
+    (on_equiv (λ prompt. prompt.1) bool_eq_equiv))

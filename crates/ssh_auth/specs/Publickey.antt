@@ -1,13 +1,19 @@
--- What a request by a key or a certificate says, after its method's name (RFC 4252 section 7, OpenSSH
--- PROTOCOL.certkeys).
-use Rattle.std.specs.Prelude.{◌≡◌, ◌≢◌, ◌↔◌, ◌⊎◌, ℕ, List, [], ◌∷◌, ◌++◌, Bool, IsTrue, Option, Some, None}
+-- What a request by a key or a certificate says, after its method's name (RFC 4252 section 7,
+-- OpenSSH PROTOCOL.certkeys).
+use Rattle.std.specs.Prelude.{◌≡◌, ◌≢◌, ◌↔◌, ◌⊎◌, ℕ, List, [], ◌∷◌, ◌++◌, Bool, IsTrue, Option}
+use Rattle.std.specs.Prelude.{Some, None}
 use Rattle.ssh_wire.specs.declared.error.WireError.{WireError}
-use Rattle.ssh_wire.specs.Field.{Field, Flag, Text, Bytes, SpellsAll, MisfitsAll, MisfitsWhole, string}
+use Rattle.ssh_wire.specs.Field.{Field, Flag, Text, Bytes, SpellsAll, MisfitsAll, MisfitsWhole}
+use Rattle.ssh_wire.specs.Field.{string}
 use Rattle.ssh_keys.specs.declared.algorithm.Algorithm.{Algorithm}
 use Rattle.ssh_keys.specs.declared.error.KeyError.{KeyError}
 use Rattle.ssh_keys.specs.declared.error.KeyError.TheVariants.{Blob}
 use Rattle.ssh_keys.specs.declared.key_or_certificate.PublicKeyOrCertificate.{PublicKeyOrCertificate}
-use Rattle.ssh_keys.specs.declared.key_or_certificate.PublicKeyOrCertificate.TheVariants.{PublicKey as Plain, Certificate}
+use Rattle.ssh_keys.specs.declared.key_or_certificate.PublicKeyOrCertificate.TheVariants.{
+  PublicKey
+      as Plain,
+}
+use Rattle.ssh_keys.specs.declared.key_or_certificate.PublicKeyOrCertificate.TheVariants.{Certificate}
 use Rattle.ssh_keys.specs.declared.public_key.PublicKey.{PublicKey}
 use Rattle.ssh_keys.specs.declared.signature.Signature.{Signature}
 use Rattle.ssh_keys.specs.Algorithms.{algorithm_name, certificate_name}
@@ -37,19 +43,23 @@ pub record Offer : Type 0 where
   -- the algorithm that has to sign
   pub algorithm : Algorithm
 
--- the name and the blob say this key or certificate, and the name is that of the algorithm, or of its certificates
+-- the name and the blob say this key or certificate, and the name is that of the algorithm, or of
+-- its certificates
 abbrev pub IsOffered : Offer → Type 0
 IsOffered offer =
     IsOffer offer.key offer.name offer.blob
-    × ((algorithm_name offer.algorithm ≡ offer.name) ⊎ (certificate_name offer.algorithm ≡ offer.name))
+    × ((algorithm_name offer.algorithm ≡ offer.name) ⊎ (certificate_name offer.algorithm
+    ≡ offer.name))
 
--- a certificate holds at this moment, and the verifier accepts its own signature; a plain key needs neither
+-- a certificate holds at this moment, and the verifier accepts its own signature; a plain key needs
+-- neither
 abbrev pub IsUsable : Acceptance → (moment : ℕ) → PublicKeyOrCertificate → Type 0
 IsUsable accepts moment (Plain key hash) = Unit {0}
-IsUsable accepts moment (Certificate certificate) = (IsOutOfTime certificate moment → ⊥) × IsSigned accepts certificate
+IsUsable accepts moment (Certificate certificate) = (IsOutOfTime certificate moment → ⊥)
+    × IsSigned accepts certificate
 
--- the name and the blob offer nothing that can be used: a name or a type is not known, a certificate signs a
--- certificate, or a certificate does not hold
+-- the name and the blob offer nothing that can be used: a name or a type is not known, a
+-- certificate signs a certificate, or a certificate does not hold
 abbrev pub OffersNothing : Acceptance → (moment : ℕ) → (name blob : List ℕ) → Type 0
 OffersNothing accepts moment name blob =
     ((why : KeyError) × FailsOffer name blob why × (why ≢ Blob))
@@ -62,25 +72,32 @@ offer_fields = Flag ∷ Text ∷ Bytes ∷ []
 -- the bytes up to this rest offer this, to be asked about or signed, and it can be used
 abbrev pub Offers : Circumstances → (signed : Bool) → Offer → (bytes rest : List ℕ) → Type 0
 Offers given signed offer bytes rest =
-    SpellsAll offer_fields (signed, (offer.name, (offer.blob, tt))) bytes rest × IsOffered offer × IsUsable given.accepts given.moment offer.key
+    SpellsAll offer_fields (signed, (offer.name, (offer.blob, tt))) bytes rest × IsOffered offer
+    × IsUsable given.accepts given.moment offer.key
 
--- what a signature covers: string session id, then the request from its number 50 up to its signature field
+-- what a signature covers: string session id, then the request from its number 50 up to its
+-- signature field
 abbrev pub question : (session_id unsigned : List ℕ) → List ℕ
 question session_id unsigned = string session_id ++ 50 ∷ unsigned
 
 -- what the verifier answers about a signature, where it is asked
-abbrev pub IsAnswer : Acceptance → PublicKey → Algorithm → (message signature : List ℕ) → (accepted : Option Bool) → Type 0
+abbrev pub IsAnswer : Acceptance → PublicKey → Algorithm → (message signature : List ℕ)
+    → (accepted : Option Bool) → Type 0
 IsAnswer accepts key algorithm message signature None = Unit {0}
-IsAnswer accepts key algorithm message signature (Some answer) = IsTrue answer ↔ accepts key algorithm message signature
+IsAnswer accepts key algorithm message signature (Some answer) = IsTrue answer ↔ accepts key
+    algorithm message signature
 
--- no signature field ends the request, for this reason: it does not fit, bytes follow the signature that it holds, or
--- bytes follow it
+-- no signature field ends the request, for this reason: it does not fit, bytes follow the signature
+-- that it holds, or bytes follow it
 abbrev pub MisfitsSignature : List ℕ → WireError → Type 0
 MisfitsSignature bytes why =
     MisfitsAll (Bytes ∷ []) bytes why
-    ⊎ ((inner after : List ℕ) × (signature : Signature) × (rest : List ℕ) × SpellsAll (Bytes ∷ []) (inner, tt) bytes after
-    × SpellsSignature signature inner rest × (MisfitsWhole [] rest why ⊎ ((rest ≡ []) × MisfitsWhole [] after why)))
+    ⊎ ((inner after : List ℕ) × (signature : Signature) × (rest : List ℕ) × SpellsAll (Bytes ∷ [])
+    (inner, tt) bytes after
+    × SpellsSignature signature inner rest
+    × (MisfitsWhole [] rest why ⊎ ((rest ≡ []) × MisfitsWhole [] after why)))
 
 -- a signature field comes first, and the two strings of a signature do not begin it
 abbrev pub HoldsNoSignature : List ℕ → Type 0
-HoldsNoSignature bytes = (inner after : List ℕ) × SpellsAll (Bytes ∷ []) (inner, tt) bytes after × LacksFields signature_fields inner
+HoldsNoSignature bytes = (inner after : List ℕ) × SpellsAll (Bytes ∷ []) (inner, tt) bytes after
+    × LacksFields signature_fields inner

@@ -22,13 +22,19 @@ SignatureFails bytes _ = ⊥
 
 -- what a request is judged by
 abbrev pub circumstances : Acceptance → Request → Circumstances
-circumstances accepts request = record { accepts = accepts; session_id = request.session_id.now; moment = request.moment }
+circumstances accepts request = record {
+  accepts = accepts;
+  session_id = request.session_id.now;
+  moment = request.moment;
+}
 
 -- its fields after the number
 abbrev pub all_fields : Request → List ℕ
 all_fields request = drop 1 request.payload.now
 
--- the session id is no longer than a string can be, the payload's number is 50, and the fields of the method end it
+-- the session id is no longer than a string can be, the payload's number is 50, and the fields of
+-- the method end it
 abbrev pub IsWhole : Request → Type 0
 IsWhole request =
-    (length request.session_id.now < 2 ^ 32) × ((front : List ℕ) × (request.payload.now ≡ 50 ∷ front ++ request.fields.now))
+    (length request.session_id.now < 2 ^ 32)
+    × ((front : List ℕ) × (request.payload.now ≡ 50 ∷ front ++ request.fields.now))

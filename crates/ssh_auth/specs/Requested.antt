@@ -1,13 +1,16 @@
 -- What a USERAUTH_REQUEST says, after its number (RFC 4252 section 5).
-use Rattle.std.specs.Prelude.{◌≡◌, ◌≢◌, ◌⊎◌, ℕ, List, [], ◌∷◌, ◌++◌, Bool, true, false, Option, bytes_eq, codes, if◌then◌else◌}
+use Rattle.std.specs.Prelude.{◌≡◌, ◌≢◌, ◌⊎◌, ℕ, List, [], ◌∷◌, ◌++◌, Bool, true, false, Option}
+use Rattle.std.specs.Prelude.{bytes_eq, codes, if◌then◌else◌}
 use Rattle.ssh_wire.specs.declared.error.WireError.{WireError}
-use Rattle.ssh_wire.specs.Field.{Field, Flag, Text, SpellsAll, SpellsWhole, MisfitsAll, MisfitsWhole}
+use Rattle.ssh_wire.specs.Field.{Field, Flag, Text, SpellsAll, SpellsWhole, MisfitsAll}
+use Rattle.ssh_wire.specs.Field.{MisfitsWhole}
 use Rattle.ssh_keys.specs.declared.error.KeyError.TheVariants.{Blob}
 use Rattle.ssh_keys.specs.declared.signature.Signature.{Signature}
 use Rattle.ssh_keys.specs.Algorithms.{algorithm_name}
 use Rattle.ssh_keys.specs.Offers.{FailsOffer, offered_key}
 use Rattle.ssh_keys.specs.Signatures.{EndsInSignature}
-use Rattle.ssh_auth.specs.Publickey.{Circumstances, Offer, OffersNothing, offer_fields, Offers, question, IsAnswer, MisfitsSignature, HoldsNoSignature}
+use Rattle.ssh_auth.specs.Publickey.{Circumstances, Offer, OffersNothing, offer_fields, Offers}
+use Rattle.ssh_auth.specs.Publickey.{question, IsAnswer, MisfitsSignature, HoldsNoSignature}
 
 -- string user name, string service name, string method name
 abbrev pub head_fields : List Field
@@ -52,41 +55,62 @@ SaysNone fields None_method = fields ≡ []
 SaysNone fields (Unfit_method why) = MisfitsWhole [] fields why
 SaysNone fields _ = ⊥
 
--- boolean change, string password, and where it is a change, string new password (RFC 4252 section 8)
+-- boolean change, string password, and where it is a change, string new password (RFC 4252 section
+-- 8)
 abbrev pub SaysPassword : List ℕ → Method → Type 0
-SaysPassword fields (Password_method password) = SpellsWhole (Flag ∷ Text ∷ []) (false, (password, tt)) fields
-SaysPassword fields (Change_method password new_password) = SpellsWhole (Flag ∷ Text ∷ Text ∷ []) (true, (password, (new_password, tt))) fields
+SaysPassword fields (Password_method password) = SpellsWhole (Flag ∷ Text ∷ []) (
+  false,
+  (password, tt),
+) fields
+SaysPassword fields (Change_method password new_password) = SpellsWhole (Flag ∷ Text ∷ Text ∷ [])
+    (true, (password, (new_password, tt))) fields
 SaysPassword fields (Unfit_method why) =
     MisfitsAll (Flag ∷ []) fields why
-    ⊎ ((rest : List ℕ) × SpellsAll (Flag ∷ []) (false, tt) fields rest × MisfitsWhole (Text ∷ []) rest why)
-    ⊎ ((rest : List ℕ) × SpellsAll (Flag ∷ []) (true, tt) fields rest × MisfitsWhole (Text ∷ Text ∷ []) rest why)
+    ⊎ ((rest : List ℕ) × SpellsAll (Flag ∷ []) (false, tt) fields rest × MisfitsWhole (Text ∷ [])
+    rest why)
+    ⊎ ((rest : List ℕ) × SpellsAll (Flag ∷ []) (true, tt) fields rest
+    × MisfitsWhole (Text ∷ Text ∷ []) rest why)
 SaysPassword fields _ = ⊥
 
--- boolean signed, string algorithm name, string blob, and where it is signed, string signature, which holds string
--- algorithm name and string signature (RFC 4252 section 7): these fields end all fields of the request
+-- boolean signed, string algorithm name, string blob, and where it is signed, string signature,
+-- which holds string algorithm name and string signature (RFC 4252 section 7): these fields end all
+-- fields of the request
 abbrev pub SaysPublickey : Circumstances → (all fields : List ℕ) → Method → Type 0
 SaysPublickey given all fields Unusable_method =
-    (signed : Bool) × (name blob rest : List ℕ) × SpellsAll offer_fields (signed, (name, (blob, tt))) fields rest × OffersNothing given.accepts given.moment name blob
+    (signed : Bool) × (name blob rest : List ℕ) × SpellsAll offer_fields (
+      signed,
+      (name, (blob, tt)),
+    ) fields rest × OffersNothing given.accepts given.moment name blob
 SaysPublickey given all fields Broken_method =
-    ((signed : Bool) × (name blob rest : List ℕ) × SpellsAll offer_fields (signed, (name, (blob, tt))) fields rest × FailsOffer name blob Blob)
-    ⊎ ((offer : Offer) × (rest : List ℕ) × Offers given true offer fields rest × HoldsNoSignature rest)
+    ((signed : Bool) × (name blob rest : List ℕ) × SpellsAll offer_fields (
+      signed,
+      (name, (blob, tt)),
+    ) fields rest × FailsOffer name blob Blob)
+    ⊎ ((offer : Offer) × (rest : List ℕ) × Offers given true offer fields rest
+    × HoldsNoSignature rest)
 SaysPublickey given all fields (Probe_method offer) = Offers given false offer fields []
 SaysPublickey given all fields Misnamed_method =
-    (offer : Offer) × (rest : List ℕ) × (signature : Signature) × Offers given true offer fields rest × EndsInSignature signature rest
+    (offer : Offer) × (rest : List ℕ) × (signature : Signature) × Offers given true offer fields
+    rest × EndsInSignature signature rest
     × (signature.name ≢ algorithm_name offer.algorithm)
 SaysPublickey given all fields (Signed_method offer accepted) =
-    (rest unsigned : List ℕ) × (signature : Signature) × Offers given true offer fields rest × EndsInSignature signature rest
+    (rest unsigned : List ℕ) × (signature : Signature) × Offers given true offer fields rest
+    × EndsInSignature signature rest
     × (signature.name ≡ algorithm_name offer.algorithm) × (all ≡ unsigned ++ rest)
-    × IsAnswer given.accepts (offered_key offer.key) offer.algorithm (question given.session_id unsigned) signature.blob accepted
+    × IsAnswer given.accepts (offered_key offer.key) offer.algorithm
+    (question given.session_id unsigned) signature.blob accepted
 SaysPublickey given all fields (Unfit_method why) =
     MisfitsAll offer_fields fields why
-    ⊎ ((offer : Offer) × (rest : List ℕ) × Offers given false offer fields rest × MisfitsWhole [] rest why)
-    ⊎ ((offer : Offer) × (rest : List ℕ) × Offers given true offer fields rest × MisfitsSignature rest why)
+    ⊎ ((offer : Offer) × (rest : List ℕ) × Offers given false offer fields rest
+    × MisfitsWhole [] rest why)
+    ⊎ ((offer : Offer) × (rest : List ℕ) × Offers given true offer fields rest
+    × MisfitsSignature rest why)
 SaysPublickey given all fields _ = ⊥
 
 -- string language tag, string submethods (RFC 4256 section 3.1)
 abbrev pub SaysInteractive : List ℕ → Method → Type 0
-SaysInteractive fields (Interactive_method submethods) = (language : List ℕ) × SpellsWhole (Text ∷ Text ∷ []) (language, (submethods, tt)) fields
+SaysInteractive fields (Interactive_method submethods) = (language : List ℕ)
+    × SpellsWhole (Text ∷ Text ∷ []) (language, (submethods, tt)) fields
 SaysInteractive fields (Unfit_method why) = MisfitsWhole (Text ∷ Text ∷ []) fields why
 SaysInteractive fields _ = ⊥
 
@@ -115,9 +139,11 @@ SaysMethod given all Is_other fields method = method ≡ Other_method
 -- under these circumstances the fields after the number say this
 abbrev pub SaysRequest : Circumstances → List ℕ → Requested → Type 0
 SaysRequest given fields (Request user method) =
-    (name rest : List ℕ) × SpellsAll head_fields (user, (codes "ssh-connection", (name, tt))) fields rest
+    (name rest : List ℕ) × SpellsAll head_fields (user, (codes "ssh-connection", (name, tt))) fields
+    rest
     × SaysMethod given fields (named_by name) rest method
 SaysRequest given fields Other_service =
-    (user service name rest : List ℕ) × SpellsAll head_fields (user, (service, (name, tt))) fields rest × (service ≢ codes "ssh-connection")
+    (user service name rest : List ℕ) × SpellsAll head_fields (user, (service, (name, tt))) fields
+    rest × (service ≢ codes "ssh-connection")
 SaysRequest given fields (Unfit why) = MisfitsAll head_fields fields why
 SaysRequest given fields Unread = Unit {0}

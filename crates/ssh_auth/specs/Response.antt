@@ -1,7 +1,8 @@
 -- What a USERAUTH_INFO_RESPONSE says, after its number (RFC 4256 section 3.4).
 use Rattle.std.specs.Prelude.{◌⊎◌, ℕ, List, [], ◌∷◌, length, replicate}
 use Rattle.ssh_wire.specs.declared.error.WireError.{WireError}
-use Rattle.ssh_wire.specs.Field.{Field, Number, Bytes, Values, SpellsAll, SpellsWhole, MisfitsAll, MisfitsWhole}
+use Rattle.ssh_wire.specs.Field.{Field, Number, Bytes, Values, SpellsAll, SpellsWhole, MisfitsAll}
+use Rattle.ssh_wire.specs.Field.{MisfitsWhole}
 
 pub data Responded : Type 0 where
   -- these responses, as many as it announces
@@ -23,8 +24,10 @@ values (text ∷ texts) = (text, values texts)
 
 -- uint32 count, and as many strings
 abbrev pub SaysResponses : List ℕ → Responded → Type 0
-SaysResponses fields (Responses responses) = SpellsWhole (Number ∷ strings responses) (length responses, values responses) fields
+SaysResponses fields (Responses responses) = SpellsWhole (Number ∷ strings responses)
+    (length responses, values responses) fields
 SaysResponses fields (Unfit_responses why) =
     MisfitsAll (Number ∷ []) fields why
-    ⊎ ((count : ℕ) × (rest : List ℕ) × SpellsAll (Number ∷ []) (count, tt) fields rest × MisfitsWhole (replicate count Bytes) rest why)
+    ⊎ ((count : ℕ) × (rest : List ℕ) × SpellsAll (Number ∷ []) (count, tt) fields rest
+    × MisfitsWhole (replicate count Bytes) rest why)
 SaysResponses fields Unread_responses = Unit {0}

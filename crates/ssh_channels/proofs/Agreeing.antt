@@ -3,9 +3,12 @@ use Rattle.std.proofs.Common.{◌≡◌, List, [], ◌∷◌, ◌++◌, Bool, tr
 use Rattle.std.proofs.lemmas.List.{append-nil}
 use Rattle.ssh_link.specs.Frames.{Frame}
 use Rattle.ssh_channels.specs.Table.{Table}
-use Rattle.ssh_channels.specs.Calls.{Op, Byte, Send, Eof, Close, Peer_close, Flush_line, Flush_all, Grant, Adjust, Draw}
-use Rattle.ssh_channels.specs.Calls.{Open_next, Drop_pending, Insert, Confirm, Fail_open, Set_wants_reply, Stage, op}
-use Rattle.ssh_channels.specs.Paths.{Out, is_direct, kept, passed_on, put_out, by_sink, by_table, plain, written, flush}
+use Rattle.ssh_channels.specs.Calls.{Op, Byte, Send, Eof, Close, Peer_close, Flush_line, Flush_all}
+use Rattle.ssh_channels.specs.Calls.{Grant, Adjust, Draw}
+use Rattle.ssh_channels.specs.Calls.{Open_next, Drop_pending, Insert, Confirm, Fail_open}
+use Rattle.ssh_channels.specs.Calls.{Set_wants_reply, Stage, op}
+use Rattle.ssh_channels.specs.Paths.{Out, is_direct, kept, passed_on, put_out, by_sink, by_table}
+use Rattle.ssh_channels.specs.Paths.{plain, written, flush}
 use Rattle.ssh_channels.specs.Paths.{answer, run, answers, PutsOutTheSame}
 
 -- the frames of one call go to the sink or are staged
@@ -14,7 +17,8 @@ put_out_either : (direct : Bool) (sink : List Frame) (t : Table) →
 put_out_either true sink t = append-nil (sink ++ t.staged)
 put_out_either false sink t = ap (λ s. s ++ t.staged) (append-nil sink)
 
-rest_either : (direct : Bool) (t : Table) → record (kept direct t) { staged = [] } ≡ record t { staged = [] }
+rest_either : (direct : Bool) (t : Table) → record (kept direct t) { staged = [] }
+    ≡ record t { staged = [] }
 rest_either true t = refl
 rest_either false t = refl
 
@@ -26,11 +30,13 @@ sink_agrees is_rekeying call out =
 
 pub each_agrees : (o : Op) (out : Out) → PutsOutTheSame (written o) (plain o) out
 each_agrees (Byte n message) out = (refl, refl)
-each_agrees (Send n chunk is_rekeying) out = sink_agrees is_rekeying (op (Send n chunk is_rekeying)) out
+each_agrees (Send n chunk is_rekeying) out = sink_agrees is_rekeying (op (Send n chunk is_rekeying))
+    out
 each_agrees (Eof n) out = (refl, refl)
 each_agrees (Close n) out = (refl, refl)
 each_agrees (Peer_close n) out = (refl, refl)
-each_agrees (Flush_line n is_rekeying) out = sink_agrees is_rekeying (op (Flush_line n is_rekeying)) out
+each_agrees (Flush_line n is_rekeying) out = sink_agrees is_rekeying (op (Flush_line n is_rekeying))
+    out
 each_agrees (Flush_all is_rekeying) out = sink_agrees is_rekeying (op (Flush_all is_rekeying)) out
 each_agrees (Grant n amount) out = (refl, refl)
 each_agrees (Adjust n count target) out = (refl, refl)
@@ -52,7 +58,8 @@ flushed_agrees o out =
 
 pub run_agrees : (os : List Op) (out : Out) → run written os out ≡ run plain os out
 run_agrees [] out = refl
-run_agrees (o ∷ os) out = ap (run written os) (flushed_agrees o out) ∙ run_agrees os (flush (plain o out))
+run_agrees (o ∷ os) out = ap (run written os) (flushed_agrees o out)
+    ∙ run_agrees os (flush (plain o out))
 
 pub answers_agree : (os : List Op) (out : Out) → answers written os out ≡ answers plain os out
 answers_agree [] out = refl

@@ -1,6 +1,8 @@
 -- What was sent on one channel stays what has to be sent there.
-use Rattle.std.proofs.Common.{◌≡◌, ◌<◌, ◌≤◌, ◌+◌, ◌-◌, ◌^◌, ◌==◌, ◌&&◌, ◌||◌, ℕ, min, Bool, true, false, not}
-use Rattle.std.proofs.Common.{List, [], ◌∷◌, ◌++◌, map, length, take, drop, refl, sym, ◌∙◌, ap, subst, inl, inr, arith}
+use Rattle.std.proofs.Common.{◌≡◌, ◌<◌, ◌≤◌, ◌+◌, ◌-◌, ◌^◌, ◌==◌, ◌&&◌, ◌||◌, ℕ, min, Bool, true}
+use Rattle.std.proofs.Common.{false, not}
+use Rattle.std.proofs.Common.{List, [], ◌∷◌, ◌++◌, map, length, take, drop, refl, sym, ◌∙◌, ap}
+use Rattle.std.proofs.Common.{subst, inl, inr, arith}
 use Rattle.std.specs.List.{filter}
 use Rattle.std.proofs.lemmas.List.{take_all, take_min, take-append-le, append-nil, map-append}
 use Rattle.std.proofs.lemmas.List.Elements.{filter-append}
@@ -10,19 +12,25 @@ use Rattle.ssh_channels.specs.declared.chunk.DataKind.{DataKind}
 use Rattle.ssh_channels.specs.declared.chunk.DataKind.TheVariants.{Plain, Extended}
 use Rattle.ssh_channels.specs.Layout.{chunk, data_frame, eof_frame, close_frame}
 use Rattle.ssh_channels.specs.Cut.{piece_limit, cut, left_of}
-use Rattle.ssh_channels.specs.Entry.{Entry, opened, asked, agreed, joined, accepted, all_framed, more_may_come}
+use Rattle.ssh_channels.specs.Entry.{Entry, opened, asked, agreed, joined, accepted, all_framed}
+use Rattle.ssh_channels.specs.Entry.{more_may_come}
 use Rattle.ssh_channels.specs.Entry.{flush_out}
-use Rattle.ssh_channels.specs.Entry.{flushed, granting, accepting, tells_eof, closes_now, eof_out, after_eof, IsDue}
+use Rattle.ssh_channels.specs.Entry.{flushed, granting, accepting, tells_eof, closes_now, eof_out}
+use Rattle.ssh_channels.specs.Entry.{after_eof, IsDue}
 use Rattle.ssh_channels.specs.Entry.{Sound}
 use Rattle.ssh_channels.specs.Sent.{is_flow, AllFit, ending, Before, farewell, IsLeft}
-use Rattle.ssh_channels.proofs.Joined.{joined_both, joined_cut, joined_left, left_none, cut_fit, fit_both, some_limit}
+use Rattle.ssh_channels.proofs.Joined.{joined_both, joined_cut, joined_left, left_none, cut_fit}
+use Rattle.ssh_channels.proofs.Joined.{fit_both, some_limit}
 use Rattle.ssh_channels.proofs.Joined.{joined_length, take_more}
-use Rattle.ssh_channels.proofs.Entries.{and_left, and_right, sound_opened, sound_asked, sound_agreed, sound_flushed}
-use Rattle.ssh_channels.proofs.Entries.{sound_granting, sound_accepting, sound_eof, sound_close, sound_told, sound_room}
+use Rattle.ssh_channels.proofs.Entries.{and_left, and_right, sound_opened, sound_asked}
+use Rattle.ssh_channels.proofs.Entries.{sound_agreed, sound_flushed}
+use Rattle.ssh_channels.proofs.Entries.{sound_granting, sound_accepting, sound_eof, sound_close}
+use Rattle.ssh_channels.proofs.Entries.{sound_told, sound_room}
 use Rattle.ssh_channels.proofs.Entries.{sound_wanting, framed_all}
 
 -- data frames belong to the flow
-flow_one : (own peer : ℕ) (kind : DataKind) (bytes : List ℕ) → is_flow (data_frame own peer (chunk kind bytes)) ≡ true
+flow_one : (own peer : ℕ) (kind : DataKind) (bytes : List ℕ)
+    → is_flow (data_frame own peer (chunk kind bytes)) ≡ true
 flow_one own peer Plain bytes = refl
 flow_one own peer (Extended code) bytes = refl
 
@@ -30,12 +38,14 @@ flow_data : (own peer : ℕ) (ps : List Chunk) →
     filter is_flow (map (data_frame own peer) ps) ≡ map (data_frame own peer) ps
 flow_data own peer [] = refl
 flow_data own peer (p ∷ ps) =
-    rw (flow_one own peer p.kind p.bytes) (ap (λ l. data_frame own peer p ∷ l) (flow_data own peer ps))
+    rw (flow_one own peer p.kind p.bytes) (ap (λ l. data_frame own peer p ∷ l)
+    (flow_data own peer ps))
 
 -- nothing is cut where nothing is left
 none_cut : (e : Entry) → length (accepted e) ≤ e.framed → flush_out e ≡ []
 none_cut e h =
-    ap (λ cs. map (data_frame e.number e.peer) (cut (piece_limit e.limit) (e.granted - e.framed) cs))
+    ap (λ cs. map (data_frame e.number e.peer) (cut (piece_limit e.limit) (e.granted - e.framed)
+    cs))
     (left_none e.framed e.chunks h)
 
 -- and on a channel that waits
@@ -46,35 +56,43 @@ waiting_cut e c s =
 
 fit_at : (b : Bool) (e : Entry) → e.confirmed ≡ b → Sound e →
     AllFit e.limit (cut (piece_limit e.limit) (e.granted - e.framed) (left_of e.framed e.chunks))
-fit_at true e c s = cut_fit e.limit (e.granted - e.framed) (left_of e.framed e.chunks) (s.positive c)
+fit_at true e c s = cut_fit e.limit (e.granted - e.framed) (left_of e.framed e.chunks)
+    (s.positive c)
 fit_at false e c s = subst (AllFit e.limit) (sym (waiting_cut e c s)) tt
 
 -- the flow with more data, which come where no EOF was told, or are none
-flow_more : (told : Bool) (own peer : ℕ) (ps qs : List Chunk) (flow : List Frame) → (told ≡ true → qs ≡ []) →
+flow_more : (told : Bool) (own peer : ℕ) (ps qs : List Chunk) (flow : List Frame)
+    → (told ≡ true → qs ≡ []) →
     flow ≡ map (data_frame own peer) ps ++ ending told own peer →
-    flow ++ map (data_frame own peer) qs ≡ map (data_frame own peer) (ps ++ qs) ++ ending told own peer
+    flow ++ map (data_frame own peer) qs ≡ map (data_frame own peer) (ps ++ qs)
+    ++ ending told own peer
 flow_more false own peer ps qs flow none h =
     ap (λ l. l ++ map (data_frame own peer) qs) (h ∙ append-nil (map (data_frame own peer) ps))
-    ∙ sym (map-append (data_frame own peer) ps qs) ∙ sym (append-nil (map (data_frame own peer) (ps ++ qs)))
+    ∙ sym (map-append (data_frame own peer) ps qs)
+    ∙ sym (append-nil (map (data_frame own peer) (ps ++ qs)))
 flow_more true own peer ps qs flow none h =
     let e : qs ≡ [] = none refl in
     ap (λ l. flow ++ map (data_frame own peer) l) e ∙ append-nil flow ∙ h
-    ∙ ap (λ l. map (data_frame own peer) l ++ ending true own peer) (sym (append-nil ps) ∙ ap (λ l. ps ++ l) (sym e))
+    ∙ ap (λ l. map (data_frame own peer) l ++ ending true own peer) (sym (append-nil ps)
+    ∙ ap (λ l. ps ++ l) (sym e))
 
 -- a flush sends all that is due
-pub before_flush : (e : Entry) (frames : List Frame) → Before e frames → Before (flushed e) (frames ++ flush_out e)
+pub before_flush : (e : Entry) (frames : List Frame) → Before e frames
+    → Before (flushed e) (frames ++ flush_out e)
 before_flush e frames b =
     let credit = e.granted - e.framed in
     let waiting = left_of e.framed e.chunks in
     let qs = cut (piece_limit e.limit) credit waiting in
     let low = b.sound.low in
     let within = b.sound.within in
-    let sent : joined (b.sends.pieces ++ qs) ≡ joined b.sends.pieces ++ joined qs = joined_both b.sends.pieces qs in
+    let sent : joined (b.sends.pieces ++ qs) ≡ joined b.sends.pieces ++ joined qs =
+    joined_both b.sends.pieces qs in
     let more : joined qs ≡ take credit (drop e.framed (accepted e)) =
     joined_cut (piece_limit e.limit) credit waiting (some_limit e.limit)
     ∙ ap (λ l. take credit l) (joined_left e.framed e.chunks) in
     let n : e.framed + credit ≡ e.granted = omega arith in
-    let m : min e.granted (length (accepted e)) ≡ min (length (accepted e)) e.granted = omega arith in
+    let m : min e.granted (length (accepted e)) ≡ min (length (accepted e)) e.granted =
+    omega arith in
     record {
       sends = record {
         pieces = b.sends.pieces ++ qs;
@@ -84,14 +102,16 @@ before_flush e frames b =
             (λ t. ap (λ l. cut (piece_limit e.limit) credit l)
             (left_none e.framed e.chunks (b.sound.ended t).1)) b.sends.flow;
         fit = fit_both e.limit b.sends.pieces qs b.sends.fit (fit_at e.confirmed e refl b.sound);
-        sum = sent ∙ ap (λ l. l ++ joined qs) b.sends.sum ∙ ap (λ l. take e.framed (accepted e) ++ l) more
+        sum = sent ∙ ap (λ l. l ++ joined qs) b.sends.sum ∙ ap (λ l. take e.framed (accepted e)
+            ++ l) more
             ∙ take_more e.framed credit (accepted e) ∙ ap (λ k. take k (accepted e)) n
             ∙ sym (take_min e.granted (accepted e)) ∙ ap (λ k. take k (accepted e)) m;
       };
       sound = sound_flushed e b.sound;
     }
 
-pub before_grant : (amount : ℕ) (e : Entry) (frames : List Frame) → e.confirmed ≡ true → IsDue e → Before e frames →
+pub before_grant : (amount : ℕ) (e : Entry) (frames : List Frame) → e.confirmed ≡ true → IsDue e
+    → Before e frames →
     Before (granting amount e) frames
 before_grant amount e frames c d b = record {
   sends = record {
@@ -103,7 +123,8 @@ before_grant amount e frames c d b = record {
   sound = sound_granting amount e c d b.sound;
 }
 
-take_at : (b : Bool) (c : Chunk) (e : Entry) → (length c.bytes == 0) ≡ b → e.framed ≤ length (accepted e) →
+take_at : (b : Bool) (c : Chunk) (e : Entry) → (length c.bytes == 0) ≡ b
+    → e.framed ≤ length (accepted e) →
     take e.framed (accepted e) ≡ take e.framed (accepted (accepting c e))
 take_at true c e t l = rw t refl
 take_at false c e t l =
@@ -111,7 +132,8 @@ take_at false c e t l =
     sym (ap (take e.framed) (k ∙ joined_both e.chunks (c ∷ []))
     ∙ take-append-le e.framed (accepted e) (joined (c ∷ [])) l)
 
-pub before_accept : (c : Chunk) (e : Entry) (frames : List Frame) → more_may_come e ≡ true → Before e frames →
+pub before_accept : (c : Chunk) (e : Entry) (frames : List Frame) → more_may_come e ≡ true
+    → Before e frames →
     Before (accepting c e) frames
 before_accept c e frames m b = record {
   sends = record {
@@ -148,7 +170,8 @@ before_close e frames c b = record {
 }
 
 -- what is said beside the flow
-pub before_beside : (e : Entry) (frames : List Frame) (f : Frame) → is_flow f ≡ false → Before e frames →
+pub before_beside : (e : Entry) (frames : List Frame) (f : Frame) → is_flow f ≡ false
+    → Before e frames →
     Before e (frames ++ f ∷ [])
 before_beside e frames f h b =
     let none : filter is_flow (f ∷ []) ≡ [] = rw h refl in
@@ -200,7 +223,8 @@ told_same false x h = h
 
 told_flow : (b : Bool) (e : Entry) (frames : List Frame) → tells_eof e ≡ b → Before e frames →
     (pieces : List Chunk) →
-    filter is_flow frames ≡ map (data_frame e.number e.peer) pieces ++ ending e.told e.number e.peer →
+    filter is_flow frames ≡ map (data_frame e.number e.peer) pieces ++ ending e.told e.number e.peer
+    →
     filter is_flow (frames ++ eof_out e)
     ≡ map (data_frame e.number e.peer) pieces ++ ending (e.told || tells_eof e) e.number e.peer
 told_flow true e frames t b pieces h =
@@ -210,7 +234,8 @@ told_flow true e frames t b pieces h =
     let x : ending (e.told || tells_eof e) e.number e.peer ≡ eof =
     ap (λ y. ending (y || tells_eof e) e.number e.peer) k ∙ ap (λ y. ending y e.number e.peer) t in
     filter-append is_flow frames (eof_out e) ∙ ap (λ l. filter is_flow frames ++ filter is_flow l) o
-    ∙ ap (λ l. l ++ eof) (h ∙ ap (λ y. map (data_frame e.number e.peer) pieces ++ ending y e.number e.peer) k
+    ∙ ap (λ l. l ++ eof) (h ∙ ap (λ y. map (data_frame e.number e.peer) pieces
+    ++ ending y e.number e.peer) k
     ∙ append-nil (map (data_frame e.number e.peer) pieces))
     ∙ ap (λ l. map (data_frame e.number e.peer) pieces ++ l) (sym x)
 told_flow false e frames t b pieces h =
@@ -219,7 +244,8 @@ told_flow false e frames t b pieces h =
     ∙ ap (λ y. map (data_frame e.number e.peer) pieces ++ ending y e.number e.peer)
     (sym (told_same e.told (tells_eof e) t))
 
-pub before_told : (e : Entry) (frames : List Frame) → Before e frames → Before (after_eof e) (frames ++ eof_out e)
+pub before_told : (e : Entry) (frames : List Frame) → Before e frames → Before (after_eof e)
+    (frames ++ eof_out e)
 before_told e frames b = record {
   sends = record {
     pieces = b.sends.pieces;
@@ -264,7 +290,8 @@ never_told true e t s c =
     absurd (let x : e.eof ≡ true = (s.ended t).0 in let y : e.eof ≡ false = (s.waits c).2 in cc)
 never_told false e t s c = t
 
-pub before_agreed : (peer window limit : ℕ) (e : Entry) (frames : List Frame) → e.confirmed ≡ false → 0 < limit →
+pub before_agreed : (peer window limit : ℕ) (e : Entry) (frames : List Frame) → e.confirmed ≡ false
+    → 0 < limit →
     window < 2 ^ 32 → Before e frames → Before (agreed peer window limit e) frames
 before_agreed peer window limit e frames c h k b =
     let none : e.chunks ≡ [] = (b.sound.waits c).0 in
@@ -276,7 +303,8 @@ before_agreed peer window limit e frames c h k b =
     record {
       sends = record {
         pieces = [];
-        flow = b.sends.flow ∙ ap (λ l. map (data_frame e.number e.peer) l ++ ending e.told e.number e.peer) ps
+        flow = b.sends.flow ∙ ap (λ l. map (data_frame e.number e.peer) l ++ ending e.told e.number
+            e.peer) ps
             ∙ ap (λ x. ending x e.number e.peer) t ∙ sym (ap (λ x. ending x e.number peer) t);
         fit = tt;
         sum = sym (ap joined ps) ∙ b.sends.sum;
@@ -285,10 +313,12 @@ before_agreed peer window limit e frames c h k b =
     }
 
 -- a channel leaves
-closing_confirmed : (b : Bool) (e : Entry) → e.confirmed ≡ b → Sound e → closes_now e ≡ true → e.confirmed ≡ true
+closing_confirmed : (b : Bool) (e : Entry) → e.confirmed ≡ b → Sound e → closes_now e ≡ true
+    → e.confirmed ≡ true
 closing_confirmed true e c s h = c
 closing_confirmed false e c s h =
-    absurd (let x : e.close ≡ true = and_left e.close (all_framed e) h in let y : e.close ≡ false = (s.waits c).3 in cc)
+    absurd (let x : e.close ≡ true = and_left e.close (all_framed e) h in let y : e.close ≡ false =
+    (s.waits c).3 in cc)
 
 pub left_after_all : (e : Entry) (frames : List Frame) → closes_now e ≡ true → Before e frames →
     IsLeft (record { entry = e; by_peer = false }) (frames ++ close_frame e.number e.peer ∷ [])

@@ -1,7 +1,9 @@
 -- Each call of a table, as it is for the channels.
-use Rattle.std.proofs.Common.{◌≡◌, ◌<◌, ◌≤◌, ◌-◌, ◌^◌, ◌==◌, ◌&&◌, ◌||◌, ℕ, List, [], ◌∷◌, ◌++◌, length, map, Bool}
+use Rattle.std.proofs.Common.{◌≡◌, ◌<◌, ◌≤◌, ◌-◌, ◌^◌, ◌==◌, ◌&&◌, ◌||◌, ℕ, List, [], ◌∷◌, ◌++◌}
+use Rattle.std.proofs.Common.{length, map, Bool}
 use Rattle.std.proofs.Common.{true}
-use Rattle.std.proofs.Common.{false, not, cond, nat_le, Some, None, rules, refl, sym, ◌∙◌, ap, subst, arith}
+use Rattle.std.proofs.Common.{false, not, cond, nat_le, Some, None, rules, refl, sym, ◌∙◌, ap}
+use Rattle.std.proofs.Common.{subst, arith}
 use Rattle.std.proofs.Common.{append_assoc}
 use Rattle.std.proofs.lemmas.List.{append-nil, nil_from_length}
 use Rattle.ssh_channels.specs.declared.params.ChannelParams.{ChannelParams}
@@ -15,12 +17,16 @@ use Rattle.ssh_channels.specs.Window as window
 use Rattle.std.specs.Map.{keys_of}
 use Rattle.ssh_channels.specs.Table.{Table, put, write, act}
 use Rattle.ssh_channels.specs.Calls as calls
-use Rattle.ssh_channels.specs.Entry.{Entry, agreed, all_framed, more_may_come, close_may_come, flush_out, flushed}
-use Rattle.ssh_channels.specs.Entry.{granting, accepting, tells_eof, closes_now, eof_out, after_eof, IsDeferred}
+use Rattle.ssh_channels.specs.Entry.{Entry, agreed, all_framed, more_may_come, close_may_come}
+use Rattle.ssh_channels.specs.Entry.{flush_out, flushed}
+use Rattle.ssh_channels.specs.Entry.{granting, accepting, tells_eof, closes_now, eof_out, after_eof}
+use Rattle.ssh_channels.specs.Entry.{IsDeferred}
 use Rattle.ssh_channels.specs.Room.{coming, having, adjust_out}
-use Rattle.ssh_channels.specs.Lines.{Lines, turns, closes, leaves, settles, takes_data, takes_eof, takes_close}
+use Rattle.ssh_channels.specs.Lines.{Lines, turns, closes, leaves, settles, takes_data, takes_eof}
+use Rattle.ssh_channels.specs.Lines.{takes_close}
 use Rattle.ssh_channels.specs.Lines.{peer_closes}
-use Rattle.ssh_channels.specs.Lines.{goes_on, each_goes_on, all_go_on, takes_grant, takes_in, says, wants, confirms}
+use Rattle.ssh_channels.specs.Lines.{goes_on, each_goes_on, all_go_on, takes_grant, takes_in, says}
+use Rattle.ssh_channels.specs.Lines.{wants, confirms}
 use Rattle.ssh_channels.specs.Lines.{fails}
 use Rattle.ssh_channels.specs.Stands.{Holds, Stands}
 use Rattle.ssh_channels.proofs.Entries.{and_left, more_eof, more_close, sound_room, sound_wanting}
@@ -47,13 +53,15 @@ never_ended e x y = (no_eof e.eof e.told (all_framed e) x, no_close e.close (all
 pub says_stands : (n message : ℕ) (t : Table) (l : Lines) → Stands t l →
     Stands (calls.byte n message t) (says n message l)
 says_stands n message t l s =
-    acts line.is_established (λ p. bare_frame message n p.recipient_channel ∷ []) (λ p. Some p) n t l (λ e. e.confirmed)
+    acts line.is_established (λ p. bare_frame message n p.recipient_channel ∷ []) (λ p. Some p) n t
+    l (λ e. e.confirmed)
     (λ e. turns e (bare_frame message e.number e.peer ∷ [])) s (λ p e h d. h.confirmed)
     (λ p e h d m. turned t l n p e _ (bare_frame message e.number e.peer ∷ []) s h d
     (let a = h.number in let b = h.peer in cc))
 
 -- data that go out at once: nothing waited before them
-module _ (n : ℕ) (chunk : Chunk) (p : ChannelParams) (e : Entry) (h : Holds n p e) (m : more_may_come e ≡ true)
+module _ (n : ℕ) (chunk : Chunk) (p : ChannelParams) (e : Entry) (h : Holds n p e)
+    (m : more_may_come e ≡ true)
     (none : p.waiting ≡ []) where
   with_both : (credit : ℕ) (waiting : List Chunk) → ChannelParams
   with_both credit waiting = record p { recipient_window_size = credit; waiting = waiting }
@@ -78,12 +86,17 @@ module _ (n : ℕ) (chunk : Chunk) (p : ChannelParams) (e : Entry) (h : Holds n 
       let k : length chunk.bytes ≤ p.recipient_window_size = omega arith in
       let t : nat_le (length chunk.bytes) p.recipient_window_size ≡ true = search rules in
       let b : chunk.bytes ≡ [] = nil_from_length chunk.bytes z in
-      let c : pieces limit chunk.kind chunk.bytes ≡ [] = ap (λ bytes. pieces limit chunk.kind bytes) b in
+      let c : pieces limit chunk.kind chunk.bytes ≡ [] = ap (λ bytes. pieces limit chunk.kind bytes)
+      b in
       rw t (ap (λ x. x ++ []) c)
 
   empty_flushed : length chunk.bytes ≡ 0 → line.flushed (line.alone chunk p) ≡ line.flushed p
   empty_flushed z =
-      ap (λ c. record p { recipient_window_size = c; waiting = left_of p.recipient_window_size (chunk ∷ []) })
+      ap (λ c. record p {
+        recipient_window_size = c;
+        waiting = left_of p.recipient_window_size
+            (chunk ∷ []);
+      })
       (empty_credit z ∙ ap (credit_left p.recipient_window_size) (sym none))
       ∙ ap (λ w. record p {
         recipient_window_size = credit_left p.recipient_window_size p.waiting;
@@ -106,12 +119,14 @@ module _ (n : ℕ) (chunk : Chunk) (p : ChannelParams) (e : Entry) (h : Holds n 
       let z : length chunk.bytes ≡ 0 = search rules in
       let a : accepting chunk e ≡ e = rw t refl in (
         subst (λ x. Holds n (line.flushed (line.alone chunk p)) (flushed x)) (sym a)
-            (subst (λ x. Holds n x (flushed e)) (sym (empty_flushed z)) (holding.flushed_holds n p e h)),
+            (subst (λ x. Holds n x (flushed e)) (sym (empty_flushed z))
+            (holding.flushed_holds n p e h)),
         empty_sent z ∙ holding.sent_same n p e h ∙ ap flush_out (sym a),
       )
   alone_at false t =
       let k : Holds n (line.alone chunk p) (accepting chunk e) =
-      subst (λ x. Holds n x (accepting chunk e)) (full_alone t) (holding.behind_holds n p e h chunk m) in (
+      subst (λ x. Holds n x (accepting chunk e)) (full_alone t) (holding.behind_holds n p e h chunk
+      m) in (
         holding.flushed_holds n (line.alone chunk p) (accepting chunk e) k,
         holding.sent_same n (line.alone chunk p) (accepting chunk e) k,
       )
@@ -126,9 +141,11 @@ module _ (n : ℕ) (chunk : Chunk) (is_rekeying : Bool) (t : Table) (l : Lines) 
       (is_rekeying || not (line.nothing_waits p)) ≡ b → (is_rekeying || not (all_framed e)) ≡ b →
       Stands (write (cond b [] (line.sent n (line.alone chunk p)))
       (put n (Some (cond b (line.waits_behind chunk p) (line.flushed (line.alone chunk p)))) t))
-      (cond b (turns (accepting chunk e) [] l) (turns (flushed (accepting chunk e)) (flush_out (accepting chunk e)) l))
+      (cond b (turns (accepting chunk e) [] l) (turns (flushed (accepting chunk e))
+      (flush_out (accepting chunk e)) l))
   taken_at true p e h m u v =
-      turned t l n (line.waits_behind chunk p) (accepting chunk e) [] [] s (holding.behind_holds n p e h chunk m)
+      turned t l n (line.waits_behind chunk p) (accepting chunk e) [] [] s
+      (holding.behind_holds n p e h chunk m)
       (never_ended (accepting chunk e) (more_eof e m) (more_close e m)) refl
   taken_at false p e h m u v =
       let w : line.nothing_waits p ≡ true = all_true is_rekeying (line.nothing_waits p) u in
@@ -139,7 +156,8 @@ module _ (n : ℕ) (chunk : Chunk) (is_rekeying : Bool) (t : Table) (l : Lines) 
       (never_ended (flushed (accepting chunk e)) (more_eof e m) (more_close e m)) k.1
 
   taken : (p : ChannelParams) (e : Entry) → Holds n p e → more_may_come e ≡ true →
-      Stands (write (line.taking_frames n chunk is_rekeying p) (put n (Some (line.taking chunk is_rekeying p)) t))
+      Stands (write (line.taking_frames n chunk is_rekeying p)
+      (put n (Some (line.taking chunk is_rekeying p)) t))
       (cond (is_rekeying || not (all_framed e)) (turns (accepting chunk e) [] l)
       (turns (flushed (accepting chunk e)) (flush_out (accepting chunk e)) l))
   taken p e h m =
@@ -148,62 +166,76 @@ module _ (n : ℕ) (chunk : Chunk) (is_rekeying : Bool) (t : Table) (l : Lines) 
       ap (λ x. is_rekeying || not x) (holding.waits_same n p e h) in
       subst (λ x. Stands (write (cond x [] (line.sent n (line.alone chunk p)))
       (put n (Some (cond x (line.waits_behind chunk p) (line.flushed (line.alone chunk p)))) t))
-      (cond b (turns (accepting chunk e) [] l) (turns (flushed (accepting chunk e)) (flush_out (accepting chunk e)) l)))
+      (cond b (turns (accepting chunk e) [] l) (turns (flushed (accepting chunk e))
+      (flush_out (accepting chunk e)) l)))
       (sym w) (taken_at b p e h m w refl)
 
-pub may_send_same : (n : ℕ) (p : ChannelParams) (e : Entry) → Holds n p e → line.may_send p ≡ more_may_come e
+pub may_send_same : (n : ℕ) (p : ChannelParams) (e : Entry) → Holds n p e → line.may_send p
+    ≡ more_may_come e
 may_send_same n p e h = let a = h.confirmed in let b = h.ended in cc
 
-pub data_stands : (n : ℕ) (chunk : Chunk) (is_rekeying : Bool) (t : Table) (l : Lines) → Stands t l →
+pub data_stands : (n : ℕ) (chunk : Chunk) (is_rekeying : Bool) (t : Table) (l : Lines) → Stands t l
+    →
     Stands (calls.send n chunk is_rekeying t) (takes_data n chunk is_rekeying l)
 data_stands n chunk is_rekeying t l s =
-    acts line.may_send (line.taking_frames n chunk is_rekeying) (λ p. Some (line.taking chunk is_rekeying p)) n t l
+    acts line.may_send (line.taking_frames n chunk is_rekeying)
+    (λ p. Some (line.taking chunk is_rekeying p)) n t l
     more_may_come
     (λ e l. cond (is_rekeying || not (all_framed e)) (turns (accepting chunk e) [] l)
     (turns (flushed (accepting chunk e)) (flush_out (accepting chunk e)) l)) s
     (λ p e h d. may_send_same n p e h) (λ p e h d m. taken n chunk is_rekeying t l s p e h m)
 
-pub eof_stands : (n : ℕ) (t : Table) (l : Lines) → Stands t l → Stands (calls.eof n t) (takes_eof n l)
+pub eof_stands : (n : ℕ) (t : Table) (l : Lines) → Stands t l → Stands (calls.eof n t)
+    (takes_eof n l)
 eof_stands n t l s =
     acts line.may_send (line.ending_frames n) (λ p. Some (line.ending p)) n t l more_may_come
     (λ e. settles (record e { eof = true }) []) s (λ p e h d. may_send_same n p e h)
-    (λ p e h d m. settled false t l n (line.ending p) (record e { eof = true }) (Some (line.ending p))
-    (line.ending_frames n p) [] (no_close e.close (all_framed e) (more_close e m)) s (holding.ending_holds n p e h m)
+    (λ p e h d m. settled false t l n (line.ending p) (record e { eof = true })
+    (Some (line.ending p))
+    (line.ending_frames n p) [] (no_close e.close (all_framed e) (more_close e m)) s
+    (holding.ending_holds n p e h m)
     refl (holding.ending_same n p e h m ∙ sym (append-nil (eof_out (record e { eof = true })))))
 
 close_frames : (n : ℕ) (p : ChannelParams) (e : Entry) → Holds n p e → IsDeferred e →
     line.closing_frames n p
-    ≡ eof_out (record e { close = true }) ++ cond (all_framed e) (close_frame e.number e.peer ∷ []) []
+    ≡ eof_out (record e { close = true }) ++ cond (all_framed e) (close_frame e.number e.peer ∷ [])
+    []
 close_frames n p e h d =
     let t : tells_eof (record e { close = true }) ≡ false = d.0 in
     let a = h.number in
     let b = h.peer in
     let w = holding.waits_same n p e h in
-    let k : line.closing_frames n p ≡ cond (all_framed e) (close_frame e.number e.peer ∷ []) [] = cc in
+    let k : line.closing_frames n p ≡ cond (all_framed e) (close_frame e.number e.peer ∷ []) [] =
+    cc in
     rw t k
 
-pub may_close_same : (n : ℕ) (p : ChannelParams) (e : Entry) → Holds n p e → line.may_close p ≡ close_may_come e
+pub may_close_same : (n : ℕ) (p : ChannelParams) (e : Entry) → Holds n p e → line.may_close p
+    ≡ close_may_come e
 may_close_same n p e h = let a = h.confirmed in let b = h.pending_close in cc
 
 confirmed_closing : (e : Entry) → close_may_come e ≡ true → e.confirmed ≡ true
 confirmed_closing e m = and_left e.confirmed (not e.close) m
 
-pub close_stands : (n : ℕ) (t : Table) (l : Lines) → Stands t l → Stands (calls.close n t) (takes_close n l)
+pub close_stands : (n : ℕ) (t : Table) (l : Lines) → Stands t l → Stands (calls.close n t)
+    (takes_close n l)
 close_stands n t l s =
     acts line.may_close (line.closing_frames n) line.closing n t l close_may_come
     (λ e. settles (record e { close = true }) []) s (λ p e h d. may_close_same n p e h)
     (λ p e h d m. settled (all_framed e) t l n (record p { ended = true; pending_close = true })
     (record e { close = true }) (line.closing p) (line.closing_frames n p) [] refl s
     (holding.closing_holds n p e h (confirmed_closing e m) d.0)
-    (ap (λ b. cond b None (Some (record p { ended = true; pending_close = true }))) (holding.waits_same n p e h))
+    (ap (λ b. cond b None (Some (record p { ended = true; pending_close = true })))
+    (holding.waits_same n p e h))
     (close_frames n p e h d))
 
 pub peer_close_stands : (n : ℕ) (t : Table) (l : Lines) → Stands t l →
     Stands (calls.peer_close n t) (peer_closes n l)
 peer_close_stands n t l s =
-    acts line.is_established (λ p. close_frame n p.recipient_channel ∷ []) (λ p. None) n t l (λ e. e.confirmed)
+    acts line.is_established (λ p. close_frame n p.recipient_channel ∷ []) (λ p. None) n t l
+    (λ e. e.confirmed)
     (λ e. closes e true []) s (λ p e h d. h.confirmed)
-    (λ p e h d m. parts t l n e true (close_frame n p.recipient_channel ∷ []) (close_frame e.number e.peer ∷ []) s
+    (λ p e h d m. parts t l n e true (close_frame n p.recipient_channel ∷ [])
+    (close_frame e.number e.peer ∷ []) s
     h.number (let a = h.number in let b = h.peer in cc))
 
 -- what waits goes on, and what is owed behind it
@@ -235,54 +267,67 @@ module _ (n : ℕ) (p : ChannelParams) (e : Entry) (h : Holds n p e) where
   pub flush_frames : line.goes n p ≡ flush_out e ++ (eof_out (flushed e)
       ++ cond (closes_now (flushed e)) (close_frame e.number e.peer ∷ []) [])
   flush_frames =
-      ap (λ x. x ++ line.deferred_if n (line.nothing_waits (line.flushed p)) p) (holding.sent_same n p e h)
+      ap (λ x. x ++ line.deferred_if n (line.nothing_waits (line.flushed p)) p)
+      (holding.sent_same n p e h)
       ∙ ap (λ x. flush_out e ++ x) (holding.deferred_same n (line.flushed p) (flushed e)
       (holding.flushed_holds n p e h) (line.nothing_waits (line.flushed p)) flush_done)
 
-pub flush_stands : (n : ℕ) (t : Table) (l : Lines) → Stands t l → Stands (calls.flush_line n t) (goes_on n l)
+pub flush_stands : (n : ℕ) (t : Table) (l : Lines) → Stands t l → Stands (calls.flush_line n t)
+    (goes_on n l)
 flush_stands n t l s =
     acts_all (line.goes n) line.stays n t l (λ e. settles (flushed e) (flush_out e)) s
-    (λ p e h d. settled (closes_now (flushed e)) t l n (line.settled p) (flushed e) (line.stays p) (line.goes n p)
+    (λ p e h d. settled (closes_now (flushed e)) t l n (line.settled p) (flushed e) (line.stays p)
+    (line.goes n p)
     (flush_out e) refl s (flush_holds n p e h) (flush_stays n p e h) (flush_frames n p e h))
 
 each_stands : (ns : List ℕ) (t : Table) (l : Lines) → Stands t l →
     Stands (calls.flush_each ns t) (each_goes_on ns l)
 each_stands [] t l s = s
-each_stands (n ∷ ns) t l s = each_stands ns (calls.flush_line n t) (goes_on n l) (flush_stands n t l s)
+each_stands (n ∷ ns) t l s = each_stands ns (calls.flush_line n t) (goes_on n l)
+    (flush_stands n t l s)
 
 pub all_stands : (t : Table) (l : Lines) → Stands t l → Stands (calls.flush_all t) (all_go_on l)
 all_stands t l s =
-    subst (λ ns. Stands (calls.flush_all t) (each_goes_on ns l)) (same_numbers 0 t.lines l.entries s.entries)
+    subst (λ ns. Stands (calls.flush_all t) (each_goes_on ns l))
+    (same_numbers 0 t.lines l.entries s.entries)
     (each_stands (keys_of t.lines) t l s)
 
 -- a grant
-module _ (n amount : ℕ) (p : ChannelParams) (e : Entry) (h : Holds n p e) (c : e.confirmed ≡ true) where
-  pub granted_holds : Holds n (line.granted amount p) (granting amount (flushed e))
-  granted_holds =
-      holding.raised_holds n (line.flushed p) (flushed e) (holding.flushed_holds n p e h) amount c refl
+module _ (n amount : ℕ) (p : ChannelParams) (e : Entry) (h : Holds n p e) (c : e.confirmed ≡ true)
+  where
+    pub granted_holds : Holds n (line.granted amount p) (granting amount (flushed e))
+    granted_holds =
+        holding.raised_holds n (line.flushed p) (flushed e) (holding.flushed_holds n p e h) amount c
+        refl
 
-  grant_frames : line.granting_frames n amount p ≡ (flush_out e ++ flush_out (granting amount (flushed e)))
-      ++ (eof_out (flushed (granting amount (flushed e)))
-      ++ cond (closes_now (flushed (granting amount (flushed e)))) (close_frame e.number e.peer ∷ []) [])
-  grant_frames =
-      let g = granting amount (flushed e) in
-      ap (λ x. x ++ line.goes n (line.granted amount p)) (holding.sent_same n p e h)
-      ∙ ap (λ x. flush_out e ++ x) (flush_frames n (line.granted amount p) g granted_holds)
-      ∙ sym (append_assoc (flush_out e) (flush_out g) (eof_out (flushed g)
-      ++ cond (closes_now (flushed g)) (close_frame e.number e.peer ∷ []) []))
+    grant_frames : line.granting_frames n amount p
+        ≡ (flush_out e ++ flush_out (granting amount (flushed e)))
+        ++ (eof_out (flushed (granting amount (flushed e)))
+        ++ cond (closes_now (flushed (granting amount (flushed e)))) (close_frame e.number e.peer
+        ∷ []) [])
+    grant_frames =
+        let g = granting amount (flushed e) in
+        ap (λ x. x ++ line.goes n (line.granted amount p)) (holding.sent_same n p e h)
+        ∙ ap (λ x. flush_out e ++ x) (flush_frames n (line.granted amount p) g granted_holds)
+        ∙ sym (append_assoc (flush_out e) (flush_out g) (eof_out (flushed g)
+        ++ cond (closes_now (flushed g)) (close_frame e.number e.peer ∷ []) []))
 
 pub grant_stands : (n amount : ℕ) (t : Table) (l : Lines) → Stands t l →
     Stands (calls.grant n amount t) (takes_grant n amount l)
 grant_stands n amount t l s =
-    acts line.is_established (line.granting_frames n amount) (λ p. line.stays (line.granted amount p)) n t l
+    acts line.is_established (line.granting_frames n amount)
+    (λ p. line.stays (line.granted amount p)) n t l
     (λ e. e.confirmed)
-    (λ e. settles (flushed (granting amount (flushed e))) (flush_out e ++ flush_out (granting amount (flushed e)))) s
+    (λ e. settles (flushed (granting amount (flushed e))) (flush_out e
+    ++ flush_out (granting amount (flushed e)))) s
     (λ p e h d. h.confirmed)
     (λ p e h d c. let g = granting amount (flushed e) in
     settled (closes_now (flushed g)) t l n (line.settled (line.granted amount p)) (flushed g)
-    (line.stays (line.granted amount p)) (line.granting_frames n amount p) (flush_out e ++ flush_out g) refl s
+    (line.stays (line.granted amount p)) (line.granting_frames n amount p) (flush_out e
+    ++ flush_out g) refl s
     (flush_holds n (line.granted amount p) g (granted_holds n amount p e h c))
-    (flush_stays n (line.granted amount p) g (granted_holds n amount p e h c)) (grant_frames n amount p e h c))
+    (flush_stays n (line.granted amount p) g (granted_holds n amount p e h c))
+    (grant_frames n amount p e h c))
 
 -- what comes in
 pub coming_same : (n count target : ℕ) (p : ChannelParams) (e : Entry) → Holds n p e →
@@ -307,15 +352,18 @@ roomy n room p e h = record {
   sound = sound_room room e h.sound;
 }
 
-in_at : (a : Adjusted) (n count target : ℕ) (t : Table) (l : Lines) (p : ChannelParams) (e : Entry) → Stands t l →
+in_at : (a : Adjusted) (n count target : ℕ) (t : Table) (l : Lines) (p : ChannelParams) (e : Entry)
+    → Stands t l →
     Holds n p e → IsDeferred e →
-    Stands (write (window.adjust_frames a n p) (put n (Some (window.room_after a count target p)) t))
+    Stands (write (window.adjust_frames a n p) (put n (Some (window.room_after a count target p))
+    t))
     (turns (having a count target e) (adjust_out a e) l)
 in_at Dropped n count target t l p e s h d = turned t l n p e [] [] s h d refl
 in_at Kept n count target t l p e s h d =
     let k : Holds n (record p { sender_window_size = p.sender_window_size - count })
     (record e { room = e.room - count })
-    = subst (λ r. Holds n (record p { sender_window_size = r - count }) (record e { room = e.room - count }))
+    = subst (λ r. Holds n (record p { sender_window_size = r - count })
+    (record e { room = e.room - count }))
     (sym h.room) (roomy n (e.room - count) p e h) in
     turned t l n _ _ [] [] s k d refl
 in_at (Granted amount) n count target t l p e s h d =
@@ -324,27 +372,35 @@ in_at (Granted amount) n count target t l p e s h d =
 pub adjust_stands : (n count target : ℕ) (t : Table) (l : Lines) → Stands t l →
     Stands (calls.adjust n count target t) (takes_in n count target l)
 adjust_stands n count target t l s =
-    acts_all (window.adjusted_frames n count target) (λ p. Some (window.adjusted count target p)) n t l
-    (λ e. turns (having (coming count target e) count target e) (adjust_out (coming count target e) e)) s
+    acts_all (window.adjusted_frames n count target) (λ p. Some (window.adjusted count target p)) n
+    t l
+    (λ e. turns (having (coming count target e) count target e) (adjust_out (coming count target e)
+    e)) s
     (λ p e h d. subst (λ a. Stands (write (window.adjusted_frames n count target p)
-    (put n (Some (window.adjusted count target p)) t)) (turns (having a count target e) (adjust_out a e) l))
-    (coming_same n count target p e h) (in_at (window.adjusting count target p) n count target t l p e s h d))
+    (put n (Some (window.adjusted count target p)) t))
+    (turns (having a count target e) (adjust_out a e) l))
+    (coming_same n count target p e h) (in_at (window.adjusting count target p) n count target t l p
+    e s h d))
 
 -- an open of this side's
-pub confirm_stands : (n peer window limit : ℕ) (t : Table) (l : Lines) → 0 < limit → window < 2 ^ 32 → Stands t l →
+pub confirm_stands : (n peer window limit : ℕ) (t : Table) (l : Lines) → 0 < limit → window < 2 ^ 32
+    → Stands t l →
     Stands (act line.is_opening (λ p. []) (λ p. Some (line.confirmed_by peer window limit p)) n t)
     (confirms n peer window limit l)
 confirm_stands n peer window limit t l k w s =
-    acts line.is_opening (λ p. []) (λ p. Some (line.confirmed_by peer window limit p)) n t l (λ e. not e.confirmed)
+    acts line.is_opening (λ p. []) (λ p. Some (line.confirmed_by peer window limit p)) n t l
+    (λ e. not e.confirmed)
     (λ e. turns (agreed peer window limit e) []) s (λ p e h d. ap not h.confirmed)
     (λ p e h d m. let c : e.confirmed ≡ false = not_true e.confirmed m in
     turned t l n (line.confirmed_by peer window limit p) (agreed peer window limit e) [] [] s
     (holding.agreed_holds n p e h peer window limit c k w)
     (never_ended (agreed peer window limit e) (h.sound.waits c).2 (h.sound.waits c).3) refl)
 
-pub fail_stands : (n : ℕ) (t : Table) (l : Lines) → Stands t l → Stands (calls.fail_open n t) (fails n l)
+pub fail_stands : (n : ℕ) (t : Table) (l : Lines) → Stands t l → Stands (calls.fail_open n t)
+    (fails n l)
 fail_stands n t l s =
-    acts line.is_opening (λ p. []) (λ p. None) n t l (λ e. not e.confirmed) (λ e. leaves e true []) s
+    acts line.is_opening (λ p. []) (λ p. None) n t l (λ e. not e.confirmed) (λ e. leaves e true [])
+    s
     (λ p e h d. ap not h.confirmed) (λ p e h d m. parts t l n e true [] [] s h.number refl)
 
 wanting_holds : (n : ℕ) (wanted : Bool) (p : ChannelParams) (e : Entry) → Holds n p e →
@@ -368,6 +424,7 @@ wanting_holds n wanted p e h = record {
 pub wants_stands : (n : ℕ) (wanted : Bool) (t : Table) (l : Lines) → Stands t l →
     Stands (calls.set_wants_reply n wanted t) (wants n wanted l)
 wants_stands n wanted t l s =
-    acts_all (λ p. []) (λ p. Some (line.wanting wanted p)) n t l (λ e. turns (record e { wants_reply = wanted }) []) s
+    acts_all (λ p. []) (λ p. Some (line.wanting wanted p)) n t l
+    (λ e. turns (record e { wants_reply = wanted }) []) s
     (λ p e h d. turned t l n (line.wanting wanted p) (record e { wants_reply = wanted }) [] [] s
     (wanting_holds n wanted p e h) d refl)

@@ -1,9 +1,12 @@
 -- What holds of a channel at every moment goes on holding.
-use Rattle.std.proofs.Common.{◌≡◌, ◌<◌, ◌≤◌, ◌+◌, ◌^◌, ◌==◌, ◌&&◌, ◌||◌, ℕ, [], ◌∷◌, ◌++◌, length, Bool, true}
+use Rattle.std.proofs.Common.{◌≡◌, ◌<◌, ◌≤◌, ◌+◌, ◌^◌, ◌==◌, ◌&&◌, ◌||◌, ℕ, [], ◌∷◌, ◌++◌, length}
+use Rattle.std.proofs.Common.{Bool, true}
 use Rattle.std.proofs.Common.{false, not, rules, refl, ◌∙◌, ap, arith, length-append}
 use Rattle.ssh_channels.specs.declared.chunk.Chunk.{Chunk}
-use Rattle.ssh_channels.specs.Entry.{Entry, opened, asked, agreed, accepted, joined, all_framed, more_may_come, flushed}
-use Rattle.ssh_channels.specs.Entry.{granting, accepting, tells_eof, closes_now, after_eof, IsDeferred, IsDue, Sound}
+use Rattle.ssh_channels.specs.Entry.{Entry, opened, asked, agreed, accepted, joined, all_framed}
+use Rattle.ssh_channels.specs.Entry.{more_may_come, flushed}
+use Rattle.ssh_channels.specs.Entry.{granting, accepting, tells_eof, closes_now, after_eof}
+use Rattle.ssh_channels.specs.Entry.{IsDeferred, IsDue, Sound}
 use Rattle.ssh_channels.proofs.Joined.{joined_both, joined_length}
 
 pub and_left : (a b : Bool) → a && b ≡ true → a ≡ true
@@ -65,7 +68,8 @@ sound_asked number room = record {
   ended = λ t. absurd (cc);
 }
 
-pub sound_agreed : (peer window limit : ℕ) (e : Entry) → e.confirmed ≡ false → 0 < limit → window < 2 ^ 32 → Sound e →
+pub sound_agreed : (peer window limit : ℕ) (e : Entry) → e.confirmed ≡ false → 0 < limit
+    → window < 2 ^ 32 → Sound e →
     Sound (agreed peer window limit e)
 sound_agreed peer window limit e c h k s =
     let w = s.within in
@@ -94,7 +98,8 @@ sound_flushed e s =
       ended = λ t. let k = (s.ended t).1 in ((s.ended t).0, omega arith);
     }
 
-pub sound_granting : (amount : ℕ) (e : Entry) → e.confirmed ≡ true → IsDue e → Sound e → Sound (granting amount e)
+pub sound_granting : (amount : ℕ) (e : Entry) → e.confirmed ≡ true → IsDue e → Sound e
+    → Sound (granting amount e)
 sound_granting amount e c d s =
     let l = s.low in
     let w = s.within in
@@ -117,15 +122,18 @@ more_at true chunk e t =
     omega (arith, ap length k)
 more_at false chunk e t =
     let k : accepted (accepting chunk e) ≡ joined (e.chunks ++ chunk ∷ []) = rw t refl in
-    let j : length (joined (e.chunks ++ chunk ∷ [])) ≡ length (joined e.chunks) + length (joined (chunk ∷ [])) =
-    ap length (joined_both e.chunks (chunk ∷ [])) ∙ length-append (joined e.chunks) (joined (chunk ∷ [])) in
+    let j : length (joined (e.chunks ++ chunk ∷ [])) ≡ length (joined e.chunks) + length
+    (joined (chunk ∷ [])) =
+    ap length (joined_both e.chunks (chunk ∷ [])) ∙ length-append (joined e.chunks)
+    (joined (chunk ∷ [])) in
     omega (arith, ap length k, joined_length chunk [])
 
 pub accepted_length : (chunk : Chunk) (e : Entry) →
     length (accepted (accepting chunk e)) ≡ length (accepted e) + length chunk.bytes
 accepted_length chunk e = more_at (length chunk.bytes == 0) chunk e refl
 
-pub sound_accepting : (chunk : Chunk) (e : Entry) → more_may_come e ≡ true → Sound e → Sound (accepting chunk e)
+pub sound_accepting : (chunk : Chunk) (e : Entry) → more_may_come e ≡ true → Sound e
+    → Sound (accepting chunk e)
 sound_accepting chunk e h s =
     let l = s.low in
     let c : e.confirmed ≡ true = more_confirmed e h in
@@ -196,7 +204,8 @@ sound_room room e s = record {
   ended = s.ended;
 }
 
-pub sound_wanting : (wanted : Bool) (e : Entry) → Sound e → Sound (record e { wants_reply = wanted })
+pub sound_wanting : (wanted : Bool) (e : Entry) → Sound e
+    → Sound (record e { wants_reply = wanted })
 sound_wanting wanted e s = record {
   low = s.low;
   within = s.within;

@@ -1,5 +1,6 @@
 -- A line and its channel, step by step.
-use Rattle.std.proofs.Common.{◌≡◌, ◌<◌, ◌≤◌, ◌-◌, ◌^◌, ◌==◌, ◌&&◌, ◌||◌, ℕ, List, [], ◌∷◌, ◌++◌, length}
+use Rattle.std.proofs.Common.{◌≡◌, ◌<◌, ◌≤◌, ◌-◌, ◌^◌, ◌==◌, ◌&&◌, ◌||◌, ℕ, List, [], ◌∷◌, ◌++◌}
+use Rattle.std.proofs.Common.{length}
 use Rattle.std.proofs.Common.{Bool, true, false, not, cond, rules, refl, sym, ◌∙◌, ap, arith}
 use Rattle.std.proofs.Common.{length-drop}
 use Rattle.std.proofs.lemmas.List.{nil_from_length}
@@ -9,12 +10,17 @@ use Rattle.ssh_channels.specs.declared.chunk.Chunk.{Chunk}
 use Rattle.ssh_channels.specs.Layout.{eof_frame, close_frame}
 use Rattle.ssh_channels.specs.Cut.{left_of, credit_left}
 use Rattle.ssh_channels.specs.Line as line
-use Rattle.ssh_channels.specs.Entry.{Entry, agreed, accepted, joined, all_framed, more_may_come, flush_out, flushed}
-use Rattle.ssh_channels.specs.Entry.{granting, accepting, tells_eof, closes_now, eof_out, after_eof, IsDue}
+use Rattle.ssh_channels.specs.Entry.{Entry, agreed, accepted, joined, all_framed, more_may_come}
+use Rattle.ssh_channels.specs.Entry.{flush_out, flushed}
+use Rattle.ssh_channels.specs.Entry.{granting, accepting, tells_eof, closes_now, eof_out, after_eof}
+use Rattle.ssh_channels.specs.Entry.{IsDue}
 use Rattle.ssh_channels.specs.Stands.{Holds}
-use Rattle.ssh_channels.proofs.Joined.{joined_left, credit_spent, left_left, left_none, left_min, left_push}
-use Rattle.ssh_channels.proofs.Entries.{sound_flushed, sound_granting, sound_accepting, sound_eof, sound_close}
-use Rattle.ssh_channels.proofs.Entries.{sound_told, sound_agreed, more_confirmed, more_eof, not_told}
+use Rattle.ssh_channels.proofs.Joined.{joined_left, credit_spent, left_left, left_none, left_min}
+use Rattle.ssh_channels.proofs.Joined.{left_push}
+use Rattle.ssh_channels.proofs.Entries.{sound_flushed, sound_granting, sound_accepting, sound_eof}
+use Rattle.ssh_channels.proofs.Entries.{sound_close}
+use Rattle.ssh_channels.proofs.Entries.{sound_told, sound_agreed, more_confirmed, more_eof}
+use Rattle.ssh_channels.proofs.Entries.{not_told}
 
 module _ (n : ℕ) (l : ChannelParams) (e : Entry) (h : Holds n l e) where
   -- as much waits as is not framed
@@ -56,7 +62,8 @@ module _ (n : ℕ) (l : ChannelParams) (e : Entry) (h : Holds n l e) where
   flushed_holds =
       let c = h.credit in
       let w = h.sound.low in
-      let s : credit_left l.recipient_window_size l.waiting ≡ l.recipient_window_size - length (joined l.waiting) =
+      let s : credit_left l.recipient_window_size l.waiting ≡ l.recipient_window_size - length
+      (joined l.waiting) =
       credit_spent l.recipient_window_size l.waiting in
       let m = waiting_length in
       record {
@@ -69,7 +76,8 @@ module _ (n : ℕ) (l : ChannelParams) (e : Entry) (h : Holds n l e) where
         wants_reply = h.wants_reply;
         credit = omega arith;
         waiting = ap (left_of l.recipient_window_size) h.waiting
-            ∙ left_left e.framed l.recipient_window_size e.chunks ∙ ap (λ k. left_of k e.chunks) (sym h.credit)
+            ∙ left_left e.framed l.recipient_window_size e.chunks ∙ ap (λ k. left_of k e.chunks)
+            (sym h.credit)
             ∙ sym (left_min e.granted e.chunks);
         pending_eof = h.pending_eof;
         pending_close = h.pending_close;
@@ -77,7 +85,8 @@ module _ (n : ℕ) (l : ChannelParams) (e : Entry) (h : Holds n l e) where
         sound = sound_flushed e h.sound;
       }
 
-  pub raised_holds : (amount : ℕ) → e.confirmed ≡ true → IsDue e → Holds n (line.raising amount l) (granting amount e)
+  pub raised_holds : (amount : ℕ) → e.confirmed ≡ true → IsDue e → Holds n (line.raising amount l)
+      (granting amount e)
   raised_holds amount y d =
       let c = h.credit in
       let s = h.sound.small in
@@ -99,14 +108,17 @@ module _ (n : ℕ) (l : ChannelParams) (e : Entry) (h : Holds n l e) where
 
   -- what waits behind the rest
   behind_at : (b : Bool) (chunk : Chunk) → (length chunk.bytes == 0) ≡ b →
-      cond b l.waiting (l.waiting ++ chunk ∷ []) ≡ left_of e.framed (cond b e.chunks (e.chunks ++ chunk ∷ []))
+      cond b l.waiting (l.waiting ++ chunk ∷ [])
+      ≡ left_of e.framed (cond b e.chunks (e.chunks ++ chunk ∷ []))
   behind_at true chunk t = h.waiting
   behind_at false chunk t =
       let full : length chunk.bytes ≡ 0 → ⊥ = λ y. absurd (grind arith) in
       let some : 0 < length chunk.bytes = omega arith in
-      ap (λ cs. cs ++ chunk ∷ []) h.waiting ∙ sym (left_push e.framed e.chunks chunk h.sound.low some)
+      ap (λ cs. cs ++ chunk ∷ []) h.waiting
+      ∙ sym (left_push e.framed e.chunks chunk h.sound.low some)
 
-  pub behind_holds : (chunk : Chunk) → more_may_come e ≡ true → Holds n (line.waits_behind chunk l) (accepting chunk e)
+  pub behind_holds : (chunk : Chunk) → more_may_come e ≡ true → Holds n (line.waits_behind chunk l)
+      (accepting chunk e)
   behind_holds chunk m = record {
     number = h.number;
     own = h.own;
@@ -124,7 +136,8 @@ module _ (n : ℕ) (l : ChannelParams) (e : Entry) (h : Holds n l e) where
   }
 
   -- an EOF that is owed is told
-  told_same : (eof told all : Bool) → (eof && not told) && not all ≡ eof && not (told || (eof && not told && all))
+  told_same : (eof told all : Bool) → (eof && not told) && not all
+      ≡ eof && not (told || (eof && not told && all))
   told_same true true true = refl
   told_same true true false = refl
   told_same true false true = refl
@@ -163,7 +176,8 @@ module _ (n : ℕ) (l : ChannelParams) (e : Entry) (h : Holds n l e) where
   bits false false false a b = refl
 
   pub deferred_same : (done : Bool) → done ≡ all_framed e →
-      line.deferred_if n done l ≡ eof_out e ++ cond (closes_now e) (close_frame e.number e.peer ∷ []) []
+      line.deferred_if n done l ≡ eof_out e ++ cond (closes_now e) (close_frame e.number e.peer
+      ∷ []) []
   deferred_same done d =
       let a = h.number in
       let b = h.peer in
@@ -197,12 +211,14 @@ module _ (n : ℕ) (l : ChannelParams) (e : Entry) (h : Holds n l e) where
       }
 
   -- an EOF is accepted
-  fresh : (eof told all : Bool) → eof ≡ false → told ≡ false → not all ≡ true && not (told || (true && not told && all))
+  fresh : (eof told all : Bool) → eof ≡ false → told ≡ false → not all
+      ≡ true && not (told || (true && not told && all))
   fresh eof false true x t = refl
   fresh eof false false x t = refl
   fresh eof true all x t = absurd (cc)
 
-  pub ending_holds : more_may_come e ≡ true → Holds n (line.ending l) (after_eof (record e { eof = true }))
+  pub ending_holds : more_may_come e ≡ true → Holds n (line.ending l)
+      (after_eof (record e { eof = true }))
   ending_holds m =
       let t : e.told ≡ false = not_told e h.sound (more_eof e m) in
       record {
@@ -221,17 +237,20 @@ module _ (n : ℕ) (l : ChannelParams) (e : Entry) (h : Holds n l e) where
         sound = sound_told (record e { eof = true }) (sound_eof e (more_confirmed e m) h.sound);
       }
 
-  ending_bits : (told all : Bool) (a : List Frame) → told ≡ false → cond all a [] ≡ cond (true && not told && all) a []
+  ending_bits : (told all : Bool) (a : List Frame) → told ≡ false → cond all a []
+      ≡ cond (true && not told && all) a []
   ending_bits false true a t = refl
   ending_bits false false a t = refl
   ending_bits true all a t = absurd (cc)
 
-  pub ending_same : more_may_come e ≡ true → line.ending_frames n l ≡ eof_out (record e { eof = true })
+  pub ending_same : more_may_come e ≡ true → line.ending_frames n l
+      ≡ eof_out (record e { eof = true })
   ending_same m =
       let a = h.number in
       let b = h.peer in
       let w = waits_same in
-      let k = ending_bits e.told (all_framed e) (eof_frame e.number e.peer ∷ []) (not_told e h.sound (more_eof e m)) in
+      let k = ending_bits e.told (all_framed e) (eof_frame e.number e.peer ∷ [])
+      (not_told e h.sound (more_eof e m)) in
       cc
 
   -- a CLOSE is accepted, and none that is owed waits behind an EOF that is
@@ -240,7 +259,8 @@ module _ (n : ℕ) (l : ChannelParams) (e : Entry) (h : Holds n l e) where
   none_told false x h = sym h
 
   pub closing_holds : e.confirmed ≡ true → tells_eof e ≡ false →
-      Holds n (record l { ended = true; pending_close = true }) (after_eof (record e { close = true }))
+      Holds n (record l { ended = true; pending_close = true })
+      (after_eof (record e { close = true }))
   closing_holds c t = record {
     number = h.number;
     own = h.own;

@@ -7,9 +7,11 @@ use Rattle.ssh_channels.specs.Line as line
 use Rattle.ssh_channels.specs.Table as table
 use Rattle.ssh_channels.specs.Table.{Table, line_at}
 use Rattle.ssh_channels.specs.Calls as calls
-use Rattle.ssh_channels.specs.Calls.{Op, Byte, Send, Eof, Close, Peer_close, Flush_line, Flush_all, Grant, Adjust}
+use Rattle.ssh_channels.specs.Calls.{Op, Byte, Send, Eof, Close, Peer_close, Flush_line, Flush_all}
+use Rattle.ssh_channels.specs.Calls.{Grant, Adjust}
 use Rattle.ssh_channels.specs.Calls.{Draw, op}
-use Rattle.ssh_channels.specs.Calls.{Open_next, Drop_pending, Insert, Confirm, Fail_open, Set_wants_reply, Stage}
+use Rattle.ssh_channels.specs.Calls.{Open_next, Drop_pending, Insert, Confirm, Fail_open}
+use Rattle.ssh_channels.specs.Calls.{Set_wants_reply, Stage}
 use Rattle.ssh_channels.specs.Paths.{Accepts, Framed, Credit, Room, Number, Refused, answer}
 use Rattle.ssh_channels.specs.Entry.{Entry, flushed, granting}
 use Rattle.ssh_channels.specs.Lines.{Lines, find}
@@ -31,21 +33,24 @@ unless_at : (b : Bool) (packet : ℕ) (t t' : Table) (l l' : Lines) → (packet 
 unless_at true packet t t' l l' e s h = rw e s
 unless_at false packet t t' l l' e s h = rw e (h (some_packet packet e))
 
-insert_stands : (line : ChannelParams) (t : Table) (l : Lines) → IsMeant (Insert line) → Stands t l →
+insert_stands : (line : ChannelParams) (t : Table) (l : Lines) → IsMeant (Insert line) → Stands t l
+    →
     Stands (op (Insert line) t) (does.does (Insert line) l)
 insert_stands p t l (peer, room, packet, own_packet, window, small, is) s =
     subst (λ x. Stands (op (Insert x) t) (does.does (Insert x) l)) (sym is)
     (unless_at (packet == 0) packet t _ l _ refl s
     (λ k. opening.add_stands t l s peer p.sender_channel window room packet own_packet k small))
 
-confirm_stands : (msg : ChannelOpenConfirmation) (t : Table) (l : Lines) → IsMeant (Confirm msg) → Stands t l →
+confirm_stands : (msg : ChannelOpenConfirmation) (t : Table) (l : Lines) → IsMeant (Confirm msg)
+    → Stands t l →
     Stands (op (Confirm msg) t) (does.does (Confirm msg) l)
 confirm_stands msg t l small s =
     unless_at (msg.maximum_packet_size == 0) msg.maximum_packet_size t _ l _ refl s
     (λ k. callings.confirm_stands msg.recipient_channel msg.sender_channel msg.initial_window_size
     msg.maximum_packet_size t l k small s)
 
-pub op_stands : (o : Op) (t : Table) (l : Lines) → IsMeant o → Stands t l → Stands (op o t) (does.does o l)
+pub op_stands : (o : Op) (t : Table) (l : Lines) → IsMeant o → Stands t l
+    → Stands (op o t) (does.does o l)
 op_stands (Byte n message) t l m s = callings.says_stands n message t l s
 op_stands (Send n chunk is_rekeying) t l m s = callings.data_stands n chunk is_rekeying t l s
 op_stands (Eof n) t l m s = callings.eof_stands n t l s
@@ -71,14 +76,16 @@ op_stands (Stage frame) t l m s = record {
 
 -- what a call answers
 is_one_same : (n : ℕ) (test : ChannelParams → Bool) (may : Entry → Bool) (p : Option ChannelParams)
-    (e : Option Entry) → Found n p e → ((p : ChannelParams) (e : Entry) → Holds n p e → test p ≡ may e) →
+    (e : Option Entry) → Found n p e → ((p : ChannelParams) (e : Entry) → Holds n p e → test p
+    ≡ may e) →
     table.is_one test p ≡ does.is_one may e
 is_one_same n test may None None f h = refl
 is_one_same n test may None (Some e) f h = absurd f
 is_one_same n test may (Some p) None f h = absurd f
 is_one_same n test may (Some p) (Some e) f h = h p e f.0
 
-goes_same : (n : ℕ) (p : Option ChannelParams) (e : Option Entry) → Found n p e → calls.framed_of p ≡ goes_out e
+goes_same : (n : ℕ) (p : Option ChannelParams) (e : Option Entry) → Found n p e → calls.framed_of p
+    ≡ goes_out e
 goes_same n None None f = refl
 goes_same n None (Some e) f = absurd f
 goes_same n (Some p) None f = absurd f
@@ -88,13 +95,16 @@ goes_same n (Some p) (Some e) f =
     let c = f.0.sound.low in
     omega arith
 
-credit_at : (b : Bool) (n amount : ℕ) (p : ChannelParams) (e : Entry) → Holds n p e → p.confirmed ≡ b →
+credit_at : (b : Bool) (n amount : ℕ) (p : ChannelParams) (e : Entry) → Holds n p e → p.confirmed
+    ≡ b →
     e.confirmed ≡ b → calls.credit_of amount (Some p) ≡ credit_after amount (Some e)
 credit_at true n amount p e h x y =
     let g = granting amount (flushed e) in
-    let k = holding.flushed_holds n (line.granted amount p) g (callings.granted_holds n amount p e h y) in
+    let k = holding.flushed_holds n (line.granted amount p) g (callings.granted_holds n amount p e h
+    y) in
     let c = k.credit in
-    let z : (line.settled (line.granted amount p)).recipient_window_size ≡ (flushed g).granted - (flushed g).framed =
+    let z : (line.settled (line.granted amount p)).recipient_window_size ≡ (flushed g).granted -
+    (flushed g).framed =
     omega arith in
     rw (x, y) (ap (λ n. Some n) z)
 credit_at false n amount p e h x y = rw (x, y) refl
@@ -118,7 +128,8 @@ module _ (t : Table) (l : Lines) (s : Stands t l) where
   at n = found 0 n t.lines l.entries s.entries
 
   has_same : (n : ℕ) (test : ChannelParams → Bool) (may : Entry → Bool) →
-      ((p : ChannelParams) (e : Entry) → Holds n p e → test p ≡ may e) → table.has test n t ≡ does.has may n l
+      ((p : ChannelParams) (e : Entry) → Holds n p e → test p ≡ may e) → table.has test n t
+      ≡ does.has may n l
   has_same n test may h = is_one_same n test may (line_at n t) (find n l.entries) (at n) h
 
   established : (n : ℕ) → table.has line.is_established n t ≡ does.has (λ e. e.confirmed) n l
@@ -131,13 +142,18 @@ module _ (t : Table) (l : Lines) (s : Stands t l) where
   op_answers (Byte n message) = ap Accepts (established n)
   op_answers (Send n chunk is_rekeying) =
       ap Accepts (has_same n line.may_send _ (λ p e h. callings.may_send_same n p e h))
-  op_answers (Eof n) = ap Accepts (has_same n line.may_send _ (λ p e h. callings.may_send_same n p e h))
-  op_answers (Close n) = ap Accepts (has_same n line.may_close _ (λ p e h. callings.may_close_same n p e h))
+  op_answers (Eof n) = ap Accepts (has_same n line.may_send _ (λ p e h. callings.may_send_same n p e
+      h))
+  op_answers (Close n) = ap Accepts
+      (has_same n line.may_close _ (λ p e h. callings.may_close_same n p e h))
   op_answers (Peer_close n) = ap Accepts (established n)
-  op_answers (Flush_line n is_rekeying) = ap Framed (goes_same n (line_at n t) (find n l.entries) (at n))
+  op_answers (Flush_line n is_rekeying) = ap Framed (goes_same n (line_at n t) (find n l.entries)
+      (at n))
   op_answers (Flush_all is_rekeying) = refl
-  op_answers (Grant n amount) = ap Credit (credit_same n amount (line_at n t) (find n l.entries) (at n))
-  op_answers (Adjust n count target) = ap Room (coming_same n count target (line_at n t) (find n l.entries) (at n))
+  op_answers (Grant n amount) = ap Credit (credit_same n amount (line_at n t) (find n l.entries)
+      (at n))
+  op_answers (Adjust n count target) =
+      ap Room (coming_same n count target (line_at n t) (find n l.entries) (at n))
   op_answers Draw = ap Number (opening.next_same t l s)
   op_answers (Open_next window packet) = ap Number (opening.next_same t l s)
   op_answers (Drop_pending n) = ap Accepts (opening.pending_same t l s n)
@@ -145,7 +161,8 @@ module _ (t : Table) (l : Lines) (s : Stands t l) where
       ap (λ b. cond (p.recipient_maximum_packet_size == 0) Refused (Accepts (not b)))
       (opening.live_same t l s p.sender_channel.0)
   op_answers (Confirm msg) =
-      ap (λ b. cond (msg.maximum_packet_size == 0) Refused (Accepts b)) (opens msg.recipient_channel)
+      ap (λ b. cond (msg.maximum_packet_size == 0) Refused (Accepts b))
+      (opens msg.recipient_channel)
   op_answers (Fail_open n) = ap Accepts (opens n)
   op_answers (Set_wants_reply n wanted) = ap Accepts (opening.live_same t l s n)
   op_answers (Stage frame) = refl

@@ -1,5 +1,6 @@
 -- At every moment what was sent on a channel is the start of what is sent there in the end.
-use Rattle.std.proofs.Common.{◌≡◌, ◌==◌, ◌&&◌, ℕ, Bool, true, false, cond, Some, List, [], ◌∷◌, ◌++◌, map, take, refl}
+use Rattle.std.proofs.Common.{◌≡◌, ◌==◌, ◌&&◌, ℕ, Bool, true, false, cond, Some, List, [], ◌∷◌}
+use Rattle.std.proofs.Common.{◌++◌, map, take, refl}
 use Rattle.std.proofs.Common.{sym}
 use Rattle.std.proofs.Common.{◌∙◌, ap, subst, append_assoc}
 use Rattle.std.specs.List.{filter}
@@ -13,7 +14,8 @@ use Rattle.ssh_channels.specs.declared.chunk.DataKind.{DataKind}
 use Rattle.ssh_channels.specs.Layout.{data_frame, eof_frame}
 use Rattle.ssh_channels.specs.Entry.{Entry, accepted, joined}
 use Rattle.ssh_channels.specs.Lines.{Lines, find}
-use Rattle.ssh_channels.specs.Sent.{is_tagged, is_opening, is_flow, after_frame, since, since_from, AllFit, ending}
+use Rattle.ssh_channels.specs.Sent.{is_tagged, is_opening, is_flow, after_frame, since, since_from}
+use Rattle.ssh_channels.specs.Sent.{AllFit, ending}
 use Rattle.ssh_channels.specs.Sent.{Sends}
 use Rattle.ssh_channels.specs.Sent.{Before, Ledgered, IsUnopened, StartsWith}
 use Rattle.ssh_channels.proofs.Accounts.{found_before}
@@ -44,7 +46,8 @@ none_left : (xs ys : List Frame) → xs ++ ys ≡ [] → xs ≡ []
 none_left [] ys h = refl
 none_left (x ∷ xs) ys h = absurd (cc)
 
-end_starts : (told : Bool) (own peer : ℕ) (x : Frame) (xs ys : List Frame) → x ∷ (xs ++ ys) ≡ ending told own peer →
+end_starts : (told : Bool) (own peer : ℕ) (x : Frame) (xs ys : List Frame) → x ∷ (xs ++ ys)
+    ≡ ending told own peer →
     x ∷ xs ≡ ending true own peer
 end_starts true own peer x xs ys h =
     let a : x ≡ eof_frame own peer = cc in
@@ -57,7 +60,8 @@ abbrev Starts : (own peer : ℕ) → List Frame → List Chunk → Type 0
 Starts own peer xs ps = (first rest : List Chunk) × (soon : Bool) × (ps ≡ first ++ rest)
     × (xs ≡ map (data_frame own peer) first ++ ending soon own peer)
 
-longer : (own peer : ℕ) (x : Frame) (xs : List Frame) (p : Chunk) (ps : List Chunk) → x ≡ data_frame own peer p →
+longer : (own peer : ℕ) (x : Frame) (xs : List Frame) (p : Chunk) (ps : List Chunk) → x
+    ≡ data_frame own peer p →
     Starts own peer xs ps → Starts own peer (x ∷ xs) (p ∷ ps)
 longer own peer x xs p ps a (first, rest, soon, b, c) = (
   p ∷ first,
@@ -80,7 +84,8 @@ first_fit : (limit : ℕ) (ps qs : List Chunk) → AllFit limit (ps ++ qs) → A
 first_fit limit [] qs h = tt
 first_fit limit (p ∷ ps) qs h = (h.0, h.1, h.2, first_fit limit ps qs h.3)
 
-started : (e : Entry) (bytes : List (DataKind × ℕ)) (seen : List Frame) (ps : List Chunk) → AllFit e.limit ps →
+started : (e : Entry) (bytes : List (DataKind × ℕ)) (seen : List Frame) (ps : List Chunk)
+    → AllFit e.limit ps →
     joined ps ≡ bytes → Starts e.number e.peer (filter is_flow seen) ps → StartsWith e bytes seen
 started e bytes seen ps fit sum (first, rest, soon, b, c) = (
   soon,
@@ -95,7 +100,8 @@ started e bytes seen ps fit sum (first, rest, soon, b, c) = (
   sym (joined_both first rest) ∙ ap joined (sym b) ∙ sum,
 )
 
-start_sends : (e : Entry) (bytes : List (DataKind × ℕ)) (seen more : List Frame) → Sends e bytes (seen ++ more) →
+start_sends : (e : Entry) (bytes : List (DataKind × ℕ)) (seen more : List Frame)
+    → Sends e bytes (seen ++ more) →
     StartsWith e bytes seen
 start_sends e bytes seen more s =
     started e bytes seen s.pieces s.fit s.sum
@@ -103,7 +109,8 @@ start_sends e bytes seen more s =
     (sym (filter-append is_flow seen more) ∙ s.flow))
 
 -- at a moment of the trace after which the number is not opened
-pub at_moment : (n : ℕ) (l : Lines) (e : Entry) (seen rest : List TraceEntry) → find n l.entries ≡ Some e →
+pub at_moment : (n : ℕ) (l : Lines) (e : Entry) (seen rest : List TraceEntry) → find n l.entries
+    ≡ Some e →
     IsUnopened n (rest ++ map Sent l.written) → Ledgered l (seen ++ rest) →
     StartsWith e (take e.framed (accepted e)) (since n seen)
 at_moment n l e seen rest is quiet h =
@@ -111,7 +118,8 @@ at_moment n l e seen rest is quiet h =
     let b = found_before n l e (seen ++ rest) is h in
     let whole : since n ((seen ++ rest) ++ map Sent l.written)
     ≡ since_from n (since n seen) (rest ++ map Sent l.written) =
-    ap (since n) (append_assoc seen rest (map Sent l.written)) ∙ since_both n [] seen (rest ++ map Sent l.written) in
+    ap (since n) (append_assoc seen rest (map Sent l.written)) ∙ since_both n [] seen
+    (rest ++ map Sent l.written) in
     let g = grows n (since n seen) (rest ++ map Sent l.written) quiet in
     let all : since e.number ((seen ++ rest) ++ map Sent l.written) ≡ since n seen ++ g.0 =
     ap (λ j. since j ((seen ++ rest) ++ map Sent l.written)) k ∙ whole ∙ g.1 in

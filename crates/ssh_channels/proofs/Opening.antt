@@ -1,5 +1,6 @@
 -- Numbers and opens, as they are for the channels.
-use Rattle.std.proofs.Common.{◌≡◌, ◌<◌, ◌+◌, ◌%◌, ◌^◌, ℕ, zero, suc, Bool, true, false, cond, Option}
+use Rattle.std.proofs.Common.{◌≡◌, ◌<◌, ◌+◌, ◌%◌, ◌^◌, ℕ, zero, suc, Bool, true, false, cond}
+use Rattle.std.proofs.Common.{Option}
 use Rattle.std.proofs.Common.{Some, None, is_some, refl, sym, ◌∙◌, ap, subst, arith}
 use Rattle.std.specs.List.{list_any}
 use Rattle.std.specs.Ordering.{nat_cmp}
@@ -13,7 +14,8 @@ use Rattle.ssh_channels.specs.Table.{Table, line_at, is_live, is_pending}
 use Rattle.ssh_channels.specs.Numbers as numbers
 use Rattle.ssh_channels.specs.Numbers.{first_free}
 use Rattle.ssh_channels.specs.Entry.{Entry, opened, asked, IsDeferred}
-use Rattle.ssh_channels.specs.Lines.{Lines, find, is_taken, next_number, drawn, draws, drops_pending, asks, asks_next}
+use Rattle.ssh_channels.specs.Lines.{Lines, find, is_taken, next_number, drawn, draws}
+use Rattle.ssh_channels.specs.Lines.{drops_pending, asks, asks_next}
 use Rattle.ssh_channels.specs.Lines.{adds}
 use Rattle.ssh_channels.specs.Lines.{added, hands_on, handed as lines_handed}
 use Rattle.ssh_channels.specs.Calls.{hand_on, handed}
@@ -23,19 +25,22 @@ use Rattle.ssh_channels.proofs.Frees.{next_not_live}
 use Rattle.ssh_channels.proofs.Standing.{Found, found, come_hold}
 
 -- the first free number looks at nothing but which are taken
-free_at : (b : Bool) (count m : ℕ) (f g : ℕ → Bool) → f m ≡ b → g m ≡ b → first_free count m f ≡ first_free count m g →
+free_at : (b : Bool) (count m : ℕ) (f g : ℕ → Bool) → f m ≡ b → g m ≡ b → first_free count m f
+    ≡ first_free count m g →
     cond (f m) (first_free count m f) (Some m) ≡ cond (g m) (first_free count m g) (Some m)
 free_at true count m f g x y h = rw (x, y) h
 free_at false count m f g x y h = rw (x, y) refl
 
-free_same : (count n : ℕ) (f g : ℕ → Bool) → ((m : ℕ) → f m ≡ g m) → first_free count n f ≡ first_free count n g
+free_same : (count n : ℕ) (f g : ℕ → Bool) → ((m : ℕ) → f m ≡ g m) → first_free count n f
+    ≡ first_free count n g
 unfolding first_free
 free_same zero n f g h = refl
 free_same (suc count) n f g h =
     let m = (n + 1) % 2 ^ 32 in
     free_at (g m) count m f g (h m) refl (free_same count m f g h)
 
-some_at : (n : ℕ) (p : Option ChannelParams) (e : Option Entry) → Found n p e → is_some p ≡ is_some e
+some_at : (n : ℕ) (p : Option ChannelParams) (e : Option Entry) → Found n p e → is_some p
+    ≡ is_some e
 some_at n None None f = refl
 some_at n None (Some e) f = absurd f
 some_at n (Some p) None f = absurd f
@@ -71,7 +76,8 @@ module _ (t : Table) (l : Lines) (s : Stands t l) where
   }
 
   pub draw_stands : Stands (numbers.draw t) (draws l)
-  draw_stands = subst (λ o. Stands (numbers.draw t) (drawn o l)) next_same (drawn_stands (numbers.next_number t))
+  draw_stands = subst (λ o. Stands (numbers.draw t) (drawn o l)) next_same
+      (drawn_stands (numbers.next_number t))
 
   pub drop_stands : (n : ℕ) → Stands (numbers.drop_pending n t) (drops_pending n l)
   drop_stands n = record {
@@ -99,11 +105,13 @@ module _ (t : Table) (l : Lines) (s : Stands t l) where
     sound = sound_asked n window;
   }
 
-  asked_stands : (window packet : ℕ) (o : Option ℕ) → ((n : ℕ) → o ≡ Some n → find n l.entries ≡ None) →
+  asked_stands : (window packet : ℕ) (o : Option ℕ) → ((n : ℕ) → o ≡ Some n → find n l.entries
+      ≡ None) →
       Stands (numbers.opened window packet o t) (asks window o l)
   asked_stands window packet None h = s
   asked_stands window packet (Some n) h = record {
-    entries = come_hold 0 n (line.opening n window packet) (asked n window) t.lines l.entries (omega arith)
+    entries = come_hold 0 n (line.opening n window packet) (asked n window) t.lines l.entries
+        (omega arith)
         (asked_holds n window packet) (refl, refl) s.entries (h n refl);
     pending = s.pending;
     last = refl;
@@ -112,16 +120,20 @@ module _ (t : Table) (l : Lines) (s : Stands t l) where
 
   next_absent : (n : ℕ) → numbers.next_number t ≡ Some n → find n l.entries ≡ None
   next_absent n h =
-      none_at n (line_at n t) (find n l.entries) (found 0 n t.lines l.entries s.entries) (next_not_live t n h)
+      none_at n (line_at n t) (find n l.entries) (found 0 n t.lines l.entries s.entries)
+      (next_not_live t n h)
 
-  pub ask_stands : (window packet : ℕ) → Stands (numbers.open_next window packet t) (asks_next window l)
+  pub ask_stands : (window packet : ℕ) → Stands (numbers.open_next window packet t)
+      (asks_next window l)
   ask_stands window packet =
       subst (λ o. Stands (numbers.open_next window packet t) (asks window o l)) next_same
       (asked_stands window packet (numbers.next_number t) next_absent)
 
   -- an open of the peer's
-  opened_holds : (peer : ℕ) (own : ChannelId) (window room packet own_packet : ℕ) → 0 < packet → window < 2 ^ 32 →
-      Holds own.0 (line.established peer own window room packet own_packet) (opened own.0 peer window room packet)
+  opened_holds : (peer : ℕ) (own : ChannelId) (window room packet own_packet : ℕ) → 0 < packet
+      → window < 2 ^ 32 →
+      Holds own.0 (line.established peer own window room packet own_packet)
+      (opened own.0 peer window room packet)
   opened_holds peer own window room packet own_packet k w = record {
     number = refl;
     own = refl;
@@ -143,7 +155,8 @@ module _ (t : Table) (l : Lines) (s : Stands t l) where
   absent (Some e) h = absurd (cc)
 
   add_at : (b : Bool) (own : ChannelId) (p : ChannelParams) (e : Entry) → is_live own.0 t ≡ b →
-      is_some (find own.0 l.entries) ≡ b → p.sender_channel ≡ own → e.number ≡ own.0 → Holds own.0 p e → IsDeferred e →
+      is_some (find own.0 l.entries) ≡ b → p.sender_channel ≡ own → e.number ≡ own.0
+      → Holds own.0 p e → IsDeferred e →
       Stands (cond b t (numbers.add p t)) (cond b l (record (drops_pending e.number l) {
         entries = added e l.entries;
       }))
@@ -163,7 +176,8 @@ module _ (t : Table) (l : Lines) (s : Stands t l) where
         written = s.written;
       }
 
-  pub add_stands : (peer : ℕ) (own : ChannelId) (window room packet own_packet : ℕ) → 0 < packet → window < 2 ^ 32 →
+  pub add_stands : (peer : ℕ) (own : ChannelId) (window room packet own_packet : ℕ) → 0 < packet
+      → window < 2 ^ 32 →
       Stands (numbers.insert (line.established peer own window room packet own_packet) t)
       (adds (opened own.0 peer window room packet) l)
   add_stands peer own window room packet own_packet k w =

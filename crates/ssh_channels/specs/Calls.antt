@@ -8,8 +8,10 @@ use Rattle.ssh_channels.specs.declared.chunk.Chunk.{Chunk}
 use Rattle.ssh_channels.specs.declared.adjusted.Adjusted.{Adjusted}
 use Rattle.ssh_channels.specs.declared.adjusted.Adjusted.TheVariants.{Dropped}
 use Rattle.ssh_channels.specs.Layout.{bare_frame, close_frame}
-use Rattle.ssh_channels.specs.Line.{is_established, is_opening, may_send, may_close, goes, stays, framed, settled}
-use Rattle.ssh_channels.specs.Line.{granted, granting_frames, taking, taking_frames, ending, ending_frames, closing}
+use Rattle.ssh_channels.specs.Line.{is_established, is_opening, may_send, may_close, goes, stays}
+use Rattle.ssh_channels.specs.Line.{framed, settled}
+use Rattle.ssh_channels.specs.Line.{granted, granting_frames, taking, taking_frames, ending}
+use Rattle.ssh_channels.specs.Line.{ending_frames, closing}
 use Rattle.ssh_channels.specs.Line.{closing_frames, confirmed_by, wanting}
 use Rattle.ssh_channels.specs.Window.{adjusting, adjusted, adjusted_frames}
 use Rattle.ssh_channels.specs.Table.{Table, line_at, write, act}
@@ -17,11 +19,13 @@ use Rattle.ssh_channels.specs.Numbers.{draw, open_next, drop_pending, insert}
 
 -- a message that says no more than its number goes out
 abbrev pub byte : (n message : ℕ) → Table → Table
-byte n message = act is_established (λ l. bare_frame message n l.recipient_channel ∷ []) (λ l. Some l) n
+byte n message = act is_established (λ l. bare_frame message n l.recipient_channel ∷ [])
+    (λ l. Some l) n
 
 -- data or extended data
 abbrev pub send : (n : ℕ) → Chunk → (is_rekeying : Bool) → Table → Table
-send n chunk is_rekeying = act may_send (taking_frames n chunk is_rekeying) (λ l. Some (taking chunk is_rekeying l)) n
+send n chunk is_rekeying = act may_send (taking_frames n chunk is_rekeying)
+    (λ l. Some (taking chunk is_rekeying l)) n
 
 abbrev pub eof : (n : ℕ) → Table → Table
 eof n = act may_send (ending_frames n) (λ l. Some (ending l)) n
@@ -63,14 +67,16 @@ grant n amount = act is_established (granting_frames n amount) (λ l. stays (gra
 -- the credit after it
 abbrev pub credit_of : (amount : ℕ) → Option ChannelParams → Option ℕ
 credit_of amount None = None
-credit_of amount (Some l) = cond l.confirmed (Some (settled (granted amount l)).recipient_window_size) None
+credit_of amount (Some l) = cond l.confirmed
+    (Some (settled (granted amount l)).recipient_window_size) None
 
 abbrev pub credit_after : (n amount : ℕ) → Table → Option ℕ
 credit_after n amount t = credit_of amount (line_at n t)
 
 -- so many bytes came in on a channel, whose room is to be kept at target
 abbrev pub adjust : (n count target : ℕ) → Table → Table
-adjust n count target = act (λ l. true) (adjusted_frames n count target) (λ l. Some (adjusted count target l)) n
+adjust n count target = act (λ l. true) (adjusted_frames n count target)
+    (λ l. Some (adjusted count target l)) n
 
 abbrev pub adjusting_of : (count target : ℕ) → Option ChannelParams → Adjusted
 adjusting_of count target None = Dropped
@@ -87,7 +93,8 @@ room_of (Some l) = l.sender_window_size
 abbrev pub room_at : ℕ → Table → ℕ
 room_at n t = room_of (line_at n t)
 
--- the peer confirms a channel that this side opened: recipient is this side's number, sender the peer's
+-- the peer confirms a channel that this side opened: recipient is this side's number, sender the
+-- peer's
 abbrev pub confirm : ChannelOpenConfirmation → Table → Table
 confirm msg =
     act is_opening (λ l. [])

@@ -1,5 +1,5 @@
--- The calls of a table as the standard sees them: what each makes of the channels, and what it answers (RFC 4254
--- section 5).
+-- The calls of a table as the standard sees them: what each makes of the channels, and what it
+-- answers (RFC 4254 section 5).
 use Rattle.std.specs.Prelude.{◌≡◌, ◌<◌, ◌-◌, ◌^◌, ◌==◌, ℕ, Bool, true, false, not, cond, [], ◌∷◌}
 use Rattle.std.specs.Prelude.{Option, Some, None, is_some}
 use Rattle.std.specs.List.{list_any}
@@ -9,13 +9,18 @@ use Rattle.ssh_channels.specs.declared.params.ChannelParams.{ChannelParams}
 use Rattle.ssh_channels.specs.declared.adjusted.Adjusted.{Adjusted}
 use Rattle.ssh_channels.specs.declared.adjusted.Adjusted.TheVariants as adjusted
 use Rattle.ssh_channels.specs.Line.{established}
-use Rattle.ssh_channels.specs.Calls.{Op, Byte, Send, Eof, Close, Peer_close, Flush_line, Flush_all, Grant, Adjust, Draw}
-use Rattle.ssh_channels.specs.Calls.{Open_next, Drop_pending, Insert, Confirm, Fail_open, Set_wants_reply, Stage}
+use Rattle.ssh_channels.specs.Calls.{Op, Byte, Send, Eof, Close, Peer_close, Flush_line, Flush_all}
+use Rattle.ssh_channels.specs.Calls.{Grant, Adjust, Draw}
+use Rattle.ssh_channels.specs.Calls.{Open_next, Drop_pending, Insert, Confirm, Fail_open}
+use Rattle.ssh_channels.specs.Calls.{Set_wants_reply, Stage}
 use Rattle.ssh_channels.specs.Paths.{Answer, Done, Accepts, Framed, Credit, Room, Number, Refused}
-use Rattle.ssh_channels.specs.Entry.{Entry, opened, more_may_come, close_may_come, flushed, granting}
+use Rattle.ssh_channels.specs.Entry.{Entry, opened, more_may_come, close_may_come, flushed}
+use Rattle.ssh_channels.specs.Entry.{granting}
 use Rattle.ssh_channels.specs.Room.{coming}
-use Rattle.ssh_channels.specs.Lines.{Lines, find, write, takes_data, takes_eof, takes_close, peer_closes, goes_on}
-use Rattle.ssh_channels.specs.Lines.{all_go_on, takes_grant, takes_in, says, wants, confirms, fails, next_number, draws}
+use Rattle.ssh_channels.specs.Lines.{Lines, find, write, takes_data, takes_eof, takes_close}
+use Rattle.ssh_channels.specs.Lines.{peer_closes, goes_on}
+use Rattle.ssh_channels.specs.Lines.{all_go_on, takes_grant, takes_in, says, wants, confirms, fails}
+use Rattle.ssh_channels.specs.Lines.{next_number, draws}
 use Rattle.ssh_channels.specs.Lines.{drops_pending, asks_next, adds}
 use Rattle.ssh_channels.specs.Layout.{bare_frame}
 use Rattle.ssh_channels.specs.Sent.{is_beside, may_stage}
@@ -23,7 +28,8 @@ use Rattle.ssh_channels.specs.Sent.{is_beside, may_stage}
 -- the channel that established params are
 abbrev pub entry_of : ChannelParams → Entry
 entry_of line =
-    opened line.sender_channel.0 line.recipient_channel line.recipient_window_size line.sender_window_size
+    opened line.sender_channel.0 line.recipient_channel line.recipient_window_size
+    line.sender_window_size
     line.recipient_maximum_packet_size
 
 -- a packet size of 0 is refused
@@ -45,7 +51,8 @@ does (Open_next window packet) = asks_next window
 does (Drop_pending n) = drops_pending n
 does (Insert line) = unless_zero line.recipient_maximum_packet_size (adds (entry_of line))
 does (Confirm msg) = unless_zero msg.maximum_packet_size
-    (confirms msg.recipient_channel msg.sender_channel msg.initial_window_size msg.maximum_packet_size)
+    (confirms msg.recipient_channel msg.sender_channel msg.initial_window_size
+    msg.maximum_packet_size)
 does (Fail_open n) = fails n
 does (Set_wants_reply n wanted) = wants n wanted
 does (Stage frame) = write (frame ∷ [])
@@ -102,8 +109,8 @@ IsMeant (Insert line) = (peer room packet own_packet window : ℕ) × (window < 
 IsMeant (Confirm msg) = msg.initial_window_size < 2 ^ 32
 IsMeant _ = Unit {0}
 
--- calls after which what was sent is still what has to be; a channel comes together with the message that opens it, so
--- the two calls that bring one are not among them
+-- calls after which what was sent is still what has to be; a channel comes together with the
+-- message that opens it, so the two calls that bring one are not among them
 abbrev pub IsFair : Op → Lines → Type 0
 IsFair (Byte n message) l = is_beside (bare_frame message n 0) ≡ true
 IsFair (Open_next window packet) l = ⊥

@@ -1,6 +1,7 @@
--- A channel as the standard sees it: all that was accepted for it and granted to it since it was opened (RFC 4254
--- section 5).
-use Rattle.std.specs.Prelude.{◌≡◌, ◌≤◌, ◌<◌, ◌+◌, ◌-◌, ◌^◌, ◌==◌, ◌&&◌, ◌||◌, ℕ, min, nat_le, Bool, true, false, not}
+-- A channel as the standard sees it: all that was accepted for it and granted to it since it was
+-- opened (RFC 4254 section 5).
+use Rattle.std.specs.Prelude.{◌≡◌, ◌≤◌, ◌<◌, ◌+◌, ◌-◌, ◌^◌, ◌==◌, ◌&&◌, ◌||◌, ℕ, min, nat_le, Bool}
+use Rattle.std.specs.Prelude.{true, false, not}
 use Rattle.std.specs.Prelude.{cond, List, [], ◌∷◌, ◌++◌, length, map, take}
 use Rattle.std.specs.List.{flat_map}
 use Rattle.ssh_link.specs.Frames.{Frame}
@@ -19,7 +20,8 @@ pub record Entry : Type 0 where
   pub confirmed : Bool
   -- what each accepted data command brought, but no empty one (section 5.2)
   pub chunks : List Chunk
-  -- how many bytes the peer granted in all, and how many of the accepted bytes are framed (section 5.2)
+  -- how many bytes the peer granted in all, and how many of the accepted bytes are framed (section
+  -- 5.2)
   pub granted : ℕ
   pub framed : ℕ
   -- how many bytes the peer may still send (section 5.2)
@@ -31,7 +33,8 @@ pub record Entry : Type 0 where
   pub close : Bool
   pub told : Bool
 
--- a channel that both sides agreed to: its numbers, the peer's window, this side's, and the peer's packet size
+-- a channel that both sides agreed to: its numbers, the peer's window, this side's, and the peer's
+-- packet size
 abbrev pub opened : (number peer window room limit : ℕ) → Entry
 opened number peer window room limit = record {
   number = number;
@@ -54,7 +57,8 @@ asked number room = record (opened number 0 0 room 0) { confirmed = false }
 
 -- the peer agrees to it, with its number, window and packet size (section 5.1)
 abbrev pub agreed : (peer window limit : ℕ) → Entry → Entry
-agreed peer window limit e = record e { peer = peer; limit = limit; granted = window; confirmed = true }
+agreed peer window limit e =
+    record e { peer = peer; limit = limit; granted = window; confirmed = true }
 
 -- bytes with the message that they are sent in (section 5.2)
 abbrev pub tagged : Chunk → List (DataKind × ℕ)
@@ -85,18 +89,25 @@ close_may_come e = e.confirmed && not e.close
 -- the data frames that the peer's grants let out (section 5.2)
 abbrev pub flush_out : Entry → List Frame
 flush_out e =
-    map (data_frame e.number e.peer) (cut (piece_limit e.limit) (e.granted - e.framed) (left_of e.framed e.chunks))
+    map (data_frame e.number e.peer) (cut (piece_limit e.limit) (e.granted - e.framed)
+    (left_of e.framed e.chunks))
 
 abbrev pub flushed : Entry → Entry
 flushed e = record e { framed = min (length (accepted e)) e.granted }
 
 -- the peer grants more; what it has granted and not got stays below 2^32 (section 5.2)
 abbrev pub granting : (amount : ℕ) → Entry → Entry
-granting amount e = record e { granted = e.granted + min amount (2 ^ 32 - 1 - (e.granted - length (accepted e))) }
+granting amount e = record e {
+  granted = e.granted + min amount
+      (2 ^ 32 - 1 - (e.granted - length (accepted e)));
+}
 
 -- one more data command; an empty one adds nothing
 abbrev pub accepting : Chunk → Entry → Entry
-accepting chunk e = record e { chunks = cond (length chunk.bytes == 0) e.chunks (e.chunks ++ chunk ∷ []) }
+accepting chunk e = record e {
+  chunks = cond (length chunk.bytes == 0) e.chunks (e.chunks ++ chunk
+      ∷ []);
+}
 
 -- an EOF and a CLOSE that are owed, as nothing waits before them (section 5.3)
 abbrev pub tells_eof : Entry → Bool
@@ -130,6 +141,7 @@ pub record Sound (e : Entry) : Type 0 where
   -- the peer takes data at all
   pub positive : e.confirmed ≡ true → 0 < e.limit
   -- nothing is accepted or granted on a channel that waits
-  pub waits : e.confirmed ≡ false → (e.chunks ≡ []) × (e.granted ≡ 0) × (e.eof ≡ false) × (e.close ≡ false)
+  pub waits : e.confirmed ≡ false → (e.chunks ≡ []) × (e.granted ≡ 0) × (e.eof ≡ false)
+      × (e.close ≡ false)
   -- an EOF frame came after all data
   pub ended : e.told ≡ true → (e.eof ≡ true) × (length (accepted e) ≤ e.framed)

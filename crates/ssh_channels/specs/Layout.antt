@@ -1,4 +1,5 @@
--- The messages that a table of channels writes, and the frames that carry them (RFC 4254 section 5).
+-- The messages that a table of channels writes, and the frames that carry them (RFC 4254 section
+-- 5).
 use Rattle.std.specs.Prelude.{ℕ, List, ◌∷◌, Some, None}
 use Rattle.ssh_wire.specs.Field.{number}
 use Rattle.ssh_wire.specs.Messages.{written, channel_window_adjust, channel_eof, channel_close}
@@ -25,7 +26,11 @@ window_adjust recipient amount = written channel_window_adjust (recipient, (amou
 
 -- a frame of this side's channel of that number, which may go out at once
 abbrev pub on_channel : (own : ℕ) → (payload : List ℕ) → Frame
-on_channel own payload = record { payload = payload; hold_until = None; channel = Some (record { 0 = own }) }
+on_channel own payload = record {
+  payload = payload;
+  hold_until = None;
+  channel = Some (record { 0 = own });
+}
 
 -- the frames of this side's channel own, which the peer calls by its own number peer
 

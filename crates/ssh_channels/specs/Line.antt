@@ -1,5 +1,6 @@
 -- One channel of a table, and what a call writes on it and leaves of it (RFC 4254 section 5).
-use Rattle.std.specs.Prelude.{ℕ, ◌-◌, ◌==◌, ◌&&◌, ◌||◌, Bool, true, false, not, cond, List, [], ◌∷◌, ◌++◌, length, map}
+use Rattle.std.specs.Prelude.{ℕ, ◌-◌, ◌==◌, ◌&&◌, ◌||◌, Bool, true, false, not, cond, List, [], ◌∷◌}
+use Rattle.std.specs.Prelude.{◌++◌, length, map}
 use Rattle.std.specs.Prelude.{nat_le, nat_lt, Option, Some, None}
 use Rattle.ssh_wire.specs.declared.channel_id.ChannelId.{ChannelId}
 use Rattle.ssh_link.specs.Frames.{Frame}
@@ -8,8 +9,10 @@ use Rattle.ssh_channels.specs.declared.chunk.Chunk.{Chunk}
 use Rattle.ssh_channels.specs.Layout.{data_frame, eof_frame, close_frame}
 use Rattle.ssh_channels.specs.Cut.{piece_limit, cut, left_of, credit_left, raised}
 
--- an established channel: the peer's number, this side's, the peer's window, this side's, and their packet sizes
-abbrev pub established : (peer : ℕ) → ChannelId → (window room packet own_packet : ℕ) → ChannelParams
+-- an established channel: the peer's number, this side's, the peer's window, this side's, and their
+-- packet sizes
+abbrev pub established : (peer : ℕ) → ChannelId → (window room packet own_packet : ℕ)
+    → ChannelParams
 established peer own window room packet own_packet = record {
   recipient_channel = peer;
   sender_channel = own;
@@ -25,9 +28,11 @@ established peer own window room packet own_packet = record {
   waiting = [];
 }
 
--- a channel that this side opens with this window and packet size, and that the peer has not confirmed
+-- a channel that this side opens with this window and packet size, and that the peer has not
+-- confirmed
 abbrev pub opening : (own window packet : ℕ) → ChannelParams
-opening own window packet = record (established 0 (record { 0 = own }) 0 window 0 packet) { confirmed = false }
+opening own window packet = record (established 0 (record { 0 = own }) 0 window 0 packet)
+    { confirmed = false }
 
 abbrev pub is_established : ChannelParams → Bool
 is_established l = l.confirmed
@@ -93,7 +98,8 @@ stays l = cond (closes l) None (Some (settled l))
 abbrev pub raising : (amount : ℕ) → ChannelParams → ChannelParams
 raising amount l = record l { recipient_window_size = raised l.recipient_window_size amount }
 
--- with a grant, what waits goes out within the old credit, the amount is added, and the rest goes out within the new
+-- with a grant, what waits goes out within the old credit, the amount is added, and the rest goes
+-- out within the new
 abbrev pub granted : (amount : ℕ) → ChannelParams → ChannelParams
 granted amount l = raising amount (flushed l)
 
@@ -112,7 +118,10 @@ spent count l = record l { recipient_window_size = l.recipient_window_size - cou
 
 -- what one data command brings waits behind the rest, and empty data add nothing
 abbrev pub waits_behind : Chunk → ChannelParams → ChannelParams
-waits_behind chunk l = record l { waiting = cond (length chunk.bytes == 0) l.waiting (l.waiting ++ chunk ∷ []) }
+waits_behind chunk l = record l {
+  waiting = cond (length chunk.bytes == 0) l.waiting
+      (l.waiting ++ chunk ∷ []);
+}
 
 abbrev pub alone : Chunk → ChannelParams → ChannelParams
 alone chunk l = record l { waiting = chunk ∷ [] }
@@ -123,7 +132,8 @@ taking chunk is_rekeying l =
     cond (is_rekeying || not (nothing_waits l)) (waits_behind chunk l) (flushed (alone chunk l))
 
 abbrev pub taking_frames : (own : ℕ) → Chunk → (is_rekeying : Bool) → ChannelParams → List Frame
-taking_frames own chunk is_rekeying l = cond (is_rekeying || not (nothing_waits l)) [] (sent own (alone chunk l))
+taking_frames own chunk is_rekeying l = cond (is_rekeying || not (nothing_waits l)) []
+    (sent own (alone chunk l))
 
 -- an EOF command: EOF goes out, or waits behind the data
 abbrev pub ending : ChannelParams → ChannelParams

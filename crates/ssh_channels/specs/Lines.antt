@@ -1,6 +1,7 @@
--- The channels of a connection with the frames that were written and not handed on, and what each call does to them
--- (RFC 4254 section 5).
-use Rattle.std.specs.Prelude.{ℕ, ◌==◌, ◌||◌, ◌^◌, nat_lt, Bool, true, false, not, cond, List, [], ◌∷◌, ◌++◌, map}
+-- The channels of a connection with the frames that were written and not handed on, and what each
+-- call does to them (RFC 4254 section 5).
+use Rattle.std.specs.Prelude.{ℕ, ◌==◌, ◌||◌, ◌^◌, nat_lt, Bool, true, false, not, cond, List, []}
+use Rattle.std.specs.Prelude.{◌∷◌, ◌++◌, map}
 use Rattle.std.specs.Prelude.{Option, Some, None, is_some}
 use Rattle.std.specs.List.{list_any}
 use Rattle.std.specs.Ordering.{nat_cmp}
@@ -11,11 +12,13 @@ use Rattle.ssh_link.specs.Frames.{Frame}
 use Rattle.ssh_channels.specs.declared.chunk.Chunk.{Chunk}
 use Rattle.ssh_channels.specs.Layout.{bare_frame, close_frame}
 use Rattle.ssh_channels.specs.Numbers.{first_free}
-use Rattle.ssh_channels.specs.Entry.{Entry, asked, agreed, all_framed, more_may_come, close_may_come, flush_out}
+use Rattle.ssh_channels.specs.Entry.{Entry, asked, agreed, all_framed, more_may_come}
+use Rattle.ssh_channels.specs.Entry.{close_may_come, flush_out}
 use Rattle.ssh_channels.specs.Entry.{flushed, granting, accepting, closes_now, eof_out, after_eof}
 use Rattle.ssh_channels.specs.Room.{coming, having, adjust_out}
 
--- a channel that left, as it was then, and whether the peer ended it: by its CLOSE, or as it refused the open
+-- a channel that left, as it was then, and whether the peer ended it: by its CLOSE, or as it
+-- refused the open
 pub record Left : Type 0 where
   pub entry : Entry
   pub by_peer : Bool
@@ -23,7 +26,8 @@ pub record Left : Type 0 where
 pub record Lines : Type 0 where
   -- the channels, whose numbers ascend
   pub entries : List Entry
-  -- the numbers that are drawn for opens which are not answered yet, and the number that was drawn last (section 5.1)
+  -- the numbers that are drawn for opens which are not answered yet, and the number that was drawn
+  -- last (section 5.1)
   pub pending : List ℕ
   pub last : ℕ
   -- the frames that were not handed on, in order
@@ -81,8 +85,8 @@ leaves e by_peer frames l = record l {
 abbrev pub closes : Entry → (by_peer : Bool) → List Frame → Lines → Lines
 closes e by_peer frames l = leaves e by_peer (frames ++ close_frame e.number e.peer ∷ []) l
 
--- these frames are written, and behind them the EOF that is owed and then the CLOSE that is, with which the channel
--- leaves (section 5.3)
+-- these frames are written, and behind them the EOF that is owed and then the CLOSE that is, with
+-- which the channel leaves (section 5.3)
 abbrev pub settles : Entry → List Frame → Lines → Lines
 settles e frames l = cond (closes_now e)
     (closes (after_eof e) false (frames ++ eof_out e) l)
@@ -106,10 +110,12 @@ takes_data number chunk is_rekeying l = at number (λ e l. cond (more_may_come e
 
 -- an EOF, and a CLOSE, is accepted (section 5.3)
 abbrev pub takes_eof : (number : ℕ) → Lines → Lines
-takes_eof number l = at number (λ e l. cond (more_may_come e) (settles (record e { eof = true }) [] l) l) l
+takes_eof number l = at number (λ e l. cond (more_may_come e) (settles (record e { eof = true }) []
+    l) l) l
 
 abbrev pub takes_close : (number : ℕ) → Lines → Lines
-takes_close number l = at number (λ e l. cond (close_may_come e) (settles (record e { close = true }) [] l) l) l
+takes_close number l = at number (λ e l. cond (close_may_come e)
+    (settles (record e { close = true }) [] l) l) l
 
 -- the peer's CLOSE is answered by one, and what waits is dropped (section 5.3)
 abbrev pub peer_closes : (number : ℕ) → Lines → Lines
@@ -130,17 +136,20 @@ all_go_on l = each_goes_on (numbers l.entries) l
 -- the peer grants more: what the old grants let out goes first (section 5.2)
 abbrev pub takes_grant : (number amount : ℕ) → Lines → Lines
 takes_grant number amount l = at number (λ e l. cond e.confirmed
-    (settles (flushed (granting amount (flushed e))) (flush_out e ++ flush_out (granting amount (flushed e))) l)
+    (settles (flushed (granting amount (flushed e))) (flush_out e
+    ++ flush_out (granting amount (flushed e))) l)
     l) l
 
 -- so many bytes came in (section 5.2)
 abbrev pub takes_in : (number count target : ℕ) → Lines → Lines
 takes_in number count target l =
-    at number (λ e. turns (having (coming count target e) count target e) (adjust_out (coming count target e) e)) l
+    at number (λ e. turns (having (coming count target e) count target e)
+    (adjust_out (coming count target e) e)) l
 
 -- a message that says no more than its number (section 5.4)
 abbrev pub says : (number message : ℕ) → Lines → Lines
-says number message l = at number (λ e l. cond e.confirmed (turns e (bare_frame message e.number e.peer ∷ []) l) l) l
+says number message l = at number
+    (λ e l. cond e.confirmed (turns e (bare_frame message e.number e.peer ∷ []) l) l) l
 
 abbrev pub wants : (number : ℕ) → (wanted : Bool) → Lines → Lines
 wants number wanted l = at number (λ e. turns (record e { wants_reply = wanted }) []) l

@@ -1,13 +1,16 @@
--- The calls with a writer, whose frames go to a sink at once where none is staged before them, and that both paths put
--- out the same.
-use Rattle.std.specs.Prelude.{◌≡◌, ◌&&◌, ◌==◌, Bool, not, cond, List, [], ◌∷◌, ◌++◌, length, ℕ, Option}
+-- The calls with a writer, whose frames go to a sink at once where none is staged before them, and
+-- that both paths put out the same.
+use Rattle.std.specs.Prelude.{◌≡◌, ◌&&◌, ◌==◌, Bool, not, cond, List, [], ◌∷◌, ◌++◌, length, ℕ}
+use Rattle.std.specs.Prelude.{Option}
 use Rattle.ssh_link.specs.Frames.{Frame}
 use Rattle.ssh_channels.specs.declared.adjusted.Adjusted.{Adjusted}
 use Rattle.ssh_channels.specs.Line.{is_established, is_opening, may_send, may_close}
 use Rattle.ssh_channels.specs.Numbers.{next_number}
 use Rattle.ssh_channels.specs.Table.{Table, is_live, is_pending, has}
-use Rattle.ssh_channels.specs.Calls.{Op, Byte, Send, Eof, Close, Peer_close, Flush_line, Flush_all, Grant, Adjust, Draw}
-use Rattle.ssh_channels.specs.Calls.{Open_next, Drop_pending, Insert, Confirm, Fail_open, Set_wants_reply, Stage, op}
+use Rattle.ssh_channels.specs.Calls.{Op, Byte, Send, Eof, Close, Peer_close, Flush_line, Flush_all}
+use Rattle.ssh_channels.specs.Calls.{Grant, Adjust, Draw}
+use Rattle.ssh_channels.specs.Calls.{Open_next, Drop_pending, Insert, Confirm, Fail_open}
+use Rattle.ssh_channels.specs.Calls.{Set_wants_reply, Stage, op}
 use Rattle.ssh_channels.specs.Calls.{flush_first, framed_at, credit_after, adjusting_at}
 
 -- a call's frames go to the sink where none is staged before it and no exchange runs
@@ -41,7 +44,8 @@ by_sink is_rekeying call out = record {
   sink = out.sink ++ passed_on (is_direct is_rekeying out.table) (call out.table);
 }
 
--- the call of the one path, and of the other, which has a form with a writer of data and of the flushes
+-- the call of the one path, and of the other, which has a form with a writer of data and of the
+-- flushes
 abbrev pub plain : Op → Out → Out
 plain o = by_table (op o)
 
@@ -79,8 +83,10 @@ answer (Adjust n count target) t = Room (adjusting_at n count target t)
 answer Draw t = Number (next_number t)
 answer (Open_next window packet) t = Number (next_number t)
 answer (Drop_pending n) t = Accepts (is_pending n t)
-answer (Insert l) t = cond (l.recipient_maximum_packet_size == 0) Refused (Accepts (not (is_live l.sender_channel.0 t)))
-answer (Confirm msg) t = cond (msg.maximum_packet_size == 0) Refused (Accepts (has is_opening msg.recipient_channel t))
+answer (Insert l) t = cond (l.recipient_maximum_packet_size == 0) Refused
+    (Accepts (not (is_live l.sender_channel.0 t)))
+answer (Confirm msg) t = cond (msg.maximum_packet_size == 0) Refused
+    (Accepts (has is_opening msg.recipient_channel t))
 answer (Fail_open n) t = Accepts (has is_opening n t)
 answer (Set_wants_reply n wanted) t = Accepts (is_live n t)
 answer (Stage frame) t = Done

@@ -6,8 +6,9 @@ use Rattle.ssh_channels.specs.declared.adjusted.Adjusted.TheVariants.{Dropped, K
 use Rattle.ssh_channels.specs.Layout.{adjust_frame}
 use Rattle.ssh_channels.specs.Entry.{Entry}
 
--- so many bytes came in, and the room is to be kept at target: data that the room does not have, or that come before
--- the channel is agreed to, are dropped; where less than half of target is left, what is missing is granted
+-- so many bytes came in, and the room is to be kept at target: data that the room does not have, or
+-- that come before the channel is agreed to, are dropped; where less than half of target is left,
+-- what is missing is granted
 abbrev pub coming : (count target : ℕ) → Entry → Adjusted
 coming count target e = cond (e.confirmed && nat_le count e.room)
     (cond (nat_lt (e.room - count) (target / 2)) (Granted (target - (e.room - count))) Kept)

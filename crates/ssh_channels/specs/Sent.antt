@@ -1,8 +1,10 @@
 -- What was sent on the channels, and what it has to be (RFC 4254 section 5).
-use Rattle.std.specs.Prelude.{◌≡◌, ◌<◌, ◌≤◌, ◌-◌, ◌^◌, ◌==◌, ◌||◌, ◌&&◌, ◌⊎◌, ℕ, nat_le, Bool, true, false, not, cond}
+use Rattle.std.specs.Prelude.{◌≡◌, ◌<◌, ◌≤◌, ◌-◌, ◌^◌, ◌==◌, ◌||◌, ◌&&◌, ◌⊎◌, ℕ, nat_le, Bool, true}
+use Rattle.std.specs.Prelude.{false, not, cond}
 use Rattle.std.specs.Prelude.{List, [], ◌∷◌, ◌++◌, length, map, take, Option, Some, None, IfSome}
 use Rattle.std.specs.List.{filter}
-use Rattle.ssh_wire.specs.Messages.{channel_open, channel_open_confirmation, channel_open_failure, channel_data}
+use Rattle.ssh_wire.specs.Messages.{channel_open, channel_open_confirmation, channel_open_failure}
+use Rattle.ssh_wire.specs.Messages.{channel_data}
 use Rattle.ssh_wire.specs.Messages.{channel_close}
 use Rattle.ssh_wire.specs.declared.channel_id.ChannelId.{ChannelId}
 use Rattle.ssh_link.specs.Frames.{Frame}
@@ -27,7 +29,8 @@ message_of (n ∷ fields) = n
 -- CHANNEL_OPEN is 90, and its CONFIRMATION 91 (section 5.1)
 abbrev pub is_opening : (payload : List ℕ) → Bool
 is_opening payload =
-    (message_of payload == channel_open.number) || (message_of payload == channel_open_confirmation.number)
+    (message_of payload == channel_open.number) ||
+    (message_of payload == channel_open_confirmation.number)
 
 -- CHANNEL_OPEN_FAILURE is 92 (section 5.1)
 abbrev pub is_refusal : (payload : List ℕ) → Bool
@@ -37,14 +40,18 @@ is_refusal payload = message_of payload == channel_open_failure.number
 abbrev pub is_close : (payload : List ℕ) → Bool
 is_close payload = message_of payload == channel_close.number
 
--- what a side sends on a channel: data of both kinds are 94 and 95, EOF is 96, CLOSE is 97 (sections 5.2 and 5.3)
+-- what a side sends on a channel: data of both kinds are 94 and 95, EOF is 96, CLOSE is 97
+-- (sections 5.2 and 5.3)
 abbrev pub is_flow : Frame → Bool
 is_flow frame =
-    nat_le channel_data.number (message_of frame.payload) && nat_le (message_of frame.payload) channel_close.number
+    nat_le channel_data.number (message_of frame.payload) && nat_le (message_of frame.payload)
+    channel_close.number
 
--- what else is said beside it on a channel: window adjusts and requests with their answers (sections 5.2 and 5.4)
+-- what else is said beside it on a channel: window adjusts and requests with their answers
+-- (sections 5.2 and 5.4)
 abbrev pub is_beside : Frame → Bool
-is_beside frame = not (is_opening frame.payload) && not (is_refusal frame.payload) && not (is_flow frame)
+is_beside frame = not (is_opening frame.payload) && not (is_refusal frame.payload) && not
+    (is_flow frame)
 
 -- the frames of a channel, and then one more frame
 abbrev pub after_frame : (number : ℕ) → List Frame → Frame → List Frame
@@ -59,7 +66,8 @@ after_entry number frames _ = frames
 -- the frames of a channel, and then this part of a trace
 abbrev pub since_from : (number : ℕ) → List Frame → List TraceEntry → List Frame
 since_from number frames [] = frames
-since_from number frames (entry ∷ entries) = since_from number (after_entry number frames entry) entries
+since_from number frames (entry ∷ entries) = since_from number (after_entry number frames entry)
+    entries
 
 -- the frames tagged with this number after the last one of them that opened a channel
 abbrev pub since : (number : ℕ) → List TraceEntry → List Frame
@@ -75,25 +83,30 @@ IsQuiet (_ ∷ entries) = IsQuiet entries
 abbrev pub IsUnopened : (number : ℕ) → List TraceEntry → Type 0
 IsUnopened number [] = Unit {0}
 IsUnopened number (Sent frame ∷ entries) =
-    ((is_tagged number frame.channel && is_opening frame.payload) ≡ false) × IsUnopened number entries
+    ((is_tagged number frame.channel && is_opening frame.payload) ≡ false)
+    × IsUnopened number entries
 IsUnopened number (_ ∷ entries) = IsUnopened number entries
 
--- a piece of data is not empty, the peer takes it, and its message has at most 2^32 - 1 bytes (section 5.2)
+-- a piece of data is not empty, the peer takes it, and its message has at most 2^32 - 1 bytes
+-- (section 5.2)
 abbrev pub AllFit : (limit : ℕ) → List Chunk → Type 0
 AllFit limit [] = Unit {0}
 AllFit limit (piece ∷ pieces) =
-    (0 < length piece.bytes) × (length piece.bytes ≤ limit) × (length piece.bytes ≤ 2 ^ 32 - 14) × AllFit limit pieces
+    (0 < length piece.bytes) × (length piece.bytes ≤ limit) × (length piece.bytes ≤ 2 ^ 32 - 14)
+    × AllFit limit pieces
 
 -- an EOF frame where one was told
 abbrev pub ending : (told : Bool) → (own peer : ℕ) → List Frame
 ending false own peer = []
 ending true own peer = eof_frame own peer ∷ []
 
--- with these frames a channel sent these bytes, in order and each in the message of its kind, and then an EOF where it
--- was told; no data follow an EOF, and nothing else but what is said beside them
+-- with these frames a channel sent these bytes, in order and each in the message of its kind, and
+-- then an EOF where it was told; no data follow an EOF, and nothing else but what is said beside
+-- them
 pub record Sends (e : Entry) (bytes : List (DataKind × ℕ)) (frames : List Frame) : Type 0 where
   pub pieces : List Chunk
-  pub flow : filter is_flow frames ≡ map (data_frame e.number e.peer) pieces ++ ending e.told e.number e.peer
+  pub flow : filter is_flow frames ≡ map (data_frame e.number e.peer) pieces
+      ++ ending e.told e.number e.peer
   pub fit : AllFit e.limit pieces
   pub sum : joined pieces ≡ bytes
 
@@ -116,14 +129,15 @@ abbrev pub AllRefuse : List Frame → Type 0
 AllRefuse [] = Unit {0}
 AllRefuse (frame ∷ frames) = (is_refusal frame.payload ≡ true) × AllRefuse frames
 
--- on a channel that left: what was sent on it, then its CLOSE, and then nothing but refused opens; a CLOSE that does
--- not answer the peer's came once all accepted bytes were framed (section 5.3)
+-- on a channel that left: what was sent on it, then its CLOSE, and then nothing but refused opens;
+-- a CLOSE that does not answer the peer's came once all accepted bytes were framed (section 5.3)
 abbrev pub IsLeft : Left → List Frame → Type 0
 IsLeft l frames = (before after : List Frame) × Before l.entry before × AllRefuse after
     × (frames ≡ before ++ (farewell l.entry ++ after))
     × ((l.by_peer ≡ true) ⊎ (l.entry.framed ≡ length (accepted l.entry)))
 
--- on a number that is no channel's: what was sent on the last one that left, or nothing but refused opens
+-- on a number that is no channel's: what was sent on the last one that left, or nothing but refused
+-- opens
 abbrev pub IsGone : Option Left → List Frame → Type 0
 IsGone None frames = AllRefuse frames
 IsGone (Some l) frames = IsLeft l frames
@@ -144,8 +158,8 @@ Ledgered l trace = AllKept l.entries l.left (trace ++ map Sent l.written)
 abbrev pub Each : (Entry → Type 0) → Lines → Type 0
 Each P l = (n : ℕ) → IfSome (find n l.entries) P
 
--- a frame that may be staged: one of no channel, one that is said beside the flow of a channel, and one that refuses an
--- open on a number that is no channel's
+-- a frame that may be staged: one of no channel, one that is said beside the flow of a channel, and
+-- one that refuses an open on a number that is no channel's
 abbrev pub may_go : Option Entry → Frame → Bool
 may_go (Some e) frame = is_beside frame
 may_go None frame = is_refusal frame.payload

@@ -6,8 +6,9 @@ use Rattle.ssh_channels.specs.Entry.{Entry, IsDeferred, Sound}
 use Rattle.ssh_channels.specs.Lines.{Lines}
 use Rattle.ssh_channels.specs.Table.{Table}
 
--- a line of a table is this channel: its credit is what is granted and not framed, what waits is what is left of the
--- accepted chunks after the framed bytes, and an EOF or a CLOSE is deferred that was accepted and not sent
+-- a line of a table is this channel: its credit is what is granted and not framed, what waits is
+-- what is left of the accepted chunks after the framed bytes, and an EOF or a CLOSE is deferred
+-- that was accepted and not sent
 pub record Holds (key : ℕ) (line : ChannelParams) (e : Entry) : Type 0 where
   pub number : key ≡ e.number
   pub own : line.sender_channel.0 ≡ e.number

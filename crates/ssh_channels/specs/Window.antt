@@ -13,7 +13,8 @@ fits count l = l.confirmed && nat_le count l.sender_window_size
 -- the room is to be kept at target: where less than half of it is left, the rest of it is granted
 abbrev pub adjusting : (count target : ℕ) → ChannelParams → Adjusted
 adjusting count target l = cond (fits count l)
-    (cond (nat_lt (l.sender_window_size - count) (target / 2)) (Granted (target - (l.sender_window_size - count))) Kept)
+    (cond (nat_lt (l.sender_window_size - count) (target / 2))
+    (Granted (target - (l.sender_window_size - count))) Kept)
     Dropped
 
 abbrev pub room_after : Adjusted → (count target : ℕ) → ChannelParams → ChannelParams

@@ -14,13 +14,17 @@ returns-in-Ok g c =
     let user = c.args.user.now in
     let submethods = c.args.submethods.now in
     let state = record c.args.auth.now { current = Some (round.KeyboardInteractive submethods) } in
-    asked_once (Admits (by.KeyboardInteractive user submethods None)) (λ answer. after_prompts state answer) c.in-Ok.verdict
-    (AuthKeyboardInteractive user submethods None (Ok c.in-Ok.verdict)) _ _ c.answer_prompted.new.auth c.answer_prompted.result refl c.in-Ok.ensures
+    asked_once (Admits (by.KeyboardInteractive user submethods None))
+    (λ answer. after_prompts state answer) c.in-Ok.verdict
+    (AuthKeyboardInteractive user submethods None (Ok c.in-Ok.verdict)) _ _
+    c.answer_prompted.new.auth c.answer_prompted.result refl c.in-Ok.ensures
     (rw c.in_ok-new.ensures.ok at c.answer_prompted.ensures)
 
 pub returns-in_err-new : goal.returns-in_err-new
 returns-in_err-new g c =
-    starved (method_verdict c.args.auth.now c.args.user.now (Interactive_method c.args.submethods.now)) (g.H.AuthHandler.told c.args.handler.now) c.args.auth.now c.in_err-new.field-0.0
+    starved (method_verdict c.args.auth.now c.args.user.now
+    (Interactive_method c.args.submethods.now)) (g.H.AuthHandler.told c.args.handler.now)
+    c.args.auth.now c.in_err-new.field-0.0
     c.from_residual.result c.from_residual.ensures.1 c.in_err-new.ensures.memory
 
 pub returns-in-Err : goal.returns-in-Err
@@ -28,5 +32,7 @@ returns-in-Err g c =
     let user = c.args.user.now in
     let submethods = c.args.submethods.now in
     let state = record c.args.auth.now { current = Some (round.KeyboardInteractive submethods) } in
-    asked_in_vain (Admits (by.KeyboardInteractive user submethods None)) (λ answer. Finish (after_prompts state answer)) (AuthKeyboardInteractive user submethods None (Err c.in-Err.e)) _ _ c.args.auth.now
+    asked_in_vain (Admits (by.KeyboardInteractive user submethods None))
+    (λ answer. Finish (after_prompts state answer)) (AuthKeyboardInteractive user submethods
+    None (Err c.in-Err.e)) _ _ c.args.auth.now
     c.in-Err.e refl c.in-Err.ensures

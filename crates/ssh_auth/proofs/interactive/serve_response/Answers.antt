@@ -23,14 +23,18 @@ returns-in_err-responses g c =
         | inl memory ↦ (
           Unread_responses,
           tt,
-          prompted_response auth c.in-Some.user.now c.in-Some.submethods.now Unread_responses told told cleared failed.result c.in-Some.ensures
-              (starved (Finish (Fails Starved)) told cleared why failed.result failed.ensures.1 memory),
+          prompted_response auth c.in-Some.user.now c.in-Some.submethods.now Unread_responses told
+              told cleared failed.result c.in-Some.ensures
+              (starved (Finish (Fails Starved)) told cleared why failed.result failed.ensures.1
+              memory),
         )
         | inr misfit ↦ (
           Unfit_responses why,
           subst (λ fields. SaysResponses fields (Unfit_responses why)) c.fields_of.ensures misfit,
-          prompted_response auth c.in-Some.user.now c.in-Some.submethods.now (Unfit_responses why) told told cleared failed.result c.in-Some.ensures
-              (unfit why told cleared failed.result failed.ensures.1 (responses_error g.row.H-Error.Denot c.fields_of.result.now why misfit)),
+          prompted_response auth c.in-Some.user.now c.in-Some.submethods.now (Unfit_responses why)
+              told told cleared failed.result c.in-Some.ensures
+              (unfit why told cleared failed.result failed.ensures.1
+              (responses_error g.row.H-Error.Denot c.fields_of.result.now why misfit)),
         )
       ];
       prompts = no_prompts told;
@@ -42,17 +46,25 @@ returns-in-Ok g c =
     let user = c.in-Some.user.now in
     let submethods = c.in-Some.submethods.now in
     let texts = c.new-response.result in
-    let are = c.new-response.ensures ∙ ap (λ items. map (λ text. text.now) items) c.as_slice.ensures.value in
+    let are = c.new-response.ensures ∙ ap (λ items. map (λ text. text.now) items)
+    c.as_slice.ensures.value in
     let call = AuthKeyboardInteractive user submethods (Some texts) (Ok c.in-Ok.verdict) in
     record {
       verdict = (
         Responses texts,
-        subst (λ fields. SaysResponses fields (Responses texts)) c.fields_of.ensures (subst (λ t. SaysResponses c.fields_of.result.now (Responses t)) (sym are) c.in_ok-responses.ensures),
-        prompted_response auth user submethods (Responses texts) _ _ c.answer_prompted.new.auth c.answer_prompted.result c.in-Some.ensures
-            (asked_once (Admits (by.KeyboardInteractive user submethods (Some texts))) (λ answer. after_prompts (record auth { partial_success = false }) answer) c.in-Ok.verdict
-            call _ _ c.answer_prompted.new.auth c.answer_prompted.result refl c.in-Ok.ensures c.answer_prompted.ensures),
+        subst (λ fields. SaysResponses fields (Responses texts)) c.fields_of.ensures
+            (subst (λ t. SaysResponses c.fields_of.result.now (Responses t)) (sym are)
+            c.in_ok-responses.ensures),
+        prompted_response auth user submethods (Responses texts) _ _ c.answer_prompted.new.auth
+            c.answer_prompted.result c.in-Some.ensures
+            (asked_once (Admits (by.KeyboardInteractive user submethods (Some texts)))
+            (λ answer. after_prompts (record auth { partial_success = false }) answer)
+            c.in-Ok.verdict
+            call _ _ c.answer_prompted.new.auth c.answer_prompted.result refl c.in-Ok.ensures
+            c.answer_prompted.ensures),
       );
-      prompts = one_prompt false _ _ user submethods (Some texts) (Ok c.in-Ok.verdict) c.in-Ok.ensures;
+      prompts = one_prompt false _ _ user submethods (Some texts) (Ok c.in-Ok.verdict)
+          c.in-Ok.ensures;
     }
 
 pub returns : goal.returns
@@ -61,13 +73,21 @@ returns g c =
     let user = c.in-Some.user.now in
     let submethods = c.in-Some.submethods.now in
     let texts = c.new-response.result in
-    let are = c.new-response.ensures ∙ ap (λ items. map (λ text. text.now) items) c.as_slice.ensures.value in
+    let are = c.new-response.ensures ∙ ap (λ items. map (λ text. text.now) items)
+    c.as_slice.ensures.value in
     let call = AuthKeyboardInteractive user submethods (Some texts) (Err c.in-Err.e) in
     record {
       verdict = (
         Responses texts,
-        subst (λ fields. SaysResponses fields (Responses texts)) c.fields_of.ensures (subst (λ t. SaysResponses c.fields_of.result.now (Responses t)) (sym are) c.in_ok-responses.ensures),
-        prompted_response auth user submethods (Responses texts) _ _ (record auth { partial_success = false }) (Err (error.Handler c.in-Err.e)) c.in-Some.ensures (asked_in_vain (Admits (by.KeyboardInteractive user submethods (Some texts))) (λ answer. Finish (after_prompts (record auth { partial_success = false }) answer)) call _ _
+        subst (λ fields. SaysResponses fields (Responses texts)) c.fields_of.ensures
+            (subst (λ t. SaysResponses c.fields_of.result.now (Responses t)) (sym are)
+            c.in_ok-responses.ensures),
+        prompted_response auth user submethods (Responses texts) _ _
+            (record auth { partial_success = false }) (Err (error.Handler c.in-Err.e))
+            c.in-Some.ensures (asked_in_vain
+            (Admits (by.KeyboardInteractive user submethods (Some texts)))
+            (λ answer. Finish (after_prompts (record auth { partial_success = false }) answer)) call
+            _ _
             (record auth { partial_success = false }) c.in-Err.e refl c.in-Err.ensures),
       );
       prompts = one_prompt true _ _ user submethods (Some texts) (Err c.in-Err.e) c.in-Err.ensures;

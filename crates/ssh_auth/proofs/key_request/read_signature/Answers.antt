@@ -7,16 +7,21 @@ use Rattle.ssh_auth.proofs.key_request.read_signature.Goals as goal
 pub returns-in_err-signature : goal.returns-in_err-signature
 returns-in_err-signature g c =
     let fields = c.args.fields.now in
-    let field = field_first Bytes c.new-reader.result c.bytes.new.self fields c.in_ok-field.field.now c.new-reader.ensures.left c.in_ok-field.ensures.ok in
-    no_signature c.from_residual-in_err-signature.result c.in_err-signature.field-0.0 fields c.in_ok-field.field.now c.bytes.new.self.left
-    c.from_residual-in_err-signature.ensures.1 (rw c.new-inside.ensures.left at c.in_err-signature.ensures.refused) field
+    let field = field_first Bytes c.new-reader.result c.bytes.new.self fields
+    c.in_ok-field.field.now c.new-reader.ensures.left c.in_ok-field.ensures.ok in
+    no_signature c.from_residual-in_err-signature.result c.in_err-signature.field-0.0 fields
+    c.in_ok-field.field.now c.bytes.new.self.left
+    c.from_residual-in_err-signature.ensures.1
+    (rw c.new-inside.ensures.left at c.in_err-signature.ensures.refused) field
 
 pub returns-in_err-end : goal.returns-in_err-end
 returns-in_err-end g c =
     let fields = c.args.fields.now in
-    let field = field_first Bytes c.new-reader.result c.bytes.new.self fields c.in_ok-field.field.now c.new-reader.ensures.left c.in_ok-field.ensures.ok in
+    let field = field_first Bytes c.new-reader.result c.bytes.new.self fields
+    c.in_ok-field.field.now c.new-reader.ensures.left c.in_ok-field.ensures.ok in
     let left = c.decode.new.r.left in
-    more_than_signature c.from_residual-in_err-end.result c.in_err-end.field-0.0 (length left) fields c.from_residual-in_err-end.ensures.1 c.in_err-end.ensures.trailing
+    more_than_signature c.from_residual-in_err-end.result c.in_err-end.field-0.0 (length left)
+    fields c.from_residual-in_err-end.ensures.1 c.in_err-end.ensures.trailing
     (inr (
       c.in_ok-field.field.now,
       c.bytes.new.self.left,
@@ -30,9 +35,11 @@ returns-in_err-end g c =
 pub returns-in_err-end-2 : goal.returns-in_err-end-2
 returns-in_err-end-2 g c =
     let fields = c.args.fields.now in
-    let field = field_first Bytes c.new-reader.result c.bytes.new.self fields c.in_ok-field.field.now c.new-reader.ensures.left c.in_ok-field.ensures.ok in
+    let field = field_first Bytes c.new-reader.result c.bytes.new.self fields
+    c.in_ok-field.field.now c.new-reader.ensures.left c.in_ok-field.ensures.ok in
     let after = c.bytes.new.self.left in
-    more_than_signature c.from_residual-in_err-end-2.result c.in_err-end-2.field-0.0 (length after) fields c.from_residual-in_err-end-2.ensures.1 c.in_err-end-2.ensures.trailing
+    more_than_signature c.from_residual-in_err-end-2.result c.in_err-end-2.field-0.0 (length after)
+    fields c.from_residual-in_err-end-2.ensures.1 c.in_err-end-2.ensures.trailing
     (inr (
       c.in_ok-field.field.now,
       after,

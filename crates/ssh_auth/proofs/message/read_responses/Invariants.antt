@@ -7,4 +7,5 @@ use Rattle.ssh_auth.proofs.message.read_responses.Given as goal
 abbrev pub invariant-loop : goal.invariant-loop
 invariant-loop l =
     let texts = map (λ text. text.now) l.responses.items in
-    (length l.responses.items ≡ l.counter) × SpellsAll (strings texts) (values texts) l.initial.reader.left l.reader.left
+    (length l.responses.items ≡ l.counter) × SpellsAll (strings texts) (values texts)
+    l.initial.reader.left l.reader.left

@@ -13,13 +13,17 @@ pub returns-in_err-answer_offer-in-Ok : goal.returns-in_err-answer_offer-in-Ok
 returns-in_err-answer_offer-in-Ok g c =
     let user = c.args.user.now in
     let offer = c.args.offer.now in
-    no_permit (Admits (by.PublickeyOffered user (offered_key offer.key) offer.algorithm)) (λ answer. after_offer c.args.auth.now offer answer) c.in-Ok.verdict
-    (AuthPublickeyOffered user (offered_key offer.key) offer.algorithm (Ok c.in-Ok.verdict)) _ _ c.answer_offer.new.auth c.in_err-answer_offer-in-Ok.field-0.0 c.from_residual.result
+    no_permit (Admits (by.PublickeyOffered user (offered_key offer.key) offer.algorithm))
+    (λ answer. after_offer c.args.auth.now offer answer) c.in-Ok.verdict
+    (AuthPublickeyOffered user (offered_key offer.key) offer.algorithm (Ok c.in-Ok.verdict)) _ _
+    c.answer_offer.new.auth c.in_err-answer_offer-in-Ok.field-0.0 c.from_residual.result
     c.from_residual.ensures.1 c.in_err-answer_offer-in-Ok.ensures.refused refl c.in-Ok.ensures
 
 pub returns-in-Err : goal.returns-in-Err
 returns-in-Err g c =
     let user = c.args.user.now in
     let offer = c.args.offer.now in
-    asked_in_vain (Admits (by.PublickeyOffered user (offered_key offer.key) offer.algorithm)) (λ answer. Finish (after_offer c.args.auth.now offer answer))
-    (AuthPublickeyOffered user (offered_key offer.key) offer.algorithm (Err c.in-Err.e)) _ _ c.args.auth.now c.in-Err.e refl c.in-Err.ensures
+    asked_in_vain (Admits (by.PublickeyOffered user (offered_key offer.key) offer.algorithm))
+    (λ answer. Finish (after_offer c.args.auth.now offer answer))
+    (AuthPublickeyOffered user (offered_key offer.key) offer.algorithm (Err c.in-Err.e)) _ _
+    c.args.auth.now c.in-Err.e refl c.in-Err.ensures

@@ -11,13 +11,17 @@ pub returns-in_err-answer_proof-in-Ok : goal.returns-in_err-answer_proof-in-Ok
 returns-in_err-answer_proof-in-Ok g c =
     let user = c.args.user.now in
     let certificate = c.args.certificate.now in
-    starved_after (Admits (by.OpensshCertificate user certificate)) (λ answer. Finish (after_proof c.args.auth.now answer)) c.in-Ok.verdict
-    (AuthOpensshCertificate user certificate (Ok c.in-Ok.verdict)) _ _ c.answer_proof.new.auth c.in_err-answer_proof-in-Ok.field-0.0 c.from_residual.result
+    starved_after (Admits (by.OpensshCertificate user certificate))
+    (λ answer. Finish (after_proof c.args.auth.now answer)) c.in-Ok.verdict
+    (AuthOpensshCertificate user certificate (Ok c.in-Ok.verdict)) _ _ c.answer_proof.new.auth
+    c.in_err-answer_proof-in-Ok.field-0.0 c.from_residual.result
     c.from_residual.ensures.1 c.in_err-answer_proof-in-Ok.ensures.memory refl c.in-Ok.ensures
 
 pub returns-in-Err : goal.returns-in-Err
 returns-in-Err g c =
     let user = c.args.user.now in
     let certificate = c.args.certificate.now in
-    asked_in_vain (Admits (by.OpensshCertificate user certificate)) (λ answer. Finish (after_proof c.args.auth.now answer)) (AuthOpensshCertificate user certificate (Err c.in-Err.e)) _ _ c.args.auth.now
+    asked_in_vain (Admits (by.OpensshCertificate user certificate))
+    (λ answer. Finish (after_proof c.args.auth.now answer))
+    (AuthOpensshCertificate user certificate (Err c.in-Err.e)) _ _ c.args.auth.now
     c.in-Err.e refl c.in-Err.ensures

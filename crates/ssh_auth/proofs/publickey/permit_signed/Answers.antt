@@ -20,8 +20,10 @@ returns-in_err-refuse-in-Ok g c =
       None,
       tt,
       unprobed auth user offer None _ _ c.refuse.new.auth c.from_residual.result fresh
-          (starved_after (Admits (by.PublickeyOffered user (offered_key offer.key) offer.algorithm)) (λ answer. permitted auth answer (signed auth user offer None)) c.in-Ok.field-0
-          (AuthPublickeyOffered user (offered_key offer.key) offer.algorithm (Ok c.in-Ok.field-0)) _ _ c.refuse.new.auth c.in_err-refuse-in-Ok.field-0.0 c.from_residual.result
+          (starved_after (Admits (by.PublickeyOffered user (offered_key offer.key) offer.algorithm))
+          (λ answer. permitted auth answer (signed auth user offer None)) c.in-Ok.field-0
+          (AuthPublickeyOffered user (offered_key offer.key) offer.algorithm (Ok c.in-Ok.field-0)) _
+          _ c.refuse.new.auth c.in_err-refuse-in-Ok.field-0.0 c.from_residual.result
           c.from_residual.ensures.1 c.in_err-refuse-in-Ok.ensures.memory refl c.in-Ok.ensures),
     )
 
@@ -34,9 +36,12 @@ returns-in-Ok-Accept g c =
     let fresh : is_probed auth.current offer.name offer.blob ≡ false = search rules in (
       rest.0,
       rest.1,
-      unprobed auth user offer rest.0 _ _ c.verify_signed-in-Ok-Accept.new.auth c.verify_signed-in-Ok-Accept.result fresh
-          (asked (Admits (by.PublickeyOffered user (offered_key offer.key) offer.algorithm)) (λ answer. permitted auth answer (signed auth user offer rest.0)) Accept
-          (AuthPublickeyOffered user (offered_key offer.key) offer.algorithm (Ok Accept)) _ _ _ c.verify_signed-in-Ok-Accept.new.auth c.verify_signed-in-Ok-Accept.result
+      unprobed auth user offer rest.0 _ _ c.verify_signed-in-Ok-Accept.new.auth
+          c.verify_signed-in-Ok-Accept.result fresh
+          (asked (Admits (by.PublickeyOffered user (offered_key offer.key) offer.algorithm))
+          (λ answer. permitted auth answer (signed auth user offer rest.0)) Accept
+          (AuthPublickeyOffered user (offered_key offer.key) offer.algorithm (Ok Accept)) _ _ _
+          c.verify_signed-in-Ok-Accept.new.auth c.verify_signed-in-Ok-Accept.result
           refl (rw c.in-Ok-Accept.field-0-is at c.in-Ok-Accept.ensures) rest.2),
     )
 
@@ -49,6 +54,8 @@ returns g c =
       None,
       tt,
       unprobed auth user offer None _ _ auth (Err (error.Handler c.in-Err.e)) fresh
-          (asked_in_vain (Admits (by.PublickeyOffered user (offered_key offer.key) offer.algorithm)) (λ answer. permitted auth answer (signed auth user offer None))
-          (AuthPublickeyOffered user (offered_key offer.key) offer.algorithm (Err c.in-Err.e)) _ _ auth c.in-Err.e refl c.in-Err.ensures),
+          (asked_in_vain (Admits (by.PublickeyOffered user (offered_key offer.key) offer.algorithm))
+          (λ answer. permitted auth answer (signed auth user offer None))
+          (AuthPublickeyOffered user (offered_key offer.key) offer.algorithm (Err c.in-Err.e)) _ _
+          auth c.in-Err.e refl c.in-Err.ensures),
     )

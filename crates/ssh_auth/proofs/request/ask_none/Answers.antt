@@ -11,10 +11,15 @@ use Rattle.ssh_auth.proofs.request.ask_none.Goals as goal
 pub returns-in_err-answer-in-Ok : goal.returns-in_err-answer-in-Ok
 returns-in_err-answer-in-Ok g c =
     let user = c.args.user.now in
-    starved_after (Admits (by.None user)) (λ answer. Finish (after_method c.args.auth.now kind.None answer)) c.in-Ok.verdict (AuthNone user (Ok c.in-Ok.verdict)) _ _ c.answer.new.auth
-    c.in_err-answer-in-Ok.field-0.0 c.from_residual.result c.from_residual.ensures.1 c.in_err-answer-in-Ok.ensures.memory refl c.in-Ok.ensures
+    starved_after (Admits (by.None user))
+    (λ answer. Finish (after_method c.args.auth.now kind.None answer)) c.in-Ok.verdict
+    (AuthNone user (Ok c.in-Ok.verdict)) _ _ c.answer.new.auth
+    c.in_err-answer-in-Ok.field-0.0 c.from_residual.result c.from_residual.ensures.1
+    c.in_err-answer-in-Ok.ensures.memory refl c.in-Ok.ensures
 
 pub returns-in-Err : goal.returns-in-Err
 returns-in-Err g c =
     let user = c.args.user.now in
-    asked_in_vain (Admits (by.None user)) (λ answer. Finish (after_method c.args.auth.now kind.None answer)) (AuthNone user (Err c.in-Err.e)) _ _ c.args.auth.now c.in-Err.e refl c.in-Err.ensures
+    asked_in_vain (Admits (by.None user))
+    (λ answer. Finish (after_method c.args.auth.now kind.None answer))
+    (AuthNone user (Err c.in-Err.e)) _ _ c.args.auth.now c.in-Err.e refl c.in-Err.ensures

@@ -12,13 +12,17 @@ pub returns-in_err-answer-in-Ok : goal.returns-in_err-answer-in-Ok
 returns-in_err-answer-in-Ok g c =
     let user = c.args.user.now in
     let password = c.args.password.now in
-    starved_after (Admits (by.Password user password)) (λ answer. Finish (after_method c.args.auth.now kind.Password answer)) c.in-Ok.verdict
-    (AuthPassword user password (Ok c.in-Ok.verdict)) _ _ c.answer.new.auth c.in_err-answer-in-Ok.field-0.0 c.from_residual.result c.from_residual.ensures.1
+    starved_after (Admits (by.Password user password))
+    (λ answer. Finish (after_method c.args.auth.now kind.Password answer)) c.in-Ok.verdict
+    (AuthPassword user password (Ok c.in-Ok.verdict)) _ _ c.answer.new.auth
+    c.in_err-answer-in-Ok.field-0.0 c.from_residual.result c.from_residual.ensures.1
     c.in_err-answer-in-Ok.ensures.memory refl c.in-Ok.ensures
 
 pub returns-in-Err : goal.returns-in-Err
 returns-in-Err g c =
     let user = c.args.user.now in
     let password = c.args.password.now in
-    asked_in_vain (Admits (by.Password user password)) (λ answer. Finish (after_method c.args.auth.now kind.Password answer)) (AuthPassword user password (Err c.in-Err.e)) _ _ c.args.auth.now
+    asked_in_vain (Admits (by.Password user password))
+    (λ answer. Finish (after_method c.args.auth.now kind.Password answer))
+    (AuthPassword user password (Err c.in-Err.e)) _ _ c.args.auth.now
     c.in-Err.e refl c.in-Err.ensures
