@@ -1,5 +1,6 @@
 -- What is told of a call, by cases on whether there was memory.
-use Rattle.std.proofs.Common.{◌≡◌, Bool, true, false, List, Option, IfSome, IfOk, IsOk, Result, Ok, Err}
+use Rattle.std.proofs.Common.{◌≡◌, Bool, true, false, List, Option, IfSome, IfOk, IsOk}
+use Rattle.std.proofs.Common.{Result, Ok, Err}
 use Rattle.ssh_handler.specs.Recording.{told_while}
 
 -- the calls that are told are all that are kept

@@ -1,3 +1,4 @@
 pub mod Settings
 pub mod Loan
 pub mod Recording
+pub mod Receiving

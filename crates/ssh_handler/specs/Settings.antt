@@ -8,7 +8,11 @@ standard_config = record {
   methods = server_methods;
   auth_rejection_time = 1000;
   auth_rejection_time_initial = None;
-  limits = record { rekey_write_limit = 2 ^ 30; rekey_read_limit = 2 ^ 30; rekey_time_limit = 3600000 };
+  limits = record {
+    rekey_write_limit = 2 ^ 30;
+    rekey_read_limit = 2 ^ 30;
+    rekey_time_limit = 3600000;
+  };
   window_size = 2097152;
   maximum_packet_size = 32768;
   channel_buffer_size = 100;

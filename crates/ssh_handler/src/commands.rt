@@ -2,24 +2,32 @@
 ghost use Rattle.std.specs.Prelude.{◌≡◌, [], IfOk, IfErr};
 ghost use Rattle.ssh_wire.specs.declared.error.WireError.TheVariants.{NoMemory};
 ghost use Rattle.ssh_link.specs.declared.command.Command.TheVariants as command;
+ghost use Rattle.ssh_channels.specs.Line as line;
+ghost use Rattle.ssh_channels.specs.Table as table_of;
+ghost use Rattle.ssh_channels.specs.Calls as calls;
 ghost use Rattle.ssh_handler.specs.Loan.{TakesDown};
+ghost use Rattle.ssh_handler.specs.Receiving as receiving;
 
-use crate::Config;
+use crate::{Config, receiving};
 use bytes::Bytes;
+use ssh_channels::Encrypted;
 use ssh_link::{Command, CommandList, OpenAnswer};
 use ssh_wire::{ChannelId, Disconnect, Sig, Text, WireError};
 use std::alloc::Global;
 use std::marker::Model;
 
-/// What a session lends to a callback for the time of its call: it records commands, which the
-/// session does in their order once the callback has returned. Each of its calls that records a
-/// command answers that command where there is no memory for it, and has then recorded nothing.
-/// Channels go by this side's numbers.
+/// What a session lends to a callback for the time of its call: it reads the session as it is at
+/// the call, and records commands, which the session does in their order once the callback has
+/// returned. Each of its calls that records a command answers that command where there is no memory
+/// for it, and has then recorded nothing. Channels go by this side's numbers, sizes are in bytes.
 #[derive(Drop)]
 pub struct Commands<'a> {
     recorded: CommandList,
+    table: &'a Encrypted,
     config: &'a Config,
     remote_sshid: &'a [u8],
+    commands_wanted: bool,
+    replies_wanted: bool,
 }
 
 impl<'a> Model for Commands<'a> {
@@ -27,21 +35,42 @@ impl<'a> Model for Commands<'a> {
 
     ghost Value = { Loan };
 
-    ghost view = { λ c. record { recorded = c.recorded; config = c.config.now; remote_sshid = c.remote_sshid.now } };
+    ghost view = { λ c. record {
+      recorded = c.recorded;
+      table = c.table.now;
+      config = c.config.now;
+      remote_sshid = c.remote_sshid.now;
+      commands_wanted = c.commands_wanted;
+      replies_wanted = c.replies_wanted;
+    } };
 }
 
 impl<'a> Commands<'a> {
-    /// Lends this configuration, and the line by which the peer's software named itself. No command
-    /// is recorded yet.
-    pub fn new(alloc: Global, config: &'a Config, remote_sshid: &'a [u8]) -> Commands<'a>
+    /// Lends these channels, this configuration, the line by which the peer's software named
+    /// itself, and whether the session takes commands and answers to opens from outside now. No
+    /// command is recorded yet.
+    pub fn new(
+        alloc: Global,
+        table: &'a Encrypted,
+        config: &'a Config,
+        remote_sshid: &'a [u8],
+        commands_wanted: bool,
+        replies_wanted: bool,
+    ) -> Commands<'a>
         ensures recorded { result.recorded ≡ [] }
+        ensures table { result.table ≡ table.now }
         ensures config { result.config ≡ config.now }
         ensures remote_sshid { result.remote_sshid ≡ remote_sshid.now }
+        ensures commands_wanted { result.commands_wanted ≡ commands_wanted }
+        ensures replies_wanted { result.replies_wanted ≡ replies_wanted }
     {
         Commands {
             recorded: CommandList::new(alloc),
+            table,
             config,
             remote_sshid,
+            commands_wanted,
+            replies_wanted,
         }
     }
 
@@ -58,6 +87,20 @@ impl<'a> Commands<'a> {
         ensures { result.now ≡ self.now.remote_sshid }
     {
         self.remote_sshid
+    }
+
+    /// Whether the session takes commands from outside now: no data wait on any channel.
+    pub fn commands_wanted(&self) -> bool
+        ensures { result ≡ self.now.commands_wanted }
+    {
+        self.commands_wanted
+    }
+
+    /// Whether the session takes answers to opens from outside now.
+    pub fn replies_wanted(&self) -> bool
+        ensures { result ≡ self.now.replies_wanted }
+    {
+        self.replies_wanted
     }
 
     /// The recorded commands, in order.
@@ -83,6 +126,55 @@ impl<'a> Commands<'a> {
     }
 }
 
+// The channels as they are at the call: what is recorded has not been done yet.
+impl<'a> Commands<'a> {
+    /// The most bytes of data that the peer may send on the channel in one message now, and 0 where
+    /// there is no such channel (RFC 4254 section 5.2).
+    pub fn writable_packet_size(&self, channel: &ChannelId) -> u32
+        ensures { result ≡ receiving.takes_at channel.now.0 self.now.table }
+    {
+        receiving::writable_packet_size(self.table, *channel)
+    }
+
+    /// How many bytes of data the peer may still send on the channel, and 0 where there is no such
+    /// channel (RFC 4254 section 5.2).
+    pub fn window_size(&self, channel: &ChannelId) -> u32
+        ensures { result ≡ calls.room_at channel.now.0 self.now.table }
+    {
+        receiving::window_size(self.table, *channel)
+    }
+
+    /// The most bytes of data that this side takes on the channel in one message, and 0 where there
+    /// is no such channel (RFC 4254 section 5.1).
+    pub fn max_packet_size(&self, channel: &ChannelId) -> u32
+        ensures { result ≡ receiving.packet_at channel.now.0 self.now.table }
+    {
+        receiving::max_packet_size(self.table, *channel)
+    }
+
+    /// `window_size`, as a count.
+    pub fn sender_window_size(&self, channel: ChannelId) -> usize
+        ensures { result ≡ calls.room_at channel.0 self.now.table }
+    {
+        self.table.sender_window_size(channel)
+    }
+
+    /// Whether data wait on the channel to be sent.
+    pub fn has_pending_data(&self, channel: ChannelId) -> bool
+        ensures { result ≡ table_of.has line.data_waits channel.0 self.now.table }
+    {
+        self.table.has_pending_data(channel)
+    }
+
+    /// Whether data would be accepted on the channel: it is established, and neither an EOF nor a
+    /// CLOSE was accepted on it.
+    pub fn can_send(&self, channel: ChannelId) -> bool
+        ensures { result ≡ table_of.has line.may_send channel.0 self.now.table }
+    {
+        self.table.can_send(channel)
+    }
+}
+
 // One call a command. What comes of it is told by `command_done`, where it opens a channel or is
 // refused.
 impl<'a> Commands<'a> {
@@ -93,8 +185,8 @@ impl<'a> Commands<'a> {
         self.recorded.try_push(Command::Data { channel, bytes })
     }
 
-    /// Sends these bytes on the channel as data of another type; `ext` 1 is standard error (RFC 4254
-    /// section 5.2).
+    /// Sends these bytes on the channel as data of another type; `ext` 1 is standard error (RFC
+    /// 4254 section 5.2).
     pub fn extended_data(
         &mut self,
         channel: ChannelId,
@@ -178,7 +270,8 @@ impl<'a> Commands<'a> {
         error_message: Text,
         language: Text,
     ) -> Result<(), Command>
-        ensures { TakesDown self.old self.new result (command.ExitSignal channel signal core_dumped error_message language) }
+        ensures { TakesDown self.old self.new result (command.ExitSignal channel signal core_dumped
+            error_message language) }
     {
         self.recorded.try_push(Command::ExitSignal {
             channel,
@@ -212,7 +305,8 @@ impl<'a> Commands<'a> {
         originator: Text,
         originator_port: u32,
     ) -> Result<(), Command>
-        ensures { TakesDown self.old self.new result (command.OpenDirectTcpip host port originator originator_port) }
+        ensures { TakesDown self.old self.new result (command.OpenDirectTcpip host port originator
+            originator_port) }
     {
         self.recorded.try_push(Command::OpenDirectTcpip {
             host,
@@ -231,7 +325,8 @@ impl<'a> Commands<'a> {
         originator: Text,
         originator_port: u32,
     ) -> Result<(), Command>
-        ensures { TakesDown self.old self.new result (command.OpenForwardedTcpip host port originator originator_port) }
+        ensures { TakesDown self.old self.new result (command.OpenForwardedTcpip host port
+            originator originator_port) }
     {
         self.recorded.try_push(Command::OpenForwardedTcpip {
             host,
@@ -249,8 +344,8 @@ impl<'a> Commands<'a> {
             .try_push(Command::OpenDirectStreamlocal { path })
     }
 
-    /// Hands on a connection that came to the forwarded socket of this path (OpenSSH PROTOCOL section
-    /// 2.4).
+    /// Hands on a connection that came to the forwarded socket of this path (OpenSSH PROTOCOL
+    /// section 2.4).
     pub fn channel_open_forwarded_streamlocal(&mut self, path: Text) -> Result<(), Command>
         ensures { TakesDown self.old self.new result (command.OpenForwardedStreamlocal path) }
     {
@@ -291,15 +386,16 @@ impl<'a> Commands<'a> {
         })
     }
 
-    /// Asks the peer to forward them no longer. With a slot the peer is to answer, and its answer is
-    /// told under the slot (RFC 4254 section 7.1).
+    /// Asks the peer to forward them no longer. With a slot the peer is to answer, and its answer
+    /// is told under the slot (RFC 4254 section 7.1).
     pub fn cancel_tcpip_forward(
         &mut self,
         address: Text,
         port: u32,
         reply: Option<u64>,
     ) -> Result<(), Command>
-        ensures { TakesDown self.old self.new result (command.CancelTcpipForward address port reply) }
+        ensures { TakesDown self.old self.new result (command.CancelTcpipForward address port
+            reply) }
     {
         self.recorded.try_push(Command::CancelTcpipForward {
             address,
@@ -322,14 +418,16 @@ impl<'a> Commands<'a> {
         self.recorded.try_push(Command::Ping { slot })
     }
 
-    /// Answers the peer's global request by success, where an answer is wanted (RFC 4254 section 4).
+    /// Answers the peer's global request by success, where an answer is wanted (RFC 4254 section
+    /// 4).
     pub fn request_success(&mut self) -> Result<(), Command>
         ensures { TakesDown self.old self.new result command.RequestSuccess }
     {
         self.recorded.try_push(Command::RequestSuccess)
     }
 
-    /// Answers the peer's global request by failure, where an answer is wanted (RFC 4254 section 4).
+    /// Answers the peer's global request by failure, where an answer is wanted (RFC 4254 section
+    /// 4).
     pub fn request_failure(&mut self) -> Result<(), Command>
         ensures { TakesDown self.old self.new result command.RequestFailure }
     {
@@ -344,7 +442,8 @@ impl<'a> Commands<'a> {
         message: Text,
         language: Text,
     ) -> Result<(), Command>
-        ensures { TakesDown self.old self.new result (command.Debug always_display message language) }
+        ensures { TakesDown self.old self.new result (command.Debug always_display message
+            language) }
     {
         self.recorded.try_push(Command::Debug {
             always_display,
@@ -361,7 +460,8 @@ impl<'a> Commands<'a> {
         description: Text,
         language: Text,
     ) -> Result<(), Command>
-        ensures { TakesDown self.old self.new result (command.Disconnect reason description language) }
+        ensures { TakesDown self.old self.new result (command.Disconnect reason description
+            language) }
     {
         self.recorded.try_push(Command::Disconnect {
             reason,

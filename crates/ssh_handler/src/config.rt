@@ -24,8 +24,8 @@ pub struct Config {
     pub channel_buffer_size: usize,
     /// How many commands wait for the session. Nothing reads it yet.
     pub event_buffer_size: usize,
-    /// After how many rejections the next request or response is answered by a DISCONNECT; 0 sets no
-    /// end.
+    /// After how many rejections the next request or response is answered by a DISCONNECT; 0 sets
+    /// no end.
     pub max_auth_attempts: usize,
     /// After how long without an input the link ends the connection, in milliseconds; told to
     /// whoever builds the link.

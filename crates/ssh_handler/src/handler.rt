@@ -14,19 +14,20 @@ use ssh_wire::{ChannelId, Pty, Sig};
 /// once it has returned; after an error they are not.
 ///
 /// Channels go by this side's numbers. Where a callback answers a request of the peer (RFC 4254
-/// sections 5.4 and 6) it records `channel_success` or `channel_failure`, now or in a later callback;
-/// one that answers a bool says itself whether the request is granted.
+/// sections 5.4 and 6) it records `channel_success` or `channel_failure`, now or in a later
+/// callback; one that answers a bool says itself whether the request is granted.
 pub trait Handler: AuthHandler {
     /// The servers, by their config, and the peers, by their identification line, for which the
-    /// callbacks that are lent commands may be called: all, where it is not written. What a callback
-    /// counts on of what it is lent stands here, and `run_stream` asks for it.
+    /// callbacks that are lent commands may be called: all, where it is not written. What a
+    /// callback counts on of what it is lent stands here, and `run_stream` asks for it.
     ghost suits: { ConfigOf → List ℕ → Type 0 } = { λ _ _. Unit {0} };
 
     /// The user is authenticated, and the success message is staged (RFC 4252 section 5.1).
     fn auth_succeeded(&mut self, session: &mut Commands<'_>) -> Result<(), Self::Error>
         requires fresh { session.old.recorded ≡ [] }
         requires suits { Self.suits session.old.config session.old.remote_sshid }
-        ensures { Tells (Self.told self.old) (Self.told self.new) result (call.AuthSucceeded result session.new.recorded) }
+        ensures { Tells (Self.told self.old) (Self.told self.new) result
+            (call.AuthSucceeded result session.new.recorded) }
     {
         self.untold(Unwritten::new())?;
         Ok(())
@@ -41,7 +42,8 @@ pub trait Handler: AuthHandler {
     ) -> Result<(), Self::Error>
         requires fresh { session.old.recorded ≡ [] }
         requires suits { Self.suits session.old.config session.old.remote_sshid }
-        ensures { Tells (Self.told self.old) (Self.told self.new) result (call.ChannelClose channel result session.new.recorded) }
+        ensures { Tells (Self.told self.old) (Self.told self.new) result
+            (call.ChannelClose channel result session.new.recorded) }
     {
         self.untold(Unwritten::new())?;
         Ok(())
@@ -55,7 +57,8 @@ pub trait Handler: AuthHandler {
     ) -> Result<(), Self::Error>
         requires fresh { session.old.recorded ≡ [] }
         requires suits { Self.suits session.old.config session.old.remote_sshid }
-        ensures { Tells (Self.told self.old) (Self.told self.new) result (call.ChannelEof channel result session.new.recorded) }
+        ensures { Tells (Self.told self.old) (Self.told self.new) result
+            (call.ChannelEof channel result session.new.recorded) }
     {
         self.untold(Unwritten::new())?;
         Ok(())
@@ -73,7 +76,8 @@ pub trait Handler: AuthHandler {
         requires of { reply ≡ channel }
         requires fresh { session.old.recorded ≡ [] }
         requires suits { Self.suits session.old.config session.old.remote_sshid }
-        ensures { Tells (Self.told self.old) (Self.told self.new) result (call.ChannelOpenSession channel result session.new.recorded) };
+        ensures { Tells (Self.told self.old) (Self.told self.new) result
+            (call.ChannelOpenSession channel result session.new.recorded) };
 
     /// The peer opens a channel for a connection to an X server (RFC 4254 section 6.3.2), which
     /// comes from this address and port. It is answered as a session is.
@@ -88,11 +92,13 @@ pub trait Handler: AuthHandler {
         requires of { reply ≡ channel }
         requires fresh { session.old.recorded ≡ [] }
         requires suits { Self.suits session.old.config session.old.remote_sshid }
-        ensures { Tells (Self.told self.old) (Self.told self.new) result (call.ChannelOpenX11 channel originator_address.now originator_port result session.new.recorded) };
+        ensures { Tells (Self.told self.old) (Self.told self.new) result
+            (call.ChannelOpenX11 channel originator_address.now originator_port result
+            session.new.recorded) };
 
     /// The peer asks for a connection to this host and port, and opens a channel for it (RFC 4254
-    /// section 7.2, direct-tcpip); the connection comes from the originator's address and port. It is
-    /// answered as a session is.
+    /// section 7.2, direct-tcpip); the connection comes from the originator's address and port. It
+    /// is answered as a session is.
     fn channel_open_direct_tcpip(
         &mut self,
         channel: ChannelId,
@@ -106,11 +112,13 @@ pub trait Handler: AuthHandler {
         requires of { reply ≡ channel }
         requires fresh { session.old.recorded ≡ [] }
         requires suits { Self.suits session.old.config session.old.remote_sshid }
-        ensures { Tells (Self.told self.old) (Self.told self.new) result (call.ChannelOpenDirectTcpip channel host_to_connect.now port_to_connect originator_address.now originator_port result session.new.recorded) };
+        ensures { Tells (Self.told self.old) (Self.told self.new) result
+            (call.ChannelOpenDirectTcpip channel host_to_connect.now port_to_connect
+            originator_address.now originator_port result session.new.recorded) };
 
     /// The peer opens a channel for a connection that came to this address and port, which it
-    /// listens at for this side (RFC 4254 section 7.2, forwarded-tcpip); the connection comes from the
-    /// originator's address and port. It is answered as a session is.
+    /// listens at for this side (RFC 4254 section 7.2, forwarded-tcpip); the connection comes from
+    /// the originator's address and port. It is answered as a session is.
     fn channel_open_forwarded_tcpip(
         &mut self,
         channel: ChannelId,
@@ -124,10 +132,12 @@ pub trait Handler: AuthHandler {
         requires of { reply ≡ channel }
         requires fresh { session.old.recorded ≡ [] }
         requires suits { Self.suits session.old.config session.old.remote_sshid }
-        ensures { Tells (Self.told self.old) (Self.told self.new) result (call.ChannelOpenForwardedTcpip channel host_to_connect.now port_to_connect originator_address.now originator_port result session.new.recorded) };
+        ensures { Tells (Self.told self.old) (Self.told self.new) result
+            (call.ChannelOpenForwardedTcpip channel host_to_connect.now port_to_connect
+            originator_address.now originator_port result session.new.recorded) };
 
-    /// The peer asks for a connection to the socket of this path, and opens a channel for it (OpenSSH
-    /// PROTOCOL section 2.4, direct-streamlocal). It is answered as a session is.
+    /// The peer asks for a connection to the socket of this path, and opens a channel for it
+    /// (OpenSSH PROTOCOL section 2.4, direct-streamlocal). It is answered as a session is.
     fn channel_open_direct_streamlocal(
         &mut self,
         channel: ChannelId,
@@ -138,10 +148,12 @@ pub trait Handler: AuthHandler {
         requires of { reply ≡ channel }
         requires fresh { session.old.recorded ≡ [] }
         requires suits { Self.suits session.old.config session.old.remote_sshid }
-        ensures { Tells (Self.told self.old) (Self.told self.new) result (call.ChannelOpenDirectStreamlocal channel socket_path.now result session.new.recorded) };
+        ensures { Tells (Self.told self.old) (Self.told self.new) result
+            (call.ChannelOpenDirectStreamlocal channel socket_path.now result
+            session.new.recorded) };
 
-    /// The peer confirmed the open of this channel (RFC 4254 section 5.1): one message to it may have
-    /// `max_packet_size` bytes of data, and it takes `window_size` bytes at first.
+    /// The peer confirmed the open of this channel (RFC 4254 section 5.1): one message to it may
+    /// have `max_packet_size` bytes of data, and it takes `window_size` bytes at first.
     fn channel_open_confirmation(
         &mut self,
         id: ChannelId,
@@ -151,7 +163,9 @@ pub trait Handler: AuthHandler {
     ) -> Result<(), Self::Error>
         requires fresh { session.old.recorded ≡ [] }
         requires suits { Self.suits session.old.config session.old.remote_sshid }
-        ensures { Tells (Self.told self.old) (Self.told self.new) result (call.ChannelOpenConfirmation id max_packet_size window_size result session.new.recorded) }
+        ensures { Tells (Self.told self.old) (Self.told self.new) result
+            (call.ChannelOpenConfirmation id max_packet_size window_size result
+            session.new.recorded) }
     {
         self.untold(Unwritten::new())?;
         Ok(())
@@ -166,7 +180,8 @@ pub trait Handler: AuthHandler {
     ) -> Result<(), Self::Error>
         requires fresh { session.old.recorded ≡ [] }
         requires suits { Self.suits session.old.config session.old.remote_sshid }
-        ensures { Tells (Self.told self.old) (Self.told self.new) result (call.Data channel bytes.now result session.new.recorded) }
+        ensures { Tells (Self.told self.old) (Self.told self.new) result
+            (call.Data channel bytes.now result session.new.recorded) }
     {
         self.untold(Unwritten::new())?;
         Ok(())
@@ -182,7 +197,8 @@ pub trait Handler: AuthHandler {
     ) -> Result<(), Self::Error>
         requires fresh { session.old.recorded ≡ [] }
         requires suits { Self.suits session.old.config session.old.remote_sshid }
-        ensures { Tells (Self.told self.old) (Self.told self.new) result (call.ExtendedData channel code bytes.now result session.new.recorded) }
+        ensures { Tells (Self.told self.old) (Self.told self.new) result
+            (call.ExtendedData channel code bytes.now result session.new.recorded) }
     {
         self.untold(Unwritten::new())?;
         Ok(())
@@ -198,24 +214,26 @@ pub trait Handler: AuthHandler {
     ) -> Result<(), Self::Error>
         requires fresh { session.old.recorded ≡ [] }
         requires suits { Self.suits session.old.config session.old.remote_sshid }
-        ensures { Tells (Self.told self.old) (Self.told self.new) result (call.WindowAdjusted channel new_size result session.new.recorded) }
+        ensures { Tells (Self.told self.old) (Self.told self.new) result
+            (call.WindowAdjusted channel new_size result session.new.recorded) }
     {
         self.untold(Unwritten::new())?;
         Ok(())
     }
 
-    /// The window that this side grants on the channel was just filled up to `current` bytes (RFC 4254
-    /// section 5.2). The answer is what the windows of the session are filled up to from now on, in
-    /// bytes; 0 leaves it as it is, and so does a callback that is not written.
+    /// The window that this side grants on the channel was just filled up to `current` bytes (RFC
+    /// 4254 section 5.2). The answer is what the windows of the session are filled up to from now
+    /// on, in bytes; 0 leaves it as it is, and so does a callback that is not written.
     fn adjust_window(&mut self, channel: ChannelId, current: u32) -> Result<u32, Self::Error>
-        ensures { Tells (Self.told self.old) (Self.told self.new) result (call.AdjustWindow channel current result) }
+        ensures { Tells (Self.told self.old) (Self.told self.new) result
+            (call.AdjustWindow channel current result) }
     {
         self.untold(Unwritten::new())?;
         Ok(current)
     }
 
-    /// The peer asks for a terminal of this type, so many characters wide and rows high, and as many
-    /// pixels, with these modes in their order (RFC 4254 sections 6.2 and 8).
+    /// The peer asks for a terminal of this type, so many characters wide and rows high, and as
+    /// many pixels, with these modes in their order (RFC 4254 sections 6.2 and 8).
     fn pty_request(
         &mut self,
         channel: ChannelId,
@@ -229,14 +247,17 @@ pub trait Handler: AuthHandler {
     ) -> Result<(), Self::Error>
         requires fresh { session.old.recorded ≡ [] }
         requires suits { Self.suits session.old.config session.old.remote_sshid }
-        ensures { Tells (Self.told self.old) (Self.told self.new) result (call.PtyRequest channel term.now col_width row_height pix_width pix_height modes.now result session.new.recorded) }
+        ensures { Tells (Self.told self.old) (Self.told self.new) result
+            (call.PtyRequest channel term.now col_width row_height pix_width pix_height modes.now
+            result session.new.recorded) }
     {
         self.untold(Unwritten::new())?;
         Ok(())
     }
 
-    /// The peer asks that X11 is forwarded to it, for one connection alone or for each, and names the
-    /// protocol and the cookie by which X11 authenticates, and the screen (RFC 4254 section 6.3.1).
+    /// The peer asks that X11 is forwarded to it, for one connection alone or for each, and names
+    /// the protocol and the cookie by which X11 authenticates, and the screen (RFC 4254 section
+    /// 6.3.1).
     fn x11_request(
         &mut self,
         channel: ChannelId,
@@ -248,7 +269,9 @@ pub trait Handler: AuthHandler {
     ) -> Result<(), Self::Error>
         requires fresh { session.old.recorded ≡ [] }
         requires suits { Self.suits session.old.config session.old.remote_sshid }
-        ensures { Tells (Self.told self.old) (Self.told self.new) result (call.X11Request channel single_connection x11_auth_protocol.now x11_auth_cookie.now x11_screen_number result session.new.recorded) }
+        ensures { Tells (Self.told self.old) (Self.told self.new) result
+            (call.X11Request channel single_connection x11_auth_protocol.now x11_auth_cookie.now
+            x11_screen_number result session.new.recorded) }
     {
         self.untold(Unwritten::new())?;
         Ok(())
@@ -264,7 +287,9 @@ pub trait Handler: AuthHandler {
     ) -> Result<(), Self::Error>
         requires fresh { session.old.recorded ≡ [] }
         requires suits { Self.suits session.old.config session.old.remote_sshid }
-        ensures { Tells (Self.told self.old) (Self.told self.new) result (call.EnvRequest channel variable_name.now variable_value.now result session.new.recorded) }
+        ensures { Tells (Self.told self.old) (Self.told self.new) result
+            (call.EnvRequest channel variable_name.now variable_value.now result
+            session.new.recorded) }
     {
         self.untold(Unwritten::new())?;
         Ok(())
@@ -278,14 +303,15 @@ pub trait Handler: AuthHandler {
     ) -> Result<(), Self::Error>
         requires fresh { session.old.recorded ≡ [] }
         requires suits { Self.suits session.old.config session.old.remote_sshid }
-        ensures { Tells (Self.told self.old) (Self.told self.new) result (call.ShellRequest channel result session.new.recorded) }
+        ensures { Tells (Self.told self.old) (Self.told self.new) result
+            (call.ShellRequest channel result session.new.recorded) }
     {
         self.untold(Unwritten::new())?;
         Ok(())
     }
 
-    /// The peer asks that this program is run, with its arguments as it wrote them (RFC 4254 section
-    /// 6.5).
+    /// The peer asks that this program is run, with its arguments as it wrote them (RFC 4254
+    /// section 6.5).
     fn exec_request(
         &mut self,
         channel: ChannelId,
@@ -294,7 +320,8 @@ pub trait Handler: AuthHandler {
     ) -> Result<(), Self::Error>
         requires fresh { session.old.recorded ≡ [] }
         requires suits { Self.suits session.old.config session.old.remote_sshid }
-        ensures { Tells (Self.told self.old) (Self.told self.new) result (call.ExecRequest channel bytes.now result session.new.recorded) }
+        ensures { Tells (Self.told self.old) (Self.told self.new) result
+            (call.ExecRequest channel bytes.now result session.new.recorded) }
     {
         self.untold(Unwritten::new())?;
         Ok(())
@@ -309,7 +336,8 @@ pub trait Handler: AuthHandler {
     ) -> Result<(), Self::Error>
         requires fresh { session.old.recorded ≡ [] }
         requires suits { Self.suits session.old.config session.old.remote_sshid }
-        ensures { Tells (Self.told self.old) (Self.told self.new) result (call.SubsystemRequest channel name.now result session.new.recorded) }
+        ensures { Tells (Self.told self.old) (Self.told self.new) result
+            (call.SubsystemRequest channel name.now result session.new.recorded) }
     {
         self.untold(Unwritten::new())?;
         Ok(())
@@ -328,14 +356,16 @@ pub trait Handler: AuthHandler {
     ) -> Result<(), Self::Error>
         requires fresh { session.old.recorded ≡ [] }
         requires suits { Self.suits session.old.config session.old.remote_sshid }
-        ensures { Tells (Self.told self.old) (Self.told self.new) result (call.WindowChangeRequest channel col_width row_height pix_width pix_height result session.new.recorded) }
+        ensures { Tells (Self.told self.old) (Self.told self.new) result
+            (call.WindowChangeRequest channel col_width row_height pix_width pix_height result
+            session.new.recorded) }
     {
         self.untold(Unwritten::new())?;
         Ok(())
     }
 
-    /// The peer asks that its agent may be reached (OpenSSH's `auth-agent-req@openssh.com`). The answer
-    /// says whether it is granted: not, where this is not written.
+    /// The peer asks that its agent may be reached (OpenSSH's `auth-agent-req@openssh.com`). The
+    /// answer says whether it is granted: not, where this is not written.
     fn agent_request(
         &mut self,
         channel: ChannelId,
@@ -343,13 +373,15 @@ pub trait Handler: AuthHandler {
     ) -> Result<bool, Self::Error>
         requires fresh { session.old.recorded ≡ [] }
         requires suits { Self.suits session.old.config session.old.remote_sshid }
-        ensures { Tells (Self.told self.old) (Self.told self.new) result (call.AgentRequest channel result session.new.recorded) }
+        ensures { Tells (Self.told self.old) (Self.told self.new) result
+            (call.AgentRequest channel result session.new.recorded) }
     {
         self.untold(Unwritten::new())?;
         Ok(false)
     }
 
-    /// The peer sends the program on the channel a signal (RFC 4254 section 6.9). It wants no answer.
+    /// The peer sends the program on the channel a signal (RFC 4254 section 6.9). It wants no
+    /// answer.
     fn signal(
         &mut self,
         channel: ChannelId,
@@ -358,15 +390,16 @@ pub trait Handler: AuthHandler {
     ) -> Result<(), Self::Error>
         requires fresh { session.old.recorded ≡ [] }
         requires suits { Self.suits session.old.config session.old.remote_sshid }
-        ensures { Tells (Self.told self.old) (Self.told self.new) result (call.Signal channel signal result session.new.recorded) }
+        ensures { Tells (Self.told self.old) (Self.told self.new) result
+            (call.Signal channel signal result session.new.recorded) }
     {
         self.untold(Unwritten::new())?;
         Ok(())
     }
 
-    /// The peer asks that connections to this address are forwarded to it (RFC 4254 section 7.1). Where
-    /// it leaves the port to this side, `port` is 0, and the callback sets it to the port that it
-    /// listens at. The answer says whether it is granted: not, where this is not written.
+    /// The peer asks that connections to this address are forwarded to it (RFC 4254 section 7.1).
+    /// Where it leaves the port to this side, `port` is 0, and the callback sets it to the port
+    /// that it listens at. The answer says whether it is granted: not, where this is not written.
     fn tcpip_forward(
         &mut self,
         address: &str,
@@ -375,14 +408,15 @@ pub trait Handler: AuthHandler {
     ) -> Result<bool, Self::Error>
         requires fresh { session.old.recorded ≡ [] }
         requires suits { Self.suits session.old.config session.old.remote_sshid }
-        ensures { Tells (Self.told self.old) (Self.told self.new) result (call.TcpipForward address.now port.old port.new result session.new.recorded) }
+        ensures { Tells (Self.told self.old) (Self.told self.new) result
+            (call.TcpipForward address.now port.old port.new result session.new.recorded) }
     {
         self.untold(Unwritten::new())?;
         Ok(false)
     }
 
-    /// The peer asks that they are forwarded no longer (RFC 4254 section 7.1). The answer says whether
-    /// it is granted: not, where this is not written.
+    /// The peer asks that they are forwarded no longer (RFC 4254 section 7.1). The answer says
+    /// whether it is granted: not, where this is not written.
     fn cancel_tcpip_forward(
         &mut self,
         address: &str,
@@ -391,14 +425,16 @@ pub trait Handler: AuthHandler {
     ) -> Result<bool, Self::Error>
         requires fresh { session.old.recorded ≡ [] }
         requires suits { Self.suits session.old.config session.old.remote_sshid }
-        ensures { Tells (Self.told self.old) (Self.told self.new) result (call.CancelTcpipForward address.now port result session.new.recorded) }
+        ensures { Tells (Self.told self.old) (Self.told self.new) result
+            (call.CancelTcpipForward address.now port result session.new.recorded) }
     {
         self.untold(Unwritten::new())?;
         Ok(false)
     }
 
-    /// The peer asks that connections to the socket of this path are forwarded to it (OpenSSH PROTOCOL
-    /// section 2.4). The answer says whether it is granted: not, where this is not written.
+    /// The peer asks that connections to the socket of this path are forwarded to it (OpenSSH
+    /// PROTOCOL section 2.4). The answer says whether it is granted: not, where this is not
+    /// written.
     fn streamlocal_forward(
         &mut self,
         socket_path: &str,
@@ -406,14 +442,15 @@ pub trait Handler: AuthHandler {
     ) -> Result<bool, Self::Error>
         requires fresh { session.old.recorded ≡ [] }
         requires suits { Self.suits session.old.config session.old.remote_sshid }
-        ensures { Tells (Self.told self.old) (Self.told self.new) result (call.StreamlocalForward socket_path.now result session.new.recorded) }
+        ensures { Tells (Self.told self.old) (Self.told self.new) result
+            (call.StreamlocalForward socket_path.now result session.new.recorded) }
     {
         self.untold(Unwritten::new())?;
         Ok(false)
     }
 
-    /// The peer asks that they are forwarded no longer (OpenSSH PROTOCOL section 2.4). The answer says
-    /// whether it is granted: not, where this is not written.
+    /// The peer asks that they are forwarded no longer (OpenSSH PROTOCOL section 2.4). The answer
+    /// says whether it is granted: not, where this is not written.
     fn cancel_streamlocal_forward(
         &mut self,
         socket_path: &str,
@@ -421,7 +458,8 @@ pub trait Handler: AuthHandler {
     ) -> Result<bool, Self::Error>
         requires fresh { session.old.recorded ≡ [] }
         requires suits { Self.suits session.old.config session.old.remote_sshid }
-        ensures { Tells (Self.told self.old) (Self.told self.new) result (call.CancelStreamlocalForward socket_path.now result session.new.recorded) }
+        ensures { Tells (Self.told self.old) (Self.told self.new) result
+            (call.CancelStreamlocalForward socket_path.now result session.new.recorded) }
     {
         self.untold(Unwritten::new())?;
         Ok(false)
@@ -430,7 +468,8 @@ pub trait Handler: AuthHandler {
     /// A command that a callback recorded opens a channel, or was refused. `place` is its place
     /// among the commands of that callback, from 0.
     fn command_done(&mut self, place: usize, outcome: CommandOutcome) -> Result<(), Self::Error>
-        ensures { Tells (Self.told self.old) (Self.told self.new) result (call.CommandDone place outcome result) }
+        ensures { Tells (Self.told self.old) (Self.told self.new) result
+            (call.CommandDone place outcome result) }
     {
         self.untold(Unwritten::new())?;
         Ok(())

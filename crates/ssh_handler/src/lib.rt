@@ -9,6 +9,7 @@ mod config;
 mod handler;
 mod made;
 mod questions;
+mod receiving;
 mod recorded;
 #[cfg(test)]
 mod tests;
@@ -17,4 +18,5 @@ pub use commands::Commands;
 pub use config::Config;
 pub use handler::Handler;
 pub use questions::{ask, judge};
+pub use receiving::{max_packet_size, window_size, writable_packet_size};
 pub use recorded::{RecordError, Recorded};

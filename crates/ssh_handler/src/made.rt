@@ -1,6 +1,10 @@
 // The calls as they are recorded.
 ghost use Rattle.std.specs.Prelude.{◌≡◌, IfOk};
-ghost use Rattle.ssh_auth.specs.declared.call.Call.TheVariants.{AuthenticationBanner, AuthNone, AuthPassword, AuthPublickeyOffered, AuthPublickey, AuthOpensshCertificate, AuthKeyboardInteractive};
+ghost use Rattle.ssh_auth.specs.declared.call.Call.TheVariants.{AuthenticationBanner, AuthNone};
+ghost use Rattle.ssh_auth.specs.declared.call.Call.TheVariants.{AuthPassword, AuthPublickeyOffered};
+ghost use Rattle.ssh_auth.specs.declared.call.Call.TheVariants.{AuthPublickey};
+ghost use Rattle.ssh_auth.specs.declared.call.Call.TheVariants.{AuthOpensshCertificate};
+ghost use Rattle.ssh_auth.specs.declared.call.Call.TheVariants.{AuthKeyboardInteractive};
 ghost use Rattle.ssh_handler.specs.Recording.{passed_on};
 
 pub(crate) mod channels;
@@ -59,7 +63,8 @@ pub(crate) fn made_auth_password<E: Copy>(
     password: &str,
     answer: &Result<Auth, E>,
 ) -> Result<Call<RecordError<E>>, WireError>
-    ensures { IfOk result (λ call. call ≡ AuthPassword user.now password.now (passed_on answer.now)) }
+    ensures { IfOk result (λ call. call ≡ AuthPassword user.now password.now
+        (passed_on answer.now)) }
 {
     Ok(Call::AuthPassword {
         user: Text::new(alloc, user)?,
@@ -75,7 +80,8 @@ pub(crate) fn made_auth_publickey_offered<E: Copy>(
     algorithm: Algorithm,
     answer: &Result<Auth, E>,
 ) -> Result<Call<RecordError<E>>, WireError>
-    ensures { IfOk result (λ call. call ≡ AuthPublickeyOffered user.now public_key.now algorithm (passed_on answer.now)) }
+    ensures { IfOk result (λ call. call ≡ AuthPublickeyOffered user.now public_key.now algorithm
+        (passed_on answer.now)) }
 {
     Ok(Call::AuthPublickeyOffered {
         user: Text::new(alloc, user)?,
@@ -92,7 +98,8 @@ pub(crate) fn made_auth_publickey<E: Copy>(
     algorithm: Algorithm,
     answer: &Result<Auth, E>,
 ) -> Result<Call<RecordError<E>>, WireError>
-    ensures { IfOk result (λ call. call ≡ AuthPublickey user.now public_key.now algorithm (passed_on answer.now)) }
+    ensures { IfOk result (λ call. call ≡ AuthPublickey user.now public_key.now algorithm
+        (passed_on answer.now)) }
 {
     Ok(Call::AuthPublickey {
         user: Text::new(alloc, user)?,
@@ -108,7 +115,8 @@ pub(crate) fn made_auth_openssh_certificate<E: Copy>(
     certificate: &Certificate,
     answer: &Result<Auth, E>,
 ) -> Result<Call<RecordError<E>>, WireError>
-    ensures { IfOk result (λ call. call ≡ AuthOpensshCertificate user.now certificate.now (passed_on answer.now)) }
+    ensures { IfOk result (λ call. call ≡ AuthOpensshCertificate user.now certificate.now
+        (passed_on answer.now)) }
 {
     Ok(Call::AuthOpensshCertificate {
         user: Text::new(alloc, user)?,
@@ -124,7 +132,8 @@ pub(crate) fn made_auth_keyboard_interactive<E: Copy>(
     response: Option<Response<'_>>,
     answer: &Result<Auth, E>,
 ) -> Result<Call<RecordError<E>>, WireError>
-    ensures { IfOk result (λ call. call ≡ AuthKeyboardInteractive user.now submethods.now response.entry (passed_on answer.now)) }
+    ensures { IfOk result (λ call. call ≡ AuthKeyboardInteractive user.now submethods.now
+        response.entry (passed_on answer.now)) }
 {
     Ok(Call::AuthKeyboardInteractive {
         user: Text::new(alloc, user)?,

@@ -17,7 +17,8 @@ pub fn ask<H: Handler>(
 ) -> Result<(), H::Error>
     requires fresh { session.old.recorded ≡ [] }
     requires suits { H.suits session.old.config session.old.remote_sshid }
-    ensures { Tells (H.AuthHandler.told handler.old) (H.AuthHandler.told handler.new) result (lent_call lent result session.new.recorded) }
+    ensures { Tells (H.AuthHandler.told handler.old) (H.AuthHandler.told handler.new) result
+        (lent_call lent result session.new.recorded) }
 {
     match lent {
         Lent::Succeeded => handler.auth_succeeded(session),
@@ -35,7 +36,8 @@ fn ask_opened<H: Handler>(
 ) -> Result<(), H::Error>
     requires fresh { session.old.recorded ≡ [] }
     requires suits { H.suits session.old.config session.old.remote_sshid }
-    ensures { Tells (H.AuthHandler.told handler.old) (H.AuthHandler.told handler.new) result (opened channel typ result session.new.recorded) }
+    ensures { Tells (H.AuthHandler.told handler.old) (H.AuthHandler.told handler.new) result
+        (opened channel typ result session.new.recorded) }
 {
     let reply = ChannelOpenHandle::new(channel);
     match typ {
@@ -93,7 +95,8 @@ fn ask_happened<H: Handler>(
 ) -> Result<(), H::Error>
     requires fresh { session.old.recorded ≡ [] }
     requires suits { H.suits session.old.config session.old.remote_sshid }
-    ensures { Tells (H.AuthHandler.told handler.old) (H.AuthHandler.told handler.new) result (happened channel happening result session.new.recorded) }
+    ensures { Tells (H.AuthHandler.told handler.old) (H.AuthHandler.told handler.new) result
+        (happened channel happening result session.new.recorded) }
 {
     match happening {
         Happening::Confirmed {
@@ -176,7 +179,8 @@ pub fn judge<H: Handler>(
 ) -> Result<bool, H::Error>
     requires fresh { session.old.recorded ≡ [] }
     requires suits { H.suits session.old.config session.old.remote_sshid }
-    ensures { Tells (H.AuthHandler.told handler.old) (H.AuthHandler.told handler.new) result (judged_call judged result session.new.recorded) }
+    ensures { Tells (H.AuthHandler.told handler.old) (H.AuthHandler.told handler.new) result
+        (judged_call judged result session.new.recorded) }
 {
     match judged {
         Judged::AgentRequest { channel } => handler.agent_request(channel, session),

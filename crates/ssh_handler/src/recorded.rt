@@ -1,9 +1,29 @@
 // A handler that tells the calls that it passes on.
-ghost use Rattle.std.specs.Prelude.{◌≡◌, [], ◌∷◌, ◌++◌, Some, None, OnOk, OnErr, IfOk, IfErr, IfSome, IsOk};
+ghost use Rattle.std.specs.Prelude.{◌≡◌, [], ◌∷◌, ◌++◌, Some, None, OnOk, OnErr, IfOk, IfErr};
+ghost use Rattle.std.specs.Prelude.{IfSome, IsOk};
 ghost use Rattle.ssh_link.specs.Told.{AddsOne, Tells};
 ghost use Rattle.ssh_handler.specs.declared.recorded.RecordError.TheVariants.{NoMemory};
 ghost use Rattle.ssh_handler.specs.Recording.{IsPassed, Keeps, Passes, Records, passed_on};
-ghost use Rattle.ssh_auth.specs.declared.call.Call.TheVariants.{AuthenticationBanner, AuthNone, AuthPassword, AuthPublickeyOffered, AuthPublickey, AuthOpensshCertificate, AuthKeyboardInteractive};
+ghost use Rattle.ssh_auth.specs.declared.call.Call.TheVariants.{AuthenticationBanner, AuthNone};
+ghost use Rattle.ssh_auth.specs.declared.call.Call.TheVariants.{AuthPassword, AuthPublickeyOffered};
+ghost use Rattle.ssh_auth.specs.declared.call.Call.TheVariants.{AuthPublickey};
+ghost use Rattle.ssh_auth.specs.declared.call.Call.TheVariants.{AuthOpensshCertificate};
+ghost use Rattle.ssh_auth.specs.declared.call.Call.TheVariants.{AuthKeyboardInteractive};
+
+// Passes the answer on, and tells the call of this variant, all of whose fields are Copy; and with
+// a session, the commands that were recorded.
+macro_rules! pass {
+    ($told:expr, $answer:expr, $call:ident $(, $field:ident: $value:expr)*) => {{
+        let call = Call::$call { $($field: $value,)* answer: passed($answer) };
+        $told.pass($answer, Ok(call))
+    }};
+    ($told:expr, $session:expr, $answer:expr, $call:ident $(, $field:ident: $value:expr)*) => {{
+        let answer = passed($answer);
+        let copy = $session.copy_recorded();
+        let call = copy.map(|commands| Call::$call { $($field: $value,)* answer, commands });
+        $told.pass($answer, call)
+    }};
+}
 
 mod handler;
 
@@ -21,7 +41,8 @@ use std::marker::Model;
 /// Why a callback of a recording handler cannot go on.
 #[derive(Clone, Copy, Debug, Drop, PartialEq, Eq)]
 pub enum RecordError<E> {
-    /// There was no memory to record the call, or `untold` was called. From then on no call is told.
+    /// There was no memory to record the call, or `untold` was called. From then on no call is
+    /// told.
     NoMemory,
     /// The inner handler answered this error.
     Inner(E),
@@ -96,8 +117,8 @@ impl<E: Copy> Telling<E> {
         Ok(())
     }
 
-    // Tells the call from now on, and passes its answer on; where there is no memory for it, no call
-    // is told any more.
+    // Tells the call from now on, and passes its answer on; where there is no memory for it, no
+    // call is told any more.
     fn pass<T: Drop>(
         &mut self,
         answer: Result<T, E>,
@@ -135,8 +156,8 @@ where
         }
     }
 
-    /// The calls that are told, in order. Once memory was wanting none is told, and some are missing
-    /// here.
+    /// The calls that are told, in order. Once memory was wanting none is told, and some are
+    /// missing here.
     pub fn calls(&self) -> &[Call<RecordError<H::Error>>]
         ensures { IfSome self.now.told (λ calls. result.now ≡ calls) }
     {
@@ -170,7 +191,7 @@ where
     fn authentication_banner(&mut self) -> Result<Option<Text>, RecordError<H::Error>>
         ensures tells { Tells self.old.told self.new.told result (AuthenticationBanner result) }
         ensures records { Records self.old.told self.new.told result (AuthenticationBanner result) }
-        ensures passes { Passes (H.told self.old.inner) (H.told self.new.inner) result AuthenticationBanner }
+        ensures passes { Passes H.told self.old.inner self.new.inner result AuthenticationBanner }
     {
         let answer = self.inner.authentication_banner();
         let call = made_authentication_banner(&answer);
@@ -180,7 +201,7 @@ where
     fn auth_none(&mut self, user: &str) -> Result<Auth, RecordError<H::Error>>
         ensures tells { Tells self.old.told self.new.told result (AuthNone user.now result) }
         ensures records { Records self.old.told self.new.told result (AuthNone user.now result) }
-        ensures passes { Passes (H.told self.old.inner) (H.told self.new.inner) result (AuthNone user.now) }
+        ensures passes { Passes H.told self.old.inner self.new.inner result (AuthNone user.now) }
     {
         let answer = self.inner.auth_none(user);
         let call = made_auth_none(self.alloc, user, &answer);
@@ -188,9 +209,12 @@ where
     }
 
     fn auth_password(&mut self, user: &str, password: &str) -> Result<Auth, RecordError<H::Error>>
-        ensures tells { Tells self.old.told self.new.told result (AuthPassword user.now password.now result) }
-        ensures records { Records self.old.told self.new.told result (AuthPassword user.now password.now result) }
-        ensures passes { Passes (H.told self.old.inner) (H.told self.new.inner) result (AuthPassword user.now password.now) }
+        ensures tells { Tells self.old.told self.new.told result (AuthPassword user.now password.now
+            result) }
+        ensures records { Records self.old.told self.new.told result
+            (AuthPassword user.now password.now result) }
+        ensures passes { Passes H.told self.old.inner self.new.inner result
+            (AuthPassword user.now password.now) }
     {
         let answer = self.inner.auth_password(user, password);
         let call = made_auth_password(self.alloc, user, password, &answer);
@@ -202,9 +226,14 @@ where
         user: &str,
         offer: PublicKeyOffer<'_>,
     ) -> Result<Auth, RecordError<H::Error>>
-        ensures tells { Tells self.old.told self.new.told result (AuthPublickeyOffered user.now offer.entry.public_key.now offer.entry.algorithm result) }
-        ensures records { Records self.old.told self.new.told result (AuthPublickeyOffered user.now offer.entry.public_key.now offer.entry.algorithm result) }
-        ensures passes { Passes (H.told self.old.inner) (H.told self.new.inner) result (AuthPublickeyOffered user.now offer.entry.public_key.now offer.entry.algorithm) }
+        ensures tells { Tells self.old.told self.new.told result
+            (AuthPublickeyOffered user.now offer.entry.public_key.now offer.entry.algorithm
+            result) }
+        ensures records { Records self.old.told self.new.told result
+            (AuthPublickeyOffered user.now offer.entry.public_key.now offer.entry.algorithm
+            result) }
+        ensures passes { Passes H.told self.old.inner self.new.inner result
+            (AuthPublickeyOffered user.now offer.entry.public_key.now offer.entry.algorithm) }
     {
         let PublicKeyOffer {
             public_key,
@@ -220,9 +249,12 @@ where
         user: &str,
         key: VerifiedPublicKey<'_>,
     ) -> Result<Auth, RecordError<H::Error>>
-        ensures tells { Tells self.old.told self.new.told result (AuthPublickey user.now key.entry.public_key.now key.entry.algorithm result) }
-        ensures records { Records self.old.told self.new.told result (AuthPublickey user.now key.entry.public_key.now key.entry.algorithm result) }
-        ensures passes { Passes (H.told self.old.inner) (H.told self.new.inner) result (AuthPublickey user.now key.entry.public_key.now key.entry.algorithm) }
+        ensures tells { Tells self.old.told self.new.told result
+            (AuthPublickey user.now key.entry.public_key.now key.entry.algorithm result) }
+        ensures records { Records self.old.told self.new.told result
+            (AuthPublickey user.now key.entry.public_key.now key.entry.algorithm result) }
+        ensures passes { Passes H.told self.old.inner self.new.inner result
+            (AuthPublickey user.now key.entry.public_key.now key.entry.algorithm) }
     {
         let VerifiedPublicKey {
             public_key,
@@ -238,9 +270,12 @@ where
         user: &str,
         certificate: &Certificate,
     ) -> Result<Auth, RecordError<H::Error>>
-        ensures tells { Tells self.old.told self.new.told result (AuthOpensshCertificate user.now certificate.now result) }
-        ensures records { Records self.old.told self.new.told result (AuthOpensshCertificate user.now certificate.now result) }
-        ensures passes { Passes (H.told self.old.inner) (H.told self.new.inner) result (AuthOpensshCertificate user.now certificate.now) }
+        ensures tells { Tells self.old.told self.new.told result
+            (AuthOpensshCertificate user.now certificate.now result) }
+        ensures records { Records self.old.told self.new.told result
+            (AuthOpensshCertificate user.now certificate.now result) }
+        ensures passes { Passes H.told self.old.inner self.new.inner result
+            (AuthOpensshCertificate user.now certificate.now) }
     {
         let answer = self.inner.auth_openssh_certificate(user, certificate);
         let call = made_auth_openssh_certificate(self.alloc, user, certificate, &answer);
@@ -253,9 +288,12 @@ where
         submethods: &str,
         response: Option<Response<'_>>,
     ) -> Result<Auth, RecordError<H::Error>>
-        ensures tells { Tells self.old.told self.new.told result (AuthKeyboardInteractive user.now submethods.now response.entry result) }
-        ensures records { Records self.old.told self.new.told result (AuthKeyboardInteractive user.now submethods.now response.entry result) }
-        ensures passes { Passes (H.told self.old.inner) (H.told self.new.inner) result (AuthKeyboardInteractive user.now submethods.now response.entry) }
+        ensures tells { Tells self.old.told self.new.told result
+            (AuthKeyboardInteractive user.now submethods.now response.entry result) }
+        ensures records { Records self.old.told self.new.told result
+            (AuthKeyboardInteractive user.now submethods.now response.entry result) }
+        ensures passes { Passes H.told self.old.inner self.new.inner result
+            (AuthKeyboardInteractive user.now submethods.now response.entry) }
     {
         let told = match &response {
             Some(response) => Some(response.copy()),

@@ -3,11 +3,13 @@ ghost use Rattle.std.specs.Prelude.{◌≡◌, []};
 
 mod commands;
 mod handlers;
+mod lender;
 mod told;
 
-use crate::{Commands, Config, Handler, RecordError, Recorded};
+use crate::{Commands, Handler, RecordError, Recorded};
 use bytes::Bytes;
-use handlers::{Greeter, LINE, Late, Silent, prompt};
+use handlers::{Greeter, Late, Silent, prompt};
+use lender::Lender;
 use ssh_auth::{Auth, AuthHandler, Call, PublicKeyOffer, Response, VerifiedPublicKey};
 use ssh_keys::{Algorithm, CertType, Certificate, PublicKey, Signature};
 use ssh_link::{ChannelOpenHandle, Command, CommandList, CommandOutcome, Refusal};
@@ -181,8 +183,8 @@ fn callbacks_that_are_not_written_let_nobody_in(rt: HostRuntime) -> Result<(), F
 
 // What a handler that writes no callback answers, and whether it asks nothing.
 fn unwritten(alloc: Global, event: Event) -> (Result<(), ()>, bool) {
-    let config = Config::standard();
-    let mut session = Commands::new(alloc, &config, &[]);
+    let lender = Lender::new(alloc);
+    let mut session = lender.lend();
     let answer = tell(&mut Silent, event, &mut session);
     (answer, session.recorded().is_empty())
 }
@@ -198,30 +200,6 @@ fn callbacks_that_are_not_written_go_on_and_ask_nothing(rt: HostRuntime) {
         assert_eq!(rt; unwritten(rt.alloc(), event), (Ok(()), true), "{shows}");
     }
     assert_eq!(rt; Silent.command_done(0, CommandOutcome::Accepted), Ok(()));
-}
-
-// What the callback is lent, under a config with this window.
-fn lent_to(alloc: Global, event: Event, window_size: u32) -> Option<(u32, bool)> {
-    let mut config = Config::standard();
-    config.window_size = window_size;
-    let mut handler = Greeter::new(alloc);
-    let mut session = Commands::new(alloc, &config, LINE);
-    let _answer = tell(&mut handler, event, &mut session);
-    handler.lent
-}
-
-#[test]
-fn each_callback_reads_the_config_and_the_line_that_it_is_lent(rt: HostRuntime) {
-    for (shows, event, window) in [
-        ("an accepted user", Event::Succeeded, 1),
-        ("an open", Event::Opened, 2),
-        ("a grant", Event::Granted, 3),
-        ("an end of file", Event::Ended, 4),
-        ("a close", Event::Closed, 5),
-    ] {
-        let lent = lent_to(rt.alloc(), event, window);
-        assert_eq!(rt; lent, Some((window, true)), "{shows}");
-    }
 }
 
 #[test]
@@ -316,9 +294,9 @@ fn greeted(
     event: Event,
     accepts: bool,
 ) -> (Result<(), RecordError<Late>>, [bool; 3]) {
-    let config = Config::standard();
+    let lender = Lender::new(alloc);
     let mut handler = Recorded::new(alloc, Greeter::new(alloc));
-    let mut session = Commands::new(alloc, &config, &[]);
+    let mut session = lender.lend();
     let answer = tell(&mut handler, event, &mut session);
     let is_told = matches!(handler.calls(), [call]
         if matches!(lent(call), Some((told, commands))

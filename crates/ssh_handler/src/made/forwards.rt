@@ -17,7 +17,8 @@ pub(crate) fn tcpip<E: Copy>(
     answer: Result<bool, E>,
     session: &Commands<'_>,
 ) -> Result<Call<RecordError<E>>, WireError>
-    ensures { IfOk result (λ made. made ≡ call.TcpipForward address.now port port_after (passed_on answer) session.now.recorded) }
+    ensures { IfOk result (λ made. made ≡ call.TcpipForward address.now port port_after
+        (passed_on answer) session.now.recorded) }
 {
     Ok(Call::TcpipForward {
         address: Text::new(alloc, address)?,
@@ -35,7 +36,8 @@ pub(crate) fn cancel_tcpip<E: Copy>(
     answer: Result<bool, E>,
     session: &Commands<'_>,
 ) -> Result<Call<RecordError<E>>, WireError>
-    ensures { IfOk result (λ made. made ≡ call.CancelTcpipForward address.now port (passed_on answer) session.now.recorded) }
+    ensures { IfOk result (λ made. made ≡ call.CancelTcpipForward address.now port
+        (passed_on answer) session.now.recorded) }
 {
     Ok(Call::CancelTcpipForward {
         address: Text::new(alloc, address)?,
@@ -51,7 +53,8 @@ pub(crate) fn streamlocal<E: Copy>(
     answer: Result<bool, E>,
     session: &Commands<'_>,
 ) -> Result<Call<RecordError<E>>, WireError>
-    ensures { IfOk result (λ made. made ≡ call.StreamlocalForward socket_path.now (passed_on answer) session.now.recorded) }
+    ensures { IfOk result (λ made. made ≡ call.StreamlocalForward socket_path.now (passed_on answer)
+        session.now.recorded) }
 {
     Ok(Call::StreamlocalForward {
         socket_path: Text::new(alloc, socket_path)?,
@@ -66,7 +69,8 @@ pub(crate) fn cancel_streamlocal<E: Copy>(
     answer: Result<bool, E>,
     session: &Commands<'_>,
 ) -> Result<Call<RecordError<E>>, WireError>
-    ensures { IfOk result (λ made. made ≡ call.CancelStreamlocalForward socket_path.now (passed_on answer) session.now.recorded) }
+    ensures { IfOk result (λ made. made ≡ call.CancelStreamlocalForward socket_path.now
+        (passed_on answer) session.now.recorded) }
 {
     Ok(Call::CancelStreamlocalForward {
         socket_path: Text::new(alloc, socket_path)?,

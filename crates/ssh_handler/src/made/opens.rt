@@ -9,20 +9,6 @@ use ssh_auth::Call;
 use ssh_wire::{ChannelId, Text, WireError};
 use std::alloc::Global;
 
-pub(crate) fn session<E: Copy>(
-    channel: ChannelId,
-    answer: Result<(), E>,
-    session: &Commands<'_>,
-) -> Result<Call<RecordError<E>>, WireError>
-    ensures { IfOk result (λ made. made ≡ call.ChannelOpenSession channel (passed_on answer) session.now.recorded) }
-{
-    Ok(Call::ChannelOpenSession {
-        channel,
-        answer: passed(answer),
-        commands: session.copy_recorded()?,
-    })
-}
-
 pub(crate) fn x11<E: Copy>(
     alloc: Global,
     channel: ChannelId,
@@ -31,7 +17,8 @@ pub(crate) fn x11<E: Copy>(
     answer: Result<(), E>,
     session: &Commands<'_>,
 ) -> Result<Call<RecordError<E>>, WireError>
-    ensures { IfOk result (λ made. made ≡ call.ChannelOpenX11 channel originator_address.now originator_port (passed_on answer) session.now.recorded) }
+    ensures { IfOk result (λ made. made ≡ call.ChannelOpenX11 channel originator_address.now
+        originator_port (passed_on answer) session.now.recorded) }
 {
     Ok(Call::ChannelOpenX11 {
         channel,
@@ -52,7 +39,9 @@ pub(crate) fn direct_tcpip<E: Copy>(
     answer: Result<(), E>,
     session: &Commands<'_>,
 ) -> Result<Call<RecordError<E>>, WireError>
-    ensures { IfOk result (λ made. made ≡ call.ChannelOpenDirectTcpip channel host_to_connect.now port_to_connect originator_address.now originator_port (passed_on answer) session.now.recorded) }
+    ensures { IfOk result (λ made. made ≡ call.ChannelOpenDirectTcpip channel host_to_connect.now
+        port_to_connect originator_address.now originator_port (passed_on answer)
+        session.now.recorded) }
 {
     Ok(Call::ChannelOpenDirectTcpip {
         channel,
@@ -75,7 +64,9 @@ pub(crate) fn forwarded_tcpip<E: Copy>(
     answer: Result<(), E>,
     session: &Commands<'_>,
 ) -> Result<Call<RecordError<E>>, WireError>
-    ensures { IfOk result (λ made. made ≡ call.ChannelOpenForwardedTcpip channel host_to_connect.now port_to_connect originator_address.now originator_port (passed_on answer) session.now.recorded) }
+    ensures { IfOk result (λ made. made ≡ call.ChannelOpenForwardedTcpip channel host_to_connect.now
+        port_to_connect originator_address.now originator_port (passed_on answer)
+        session.now.recorded) }
 {
     Ok(Call::ChannelOpenForwardedTcpip {
         channel,
@@ -95,29 +86,12 @@ pub(crate) fn direct_streamlocal<E: Copy>(
     answer: Result<(), E>,
     session: &Commands<'_>,
 ) -> Result<Call<RecordError<E>>, WireError>
-    ensures { IfOk result (λ made. made ≡ call.ChannelOpenDirectStreamlocal channel socket_path.now (passed_on answer) session.now.recorded) }
+    ensures { IfOk result (λ made. made ≡ call.ChannelOpenDirectStreamlocal channel socket_path.now
+        (passed_on answer) session.now.recorded) }
 {
     Ok(Call::ChannelOpenDirectStreamlocal {
         channel,
         socket_path: Text::new(alloc, socket_path)?,
-        answer: passed(answer),
-        commands: session.copy_recorded()?,
-    })
-}
-
-pub(crate) fn confirmation<E: Copy>(
-    id: ChannelId,
-    max_packet_size: u32,
-    window_size: u32,
-    answer: Result<(), E>,
-    session: &Commands<'_>,
-) -> Result<Call<RecordError<E>>, WireError>
-    ensures { IfOk result (λ made. made ≡ call.ChannelOpenConfirmation id max_packet_size window_size (passed_on answer) session.now.recorded) }
-{
-    Ok(Call::ChannelOpenConfirmation {
-        id,
-        max_packet_size,
-        window_size,
         answer: passed(answer),
         commands: session.copy_recorded()?,
     })

@@ -33,7 +33,8 @@ pub(crate) fn pty<E: Copy>(
     answer: Result<(), E>,
     session: &Commands<'_>,
 ) -> Result<Call<RecordError<E>>, WireError>
-    ensures { IfOk result (λ made. made ≡ call.PtyRequest channel term.now col_width row_height pix_width pix_height modes.now (passed_on answer) session.now.recorded) }
+    ensures { IfOk result (λ made. made ≡ call.PtyRequest channel term.now col_width row_height
+        pix_width pix_height modes.now (passed_on answer) session.now.recorded) }
 {
     Ok(Call::PtyRequest {
         channel,
@@ -58,7 +59,9 @@ pub(crate) fn x11<E: Copy>(
     answer: Result<(), E>,
     session: &Commands<'_>,
 ) -> Result<Call<RecordError<E>>, WireError>
-    ensures { IfOk result (λ made. made ≡ call.X11Request channel single_connection x11_auth_protocol.now x11_auth_cookie.now x11_screen_number (passed_on answer) session.now.recorded) }
+    ensures { IfOk result (λ made. made ≡ call.X11Request channel single_connection
+        x11_auth_protocol.now x11_auth_cookie.now x11_screen_number (passed_on answer)
+        session.now.recorded) }
 {
     Ok(Call::X11Request {
         channel,
@@ -79,26 +82,13 @@ pub(crate) fn env<E: Copy>(
     answer: Result<(), E>,
     session: &Commands<'_>,
 ) -> Result<Call<RecordError<E>>, WireError>
-    ensures { IfOk result (λ made. made ≡ call.EnvRequest channel variable_name.now variable_value.now (passed_on answer) session.now.recorded) }
+    ensures { IfOk result (λ made. made ≡ call.EnvRequest channel variable_name.now
+        variable_value.now (passed_on answer) session.now.recorded) }
 {
     Ok(Call::EnvRequest {
         channel,
         variable_name: Text::new(alloc, variable_name)?,
         variable_value: Text::new(alloc, variable_value)?,
-        answer: passed(answer),
-        commands: session.copy_recorded()?,
-    })
-}
-
-pub(crate) fn shell<E: Copy>(
-    channel: ChannelId,
-    answer: Result<(), E>,
-    session: &Commands<'_>,
-) -> Result<Call<RecordError<E>>, WireError>
-    ensures { IfOk result (λ made. made ≡ call.ShellRequest channel (passed_on answer) session.now.recorded) }
-{
-    Ok(Call::ShellRequest {
-        channel,
         answer: passed(answer),
         commands: session.copy_recorded()?,
     })
@@ -111,7 +101,8 @@ pub(crate) fn exec<E: Copy>(
     answer: Result<(), E>,
     session: &Commands<'_>,
 ) -> Result<Call<RecordError<E>>, WireError>
-    ensures { IfOk result (λ made. made ≡ call.ExecRequest channel bytes.now (passed_on answer) session.now.recorded) }
+    ensures { IfOk result (λ made. made ≡ call.ExecRequest channel bytes.now (passed_on answer)
+        session.now.recorded) }
 {
     Ok(Call::ExecRequest {
         channel,
@@ -128,47 +119,12 @@ pub(crate) fn subsystem<E: Copy>(
     answer: Result<(), E>,
     session: &Commands<'_>,
 ) -> Result<Call<RecordError<E>>, WireError>
-    ensures { IfOk result (λ made. made ≡ call.SubsystemRequest channel name.now (passed_on answer) session.now.recorded) }
+    ensures { IfOk result (λ made. made ≡ call.SubsystemRequest channel name.now (passed_on answer)
+        session.now.recorded) }
 {
     Ok(Call::SubsystemRequest {
         channel,
         name: Text::new(alloc, name)?,
-        answer: passed(answer),
-        commands: session.copy_recorded()?,
-    })
-}
-
-pub(crate) fn window_change<E: Copy>(
-    channel: ChannelId,
-    col_width: u32,
-    row_height: u32,
-    pix_width: u32,
-    pix_height: u32,
-    answer: Result<(), E>,
-    session: &Commands<'_>,
-) -> Result<Call<RecordError<E>>, WireError>
-    ensures { IfOk result (λ made. made ≡ call.WindowChangeRequest channel col_width row_height pix_width pix_height (passed_on answer) session.now.recorded) }
-{
-    Ok(Call::WindowChangeRequest {
-        channel,
-        col_width,
-        row_height,
-        pix_width,
-        pix_height,
-        answer: passed(answer),
-        commands: session.copy_recorded()?,
-    })
-}
-
-pub(crate) fn agent<E: Copy>(
-    channel: ChannelId,
-    answer: Result<bool, E>,
-    session: &Commands<'_>,
-) -> Result<Call<RecordError<E>>, WireError>
-    ensures { IfOk result (λ made. made ≡ call.AgentRequest channel (passed_on answer) session.now.recorded) }
-{
-    Ok(Call::AgentRequest {
-        channel,
         answer: passed(answer),
         commands: session.copy_recorded()?,
     })
@@ -180,7 +136,8 @@ pub(crate) fn signal<E: Copy>(
     answer: Result<(), E>,
     session: &Commands<'_>,
 ) -> Result<Call<RecordError<E>>, WireError>
-    ensures ok { IfOk result (λ made. IfOk signal (λ sent. made ≡ call.Signal channel sent (passed_on answer) session.now.recorded)) }
+    ensures ok { IfOk result (λ made. IfOk signal (λ sent. made ≡ call.Signal channel sent
+        (passed_on answer) session.now.recorded)) }
     ensures made { IfOk result (λ made. IsOk signal) }
 {
     Ok(Call::Signal {

@@ -1,10 +1,13 @@
 // The callbacks of a session, passed on and told.
-ghost use Rattle.std.specs.Prelude.{◌≡◌, []};
+ghost use Rattle.std.specs.Prelude.{◌≡◌};
+ghost use Rattle.ssh_handler.specs.Loan.{IsLent};
 ghost use Rattle.ssh_handler.specs.Recording.{Passes, Records};
 ghost use Rattle.ssh_auth.specs.declared.call.Call.TheVariants as call;
 
 use crate::made::{channels, forwards, opens, requests};
+use crate::recorded::passed;
 use crate::{Commands, Handler, Recorded};
+use ssh_auth::Call;
 use ssh_link::{ChannelOpenHandle, CommandOutcome};
 use ssh_wire::{ChannelId, Pty, Sig};
 
@@ -15,14 +18,13 @@ where
     ghost suits = { H.suits };
 
     fn auth_succeeded(&mut self, session: &mut Commands<'_>) -> Result<(), Self::Error>
-        requires fresh { session.old.recorded ≡ [] }
-        requires suits { H.suits session.old.config session.old.remote_sshid }
+        requires lent { IsLent H.suits session.old }
         ensures records { Records self.old.told self.new.told result (call.AuthSucceeded result session.new.recorded) }
-        ensures passes { Passes (H.AuthHandler.told self.old.inner) (H.AuthHandler.told self.new.inner) result (λ answer. call.AuthSucceeded answer session.new.recorded) }
+        ensures passes { Passes H.AuthHandler.told self.old.inner self.new.inner result
+            (λ answer. call.AuthSucceeded answer session.new.recorded) }
     {
         let answer = self.inner.auth_succeeded(session);
-        let call = channels::succeeded(answer, session);
-        self.told.pass(answer, call)
+        pass!(self.told, session, answer, AuthSucceeded)
     }
 
     fn channel_close(
@@ -30,25 +32,24 @@ where
         id: ChannelId,
         session: &mut Commands<'_>,
     ) -> Result<(), Self::Error>
-        requires fresh { session.old.recorded ≡ [] }
-        requires suits { H.suits session.old.config session.old.remote_sshid }
-        ensures records { Records self.old.told self.new.told result (call.ChannelClose id result session.new.recorded) }
-        ensures passes { Passes (H.AuthHandler.told self.old.inner) (H.AuthHandler.told self.new.inner) result (λ answer. call.ChannelClose id answer session.new.recorded) }
+        requires lent { IsLent H.suits session.old }
+        ensures records { Records self.old.told self.new.told result
+            (call.ChannelClose id result session.new.recorded) }
+        ensures passes { Passes H.AuthHandler.told self.old.inner self.new.inner result
+            (λ answer. call.ChannelClose id answer session.new.recorded) }
     {
         let answer = self.inner.channel_close(id, session);
-        let call = channels::close(id, answer, session);
-        self.told.pass(answer, call)
+        pass!(self.told, session, answer, ChannelClose, channel: id)
     }
 
     fn channel_eof(&mut self, id: ChannelId, session: &mut Commands<'_>) -> Result<(), Self::Error>
-        requires fresh { session.old.recorded ≡ [] }
-        requires suits { H.suits session.old.config session.old.remote_sshid }
+        requires lent { IsLent H.suits session.old }
         ensures records { Records self.old.told self.new.told result (call.ChannelEof id result session.new.recorded) }
-        ensures passes { Passes (H.AuthHandler.told self.old.inner) (H.AuthHandler.told self.new.inner) result (λ answer. call.ChannelEof id answer session.new.recorded) }
+        ensures passes { Passes H.AuthHandler.told self.old.inner self.new.inner result
+            (λ answer. call.ChannelEof id answer session.new.recorded) }
     {
         let answer = self.inner.channel_eof(id, session);
-        let call = channels::eof(id, answer, session);
-        self.told.pass(answer, call)
+        pass!(self.told, session, answer, ChannelEof, channel: id)
     }
 
     fn channel_open_session(
@@ -58,14 +59,14 @@ where
         session: &mut Commands<'_>,
     ) -> Result<(), Self::Error>
         requires of { reply ≡ id }
-        requires fresh { session.old.recorded ≡ [] }
-        requires suits { H.suits session.old.config session.old.remote_sshid }
-        ensures records { Records self.old.told self.new.told result (call.ChannelOpenSession id result session.new.recorded) }
-        ensures passes { Passes (H.AuthHandler.told self.old.inner) (H.AuthHandler.told self.new.inner) result (λ answer. call.ChannelOpenSession id answer session.new.recorded) }
+        requires lent { IsLent H.suits session.old }
+        ensures records { Records self.old.told self.new.told result
+            (call.ChannelOpenSession id result session.new.recorded) }
+        ensures passes { Passes H.AuthHandler.told self.old.inner self.new.inner result
+            (λ answer. call.ChannelOpenSession id answer session.new.recorded) }
     {
         let answer = self.inner.channel_open_session(id, reply, session);
-        let call = opens::session(id, answer, session);
-        self.told.pass(answer, call)
+        pass!(self.told, session, answer, ChannelOpenSession, channel: id)
     }
 
     fn channel_open_x11(
@@ -77,10 +78,11 @@ where
         session: &mut Commands<'_>,
     ) -> Result<(), Self::Error>
         requires of { reply ≡ id }
-        requires fresh { session.old.recorded ≡ [] }
-        requires suits { H.suits session.old.config session.old.remote_sshid }
-        ensures records { Records self.old.told self.new.told result (call.ChannelOpenX11 id from.now port result session.new.recorded) }
-        ensures passes { Passes (H.AuthHandler.told self.old.inner) (H.AuthHandler.told self.new.inner) result (λ answer. call.ChannelOpenX11 id from.now port answer session.new.recorded) }
+        requires lent { IsLent H.suits session.old }
+        ensures records { Records self.old.told self.new.told result
+            (call.ChannelOpenX11 id from.now port result session.new.recorded) }
+        ensures passes { Passes H.AuthHandler.told self.old.inner self.new.inner result
+            (λ answer. call.ChannelOpenX11 id from.now port answer session.new.recorded) }
     {
         let answer = self.inner.channel_open_x11(id, from, port, reply, session);
         let call = opens::x11(self.alloc, id, from, port, answer, session);
@@ -98,10 +100,13 @@ where
         session: &mut Commands<'_>,
     ) -> Result<(), Self::Error>
         requires of { reply ≡ id }
-        requires fresh { session.old.recorded ≡ [] }
-        requires suits { H.suits session.old.config session.old.remote_sshid }
-        ensures records { Records self.old.told self.new.told result (call.ChannelOpenDirectTcpip id host.now port from.now from_port result session.new.recorded) }
-        ensures passes { Passes (H.AuthHandler.told self.old.inner) (H.AuthHandler.told self.new.inner) result (λ answer. call.ChannelOpenDirectTcpip id host.now port from.now from_port answer session.new.recorded) }
+        requires lent { IsLent H.suits session.old }
+        ensures records { Records self.old.told self.new.told result
+            (call.ChannelOpenDirectTcpip id host.now port from.now from_port result
+            session.new.recorded) }
+        ensures passes { Passes H.AuthHandler.told self.old.inner self.new.inner result
+            (λ answer. call.ChannelOpenDirectTcpip id host.now port from.now from_port answer
+            session.new.recorded) }
     {
         let answer = self
             .inner
@@ -123,10 +128,13 @@ where
         session: &mut Commands<'_>,
     ) -> Result<(), Self::Error>
         requires of { reply ≡ id }
-        requires fresh { session.old.recorded ≡ [] }
-        requires suits { H.suits session.old.config session.old.remote_sshid }
-        ensures records { Records self.old.told self.new.told result (call.ChannelOpenForwardedTcpip id host.now port from.now from_port result session.new.recorded) }
-        ensures passes { Passes (H.AuthHandler.told self.old.inner) (H.AuthHandler.told self.new.inner) result (λ answer. call.ChannelOpenForwardedTcpip id host.now port from.now from_port answer session.new.recorded) }
+        requires lent { IsLent H.suits session.old }
+        ensures records { Records self.old.told self.new.told result
+            (call.ChannelOpenForwardedTcpip id host.now port from.now from_port result
+            session.new.recorded) }
+        ensures passes { Passes H.AuthHandler.told self.old.inner self.new.inner result
+            (λ answer. call.ChannelOpenForwardedTcpip id host.now port from.now from_port answer
+            session.new.recorded) }
     {
         let answer = self
             .inner
@@ -145,10 +153,11 @@ where
         session: &mut Commands<'_>,
     ) -> Result<(), Self::Error>
         requires of { reply ≡ id }
-        requires fresh { session.old.recorded ≡ [] }
-        requires suits { H.suits session.old.config session.old.remote_sshid }
-        ensures records { Records self.old.told self.new.told result (call.ChannelOpenDirectStreamlocal id path.now result session.new.recorded) }
-        ensures passes { Passes (H.AuthHandler.told self.old.inner) (H.AuthHandler.told self.new.inner) result (λ answer. call.ChannelOpenDirectStreamlocal id path.now answer session.new.recorded) }
+        requires lent { IsLent H.suits session.old }
+        ensures records { Records self.old.told self.new.told result
+            (call.ChannelOpenDirectStreamlocal id path.now result session.new.recorded) }
+        ensures passes { Passes H.AuthHandler.told self.old.inner self.new.inner result
+            (λ answer. call.ChannelOpenDirectStreamlocal id path.now answer session.new.recorded) }
     {
         let answer = self
             .inner
@@ -164,16 +173,17 @@ where
         window: u32,
         session: &mut Commands<'_>,
     ) -> Result<(), Self::Error>
-        requires fresh { session.old.recorded ≡ [] }
-        requires suits { H.suits session.old.config session.old.remote_sshid }
-        ensures records { Records self.old.told self.new.told result (call.ChannelOpenConfirmation id packet window result session.new.recorded) }
-        ensures passes { Passes (H.AuthHandler.told self.old.inner) (H.AuthHandler.told self.new.inner) result (λ answer. call.ChannelOpenConfirmation id packet window answer session.new.recorded) }
+        requires lent { IsLent H.suits session.old }
+        ensures records { Records self.old.told self.new.told result
+            (call.ChannelOpenConfirmation id packet window result session.new.recorded) }
+        ensures passes { Passes H.AuthHandler.told self.old.inner self.new.inner result
+            (λ answer. call.ChannelOpenConfirmation id packet window answer session.new.recorded) }
     {
         let answer = self
             .inner
             .channel_open_confirmation(id, packet, window, session);
-        let call = opens::confirmation(id, packet, window, answer, session);
-        self.told.pass(answer, call)
+        pass!(self.told, session, answer, ChannelOpenConfirmation,
+            id: id, max_packet_size: packet, window_size: window)
     }
 
     fn data(
@@ -182,10 +192,11 @@ where
         bytes: &[u8],
         session: &mut Commands<'_>,
     ) -> Result<(), Self::Error>
-        requires fresh { session.old.recorded ≡ [] }
-        requires suits { H.suits session.old.config session.old.remote_sshid }
-        ensures records { Records self.old.told self.new.told result (call.Data id bytes.now result session.new.recorded) }
-        ensures passes { Passes (H.AuthHandler.told self.old.inner) (H.AuthHandler.told self.new.inner) result (λ answer. call.Data id bytes.now answer session.new.recorded) }
+        requires lent { IsLent H.suits session.old }
+        ensures records { Records self.old.told self.new.told result
+            (call.Data id bytes.now result session.new.recorded) }
+        ensures passes { Passes H.AuthHandler.told self.old.inner self.new.inner result
+            (λ answer. call.Data id bytes.now answer session.new.recorded) }
     {
         let answer = self.inner.data(id, bytes, session);
         let call = channels::plain_data(self.alloc, id, bytes, answer, session);
@@ -199,10 +210,11 @@ where
         bytes: &[u8],
         session: &mut Commands<'_>,
     ) -> Result<(), Self::Error>
-        requires fresh { session.old.recorded ≡ [] }
-        requires suits { H.suits session.old.config session.old.remote_sshid }
-        ensures records { Records self.old.told self.new.told result (call.ExtendedData id code bytes.now result session.new.recorded) }
-        ensures passes { Passes (H.AuthHandler.told self.old.inner) (H.AuthHandler.told self.new.inner) result (λ answer. call.ExtendedData id code bytes.now answer session.new.recorded) }
+        requires lent { IsLent H.suits session.old }
+        ensures records { Records self.old.told self.new.told result
+            (call.ExtendedData id code bytes.now result session.new.recorded) }
+        ensures passes { Passes H.AuthHandler.told self.old.inner self.new.inner result
+            (λ answer. call.ExtendedData id code bytes.now answer session.new.recorded) }
     {
         let answer = self.inner.extended_data(id, code, bytes, session);
         let call = channels::extended_data(self.alloc, id, code, bytes, answer, session);
@@ -215,23 +227,22 @@ where
         new_size: u32,
         session: &mut Commands<'_>,
     ) -> Result<(), Self::Error>
-        requires fresh { session.old.recorded ≡ [] }
-        requires suits { H.suits session.old.config session.old.remote_sshid }
-        ensures records { Records self.old.told self.new.told result (call.WindowAdjusted id new_size result session.new.recorded) }
-        ensures passes { Passes (H.AuthHandler.told self.old.inner) (H.AuthHandler.told self.new.inner) result (λ answer. call.WindowAdjusted id new_size answer session.new.recorded) }
+        requires lent { IsLent H.suits session.old }
+        ensures records { Records self.old.told self.new.told result
+            (call.WindowAdjusted id new_size result session.new.recorded) }
+        ensures passes { Passes H.AuthHandler.told self.old.inner self.new.inner result
+            (λ answer. call.WindowAdjusted id new_size answer session.new.recorded) }
     {
         let answer = self.inner.window_adjusted(id, new_size, session);
-        let call = channels::adjusted(id, new_size, answer, session);
-        self.told.pass(answer, call)
+        pass!(self.told, session, answer, WindowAdjusted, channel: id, new_size: new_size)
     }
 
     fn adjust_window(&mut self, id: ChannelId, current: u32) -> Result<u32, Self::Error>
         ensures records { Records self.old.told self.new.told result (call.AdjustWindow id current result) }
-        ensures passes { Passes (H.AuthHandler.told self.old.inner) (H.AuthHandler.told self.new.inner) result (call.AdjustWindow id current) }
+        ensures passes { Passes H.AuthHandler.told self.old.inner self.new.inner result (call.AdjustWindow id current) }
     {
         let answer = self.inner.adjust_window(id, current);
-        let call = channels::adjust_window(id, current, answer);
-        self.told.pass(answer, call)
+        pass!(self.told, answer, AdjustWindow, channel: id, current: current)
     }
 
     fn pty_request(
@@ -245,10 +256,13 @@ where
         modes: &[(Pty, u32)],
         session: &mut Commands<'_>,
     ) -> Result<(), Self::Error>
-        requires fresh { session.old.recorded ≡ [] }
-        requires suits { H.suits session.old.config session.old.remote_sshid }
-        ensures records { Records self.old.told self.new.told result (call.PtyRequest id term.now columns rows width height modes.now result session.new.recorded) }
-        ensures passes { Passes (H.AuthHandler.told self.old.inner) (H.AuthHandler.told self.new.inner) result (λ answer. call.PtyRequest id term.now columns rows width height modes.now answer session.new.recorded) }
+        requires lent { IsLent H.suits session.old }
+        ensures records { Records self.old.told self.new.told result
+            (call.PtyRequest id term.now columns rows width height modes.now result
+            session.new.recorded) }
+        ensures passes { Passes H.AuthHandler.told self.old.inner self.new.inner result
+            (λ answer. call.PtyRequest id term.now columns rows width height modes.now answer
+            session.new.recorded) }
     {
         let answer = self
             .inner
@@ -268,10 +282,12 @@ where
         screen: u32,
         session: &mut Commands<'_>,
     ) -> Result<(), Self::Error>
-        requires fresh { session.old.recorded ≡ [] }
-        requires suits { H.suits session.old.config session.old.remote_sshid }
-        ensures records { Records self.old.told self.new.told result (call.X11Request id single protocol.now cookie.now screen result session.new.recorded) }
-        ensures passes { Passes (H.AuthHandler.told self.old.inner) (H.AuthHandler.told self.new.inner) result (λ answer. call.X11Request id single protocol.now cookie.now screen answer session.new.recorded) }
+        requires lent { IsLent H.suits session.old }
+        ensures records { Records self.old.told self.new.told result
+            (call.X11Request id single protocol.now cookie.now screen result session.new.recorded) }
+        ensures passes { Passes H.AuthHandler.told self.old.inner self.new.inner result
+            (λ answer. call.X11Request id single protocol.now cookie.now screen answer
+            session.new.recorded) }
     {
         let answer = self
             .inner
@@ -289,10 +305,11 @@ where
         value: &str,
         session: &mut Commands<'_>,
     ) -> Result<(), Self::Error>
-        requires fresh { session.old.recorded ≡ [] }
-        requires suits { H.suits session.old.config session.old.remote_sshid }
-        ensures records { Records self.old.told self.new.told result (call.EnvRequest id name.now value.now result session.new.recorded) }
-        ensures passes { Passes (H.AuthHandler.told self.old.inner) (H.AuthHandler.told self.new.inner) result (λ answer. call.EnvRequest id name.now value.now answer session.new.recorded) }
+        requires lent { IsLent H.suits session.old }
+        ensures records { Records self.old.told self.new.told result
+            (call.EnvRequest id name.now value.now result session.new.recorded) }
+        ensures passes { Passes H.AuthHandler.told self.old.inner self.new.inner result
+            (λ answer. call.EnvRequest id name.now value.now answer session.new.recorded) }
     {
         let answer = self.inner.env_request(id, name, value, session);
         let call = requests::env(self.alloc, id, name, value, answer, session);
@@ -304,14 +321,14 @@ where
         id: ChannelId,
         session: &mut Commands<'_>,
     ) -> Result<(), Self::Error>
-        requires fresh { session.old.recorded ≡ [] }
-        requires suits { H.suits session.old.config session.old.remote_sshid }
-        ensures records { Records self.old.told self.new.told result (call.ShellRequest id result session.new.recorded) }
-        ensures passes { Passes (H.AuthHandler.told self.old.inner) (H.AuthHandler.told self.new.inner) result (λ answer. call.ShellRequest id answer session.new.recorded) }
+        requires lent { IsLent H.suits session.old }
+        ensures records { Records self.old.told self.new.told result
+            (call.ShellRequest id result session.new.recorded) }
+        ensures passes { Passes H.AuthHandler.told self.old.inner self.new.inner result
+            (λ answer. call.ShellRequest id answer session.new.recorded) }
     {
         let answer = self.inner.shell_request(id, session);
-        let call = requests::shell(id, answer, session);
-        self.told.pass(answer, call)
+        pass!(self.told, session, answer, ShellRequest, channel: id)
     }
 
     fn exec_request(
@@ -320,10 +337,11 @@ where
         bytes: &[u8],
         session: &mut Commands<'_>,
     ) -> Result<(), Self::Error>
-        requires fresh { session.old.recorded ≡ [] }
-        requires suits { H.suits session.old.config session.old.remote_sshid }
-        ensures records { Records self.old.told self.new.told result (call.ExecRequest id bytes.now result session.new.recorded) }
-        ensures passes { Passes (H.AuthHandler.told self.old.inner) (H.AuthHandler.told self.new.inner) result (λ answer. call.ExecRequest id bytes.now answer session.new.recorded) }
+        requires lent { IsLent H.suits session.old }
+        ensures records { Records self.old.told self.new.told result
+            (call.ExecRequest id bytes.now result session.new.recorded) }
+        ensures passes { Passes H.AuthHandler.told self.old.inner self.new.inner result
+            (λ answer. call.ExecRequest id bytes.now answer session.new.recorded) }
     {
         let answer = self.inner.exec_request(id, bytes, session);
         let call = requests::exec(self.alloc, id, bytes, answer, session);
@@ -336,10 +354,11 @@ where
         name: &str,
         session: &mut Commands<'_>,
     ) -> Result<(), Self::Error>
-        requires fresh { session.old.recorded ≡ [] }
-        requires suits { H.suits session.old.config session.old.remote_sshid }
-        ensures records { Records self.old.told self.new.told result (call.SubsystemRequest id name.now result session.new.recorded) }
-        ensures passes { Passes (H.AuthHandler.told self.old.inner) (H.AuthHandler.told self.new.inner) result (λ answer. call.SubsystemRequest id name.now answer session.new.recorded) }
+        requires lent { IsLent H.suits session.old }
+        ensures records { Records self.old.told self.new.told result
+            (call.SubsystemRequest id name.now result session.new.recorded) }
+        ensures passes { Passes H.AuthHandler.told self.old.inner self.new.inner result
+            (λ answer. call.SubsystemRequest id name.now answer session.new.recorded) }
     {
         let answer = self.inner.subsystem_request(id, name, session);
         let call = requests::subsystem(self.alloc, id, name, answer, session);
@@ -355,16 +374,18 @@ where
         height: u32,
         session: &mut Commands<'_>,
     ) -> Result<(), Self::Error>
-        requires fresh { session.old.recorded ≡ [] }
-        requires suits { H.suits session.old.config session.old.remote_sshid }
-        ensures records { Records self.old.told self.new.told result (call.WindowChangeRequest id columns rows width height result session.new.recorded) }
-        ensures passes { Passes (H.AuthHandler.told self.old.inner) (H.AuthHandler.told self.new.inner) result (λ answer. call.WindowChangeRequest id columns rows width height answer session.new.recorded) }
+        requires lent { IsLent H.suits session.old }
+        ensures records { Records self.old.told self.new.told result
+            (call.WindowChangeRequest id columns rows width height result session.new.recorded) }
+        ensures passes { Passes H.AuthHandler.told self.old.inner self.new.inner result
+            (λ answer. call.WindowChangeRequest id columns rows width height answer
+            session.new.recorded) }
     {
         let answer = self
             .inner
             .window_change_request(id, columns, rows, width, height, session);
-        let call = requests::window_change(id, columns, rows, width, height, answer, session);
-        self.told.pass(answer, call)
+        pass!(self.told, session, answer, WindowChangeRequest,
+            channel: id, col_width: columns, row_height: rows, pix_width: width, pix_height: height)
     }
 
     fn agent_request(
@@ -372,14 +393,14 @@ where
         id: ChannelId,
         session: &mut Commands<'_>,
     ) -> Result<bool, Self::Error>
-        requires fresh { session.old.recorded ≡ [] }
-        requires suits { H.suits session.old.config session.old.remote_sshid }
-        ensures records { Records self.old.told self.new.told result (call.AgentRequest id result session.new.recorded) }
-        ensures passes { Passes (H.AuthHandler.told self.old.inner) (H.AuthHandler.told self.new.inner) result (λ answer. call.AgentRequest id answer session.new.recorded) }
+        requires lent { IsLent H.suits session.old }
+        ensures records { Records self.old.told self.new.told result
+            (call.AgentRequest id result session.new.recorded) }
+        ensures passes { Passes H.AuthHandler.told self.old.inner self.new.inner result
+            (λ answer. call.AgentRequest id answer session.new.recorded) }
     {
         let answer = self.inner.agent_request(id, session);
-        let call = requests::agent(id, answer, session);
-        self.told.pass(answer, call)
+        pass!(self.told, session, answer, AgentRequest, channel: id)
     }
 
     fn signal(
@@ -388,10 +409,11 @@ where
         signal: Sig,
         session: &mut Commands<'_>,
     ) -> Result<(), Self::Error>
-        requires fresh { session.old.recorded ≡ [] }
-        requires suits { H.suits session.old.config session.old.remote_sshid }
-        ensures records { Records self.old.told self.new.told result (call.Signal id signal result session.new.recorded) }
-        ensures passes { Passes (H.AuthHandler.told self.old.inner) (H.AuthHandler.told self.new.inner) result (λ answer. call.Signal id signal answer session.new.recorded) }
+        requires lent { IsLent H.suits session.old }
+        ensures records { Records self.old.told self.new.told result
+            (call.Signal id signal result session.new.recorded) }
+        ensures passes { Passes H.AuthHandler.told self.old.inner self.new.inner result
+            (λ answer. call.Signal id signal answer session.new.recorded) }
     {
         let sent = signal.copy();
         let answer = self.inner.signal(id, signal, session);
@@ -405,10 +427,12 @@ where
         port: &mut u32,
         session: &mut Commands<'_>,
     ) -> Result<bool, Self::Error>
-        requires fresh { session.old.recorded ≡ [] }
-        requires suits { H.suits session.old.config session.old.remote_sshid }
-        ensures records { Records self.old.told self.new.told result (call.TcpipForward address.now port.old port.new result session.new.recorded) }
-        ensures passes { Passes (H.AuthHandler.told self.old.inner) (H.AuthHandler.told self.new.inner) result (λ answer. call.TcpipForward address.now port.old port.new answer session.new.recorded) }
+        requires lent { IsLent H.suits session.old }
+        ensures records { Records self.old.told self.new.told result
+            (call.TcpipForward address.now port.old port.new result session.new.recorded) }
+        ensures passes { Passes H.AuthHandler.told self.old.inner self.new.inner result
+            (λ answer. call.TcpipForward address.now port.old port.new answer
+            session.new.recorded) }
     {
         let before = *port;
         let answer = self.inner.tcpip_forward(address, port, session);
@@ -422,10 +446,11 @@ where
         port: u32,
         session: &mut Commands<'_>,
     ) -> Result<bool, Self::Error>
-        requires fresh { session.old.recorded ≡ [] }
-        requires suits { H.suits session.old.config session.old.remote_sshid }
-        ensures records { Records self.old.told self.new.told result (call.CancelTcpipForward address.now port result session.new.recorded) }
-        ensures passes { Passes (H.AuthHandler.told self.old.inner) (H.AuthHandler.told self.new.inner) result (λ answer. call.CancelTcpipForward address.now port answer session.new.recorded) }
+        requires lent { IsLent H.suits session.old }
+        ensures records { Records self.old.told self.new.told result
+            (call.CancelTcpipForward address.now port result session.new.recorded) }
+        ensures passes { Passes H.AuthHandler.told self.old.inner self.new.inner result
+            (λ answer. call.CancelTcpipForward address.now port answer session.new.recorded) }
     {
         let answer = self.inner.cancel_tcpip_forward(address, port, session);
         let call = forwards::cancel_tcpip(self.alloc, address, port, answer, session);
@@ -437,10 +462,11 @@ where
         path: &str,
         session: &mut Commands<'_>,
     ) -> Result<bool, Self::Error>
-        requires fresh { session.old.recorded ≡ [] }
-        requires suits { H.suits session.old.config session.old.remote_sshid }
-        ensures records { Records self.old.told self.new.told result (call.StreamlocalForward path.now result session.new.recorded) }
-        ensures passes { Passes (H.AuthHandler.told self.old.inner) (H.AuthHandler.told self.new.inner) result (λ answer. call.StreamlocalForward path.now answer session.new.recorded) }
+        requires lent { IsLent H.suits session.old }
+        ensures records { Records self.old.told self.new.told result
+            (call.StreamlocalForward path.now result session.new.recorded) }
+        ensures passes { Passes H.AuthHandler.told self.old.inner self.new.inner result
+            (λ answer. call.StreamlocalForward path.now answer session.new.recorded) }
     {
         let answer = self.inner.streamlocal_forward(path, session);
         let call = forwards::streamlocal(self.alloc, path, answer, session);
@@ -452,10 +478,11 @@ where
         path: &str,
         session: &mut Commands<'_>,
     ) -> Result<bool, Self::Error>
-        requires fresh { session.old.recorded ≡ [] }
-        requires suits { H.suits session.old.config session.old.remote_sshid }
-        ensures records { Records self.old.told self.new.told result (call.CancelStreamlocalForward path.now result session.new.recorded) }
-        ensures passes { Passes (H.AuthHandler.told self.old.inner) (H.AuthHandler.told self.new.inner) result (λ answer. call.CancelStreamlocalForward path.now answer session.new.recorded) }
+        requires lent { IsLent H.suits session.old }
+        ensures records { Records self.old.told self.new.told result
+            (call.CancelStreamlocalForward path.now result session.new.recorded) }
+        ensures passes { Passes H.AuthHandler.told self.old.inner self.new.inner result
+            (λ answer. call.CancelStreamlocalForward path.now answer session.new.recorded) }
     {
         let answer = self.inner.cancel_streamlocal_forward(path, session);
         let call = forwards::cancel_streamlocal(self.alloc, path, answer, session);
@@ -464,10 +491,10 @@ where
 
     fn command_done(&mut self, place: usize, outcome: CommandOutcome) -> Result<(), Self::Error>
         ensures records { Records self.old.told self.new.told result (call.CommandDone place outcome result) }
-        ensures passes { Passes (H.AuthHandler.told self.old.inner) (H.AuthHandler.told self.new.inner) result (call.CommandDone place outcome) }
+        ensures passes { Passes H.AuthHandler.told self.old.inner self.new.inner result
+            (call.CommandDone place outcome) }
     {
         let answer = self.inner.command_done(place, outcome);
-        let call = channels::done(place, outcome, answer);
-        self.told.pass(answer, call)
+        pass!(self.told, answer, CommandDone, place: place, outcome: outcome)
     }
 }

@@ -1,5 +1,6 @@
 // Each command is recorded.
-use crate::{Commands, Config};
+use super::lender::Lender;
+use crate::Commands;
 use bytes::Bytes;
 use ssh_link::Command;
 use ssh_wire::{ChannelId, Disconnect, Sig, Text};
@@ -51,8 +52,8 @@ fn exit_status(session: &mut Commands<'_>, channel: ChannelId, exit_status: u32)
 #[test]
 fn commands_on_a_channel_are_recorded(rt: HostRuntime) -> Result<(), Fail> {
     let alloc = rt.alloc();
-    let config = Config::standard();
-    let mut session = Commands::new(alloc, &config, &[]);
+    let lender = Lender::new(alloc);
+    let mut session = lender.lend();
     let channel = ChannelId(2);
     assert!(rt; data(&mut session, channel));
     assert_eq!(rt; on_a_channel(&mut session, channel), [true; 4]);
@@ -87,8 +88,8 @@ fn of_the_connection(session: &mut Commands<'_>) -> [bool; 6] {
 
 #[test]
 fn commands_of_the_connection_are_recorded(rt: HostRuntime) {
-    let config = Config::standard();
-    let mut session = Commands::new(rt.alloc(), &config, &[]);
+    let lender = Lender::new(rt.alloc());
+    let mut session = lender.lend();
     assert_eq!(rt; of_the_connection(&mut session), [true; 6]);
 }
 
@@ -102,12 +103,12 @@ fn texts(alloc: Global, one: &str, other: &str) -> Result<(Text, Text), Fail> {
 #[test]
 fn opens_are_recorded(rt: HostRuntime) -> Result<(), Fail> {
     let alloc = rt.alloc();
-    let config = Config::standard();
+    let lender = Lender::new(alloc);
     let (host, originator) = texts(alloc, "there", "here")?;
     let (address, other) = texts(alloc, "there", "here")?;
     let (path, socket) = texts(alloc, "/run/there", "/run/here")?;
     let screen = Text::new(alloc, "here")?;
-    let mut session = Commands::new(alloc, &config, &[]);
+    let mut session = lender.lend();
     let recorded = [
         is_recorded(session.channel_open_direct_tcpip(host, 80, originator, 1024)),
         is_recorded(session.channel_open_forwarded_tcpip(address, 80, other, 1024)),
@@ -123,12 +124,12 @@ fn opens_are_recorded(rt: HostRuntime) -> Result<(), Fail> {
 #[test]
 fn forwards_and_texts_are_recorded(rt: HostRuntime) -> Result<(), Fail> {
     let alloc = rt.alloc();
-    let config = Config::standard();
+    let lender = Lender::new(alloc);
     let (address, again) = texts(alloc, "here", "here")?;
     let (message, language) = texts(alloc, "soon", "en")?;
     let (description, tag) = texts(alloc, "done", "en")?;
     let reason = Disconnect::ByApplication;
-    let mut session = Commands::new(alloc, &config, &[]);
+    let mut session = lender.lend();
     let recorded = [
         is_recorded(session.tcpip_forward(address, 0, Some(7))),
         is_recorded(session.cancel_tcpip_forward(again, 22, None)),

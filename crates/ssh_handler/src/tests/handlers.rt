@@ -84,22 +84,47 @@ impl Handler for Silent {
 // The line by which the peer's software names itself.
 pub(super) const LINE: &[u8] = b"SSH-2.0-test";
 
-// Lets anna in, and has no time for anyone. It keeps the window that it was lent last, and whether
-// it was lent the line.
+// What a callback read of a session, and of its channel 2.
+#[derive(Clone, Copy, Debug, Drop, PartialEq, Eq)]
+pub(super) struct Read {
+    pub(super) config_window: u32,
+    pub(super) is_line: bool,
+    pub(super) commands_wanted: bool,
+    pub(super) replies_wanted: bool,
+    pub(super) writable: u32,
+    pub(super) window: u32,
+    pub(super) packet: u32,
+    pub(super) sender_window: usize,
+    pub(super) has_pending_data: bool,
+    pub(super) can_send: bool,
+}
+
+// Lets anna in, and has no time for anyone. It keeps what its last callback read.
 #[derive(Drop)]
 pub(super) struct Greeter {
     pub(super) alloc: Global,
-    pub(super) lent: Option<(u32, bool)>,
+    pub(super) read: Option<Read>,
 }
 
 impl Greeter {
     pub(super) fn new(alloc: Global) -> Greeter {
-        Greeter { alloc, lent: None }
+        Greeter { alloc, read: None }
     }
 
     fn read(&mut self, session: &Commands<'_>) {
-        let is_line = session.remote_sshid() == LINE;
-        self.lent = Some((session.config().window_size, is_line));
+        let channel = ChannelId(2);
+        self.read = Some(Read {
+            config_window: session.config().window_size,
+            is_line: session.remote_sshid() == LINE,
+            commands_wanted: session.commands_wanted(),
+            replies_wanted: session.replies_wanted(),
+            writable: session.writable_packet_size(&channel),
+            window: session.window_size(&channel),
+            packet: session.max_packet_size(&channel),
+            sender_window: session.sender_window_size(channel),
+            has_pending_data: session.has_pending_data(channel),
+            can_send: session.can_send(channel),
+        });
     }
 }
 

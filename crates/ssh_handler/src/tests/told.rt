@@ -1,6 +1,7 @@
 // Each callback is passed on and told.
 use super::handlers::Silent;
-use crate::{Commands, Config, Handler, Recorded, ask, judge};
+use super::lender::Lender;
+use crate::{Handler, Recorded, ask, judge};
 use bytes::Bytes;
 use ssh_auth::{Call, Happening, Judged, Lent, OpenType};
 use ssh_link::{ChannelOpenHandle, CommandOutcome};
@@ -108,8 +109,8 @@ fn requests(alloc: Global, request: &str) -> Result<Happening, WireError> {
 
 // Hands it to a handler that records, over one that records too, and looks at what both told.
 fn is_told(alloc: Global, lent: Lent, expected: &str) -> bool {
-    let config = Config::standard();
-    let mut session = Commands::new(alloc, &config, &[]);
+    let lender = Lender::new(alloc);
+    let mut session = lender.lend();
     let mut handler = Recorded::new(alloc, Recorded::new(alloc, Silent));
     let answer = ask(&mut handler, lent, &mut session);
     let told = matches!(handler.calls(), [call] if name(call) == expected);
@@ -199,8 +200,8 @@ fn judged(alloc: Global, asked: &str) -> Result<Judged, WireError> {
 
 // Asks it of a handler that writes no callback, and looks at what is told.
 fn is_refused(alloc: Global, asked: Judged, expected: &str) -> bool {
-    let config = Config::standard();
-    let mut session = Commands::new(alloc, &config, &[]);
+    let lender = Lender::new(alloc);
+    let mut session = lender.lend();
     let mut handler = Recorded::new(alloc, Silent);
     let answer = judge(&mut handler, asked, &mut session);
     answer == Ok(false) && matches!(handler.calls(), [call] if name(call) == expected)
@@ -223,8 +224,8 @@ fn what_is_judged_is_refused_where_it_is_not_written(rt: HostRuntime) -> Result<
 #[test]
 fn a_forward_is_told_with_both_ports(rt: HostRuntime) {
     let alloc = rt.alloc();
-    let config = Config::standard();
-    let mut session = Commands::new(alloc, &config, &[]);
+    let lender = Lender::new(alloc);
+    let mut session = lender.lend();
     let mut handler = Recorded::new(alloc, Silent);
     let mut port = 0;
     let answer = handler.tcpip_forward("here", &mut port, &mut session);
