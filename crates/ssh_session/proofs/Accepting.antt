@@ -1,124 +1,258 @@
 -- Nothing of the connection is served before an accepted authentication: by induction over a run.
 use Rattle.std.proofs.Common.{◌≡◌, ◌⊎◌, ℕ, List, [], ◌∷◌, ◌++◌, Option, Some, None, Result, Ok, Err}
-use Rattle.std.proofs.Common.{refl, sym, subst, inl, inr}
-use Rattle.std.specs.Prelude.{length, option_to_list}
-use Rattle.ssh_link.specs.Frames.{Frame}
+use Rattle.std.proofs.Common.{refl, sym, ◌∙◌, ap, subst, inl, inr, append_assoc}
+use Rattle.std.specs.Prelude.{option_to_list}
 use Rattle.ssh_link.specs.declared.frame.InputKind.{InputKind}
-use Rattle.ssh_link.specs.declared.link.TraceEntry.{TraceEntry}
 use Rattle.ssh_auth.specs.declared.call.Call.{Call}
-use Rattle.ssh_auth.specs.Plan.{Plan, Event, calls_in}
+use Rattle.ssh_auth.specs.Plan.{Plan, Event, Called, Stepped, Told, Handler_error, Follows}
+use Rattle.ssh_auth.specs.Plan.{calls_in}
 use Rattle.ssh_auth.specs.Publickey.{Acceptance, Circumstances}
 use Rattle.ssh_session.specs.declared.error.RunError.{RunError}
-use Rattle.ssh_session.specs.declared.error.RunError.TheVariants as error
+use Rattle.ssh_session.specs.declared.state.EncryptedState.{EncryptedState}
+use Rattle.ssh_session.specs.declared.state.EncryptedState.TheVariants.{WaitingAuthServiceRequest}
+use Rattle.ssh_session.specs.declared.state.EncryptedState.TheVariants.{WaitingAuthRequest}
+use Rattle.ssh_session.specs.Account.{Concludes, Closes}
+use Rattle.ssh_session.specs.Authorised.{IsRequestOf, IsAccepting, NeedsUser, NoneRequests}
+use Rattle.ssh_session.specs.Authorised.{LastNamed, SomeoneIsIn, Authorised}
+use Rattle.ssh_session.specs.Outcome.{Outcome, Goes, Ends, Fails}
+use Rattle.ssh_session.specs.Run.{Turn, Run, Owes}
+use Rattle.ssh_session.specs.Serve.{Cause, Wants_memory, Link_failed, Limit_reached, Faulty}
+use Rattle.ssh_session.specs.Serve.{Refused_by, cause_of, IsCaused}
 use Rattle.ssh_session.specs.World.{Settings, World, circumstances, opening_world}
-use Rattle.ssh_session.specs.Outcome.{Outcome, Goes, Ends}
-use Rattle.ssh_session.specs.Run.{Turn, Run, calls_of}
-use Rattle.ssh_session.specs.Step.{SendsPart, IsLeft, Stops, Closes, Ran}
-use Rattle.ssh_session.specs.Authorised.{NamesLast, SomeAccepting, AuthorisedCalls}
-use Rattle.ssh_session.specs.Authorised.{AuthorisedFrames, Authorised, nobody}
-use Rattle.ssh_session.proofs.Guards.{IsClear, Guarded, begins_guarded, breaks_guarded}
-use Rattle.ssh_session.proofs.Guards.{follows_guarded}
 use Rattle.ssh_session.proofs.Admitting.{owed_guarded}
+use Rattle.ssh_session.proofs.Guards.{Guarded, IsBefore, IsClear, NamesLast, SomeAccepts, Walks}
+use Rattle.ssh_session.proofs.Guards.{input_guarded}
+use Rattle.ssh_session.proofs.Guards.{walks_guarded, follows_guarded, begins_walks, follows_walks}
+use Rattle.ssh_session.proofs.Guards.{breaks_walks}
+use Rattle.ssh_session.proofs.Settled.{stays_set}
 
-frames_front : (a : Type 0) (sent rest : List Frame) → AuthorisedFrames a (sent ++ rest)
-    → AuthorisedFrames a sent
-frames_front a [] rest h = tt
-frames_front a (frame ∷ sent) rest h = (h.0, frames_front a sent rest h.1)
+-- ---- inputs one after another
 
-part_guarded : {E : Type 0} (given : Circumstances) (named : List ℕ → Type 0) (a : Type 0)
-    (kind : InputKind) (plan : Plan Outcome) (events : List (Event E ⊥)) (sent : List Frame)
-    → Guarded given named a kind plan → SendsPart plan events sent →
-    AuthorisedCalls given named a kind (calls_in events)
-    × AuthorisedFrames (a ⊎ SomeAccepting given named kind (calls_in events)) sent
-part_guarded given named a kind plan events sent g (rest, inl k) = let f = follows_guarded given
-    named a kind plan events (Goes (sent ++ rest) k.0) g k.1 in
-    (f.0, frames_front _ sent rest f.1.0)
-part_guarded given named a kind plan events sent g (rest, inr k) = let f = follows_guarded given
-    named a kind plan events (Ends (sent ++ rest)) g k in (f.0, frames_front _ sent rest f.1)
+-- these inputs were taken, and each but the last was finished
+abbrev pub AllWalk : {E : Type 0} → Acceptance → World → List (Turn E) → Type 0
+AllWalk accepts w [] = Unit {0}
+AllWalk accepts w (turn ∷ turns) = (plan : Plan Outcome) × Owes accepts w turn.input plan
+    × Walks plan turn.events
+    × ((turns ≡ []) ⊎ ((mid : World) × Follows plan turn.events (Goes mid)
+    × AllWalk accepts mid turns))
 
--- no frame is handed on
-none_sent : (a : Type 0) (sent : List Frame) → sent ≡ [] → AuthorisedFrames a sent
-none_sent a sent is = subst (AuthorisedFrames a) (sym is) tt
+caused_walks : {E : Type 0} (cause : Cause E) (plan : Plan Outcome) (rose : Type 0)
+    (events : List (Event E ⊥)) →
+    IsCaused cause plan rose events → Walks plan events
+caused_walks Wants_memory plan rose events h = begins_walks plan events h
+caused_walks Link_failed plan rose events h = begins_walks plan events h.1
+caused_walks Limit_reached plan rose events h = absurd h
+caused_walks (Faulty fault) plan rose events h = follows_walks plan events (Fails fault) h
+caused_walks (Refused_by e) plan rose events h = breaks_walks plan events (Handler_error e) h
 
-left_guarded : {E : Type 0} (given : Circumstances) (named : List ℕ → Type 0) (a : Type 0)
-    (kind : InputKind) (plan : Plan Outcome) (events : List (Event E ⊥)) (sent : List Frame)
-    → Guarded given named a kind plan → IsLeft plan events sent →
-    AuthorisedCalls given named a kind (calls_in events)
-    × AuthorisedFrames (a ⊎ SomeAccepting given named kind (calls_in events)) sent
-left_guarded given named a kind plan events sent g (inl h) =
-    (begins_guarded given named a kind plan events g h.1, none_sent _ sent h.0)
-left_guarded given named a kind plan events sent g (inr h) = part_guarded given named a kind plan
-    events sent g h
+concluded_walks : {E : Type 0} (plan : Plan Outcome) (events : List (Event E ⊥)) (rose : Type 0)
+    (result : Result (Unit {0}) (RunError E)) → Concludes plan events rose result
+    → Walks plan events
+concluded_walks plan events rose (Ok done) h = follows_walks plan events (Ends h.0) h.1
+concluded_walks plan events rose (Err e) h = caused_walks (cause_of e) plan rose events h
 
-stopped_guarded : {E : Type 0} (given : Circumstances) (named : List ℕ → Type 0) (a : Type 0)
-    (kind : InputKind) (plan : Plan Outcome) (events : List (Event E ⊥)) (sent : List Frame)
-    (rose : Type 0) (e : RunError E) → Guarded given named a kind plan →
-    Stops plan events sent rose e → AuthorisedCalls given named a kind (calls_in events)
-    × AuthorisedFrames (a ⊎ SomeAccepting given named kind (calls_in events)) sent
-stopped_guarded given named a kind plan events sent rose error.NoMemory g h = left_guarded given
-    named a kind plan events sent g h
-stopped_guarded given named a kind plan events sent rose error.LinkFault g h = left_guarded given
-    named a kind plan events sent g h.1
-stopped_guarded given named a kind plan events sent rose error.InputLimit g h = absurd h
-stopped_guarded given named a kind plan events sent rose (error.Encoding why) g h =
-    ((follows_guarded given named a kind plan events _ g h.1).0, none_sent _ sent h.0)
-stopped_guarded given named a kind plan events sent rose error.Inconsistent g h =
-    ((follows_guarded given named a kind plan events _ g h.1).0, none_sent _ sent h.0)
-stopped_guarded given named a kind plan events sent rose (error.Key why) g h =
-    ((follows_guarded given named a kind plan events _ g h.2).0, none_sent _ sent h.0)
-stopped_guarded given named a kind plan events sent rose (error.Handler e) g h =
-    (breaks_guarded given named a kind plan events e g h.1, none_sent _ sent h.0)
-stopped_guarded given named a kind plan events sent rose error.UnsupportedAuthMethod g h =
-    ((follows_guarded given named a kind plan events _ g h.1).0, none_sent _ sent h.0)
-stopped_guarded given named a kind plan events sent rose error.NotBuilt g h =
-    ((follows_guarded given named a kind plan events _ g h.1).0, none_sent _ sent h.0)
-
--- the one more input that ended a run or was not finished
-last_authorised : {E : Type 0} (accepts : Acceptance) (named : List ℕ → Type 0) (a : Type 0)
-    (settings : Settings) (w : World) (count max : ℕ) (last : Option (Turn E)) (rose : Type 0)
-    (result : Result (Unit {0}) (RunError E)) →
-    a ⊎ IsClear named w → Closes accepts settings w count max last rose result
-    → Authorised accepts settings named a (option_to_list last)
-last_authorised accepts named a settings w count max None rose result p c = tt
-last_authorised accepts named a settings w count max (Some turn) rose (Ok done) p c =
-    let g = owed_guarded accepts named a settings w turn.input.moment turn.input.kind c.0 c.1 p in
-    let f = follows_guarded (circumstances accepts settings turn.input.moment) named a
-    turn.input.kind c.0 turn.events (Ends turn.frames) g c.2 in (f.0, f.1, tt)
-last_authorised accepts named a settings w count max (Some turn) rose (Err e) p c =
-    let g = owed_guarded accepts named a settings w turn.input.moment turn.input.kind c.0 c.1 p in
-    let f = stopped_guarded (circumstances accepts settings turn.input.moment) named a
-    turn.input.kind c.0 turn.events turn.frames rose e g c.2 in (f.0, f.1, tt)
-
-run_authorised : {E : Type 0} (accepts : Acceptance) (named : List ℕ → Type 0) (a : Type 0)
-    (settings : Settings) (w : World) (turns : List (Turn E)) (world : World) (count max : ℕ)
+last_walks : {E : Type 0} (accepts : Acceptance) (w : World) (count max : ℕ)
     (last : Option (Turn E)) (rose : Type 0)
-    (result : Result (Unit {0}) (RunError E)) → a ⊎ IsClear named w → Run accepts settings w turns
-    world → Closes accepts settings world count max last rose result →
-    Authorised accepts settings named a (turns ++ option_to_list last)
-run_authorised accepts named a settings w [] world count max last rose result p run c =
-    last_authorised accepts named a settings world count max last rose result
-    (subst (λ v. a ⊎ IsClear named v) (sym run) p) c
-run_authorised accepts named a settings w (turn ∷ turns) world count max last rose result p run c =
-    let t = run.1 in
-    let g = owed_guarded accepts named a settings w turn.input.moment turn.input.kind t.0 t.1 p in
-    let f = follows_guarded (circumstances accepts settings turn.input.moment) named a
-    turn.input.kind t.0 turn.events (Goes turn.frames run.0) g t.2 in (
-      f.0,
-      f.1.0,
-      run_authorised accepts (NamesLast named turn.input.kind)
-          (a ⊎ SomeAccepting (circumstances accepts settings turn.input.moment) named
-          turn.input.kind
-          (calls_of turn)) settings run.0 turns world count max last rose result f.1.1 run.2 c,
+    (result : Result (Unit {0}) (RunError E)) → Closes accepts w count max last rose result →
+    AllWalk accepts w (option_to_list last)
+last_walks accepts w count max None rose result h = tt
+last_walks accepts w count max (Some turn) rose result h =
+    let c = h.2 in (c.0, c.1, concluded_walks c.0 turn.events rose result c.2, inl refl)
+
+run_walks : {E : Type 0} (accepts : Acceptance) (w : World) (turns : List (Turn E)) (world : World)
+    (last : List (Turn E)) →
+    Run accepts w turns world → AllWalk accepts world last → AllWalk accepts w (turns ++ last)
+run_walks accepts w [] world last run h = subst (λ v. AllWalk accepts v last) run h
+run_walks accepts w (turn ∷ turns) world last run h =
+    let t = run.1 in (
+      t.0,
+      t.1,
+      follows_walks t.0 turn.events (Goes run.0) t.2,
+      inr (run.0, t.2, run_walks accepts run.0 turns world last run.2 h),
     )
 
+-- ---- who was named last
+
+none_more : {E : Type 0} (turns : List (Turn E)) (turn : Turn E) → NoneRequests turns →
+    ((user : List ℕ) → IsRequestOf user turn.input.kind → ⊥) → NoneRequests (turns ++ turn ∷ [])
+none_more [] turn h k = (k, tt)
+none_more (t ∷ turns) turn h k = (h.0, none_more turns turn h.1 k)
+
+named_more : {E : Type 0} (before : List (Turn E)) (turn : Turn E) (user : List ℕ) →
+    NamesLast (LastNamed before) turn.input.kind user → LastNamed (before ++ turn ∷ []) user
+named_more before turn user (inl request) = (before, [], turn, refl, request, tt)
+named_more before turn user (inr h) =
+    let l = h.1 in (
+      l.0,
+      l.1 ++ turn ∷ [],
+      l.2,
+      ap (λ ts. ts ++ turn ∷ []) l.3 ∙ append_assoc l.0 (l.2 ∷ l.1) (turn ∷ []),
+      l.4,
+      none_more l.1 turn l.5 h.0,
+    )
+
+before_weak : (named other : List ℕ → Type 0) (state : EncryptedState)
+    → ((user : List ℕ) → named user → other user) →
+    IsBefore named state → IsBefore other state
+before_weak named other (WaitingAuthServiceRequest sent accepted) f h = tt
+before_weak named other (WaitingAuthRequest auth) f h = λ principal is.
+    f principal.user (h principal is)
+before_weak named other _ f h = absurd h
+
+clear_more : {E : Type 0} (before : List (Turn E)) (turn : Turn E) (w : World) →
+    IsClear (NamesLast (LastNamed before) turn.input.kind) w
+    → IsClear (LastNamed (before ++ turn ∷ [])) w
+clear_more before turn w h = (
+  before_weak (NamesLast (LastNamed before) turn.input.kind) (LastNamed (before ++ turn ∷ []))
+      w.user.state
+      (named_more before turn) h.0,
+  h.1,
+  h.2,
+  h.3,
+)
+
+-- ---- who is in
+
+someone_earlier : {E : Type 0} (accepts : Acceptance) (settings : Settings)
+    (before more : List (Turn E)) →
+    SomeoneIsIn accepts settings before → SomeoneIsIn accepts settings (before ++ more)
+someone_earlier accepts settings before more h =
+    let s = h in (
+      s.0,
+      s.1 ++ more,
+      s.2,
+      ap (λ ts. ts ++ more) s.3 ∙ append_assoc s.0 (s.2 ∷ s.1) more,
+      s.4,
+      s.5,
+      s.6,
+      s.7,
+      s.8,
+    )
+
+-- the calls around one that accepts
+some_split : {E : Type 0} (given : Circumstances) (named : List ℕ → Type 0) (kind : InputKind)
+    (events : List (Event E ⊥)) →
+    SomeAccepts given named kind events →
+    (earlier later : List (Call E)) × (call : Call E) × (calls_in events ≡ earlier ++ call ∷ later)
+    × IsAccepting given named kind call
+some_split given named kind [] h = absurd h
+some_split given named kind (Called call ∷ events) (inl h) = ([], calls_in events, call, refl, h)
+some_split given named kind (Called call ∷ events) (inr h) =
+    let s = some_split given named kind events h in (
+      call ∷ s.0,
+      s.1,
+      s.2,
+      ap (λ cs. call ∷ cs) s.3,
+      s.4,
+    )
+some_split given named kind (Stepped step ∷ events) h = some_split given named kind events h
+some_split given named kind (Told entry ∷ events) h = some_split given named kind events h
+
+someone_now : {E : Type 0} (accepts : Acceptance) (settings : Settings) (before : List (Turn E))
+    (turn : Turn E)
+    (past : List (Event E ⊥)) →
+    SomeoneIsIn accepts settings before
+    ⊎ SomeAccepts (circumstances accepts settings turn.input.moment) (LastNamed before)
+    turn.input.kind past →
+    SomeoneIsIn accepts settings (before ++ record turn { events = past } ∷ [])
+someone_now accepts settings before turn past (inl h) =
+    someone_earlier accepts settings before (record turn { events = past } ∷ []) h
+someone_now accepts settings before turn past (inr h) =
+    let s = some_split (circumstances accepts settings turn.input.moment) (LastNamed before)
+    turn.input.kind past h in
+    (before, [], record turn { events = past }, refl, s.0, s.1, s.2, s.3, s.4)
+
+-- ---- a run
+
+turn_guarded : {E : Type 0} (accepts : Acceptance) (settings : Settings) (before : List (Turn E))
+    (turn : Turn E) (w : World)
+    (plan : Plan Outcome) → w.settings ≡ settings → SomeoneIsIn accepts settings before
+    ⊎ IsClear (LastNamed before) w →
+    Owes accepts w turn.input plan →
+    Guarded (circumstances accepts settings turn.input.moment) (LastNamed before)
+    (SomeoneIsIn accepts settings before)
+    turn.input.kind plan
+turn_guarded accepts settings before turn w plan set h o =
+    let named = LastNamed before in
+    let a = SomeoneIsIn accepts settings before in
+    subst (λ s. Guarded (circumstances accepts s turn.input.moment) named a turn.input.kind plan)
+    set
+    (rw o.2 (input_guarded (circumstances accepts w.settings turn.input.moment) named a
+    turn.input.kind o.0
+    (owed_guarded accepts named a w turn.input.moment turn.input.kind o.0 o.1 h)))
+
+goes_on : {E : Type 0} (accepts : Acceptance) (settings : Settings) (before : List (Turn E))
+    (turn : Turn E) (mid : World) →
+    (SomeoneIsIn accepts settings before
+    ⊎ SomeAccepts (circumstances accepts settings turn.input.moment) (LastNamed before)
+    turn.input.kind turn.events)
+    ⊎ IsClear (NamesLast (LastNamed before) turn.input.kind) mid →
+    SomeoneIsIn accepts settings (before ++ turn ∷ []) ⊎ IsClear (LastNamed (before ++ turn ∷ []))
+    mid
+goes_on accepts settings before turn mid (inl h) =
+    inl (someone_now accepts settings before turn turn.events h)
+goes_on accepts settings before turn mid (inr h) = inr (clear_more before turn mid h)
+
+nothing_left : {A : Type 0} (xs : List A) (y : A) (ys : List A) → xs ++ y ∷ ys ≡ [] → ⊥
+nothing_left [] y ys h = cc
+nothing_left (x ∷ xs) y ys h = cc
+
+turns_authorised : {E : Type 0} (accepts : Acceptance) (settings : Settings)
+    (before turns : List (Turn E)) (w : World) →
+    w.settings ≡ settings → SomeoneIsIn accepts settings before ⊎ IsClear (LastNamed before) w
+    → AllWalk accepts w turns →
+    (pre post : List (Turn E)) (turn : Turn E) → turns ≡ pre ++ turn ∷ post →
+    (past more : List (Event E ⊥)) (event : Event E ⊥) → turn.events ≡ past ++ event ∷ more
+    → NeedsUser event →
+    SomeoneIsIn accepts settings (before ++ (pre ++ record turn { events = past } ∷ []))
+turns_authorised accepts settings before [] w set h all [] post turn is past more event splits needs
+    = absurd (cc)
+turns_authorised accepts settings before [] w set h all (p ∷ pre) post turn is past more event
+    splits needs = absurd (cc)
+turns_authorised accepts settings before (t ∷ turns) w set h all [] post turn is past more event
+    splits needs =
+    let same : t ≡ turn = cc in
+    let guarded = turn_guarded accepts settings before t w all.0 set h all.1 in
+    let walks : Walks all.0 (past ++ event ∷ more) = subst (Walks all.0) (ap (λ u. u.events) same
+    ∙ splits) all.2 in
+    subst (λ u. SomeoneIsIn accepts settings (before ++ record u { events = past } ∷ [])) same
+    (someone_now accepts settings before t past
+    (walks_guarded (circumstances accepts settings t.input.moment) (LastNamed before)
+    (SomeoneIsIn accepts settings before)
+    t.input.kind all.0 past event more guarded walks needs))
+turns_authorised accepts settings before (t ∷ turns) w set h (plan, owes, walks, inl none) (p ∷ pre)
+    post turn is past more event splits needs =
+    let rest : turns ≡ pre ++ turn ∷ post = cc in
+    absurd (nothing_left pre turn post (sym rest ∙ none))
+turns_authorised accepts settings before (t ∷ turns) w set h (plan, owes, walks, inr next) (p ∷ pre)
+    post turn is past more event splits needs =
+    let same : t ≡ p = cc in
+    let rest : turns ≡ pre ++ turn ∷ post = cc in
+    let mid = next.0 in
+    let guarded = turn_guarded accepts settings before t w plan set h owes in
+    let goes = goes_on accepts settings before t mid
+    (follows_guarded (circumstances accepts settings t.input.moment) (LastNamed before)
+    (SomeoneIsIn accepts settings before)
+    t.input.kind plan t.events (Goes mid) guarded next.1) in
+    subst (SomeoneIsIn accepts settings)
+    (append_assoc before (t ∷ []) (pre ++ record turn { events = past } ∷ [])
+    ∙ ap (λ u. before ++ (u ∷ (pre ++ record turn { events = past } ∷ []))) same)
+    (turns_authorised accepts settings (before ++ t ∷ []) turns mid
+    (stays_set accepts settings w t.input plan t.events mid owes next.1 set) goes next.2
+    pre post turn rest past more event splits needs)
+
 -- a run is authorised
-pub authorised : {E : Type 0} (accepts : Acceptance) (settings : Settings)
-    (before after : Option (List (Call E))) (trace trace' : Option (List TraceEntry))
-    (faults faults' max : ℕ) (result : Result (Unit {0}) (RunError E)) →
-    (account : Ran accepts settings before after trace trace' faults faults' max result)
-    → Authorised accepts settings nobody ⊥ (account.turns ++ option_to_list account.last)
-authorised accepts settings before after trace trace' faults faults' max result account =
-    run_authorised accepts nobody ⊥ settings (opening_world settings) account.turns account.world
-    (length account.turns) max account.last _ result
-    (inr (λ e. cc, refl, refl, λ e. refl, λ principal is. absurd (cc))) account.run
-    account.closes
+pub authorised : {E : Type 0} (accepts : Acceptance) (settings : Settings) (turns : List (Turn E))
+    (world : World) (count max : ℕ)
+    (last : Option (Turn E)) (rose : Type 0) (result : Result (Unit {0}) (RunError E)) →
+    Run accepts (opening_world settings) turns world → Closes accepts world count max last rose
+    result →
+    Authorised accepts settings (turns ++ option_to_list last)
+authorised accepts settings turns world count max last rose result run closes =
+    λ before after turn is past more event splits needs.
+    turns_authorised accepts settings [] (turns ++ option_to_list last) (opening_world settings)
+    refl
+    (inr (tt, refl, refl, tt))
+    (run_walks accepts (opening_world settings) turns world (option_to_list last) run
+    (last_walks accepts world count max last rose result closes))
+    before after turn is past more event splits needs

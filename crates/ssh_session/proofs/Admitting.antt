@@ -1,18 +1,9 @@
 -- The rows are plans in which nothing of the connection comes before an answer that accepts a user.
-use Rattle.std.proofs.Common.{⊎_elim, ◌≡◌, ◌⊎◌, ℕ, List, [], ◌++◌, Option, Some, None, Bool, true}
-use Rattle.std.proofs.Common.{false, refl, sym, ap, subst, inl, inr, arith}
-use Rattle.std.specs.Prelude.{◌^◌, nat_lt, bytes_eq, codes, if◌then◌else◌, length, drop}
-use Rattle.ssh_wire.specs.declared.method.MethodKind.TheVariants as method_kind
+use Rattle.std.proofs.Common.{⊎_elim, ◌≡◌, ◌≤◌, ◌⊎◌, ℕ, List, [], ◌∷◌, ◌++◌, Option, Some, None}
+use Rattle.std.proofs.Common.{Bool, true, false, refl, sym, ap, subst, inl, inr, arith}
+use Rattle.std.specs.Prelude.{bytes_eq, codes, if◌then◌else◌, drop}
 use Rattle.ssh_wire.specs.Field.{number, string}
-use Rattle.ssh_keys.specs.declared.algorithm.Algorithm.{Algorithm}
-use Rattle.ssh_keys.specs.declared.key_or_certificate.PublicKeyOrCertificate.{
-  PublicKeyOrCertificate,
-}
-use Rattle.ssh_keys.specs.declared.key_or_certificate.PublicKeyOrCertificate.TheVariants.{
-  PublicKey as Plain,
-  Certificate,
-}
-use Rattle.ssh_keys.specs.Offers.{offered_key}
+use Rattle.ssh_link.specs.Frames.{Frame}
 use Rattle.ssh_link.specs.declared.command.Command.{Command as Commanded}
 use Rattle.ssh_link.specs.declared.command.Command.TheVariants as command
 use Rattle.ssh_link.specs.declared.frame.InputKind.{InputKind}
@@ -20,226 +11,223 @@ use Rattle.ssh_link.specs.declared.frame.InputKind.TheVariants.{Payload, Command
 use Rattle.ssh_link.specs.declared.link.TraceEntry.TheVariants as traced
 use Rattle.ssh_link.specs.declared.outcome.Refusal.{Refusal}
 use Rattle.ssh_link.specs.declared.outcome.Refusal.TheVariants.{UnknownChannel, UnknownOpen}
-use Rattle.ssh_auth.specs.declared.auth.Auth.{Auth}
-use Rattle.ssh_auth.specs.declared.auth.Auth.TheVariants.{Reject, Accept, UnsupportedMethod}
-use Rattle.ssh_auth.specs.declared.auth.Auth.TheVariants.{Partial}
 use Rattle.ssh_auth.specs.declared.auth_request.AuthRequest.{AuthRequest}
-use Rattle.ssh_auth.specs.declared.auth_request.CurrentRequest.TheVariants as round
-use Rattle.ssh_auth.specs.Layout.{pk_ok}
-use Rattle.ssh_auth.specs.declared.question.Question.{Question}
-use Rattle.ssh_auth.specs.declared.question.Question.TheVariants.{Admits}
-use Rattle.ssh_auth.specs.declared.question.Admission.TheVariants as by
+use Rattle.ssh_auth.specs.declared.auth_step.AuthVerdict.TheVariants as verdict
+use Rattle.ssh_auth.specs.declared.question.Question.TheVariants.{Banner}
 use Rattle.ssh_auth.specs.Plan.{Plan, Finish, Ask, Tell, after}
-use Rattle.ssh_auth.specs.Proven.{IsProven, AsksOnly}
-use Rattle.ssh_auth.specs.Publickey.{Acceptance, Circumstances, Offer}
-use Rattle.ssh_auth.specs.Request.{begun, is_probed, prompt_of}
-use Rattle.ssh_auth.specs.Response.{Responded, Responses, Unfit_responses, Unread_responses}
-use Rattle.ssh_auth.specs.Requested.{Requested as Asked, Other_service, Method, None_method}
-use Rattle.ssh_auth.specs.Requested.{Password_method, Change_method, Unusable_method, Broken_method}
-use Rattle.ssh_auth.specs.Requested.{Probe_method, Misnamed_method, Signed_method}
-use Rattle.ssh_auth.specs.Requested.{Interactive_method, Other_method, Unfit_method}
-use Rattle.ssh_auth.specs.Requested.{SaysRequest as Asks}
+use Rattle.ssh_auth.specs.Proven.{IsProven}
+use Rattle.ssh_auth.specs.Publickey.{Acceptance, Circumstances}
+use Rattle.ssh_auth.specs.Request.{begun, prompt_of}
+use Rattle.ssh_auth.specs.Response.{Responded}
+use Rattle.ssh_auth.specs.Requested.{Requested as Asked, SaysRequest}
 use Rattle.ssh_auth.specs.Requested as asks
-use Rattle.ssh_auth.specs.Verdict.{method_verdict, after_offer, proof, signed, permitted, responded}
+use Rattle.ssh_auth.specs.Verdict.{AuthOutcome, Replies, verdict as verdict_on, method_verdict}
+use Rattle.ssh_auth.specs.Verdict.{response_verdict}
+use Rattle.ssh_auth.specs.Verdict as auth
 use Rattle.ssh_auth.proofs.Proving.{verdict_only}
+use Rattle.ssh_channels.specs.Lines.{find}
 use Rattle.ssh_session.specs.declared.gate.Gate.{Gate}
 use Rattle.ssh_session.specs.declared.gate.Gate.TheVariants as gate
-use Rattle.ssh_session.specs.World.{Settings, World, circumstances}
-use Rattle.ssh_session.specs.Gate.{gate_of}
-use Rattle.ssh_session.specs.Said.{Said, Nothing, Disconnect, Over_cap, Service, Request, Response}
-use Rattle.ssh_session.specs.Said.{Open_session, Open_other, Open_without_packets, Grant, Peer_eof}
-use Rattle.ssh_session.specs.Said.{Peer_close, Unfit, Unbuilt, Fits, Says}
+use Rattle.ssh_session.specs.declared.state.EncryptedState.{EncryptedState}
+use Rattle.ssh_session.specs.declared.state.EncryptedState.TheVariants.{WaitingAuthServiceRequest}
+use Rattle.ssh_session.specs.declared.state.EncryptedState.TheVariants.{WaitingAuthRequest}
+use Rattle.ssh_session.specs.declared.state.EncryptedState.TheVariants.{InitCompression}
+use Rattle.ssh_session.specs.declared.state.EncryptedState.TheVariants.{Authenticated}
+use Rattle.ssh_session.specs.Acts.{done, acts}
+use Rattle.ssh_session.specs.Authorised.{IsRequestOf, IsProvenRequest, IsOfChannel}
+use Rattle.ssh_session.specs.Effect.{Effect, Unbuilt, refuses, effect, refused_or, no_sending}
+use Rattle.ssh_session.specs.Effect.{no_closing, no_open, done_by}
+use Rattle.ssh_session.specs.Gate.{gate_of, IsRequesting}
+use Rattle.ssh_session.specs.Layout.{at_once, held, service_accept, banner, too_many_attempts}
+use Rattle.ssh_session.specs.Opens.{opening_of}
 use Rattle.ssh_session.specs.Outcome.{Outcome, Goes}
-use Rattle.ssh_session.specs.Rows.{row, open_session_row, finished}
-use Rattle.ssh_session.specs.Layout.{at_once, too_many_attempts}
-use Rattle.ssh_session.specs.Effect.{refuses, Not_built, effect, data_effect, eof_effect}
-use Rattle.ssh_session.specs.Effect.{close_effect, answer_effect}
-use Rattle.ssh_session.specs.Commanded.{command_row, done}
-use Rattle.ssh_session.specs.Entries.{find}
-use Rattle.ssh_session.specs.Pending.{pending_of}
-use Rattle.ssh_session.specs.Run.{OwesKind}
-use Rattle.ssh_session.specs.Authorised.{IsRequestOf, IsResponse, NamesLast, IsProvenRequest}
-use Rattle.ssh_session.proofs.Gates.{IsOfChannels, is_userauth, is_response, is_accepted, fits_of}
-use Rattle.ssh_session.proofs.Guards.{Accepts, IsClear, Guarded, plan_accepted}
-use Rattle.ssh_session.proofs.Replying.{unnamed, unread, begun_clear, prompt_named, low_frame}
-use Rattle.ssh_session.proofs.Replying.{service_guarded, rejected_guarded, shown_guarded}
-use Rattle.ssh_session.proofs.Replying.{answered_guarded, proven_guarded, prompted_guarded}
+use Rattle.ssh_session.specs.Reading.{Said}
+use Rattle.ssh_session.specs.Reading.{Says}
+use Rattle.ssh_session.specs.Rows.{row, greeting, greets, is_short, concluded}
+use Rattle.ssh_session.specs.Rows.{asked_of, rejection_hold, moment_after}
+use Rattle.ssh_session.specs.Run.{OwesKind, command_row, is_there}
+use Rattle.ssh_session.specs.World.{World, circumstances}
+use Rattle.ssh_session.proofs.Gates.{IsLetIn, IsOfChannels, IsForRequest, is_userauth, is_response}
+use Rattle.ssh_session.proofs.Gates.{is_for_request, is_let_in}
+use Rattle.ssh_session.proofs.Guards.{Accepts, AreLow, IsBefore, IsClear, NamesLast, Guarded}
+use Rattle.ssh_session.proofs.Guards.{plan_accepted}
+use Rattle.ssh_session.proofs.FairVerdicts.{IsLow, IsFairReply, IsFair, method_fair}
+use Rattle.ssh_session.proofs.FairVerdicts.{responded_fair, asks_weak, begun_named}
+use Rattle.ssh_session.proofs.FairVerdicts.{prompt_named}
 
--- questions of which more is said
-asks_weak : {O : Type 0} (P Q : Question → Type 0) (plan : Plan O)
-    → ((question : Question) → P question → Q question) → AsksOnly P plan → AsksOnly Q plan
-asks_weak P Q (Finish outcome) f h = tt
-asks_weak P Q (Ask question next) f h = (
-  f question h.0,
-  λ answer. asks_weak P Q (next answer) f
-      (h.1 answer),
+-- ---- frames of no channel
+
+low_frame : (payload : List ℕ) (frame : Frame) → frame.payload ≡ payload → IsLow payload
+    → IsOfChannel frame → ⊥
+low_frame payload frame is low h =
+    let e : low.0 ≡ h.0 = let f = low.2 in let g = h.2 in cc in
+    low.3 (subst (λ m. 90 ≤ m) (sym e) h.3)
+
+low_more : (xs ys : List Frame) → AreLow xs → AreLow ys → AreLow (xs ++ ys)
+low_more [] ys h k = k
+low_more (x ∷ xs) ys h k = (h.0, low_more xs ys h.1 k)
+
+-- ---- who is bound
+
+-- where the input is no request, who was named last stays so
+before_unnamed : (named : List ℕ → Type 0) (kind : InputKind) (state : EncryptedState) →
+    ((other : List ℕ) → IsRequestOf other kind → ⊥) → IsBefore named state
+    → IsBefore (NamesLast named kind) state
+before_unnamed named kind (WaitingAuthServiceRequest sent accepted) none h = tt
+before_unnamed named kind (WaitingAuthRequest auth) none h = λ principal is.
+    inr (none, h principal is)
+before_unnamed named kind _ none h = absurd h
+
+unnamed : (named : List ℕ → Type 0) (kind : InputKind) (w : World)
+    → ((other : List ℕ) → IsRequestOf other kind → ⊥) →
+    IsClear named w → IsClear (NamesLast named kind) w
+unnamed named kind w none clear = (
+  before_unnamed named kind w.user.state none clear.0,
+  clear.1,
+  clear.2,
+  clear.3,
 )
-asks_weak P Q (Tell entry next) f h = asks_weak P Q next f h
 
-proof_guarded : (given : Circumstances) (named : List ℕ → Type 0) (a : Type 0) (kind : InputKind)
-    (settings : Settings) (moment : ℕ) (w : World) (requested : Bool) (state : AuthRequest)
-    (user : List ℕ) (key : PublicKeyOrCertificate) (algorithm : Algorithm) →
-    AsksOnly (IsProvenRequest given kind) (proof state user key algorithm)
-    → IsClear (NamesLast named kind) (record w { auth = state }) → Guarded given named a kind
-    (after (proof state user key algorithm) (finished settings moment w requested))
-proof_guarded given named a kind settings moment w requested state user (Plain key hash) algorithm h
-    clear = (
-      λ q. absurd q,
-      λ answer. proven_guarded given named a
-          (Accepts given named kind (Admits (by.Publickey user key algorithm)) answer) kind settings
-          moment w requested state answer clear
-          (λ e. subst (Accepts given named kind (Admits (by.Publickey user key algorithm))) (sym e)
-          h.0),
+-- so does it where the payload is not read as a request: before the service is served nobody is
+-- bound
+before_unread : (named : List ℕ → Type 0) (w : World) (payload : List ℕ) (state : EncryptedState)
+    → w.user.state ≡ state →
+    (IsForRequest (gate_of w payload) → ⊥) → IsBefore named state
+    → IsBefore (NamesLast named (Payload payload)) state
+before_unread named w payload (WaitingAuthServiceRequest sent accepted) at other h = tt
+before_unread named w payload (WaitingAuthRequest auth) at other h =
+    before_unnamed named (Payload payload) (WaitingAuthRequest auth)
+    (λ user r. other (subst (λ p. IsForRequest (gate_of w p)) (sym r.4)
+    (is_for_request w auth r.0 at))) h
+before_unread named w payload _ at other h = absurd h
+
+unread : (named : List ℕ → Type 0) (w : World) (payload : List ℕ) (at : Gate) → gate_of w payload
+    ≡ at →
+    (IsForRequest at → ⊥) → IsClear named w → IsClear (NamesLast named (Payload payload)) w
+unread named w payload at is other clear = (
+  before_unread named w payload w.user.state refl (λ r. other (subst IsForRequest is r)) clear.0,
+  clear.1,
+  clear.2,
+  clear.3,
+)
+
+-- ---- what a verdict comes to
+
+concluded_guarded : (given : Circumstances) (named : List ℕ → Type 0) (a : Type 0)
+    (kind : InputKind) (w : World) (moment : ℕ)
+    (requested : Bool) (outcome : AuthOutcome) → (w.channels.lines.entries ≡ [])
+    → (w.channels.opens ≡ []) →
+    AreLow w.channels.lines.written → IsFairReply (NamesLast named kind) a outcome →
+    Guarded given named a kind (concluded w moment requested outcome)
+concluded_guarded given named a kind w moment requested (Replies reply verdict.Accepted state) none
+    opens low h =
+    plan_accepted given named a kind
+    (concluded w moment requested (Replies reply verdict.Accepted state)) (h.1 refl)
+concluded_guarded given named a kind w moment requested
+    (Replies reply (verdict.Rejected none_method) state) none opens low h =
+    let frame = held reply (moment_after moment (rejection_hold w.settings.config none_method
+    w.user.requested)) in
+    inr (
+      h.2,
+      none,
+      opens,
+      low_more w.channels.lines.written (frame ∷ []) low
+          (low_frame reply frame refl h.0, tt),
     )
-proof_guarded given named a kind settings moment w requested state user (Certificate certificate)
-    algorithm h clear = (
-      λ q. absurd q,
-      λ answer. proven_guarded given named a
-          (Accepts given named kind (Admits (by.OpensshCertificate user certificate)) answer) kind
-          settings moment w requested state answer clear
-          (λ e. subst (Accepts given named kind (Admits (by.OpensshCertificate user certificate)))
-          (sym e) h.0),
+concluded_guarded given named a kind w moment requested (Replies reply verdict.Continued state) none
+    opens low h =
+    inr (
+      h.2,
+      none,
+      opens,
+      low_more w.channels.lines.written (at_once reply ∷ []) low
+          (low_frame reply (at_once reply) refl h.0, tt),
     )
+concluded_guarded given named a kind w moment requested (auth.Fails fault) none opens low h = tt
 
-signed_guarded : (given : Circumstances) (named : List ℕ → Type 0) (a : Type 0) (kind : InputKind)
-    (settings : Settings) (moment : ℕ) (w : World) (requested : Bool) (state : AuthRequest)
-    (user : List ℕ) (offer : Offer) (accepted : Option Bool) →
-    AsksOnly (IsProvenRequest given kind) (signed state user offer accepted)
-    → IsClear (NamesLast named kind) (record w { auth = state }) → Guarded given named a kind
-    (after (signed state user offer accepted) (finished settings moment w requested))
-signed_guarded given named a kind settings moment w requested state user offer None h clear = tt
-signed_guarded given named a kind settings moment w requested state user offer (Some false) h clear
-    = rejected_guarded given named a kind settings moment w requested state false _ false clear
-signed_guarded given named a kind settings moment w requested state user offer (Some true) h clear =
-    proof_guarded given named a kind settings moment w requested state user offer.key
-    offer.algorithm h clear
+fair_guarded : (given : Circumstances) (named : List ℕ → Type 0) (a : Type 0) (kind : InputKind)
+    (w : World) (moment : ℕ)
+    (requested : Bool) (plan : Plan AuthOutcome) → (w.channels.lines.entries ≡ [])
+    → (w.channels.opens ≡ []) →
+    AreLow w.channels.lines.written → IsFair given named a kind plan →
+    Guarded given named a kind (after plan (concluded w moment requested))
+fair_guarded given named a kind w moment requested (Finish outcome) none opens low h =
+    concluded_guarded given named a kind w moment requested outcome none opens low h
+fair_guarded given named a kind w moment requested (Ask question next) none opens low h = (
+  λ q. absurd (h.0 q),
+  λ answer. fair_guarded given named (a ⊎ Accepts given named kind question answer) kind w moment
+      requested (next answer)
+      none opens low (h.1 answer),
+)
+fair_guarded given named a kind w moment requested (Tell entry next) none opens low h = absurd h
 
-permitted_guarded : (given : Circumstances) (named : List ℕ → Type 0) (a : Type 0)
-    (kind : InputKind) (settings : Settings) (moment : ℕ) (w : World) (requested : Bool)
-    (state : AuthRequest) (user : List ℕ) (offer : Offer) (accepted : Option Bool) (answer : Auth) →
-    AsksOnly (IsProvenRequest given kind)
-    (permitted state answer (signed state user offer accepted)) → IsClear (NamesLast named kind)
-    (record w { auth = state }) →
-    Guarded given named a kind (after (permitted state answer (signed state user offer accepted))
-    (finished settings moment w requested))
-permitted_guarded given named a kind settings moment w requested state user offer accepted Accept h
-    clear = signed_guarded given named a kind settings moment w requested state user offer accepted
-    h clear
-permitted_guarded given named a kind settings moment w requested state user offer accepted _ h clear
-    = rejected_guarded given named a kind settings moment w requested state false _ false clear
+-- ---- the service
 
-asked_first_guarded : (given : Circumstances) (named : List ℕ → Type 0) (a : Type 0)
-    (kind : InputKind) (settings : Settings) (moment : ℕ) (w : World) (requested : Bool)
-    (state : AuthRequest) (user : List ℕ) (offer : Offer) (accepted : Option Bool) (is_asked : Bool)
-    →
-    AsksOnly (IsProvenRequest given kind) (if is_asked then signed state user offer accepted
-    else Ask (Admits (by.PublickeyOffered user (offered_key offer.key) offer.algorithm))
-    (λ answer. permitted state answer (signed state user offer accepted)))
-    → IsClear (NamesLast named kind) (record w { auth = state }) →
-    Guarded given named a kind (after (if is_asked then signed state user offer accepted
-    else Ask (Admits (by.PublickeyOffered user (offered_key offer.key) offer.algorithm))
-    (λ answer. permitted state answer (signed state user offer accepted)))
-    (finished settings moment w requested))
-asked_first_guarded given named a kind settings moment w requested state user offer accepted true h
-    clear = signed_guarded given named a kind settings moment w requested state user offer accepted
-    h clear
-asked_first_guarded given named a kind settings moment w requested state user offer accepted false h
-    clear = (
-      λ q. absurd q,
-      λ answer. permitted_guarded given named
-          (a ⊎ Accepts given named kind (Admits (by.PublickeyOffered user (offered_key offer.key)
-          offer.algorithm)) answer) kind settings moment w requested state user offer accepted
-          answer
-          (h.1 answer) clear,
-    )
+greeting_low : (message : Option (List ℕ)) → AreLow (greeting message)
+greeting_low None = (
+  low_frame service_accept (at_once service_accept) refl (
+    6,
+    string (codes "ssh-userauth"),
+    refl,
+    λ l. omega (arith, l),
+  ),
+  tt,
+)
+greeting_low (Some message) = (
+  low_frame service_accept (at_once service_accept) refl (
+    6,
+    string (codes "ssh-userauth"),
+    refl,
+    λ l. omega (arith, l),
+  ),
+  (
+    low_frame (banner message) (at_once (banner message)) refl (
+      53,
+      string message ++ string [],
+      refl,
+      λ l. omega (arith, l),
+    ),
+    tt,
+  ),
+)
 
-probed_guarded : (given : Circumstances) (named : List ℕ → Type 0) (a : Type 0) (kind : InputKind)
-    (settings : Settings) (moment : ℕ) (w : World) (requested : Bool) (state : AuthRequest)
-    (offer : Offer) (answer : Auth) → IsClear (NamesLast named kind) (record w { auth = state }) →
-    Guarded given named a kind (finished settings moment w requested
-    (after_offer state offer answer))
-probed_guarded given named a kind settings moment w requested state offer Accept clear =
-    shown_guarded given named a kind settings moment w requested
-    (record state { current = Some (round.PublicKey offer.blob offer.name true) })
-    (pk_ok offer.name offer.blob)
-    (string offer.name ++ string offer.blob) (nat_lt (length (pk_ok offer.name offer.blob))
-    (2 ^ 32)) refl clear
-probed_guarded given named a kind settings moment w requested state offer (Reject methods partial)
-    clear = rejected_guarded given named a kind settings moment w requested state false _ partial
-    clear
-probed_guarded given named a kind settings moment w requested state offer UnsupportedMethod clear =
-    rejected_guarded given named a kind settings moment w requested state false _ false clear
-probed_guarded given named a kind settings moment w requested state offer
-    (Partial name instructions prompts) clear = rejected_guarded given named a kind settings moment
-    w requested state false _ false clear
+greets_guarded : (given : Circumstances) (named : List ℕ → Type 0) (a : Type 0) (kind : InputKind)
+    (w : World)
+    (message : Option (List ℕ)) (short : Bool) → is_short message ≡ short → IsClear named w →
+    Guarded given named a kind (acts (greets message) w)
+greets_guarded given named a kind w message true is clear =
+    rw is (inr (
+      λ principal e. absurd (cc),
+      clear.1,
+      clear.2,
+      low_more w.channels.lines.written (greeting message) clear.3 (greeting_low message),
+    ))
+greets_guarded given named a kind w message false is clear = rw is tt
 
-method_guarded : (given : Circumstances) (named : List ℕ → Type 0) (a : Type 0) (kind : InputKind)
-    (settings : Settings) (moment : ℕ) (w : World) (requested : Bool) (state : AuthRequest)
-    (user : List ℕ) (method : Method) → IsRequestOf user kind →
-    AsksOnly (IsProvenRequest given kind) (method_verdict state user method)
-    → IsClear (NamesLast named kind) (record w { auth = state }) → Guarded given named a kind
-    (after (method_verdict state user method) (finished settings moment w requested))
-method_guarded given named a kind settings moment w requested state user None_method is h clear = (
+service_guarded : (given : Circumstances) (named : List ℕ → Type 0) (a : Type 0) (kind : InputKind)
+    (w : World) (b : Bool) →
+    IsClear named w → IsClear (NamesLast named kind) w →
+    Guarded given named a kind (if b then Ask Banner (λ message. acts (greets message) w) else acts
+    [] w)
+service_guarded given named a kind w true clear stays = (
   λ q. absurd q,
-  λ answer. answered_guarded given named a (Accepts given named kind (Admits (by.None user)) answer)
-      kind settings moment w requested state method_kind.None answer clear
-      (λ e. subst (Accepts given named kind (Admits (by.None user))) (sym e) is),
+  λ message. greets_guarded given named (a ⊎ ⊥) kind w message (is_short message) refl clear,
 )
-method_guarded given named a kind settings moment w requested state user (Password_method password)
-    is h clear = (
-      λ q. absurd q,
-      λ answer. answered_guarded given named a
-          (Accepts given named kind (Admits (by.Password user password)) answer) kind settings
-          moment w
-          requested state method_kind.Password answer clear
-          (λ e. subst (Accepts given named kind (Admits (by.Password user password))) (sym e) is),
-    )
-method_guarded given named a kind settings moment w requested state user
-    (Change_method password new_password) is h clear = rejected_guarded given named a kind settings
-    moment w requested state false _ false clear
-method_guarded given named a kind settings moment w requested state user Unusable_method is h clear
-    = rejected_guarded given named a kind settings moment w requested state false _ false clear
-method_guarded given named a kind settings moment w requested state user Broken_method is h clear =
-    tt
-method_guarded given named a kind settings moment w requested state user (Probe_method offer) is h
-    clear = (
-      λ q. absurd q,
-      λ answer. probed_guarded given named
-          (a ⊎ Accepts given named kind (Admits (by.PublickeyOffered user (offered_key offer.key)
-          offer.algorithm)) answer) kind settings moment w requested state offer answer clear,
-    )
-method_guarded given named a kind settings moment w requested state user Misnamed_method is h clear
-    = rejected_guarded given named a kind settings moment w requested state false _ false clear
-method_guarded given named a kind settings moment w requested state user
-    (Signed_method offer accepted) is h clear =
-    asked_first_guarded given named a kind settings moment w requested state user offer accepted
-    (is_probed state.current offer.name offer.blob) h clear
-method_guarded given named a kind settings moment w requested state user
-    (Interactive_method submethods) is h clear = (
-      λ q. absurd q,
-      λ answer. prompted_guarded given named a
-          (Accepts given named kind (Admits (by.KeyboardInteractive user submethods None)) answer)
-          kind
-          settings moment w requested (record state
-          { current = Some (round.KeyboardInteractive submethods) }) answer clear
-          (λ e. subst (Accepts given named kind
-          (Admits (by.KeyboardInteractive user submethods None)))
-          (sym e) is),
-    )
-method_guarded given named a kind settings moment w requested state user Other_method is h clear =
-    rejected_guarded given named a kind settings moment w requested state false _ false clear
-method_guarded given named a kind settings moment w requested state user (Unfit_method why) is h
-    clear = tt
+service_guarded given named a kind w false clear stays = inr stays
+
+-- ---- requests and responses
 
 -- a payload that is read as a request is one of the user that it names
-asked_guarded : (given : Circumstances) (named : List ℕ → Type 0) (a : Type 0) (settings : Settings)
-    (moment : ℕ) (w : World) (payload : List ℕ) (asked : Asked) → gate_of settings w payload
-    ≡ gate.UserauthRequest →
-    Asks given (drop 1 payload) asked → IsClear named w → Guarded given named a (Payload payload)
-    (row settings moment w (Request asked))
-asked_guarded given named a settings moment w payload (asks.Request user method) at h clear =
-    let is = is_userauth settings w payload at in
-    let request : IsRequestOf user (Payload payload) = (
+asked_guarded : (given : Circumstances) (named : List ℕ → Type 0) (a : Type 0) (w : World)
+    (moment : ℕ) (payload : List ℕ)
+    (auth : AuthRequest) (asked : Asked) → payload ≡ 50 ∷ drop 1 payload
+    → SaysRequest given (drop 1 payload) asked →
+    (w.channels.lines.entries ≡ []) → (w.channels.opens ≡ []) → AreLow w.channels.lines.written →
+    Guarded given named a (Payload payload)
+    (after (verdict_on auth asked) (concluded w moment true))
+asked_guarded given named a w moment payload auth (asks.Request user method) is h none opens low =
+    let kind = Payload payload in
+    let request : IsRequestOf user kind = (
       drop 1 payload,
       codes "ssh-connection",
       h.0,
@@ -247,221 +235,191 @@ asked_guarded given named a settings moment w payload (asks.Request user method)
       is,
       h.2,
     ) in
-    method_guarded given named a (Payload payload) settings moment w true
-    (begun w.auth user (codes "ssh-connection")) user method request
-    (asks_weak (IsProven given (drop 1 payload)) (IsProvenRequest given (Payload payload))
-    (method_verdict (begun w.auth user (codes "ssh-connection")) user method)
-    (λ question proven. (drop 1 payload, is, proven)) (verdict_only given (drop 1 payload) w.auth
-    (asks.Request user method) h)) (begun_clear settings named w payload user at request clear)
-asked_guarded given named a settings moment w payload Other_service at h clear = tt
-asked_guarded given named a settings moment w payload asks.Unread at h clear = tt
-asked_guarded given named a settings moment w payload (asks.Unfit why) at h clear = tt
+    let state = begun auth user (codes "ssh-connection") in
+    fair_guarded given named a kind w moment true (method_verdict state user method) none opens low
+    (method_fair given named a kind state user method request
+    (asks_weak (IsProven given (drop 1 payload)) (IsProvenRequest given kind)
+    (method_verdict state user method)
+    (λ question proven. (drop 1 payload, is, proven)) (verdict_only given (drop 1 payload) auth
+    (asks.Request user method) h))
+    (begun_named (NamesLast named kind) auth user (codes "ssh-connection") (inl request)))
+asked_guarded given named a w moment payload auth asks.Other_service is h none opens low = tt
+asked_guarded given named a w moment payload auth asks.Unread is h none opens low = tt
+asked_guarded given named a w moment payload auth (asks.Unfit why) is h none opens low = tt
 
-request_guarded : (given : Circumstances) (named : List ℕ → Type 0) (a : Type 0)
-    (settings : Settings) (moment : ℕ) (w : World) (payload : List ℕ) (asked : Asked) (at : Gate)
-    → gate_of settings w payload ≡ at →
-    Says given at payload (Request asked) → IsClear named w → Guarded given named a
-    (Payload payload) (row settings moment w (Request asked))
-request_guarded given named a settings moment w payload asked gate.UserauthRequest e h clear =
-    asked_guarded given named a settings moment w payload asked e h clear
-request_guarded given named a settings moment w payload asked _ e h clear = absurd h
+request_guarded : (given : Circumstances) (named : List ℕ → Type 0) (a : Type 0) (w : World)
+    (moment : ℕ) (payload : List ℕ)
+    (state : EncryptedState) (asked : Asked) → IsRequesting state → payload ≡ 50 ∷ drop 1 payload →
+    SaysRequest given (drop 1 payload) asked → IsClear named w →
+    Guarded given named a (Payload payload)
+    (asked_of state (λ auth. after (verdict_on auth asked) (concluded w moment true)) (acts [] w))
+request_guarded given named a w moment payload (WaitingAuthRequest auth) asked requesting is h clear
+    =
+    asked_guarded given named a w moment payload auth asked is h clear.1 clear.2 clear.3
+request_guarded given named a w moment payload _ asked requesting is h clear = absurd requesting
 
--- ---- responses
-
-responded_guarded : (given : Circumstances) (named : List ℕ → Type 0) (a : Type 0)
-    (kind : InputKind) (settings : Settings) (moment : ℕ) (w : World) (requested : Bool)
-    (state : AuthRequest) (prompt : Option (List ℕ × List ℕ)) (said : Responded) →
-    ((shown : List ℕ × List ℕ) → prompt ≡ Some shown → IsResponse kind × named shown.0)
-    → IsClear (NamesLast named kind) (record w { auth = state }) →
-    Guarded given named a kind (after (responded state prompt said)
-    (finished settings moment w requested))
-responded_guarded given named a kind settings moment w requested state None said h clear =
-    rejected_guarded given named a kind settings moment w requested state false _ false clear
-responded_guarded given named a kind settings moment w requested state (Some prompt)
-    (Responses responses) h clear = (
-      λ q. absurd q,
-      λ answer. prompted_guarded given named a
-          (Accepts given named kind (Admits (by.KeyboardInteractive prompt.0 prompt.1
-          (Some responses)))
-          answer) kind settings moment w requested state answer clear
-          (λ e. subst (Accepts given named kind
-          (Admits (by.KeyboardInteractive prompt.0 prompt.1 (Some responses)))) (sym e)
-          (h prompt refl)),
-    )
-responded_guarded given named a kind settings moment w requested state (Some prompt)
-    (Unfit_responses why) h clear = tt
-responded_guarded given named a kind settings moment w requested state (Some prompt)
-    Unread_responses h clear = tt
-
-response_gate : (at : Gate) (fields : List ℕ) (said : Responded) → Fits at fields (Response said)
-    → at ≡ gate.InfoResponse
-response_gate gate.InfoResponse fields said h = refl
-response_gate _ fields said h = absurd h
-
-response_guarded : (given : Circumstances) (named : List ℕ → Type 0) (a : Type 0)
-    (settings : Settings) (moment : ℕ) (w : World) (payload : List ℕ) (said : Responded)
-    → gate_of settings w payload ≡ gate.InfoResponse → IsClear named w →
-    Guarded given named a (Payload payload) (row settings moment w (Response said))
-response_guarded given named a settings moment w payload said at clear =
-    responded_guarded given named a (Payload payload) settings moment w w.requested
-    (record w.auth { partial_success = false }) (prompt_of w.auth) said
-    (λ shown is. (
-      (drop 1 payload, is_response settings w payload at),
-      prompt_named named w.auth.current w.auth.bound shown clear.4 is,
-    ))
-    (unread settings named w payload gate.InfoResponse at (λ r. r) clear)
+-- a response is the bound user's
+response_guarded : (given : Circumstances) (named : List ℕ → Type 0) (a : Type 0) (w : World)
+    (moment : ℕ) (requested : Bool)
+    (payload : List ℕ) (state : EncryptedState) (said : Responded) → IsRequesting state → payload
+    ≡ 61 ∷ drop 1 payload →
+    IsBefore named state → IsBefore (NamesLast named (Payload payload)) state → IsClear named w →
+    Guarded given named a (Payload payload)
+    (asked_of state (λ auth. after (response_verdict auth said) (concluded w moment requested))
+    (acts [] w))
+response_guarded given named a w moment requested payload (WaitingAuthRequest auth) said requesting
+    is bound stays clear =
+    fair_guarded given named a (Payload payload) w moment requested (response_verdict auth said)
+    clear.1 clear.2 clear.3
+    (responded_fair given named a (Payload payload) (record auth { partial_success = false })
+    (prompt_of auth) said
+    (λ shown e. ((drop 1 payload, is), prompt_named named auth.current auth.bound shown bound e))
+    stays)
+response_guarded given named a w moment requested payload _ said requesting is bound stays clear =
+    absurd requesting
 
 -- ---- rows
 
+not_let_in : (named : List ℕ → Type 0) (state : EncryptedState) → IsBefore named state
+    → IsLetIn state → ⊥
+not_let_in named InitCompression h is = h
+not_let_in named Authenticated h is = h
+not_let_in named _ h is = is
+
 -- what a message of channels says is read only after an accepted authentication
-accepted_only : (given : Circumstances) (named : List ℕ → Type 0) (a : Type 0) (settings : Settings)
-    (w : World) (payload : List ℕ) (plan : Plan Outcome) → IsOfChannels (gate_of settings w payload)
-    → IsClear named w → Guarded given named a (Payload payload) plan
-accepted_only given named a settings w payload plan is clear =
-    absurd (clear.0 (is_accepted settings w payload is))
+let_in_only : (given : Circumstances) (named : List ℕ → Type 0) (a : Type 0) (w : World)
+    (payload : List ℕ) (at : Gate)
+    (plan : Plan Outcome) → gate_of w payload ≡ at → IsOfChannels at → IsClear named w
+    → Guarded given named a (Payload payload) plan
+let_in_only given named a w payload at plan is of clear =
+    absurd (not_let_in named w.user.state clear.0 (is_let_in w payload at is of))
 
-nothing_gate : (at : Gate) (fields : List ℕ) → Fits at fields Nothing → at ≡ gate.Nothing
-nothing_gate gate.Nothing fields h = refl
-nothing_gate _ fields h = absurd h
+row_guarded : (given : Circumstances) (named : List ℕ → Type 0) (a : Type 0) (w : World)
+    (moment : ℕ) (payload : List ℕ)
+    (said : Said) (at : Gate) → gate_of w payload ≡ at → Says given (is_there w) at (drop 1 payload)
+    said → IsClear named w →
+    Guarded given named a (Payload payload) (row w moment said)
+row_guarded given named a w moment payload said gate.Nothing is h clear =
+    rw h (inr (unread named w payload gate.Nothing is (λ r. r) clear))
+row_guarded given named a w moment payload said gate.Ends is h clear = rw h (inr clear.3)
+row_guarded given named a w moment payload said gate.OverCap is h clear =
+    let low : IsLow too_many_attempts = (
+      1,
+      number 14 ++ (string (codes "Too many authentication attempts") ++ string []),
+      refl,
+      λ l. omega (arith, l),
+    ) in
+    rw h (inr (low_more w.channels.lines.written (at_once too_many_attempts ∷ []) clear.3
+    (low_frame too_many_attempts (at_once too_many_attempts) refl low, tt)))
+row_guarded given named a w moment payload said gate.ServiceRequest is (inl h) clear =
+    rw h.2 (service_guarded given named a (Payload payload) w
+    (bytes_eq h.0.0 (codes "ssh-userauth")) clear
+    (unread named w payload gate.ServiceRequest is (λ r. r) clear))
+row_guarded given named a w moment payload said gate.ServiceRequest is (inr h) clear = rw h.2 tt
+row_guarded given named a w moment payload said gate.UserauthRequest is h clear =
+    let read = is_userauth w payload is in
+    rw h.2 (request_guarded given named a w moment payload w.user.state h.0 read.1 read.0 h.1 clear)
+row_guarded given named a w moment payload said gate.InfoResponse is h clear =
+    let read = is_response w payload is in
+    let stays = unread named w payload gate.InfoResponse is (λ r. r) clear in
+    rw h.2 (response_guarded given named a w moment w.user.requested payload w.user.state h.0 read.1
+    read.0 clear.0 stays.0 clear)
+row_guarded given named a w moment payload said gate.NotBuilt is h clear = rw h tt
+row_guarded given named a w moment payload said gate.ChannelOpen is h clear =
+    let_in_only given named a w payload gate.ChannelOpen (row w moment said) is tt clear
+row_guarded given named a w moment payload said gate.WindowAdjust is h clear =
+    let_in_only given named a w payload gate.WindowAdjust (row w moment said) is tt clear
+row_guarded given named a w moment payload said gate.ChannelData is h clear =
+    let_in_only given named a w payload gate.ChannelData (row w moment said) is tt clear
+row_guarded given named a w moment payload said gate.ChannelExtendedData is h clear =
+    let_in_only given named a w payload gate.ChannelExtendedData (row w moment said) is tt clear
+row_guarded given named a w moment payload said gate.ChannelEof is h clear =
+    let_in_only given named a w payload gate.ChannelEof (row w moment said) is tt clear
+row_guarded given named a w moment payload said gate.ChannelClose is h clear =
+    let_in_only given named a w payload gate.ChannelClose (row w moment said) is tt clear
+row_guarded given named a w moment payload said gate.ChannelRequest is h clear =
+    let_in_only given named a w payload gate.ChannelRequest (row w moment said) is tt clear
 
-service_gate : (at : Gate) (fields name : List ℕ) → Fits at fields (Service name) → at
-    ≡ gate.ServiceRequest
-service_gate gate.ServiceRequest fields name h = refl
-service_gate _ fields name h = absurd h
-
-open_gate : (at : Gate) (fields : List ℕ) (peer window packet : ℕ)
-    → Fits at fields (Open_session peer window packet) → IsOfChannels at
-open_gate gate.ChannelOpen fields peer window packet h = tt
-open_gate _ fields peer window packet h = absurd h
-
-grant_gate : (at : Gate) (fields : List ℕ) (channel amount : ℕ)
-    → Fits at fields (Grant channel amount) → IsOfChannels at
-grant_gate gate.WindowAdjust fields channel amount h = tt
-grant_gate _ fields channel amount h = absurd h
-
-eof_gate : (at : Gate) (fields : List ℕ) (channel : ℕ) → Fits at fields (Peer_eof channel)
-    → IsOfChannels at
-eof_gate gate.ChannelEof fields channel h = tt
-eof_gate _ fields channel h = absurd h
-
-close_gate : (at : Gate) (fields : List ℕ) (channel : ℕ) → Fits at fields (Peer_close channel)
-    → IsOfChannels at
-close_gate gate.ChannelClose fields channel h = tt
-close_gate _ fields channel h = absurd h
-
-row_guarded : (given : Circumstances) (named : List ℕ → Type 0) (a : Type 0) (settings : Settings)
-    (moment : ℕ) (w : World) (payload : List ℕ) (said : Said)
-    → Says given (gate_of settings w payload) payload said →
-    IsClear named w → Guarded given named a (Payload payload) (row settings moment w said)
-row_guarded given named a settings moment w payload Nothing h clear = (
-  tt,
-  inr (unread settings named w payload gate.Nothing
-      (nothing_gate (gate_of settings w payload) (drop 1 payload)
-      (fits_of given (gate_of settings w payload) payload Nothing tt h)) (λ r. r) clear),
-)
-row_guarded given named a settings moment w payload Disconnect h clear = tt
-row_guarded given named a settings moment w payload Over_cap h clear = (
-  low_frame a (at_once too_many_attempts) 1
-      (number 14 ++ (string (codes "Too many authentication attempts") ++ string [])) refl
-      (λ l. omega (arith, l)),
-  tt,
-)
-row_guarded given named a settings moment w payload (Service name) h clear =
-    service_guarded given named a (Payload payload) w (bytes_eq name (codes "ssh-userauth"))
-    (unread settings named w payload gate.ServiceRequest (service_gate (gate_of settings w payload)
-    (drop 1 payload) name (fits_of given (gate_of settings w payload) payload (Service name) tt
-    h)) (λ r. r) clear)
-row_guarded given named a settings moment w payload (Request asked) h clear = request_guarded given
-    named a settings moment w payload asked (gate_of settings w payload) refl h clear
-row_guarded given named a settings moment w payload (Response said) h clear =
-    response_guarded given named a settings moment w payload said
-    (response_gate (gate_of settings w payload) (drop 1 payload) said
-    (fits_of given (gate_of settings w payload) payload (Response said) tt h)) clear
-row_guarded given named a settings moment w payload (Open_session peer window packet) h clear =
-    accepted_only given named a settings w payload (open_session_row settings w peer window packet)
-    (open_gate (gate_of settings w payload) (drop 1 payload) peer window packet
-    (fits_of given (gate_of settings w payload) payload (Open_session peer window packet) tt h))
-    clear
-row_guarded given named a settings moment w payload Open_other h clear = tt
-row_guarded given named a settings moment w payload Open_without_packets h clear = tt
-row_guarded given named a settings moment w payload (Grant channel amount) h clear =
-    accepted_only given named a settings w payload (row settings moment w (Grant channel amount))
-    (grant_gate (gate_of settings w payload) (drop 1 payload) channel amount
-    (fits_of given (gate_of settings w payload) payload (Grant channel amount) tt h)) clear
-row_guarded given named a settings moment w payload (Peer_eof channel) h clear =
-    accepted_only given named a settings w payload (row settings moment w (Peer_eof channel))
-    (eof_gate (gate_of settings w payload) (drop 1 payload) channel
-    (fits_of given (gate_of settings w payload) payload (Peer_eof channel) tt h)) clear
-row_guarded given named a settings moment w payload (Peer_close channel) h clear =
-    accepted_only given named a settings w payload (row settings moment w (Peer_close channel))
-    (close_gate (gate_of settings w payload) (drop 1 payload) channel
-    (fits_of given (gate_of settings w payload) payload (Peer_close channel) tt h)) clear
-row_guarded given named a settings moment w payload (Unfit why) h clear = tt
-row_guarded given named a settings moment w payload Unbuilt h clear = tt
+-- ---- commands
 
 -- where there is neither a channel nor an open, each command is refused or not built
-refused : (settings : Settings) (named : List ℕ → Type 0) (w : World) (commanded : Commanded)
-    → IsClear named w →
-    ((why : Refusal) × (effect settings w commanded ≡ refuses why w))
-    ⊎ (effect settings w commanded ≡ Not_built)
-refused settings named w (command.Data channel bytes) h =
-    inl (UnknownChannel, ap (λ es. data_effect w bytes (find channel.0 es)) h.1)
-refused settings named w (command.Eof channel) h =
-    inl (UnknownChannel, ap (λ es. eof_effect w (find channel.0 es)) h.1)
-refused settings named w (command.Close channel) h =
-    inl (UnknownChannel, ap (λ es. close_effect w (find channel.0 es)) h.1)
-refused settings named w (command.Answer answer) h =
+refused : (named : List ℕ → Type 0) (w : World) (commanded : Commanded) → IsClear named w →
+    ((why : Refusal) × (effect w commanded ≡ refuses why w)) ⊎ (effect w commanded ≡ Unbuilt)
+refused named w (command.Data channel bytes) h =
     inl (
-      UnknownOpen,
-      ap (λ ps. answer_effect settings w answer (pending_of answer.channel.0 ps))
-          h.2,
+      UnknownChannel,
+      ap (λ es. refused_or (no_sending (find channel.0 es)) w
+          (done_by w (command.Data channel bytes))) h.1,
     )
-refused settings named w _ h = inr refl
+refused named w (command.ExtendedData channel code bytes) h =
+    inl (
+      UnknownChannel,
+      ap (λ es. refused_or (no_sending (find channel.0 es)) w
+          (done_by w (command.ExtendedData channel code bytes))) h.1,
+    )
+refused named w (command.Eof channel) h =
+    inl (
+      UnknownChannel,
+      ap (λ es. refused_or (no_sending (find channel.0 es)) w
+          (done_by w (command.Eof channel))) h.1,
+    )
+refused named w (command.Close channel) h =
+    inl (
+      UnknownChannel,
+      ap (λ es. refused_or (no_closing (find channel.0 es)) w
+          (done_by w (command.Close channel))) h.1,
+    )
+refused named w (command.Answer answer) h =
+    let none : opening_of answer.channel.0 w ≡ None = rw h.2 refl in
+    inl (UnknownOpen, ap (λ o. refused_or (no_open o) w (done_by w (command.Answer answer))) none)
+refused named w _ h = inr refl
 
 -- a command that comes before an accepted authentication does nothing
 command_guarded : (given : Circumstances) (named : List ℕ → Type 0) (a : Type 0) (kind : InputKind)
-    (settings : Settings) (w : World) (ticket : ℕ) (commanded : Commanded)
-    → ((other : List ℕ) → IsRequestOf other kind → ⊥) → IsClear named w →
-    Guarded given named a kind (command_row settings w ticket commanded)
-command_guarded given named a kind settings w ticket commanded none clear =
+    (w : World) (ticket : ℕ)
+    (commanded : Commanded) → ((other : List ℕ) → IsRequestOf other kind → ⊥) → IsClear named w →
+    Guarded given named a kind (command_row w ticket commanded)
+command_guarded given named a kind w ticket commanded none clear =
+    let plan : Effect → Plan Outcome = λ does.
+    done does (λ outcome world. Tell (traced.Answered ticket outcome) (Finish (Goes world))) in
     ⊎_elim
-    (λ why. subst (λ does. Guarded given named a kind
-    (done does (λ result frames world. Tell (traced.Answered ticket result)
-    (Finish (Goes frames world))))) (sym why.1) (tt, inr (unnamed named kind w none clear)))
-    (λ is. subst (λ does. Guarded given named a kind
-    (done does (λ result frames world. Tell (traced.Answered ticket result)
-    (Finish (Goes frames world))))) (sym is) tt)
-    (refused settings named w commanded clear)
+    (λ why. subst (λ does. Guarded given named a kind (plan does)) (sym why.1)
+    (λ n. absurd n, inr (unnamed named kind w none clear)))
+    (λ is. subst (λ does. Guarded given named a kind (plan does)) (sym is) tt)
+    (refused named w commanded clear)
 
-clear_guarded : (accepts : Acceptance) (named : List ℕ → Type 0) (a : Type 0) (settings : Settings)
-    (w : World) (moment : ℕ) (kind : InputKind) (plan : Plan Outcome) → OwesKind accepts settings w
-    moment kind plan →
-    IsClear named w → Guarded (circumstances accepts settings moment) named a kind plan
-clear_guarded accepts named a settings w moment End plan o clear =
-    subst (Guarded (circumstances accepts settings moment) named a End) (sym o) tt
-clear_guarded accepts named a settings w moment (Command ticket commanded) plan o clear =
-    subst (Guarded (circumstances accepts settings moment) named a (Command ticket commanded))
+-- ---- inputs
+
+clear_guarded : (accepts : Acceptance) (named : List ℕ → Type 0) (a : Type 0) (w : World)
+    (moment : ℕ) (kind : InputKind)
+    (plan : Plan Outcome) → OwesKind accepts w moment kind plan → IsClear named w →
+    Guarded (circumstances accepts w.settings moment) named a kind plan
+clear_guarded accepts named a w moment End plan o clear =
+    subst (Guarded (circumstances accepts w.settings moment) named a End) (sym o) (inr clear.3)
+clear_guarded accepts named a w moment (Command ticket commanded) plan o clear =
+    subst (Guarded (circumstances accepts w.settings moment) named a (Command ticket commanded))
     (sym o)
-    (command_guarded (circumstances accepts settings moment) named a (Command ticket commanded)
-    settings w ticket commanded (λ other h. h) clear)
-clear_guarded accepts named a settings w moment (OpenReply ticket answer) plan o clear =
-    subst (Guarded (circumstances accepts settings moment) named a (OpenReply ticket answer))
+    (command_guarded (circumstances accepts w.settings moment) named a (Command ticket commanded) w
+    ticket commanded (λ other h. h) clear)
+clear_guarded accepts named a w moment (OpenReply ticket answer) plan o clear =
+    subst (Guarded (circumstances accepts w.settings moment) named a (OpenReply ticket answer))
     (sym o)
-    (command_guarded (circumstances accepts settings moment) named a (OpenReply ticket answer)
-    settings w ticket (command.Answer answer) (λ other h. h) clear)
-clear_guarded accepts named a settings w moment (Payload payload) plan o clear =
-    subst (Guarded (circumstances accepts settings moment) named a (Payload payload)) (sym o.2)
-    (row_guarded (circumstances accepts settings moment) named a settings moment w payload o.0 o.1
-    clear)
-clear_guarded accepts named a settings w moment kind plan o clear =
-    subst (Guarded (circumstances accepts settings moment) named a kind) (sym o) tt
+    (command_guarded (circumstances accepts w.settings moment) named a (OpenReply ticket answer) w
+    ticket (command.Answer answer)
+    (λ other h. h) clear)
+clear_guarded accepts named a w moment (Payload payload) plan o clear =
+    subst (Guarded (circumstances accepts w.settings moment) named a (Payload payload)) (sym o.2)
+    (row_guarded (circumstances accepts w.settings moment) named a w moment payload o.0
+    (gate_of w payload) refl o.1 clear)
+clear_guarded accepts named a w moment kind plan o clear =
+    subst (Guarded (circumstances accepts w.settings moment) named a kind) (sym o) tt
 
 -- what an input owes is such a plan
-pub owed_guarded : (accepts : Acceptance) (named : List ℕ → Type 0) (a : Type 0)
-    (settings : Settings) (w : World) (moment : ℕ) (kind : InputKind) (plan : Plan Outcome)
-    → OwesKind accepts settings w moment kind plan →
-    a ⊎ IsClear named w → Guarded (circumstances accepts settings moment) named a kind plan
-owed_guarded accepts named a settings w moment kind plan o (inl x) =
-    plan_accepted (circumstances accepts settings moment) named a kind plan x
-owed_guarded accepts named a settings w moment kind plan o (inr clear) = clear_guarded accepts named
-    a settings w moment kind plan o clear
+pub owed_guarded : (accepts : Acceptance) (named : List ℕ → Type 0) (a : Type 0) (w : World)
+    (moment : ℕ) (kind : InputKind)
+    (plan : Plan Outcome) → OwesKind accepts w moment kind plan → a ⊎ IsClear named w →
+    Guarded (circumstances accepts w.settings moment) named a kind plan
+owed_guarded accepts named a w moment kind plan o (inl x) =
+    plan_accepted (circumstances accepts w.settings moment) named a kind plan x
+owed_guarded accepts named a w moment kind plan o (inr clear) = clear_guarded accepts named a w
+    moment kind plan o clear

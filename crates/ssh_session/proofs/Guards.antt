@@ -1,9 +1,10 @@
--- Plans in which nothing of the connection comes before an answer that accepts a user, and what
--- their calls are.
-use Rattle.std.proofs.Common.{◌≡◌, ◌⊎◌, ℕ, List, [], ◌∷◌, ◌++◌, Some, None, Ok, sym, ◌∙◌, ap, subst}
-use Rattle.std.proofs.Common.{inl, inr}
+-- Plans in which nothing of the connection comes before an answer that accepts a user.
+use Rattle.std.proofs.Common.{◌≡◌, ◌⊎◌, ℕ, List, [], ◌∷◌, ◌++◌, map, Some, None, Ok, refl, sym, ◌∙◌}
+use Rattle.std.proofs.Common.{ap, subst, inl, inr}
 use Rattle.ssh_link.specs.Frames.{Frame}
 use Rattle.ssh_link.specs.declared.frame.InputKind.{InputKind}
+use Rattle.ssh_link.specs.declared.link.TraceEntry.{TraceEntry}
+use Rattle.ssh_link.specs.declared.link.TraceEntry.TheVariants.{Sent}
 use Rattle.ssh_auth.specs.declared.auth.Auth.{Auth}
 use Rattle.ssh_auth.specs.declared.auth.Auth.TheVariants.{Accept}
 use Rattle.ssh_auth.specs.declared.auth_request.Principal.{Principal}
@@ -11,19 +12,47 @@ use Rattle.ssh_auth.specs.declared.call.Call.{Call}
 use Rattle.ssh_auth.specs.declared.question.Question.{Question}
 use Rattle.ssh_auth.specs.declared.question.Question.TheVariants.{Admits}
 use Rattle.ssh_auth.specs.Calls.{admission_call}
-use Rattle.ssh_auth.specs.Plan.{Plan, Finish, Ask, Tell, Answer, Answered, Refused, Handler_error}
-use Rattle.ssh_auth.specs.Plan.{Event, Called, Stepped, Told, calls_in, asked_in, Reaches, Follows}
-use Rattle.ssh_auth.specs.Plan.{Begins, Breaks}
+use Rattle.ssh_auth.specs.Plan.{Plan, Finish, Ask, Tell, Answer, Answered, OutsideError, Refused}
+use Rattle.ssh_auth.specs.Plan.{Event, Called, Stepped, Told}
+use Rattle.ssh_auth.specs.Plan.{asked_in, Reaches, Follows, Begins, Breaks, after}
+use Rattle.ssh_auth.specs.Publickey.{Circumstances}
 use Rattle.ssh_auth.specs.Was.{Admitted_so, was, asked_of}
 use Rattle.ssh_auth.proofs.Back.{admitted_back, asked_so, refused_so}
-use Rattle.ssh_auth.proofs.Plans.{calls_in_both}
-use Rattle.ssh_auth.specs.Publickey.{Circumstances}
-use Rattle.ssh_session.specs.declared.phase.Phase.TheVariants.{ServiceRequest, Accepted}
-use Rattle.ssh_session.specs.World.{World}
+use Rattle.ssh_session.specs.declared.state.EncryptedState.{EncryptedState}
+use Rattle.ssh_session.specs.declared.state.EncryptedState.TheVariants.{WaitingAuthServiceRequest}
+use Rattle.ssh_session.specs.declared.state.EncryptedState.TheVariants.{WaitingAuthRequest}
+use Rattle.ssh_session.specs.Acts.{tell_all}
+use Rattle.ssh_session.specs.Authorised.{IsRequestOf, IsAdmitted, IsAcceptingSo, IsAccepting}
+use Rattle.ssh_session.specs.Authorised.{AsksConnection, IsOfChannel}
+use Rattle.ssh_session.specs.Authorised.{NeedsUser}
 use Rattle.ssh_session.specs.Outcome.{Outcome, Goes, Ends, Fails}
-use Rattle.ssh_session.specs.Authorised.{NamesLast, IsAdmitted, IsAcceptingSo, IsAccepting}
-use Rattle.ssh_session.specs.Authorised.{AsksConnection, SomeAccepting, AuthorisedCalls}
-use Rattle.ssh_session.specs.Authorised.{AuthorisedFrames}
+use Rattle.ssh_session.specs.Run.{handed_on, finish_input}
+use Rattle.ssh_session.specs.World.{World}
+
+-- ---- worlds before a user is accepted
+
+-- no frame of these is a channel's
+abbrev pub AreLow : List Frame → Type 0
+AreLow [] = Unit {0}
+AreLow (frame ∷ frames) = (IsOfChannel frame → ⊥) × AreLow frames
+
+-- no user is accepted, and whoever is bound is so named
+abbrev pub IsBefore : (named : List ℕ → Type 0) → EncryptedState → Type 0
+IsBefore named (WaitingAuthServiceRequest sent accepted) = Unit {0}
+IsBefore named (WaitingAuthRequest auth) = (principal : Principal) → auth.bound ≡ Some principal
+    → named principal.user
+IsBefore named _ = ⊥
+
+-- and there is no channel, no open that waits for its answer, and no written frame of a channel
+abbrev pub IsClear : (named : List ℕ → Type 0) → World → Type 0
+IsClear named w = IsBefore named w.user.state × (w.channels.lines.entries ≡ [])
+    × (w.channels.opens ≡ [])
+    × AreLow w.channels.lines.written
+
+-- the user whom the last request named, where this input comes after these names
+abbrev pub NamesLast : (named : List ℕ → Type 0) → InputKind → List ℕ → Type 0
+NamesLast named kind user = IsRequestOf user kind ⊎ (((other : List ℕ) → IsRequestOf other kind → ⊥)
+    × named user)
 
 -- ---- plans
 
@@ -39,90 +68,42 @@ Accepts given named kind (Admits admission) answer =
     AcceptsWhere (IsAdmitted given named kind admission) answer
 Accepts given named kind _ answer = ⊥
 
--- no user is accepted, and there is neither a channel nor an open that waits for its answer; nobody
--- is bound while the
--- service is asked for, and whoever is bound is so named
-abbrev pub IsClear : (named : List ℕ → Type 0) → World → Type 0
-IsClear named w = (w.phase ≡ Accepted → ⊥) × (w.entries ≡ []) × (w.pending ≡ [])
-    × (w.phase ≡ ServiceRequest → w.auth.bound ≡ None)
-    × ((principal : Principal) → w.auth.bound ≡ Some principal → named principal.user)
+-- a frame of a channel
+abbrev pub NeedsEntry : TraceEntry → Type 0
+NeedsEntry (Sent frame) = IsOfChannel frame
+NeedsEntry _ = ⊥
 
--- with the users that are named last after the input: the frames have an accepting call before
--- them, and so does the
--- world, or it is clear
+-- a user was accepted, or the world that it comes to is one before that
 abbrev pub GuardedOutcome : (named : List ℕ → Type 0) → Type 0 → Outcome → Type 0
-GuardedOutcome named accepted (Goes frames world) = AuthorisedFrames accepted frames
-    × (accepted ⊎ IsClear named world)
-GuardedOutcome named accepted (Ends frames) = AuthorisedFrames accepted frames
+GuardedOutcome named accepted (Goes world) = accepted ⊎ IsClear named world
+GuardedOutcome named accepted (Ends world) = accepted ⊎ AreLow world.channels.lines.written
 GuardedOutcome named accepted (Fails fault) = Unit {0}
 
 abbrev pub Guarded : Circumstances → (named : List ℕ → Type 0) → Type 0 → InputKind → Plan Outcome
     → Type 0
 Guarded given named accepted kind (Finish outcome) = GuardedOutcome (NamesLast named kind) accepted
     outcome
-Guarded given named accepted kind (Ask question next) =
-    (AsksConnection question → accepted)
+Guarded given named accepted kind (Ask question next) = (AsksConnection question → accepted)
     × ((answer : Answer question) → Guarded given named (accepted ⊎ Accepts given named kind
     question answer) kind (next answer))
-Guarded given named accepted kind (Tell entry next) = Guarded given named accepted kind next
+Guarded given named accepted kind (Tell entry next) = (NeedsEntry entry → accepted)
+    × Guarded given named accepted kind next
 
--- ---- what was accepted stays so
-
-frames_weak : (a b : Type 0) (frames : List Frame) → (a → b) → AuthorisedFrames a frames
-    → AuthorisedFrames b frames
-frames_weak a b [] f h = tt
-frames_weak a b (frame ∷ frames) f h = (λ c. f (h.0 c), frames_weak a b frames f h.1)
-
-either : {A B C : Type 0} → (A → C) → (B → C) → A ⊎ B → C
+pub either : {A B C : Type 0} → (A → C) → (B → C) → A ⊎ B → C
 either f g (inl a) = f a
 either f g (inr b) = g b
 
-outcome_weak : (named : List ℕ → Type 0) (a b : Type 0) (outcome : Outcome) → (a → b)
-    → GuardedOutcome named a outcome → GuardedOutcome named b outcome
-outcome_weak named a b (Goes frames world) f h = (
-  frames_weak a b frames f h.0,
-  either (λ x. inl (f x)) inr h.1,
-)
-outcome_weak named a b (Ends frames) f h = frames_weak a b frames f h
-outcome_weak named a b (Fails fault) f h = tt
-
-guarded_weak : (given : Circumstances) (named : List ℕ → Type 0) (a b : Type 0) (kind : InputKind)
-    (plan : Plan Outcome) → (a → b) → Guarded given named a kind plan → Guarded given named b kind
-    plan
-guarded_weak given named a b kind (Finish outcome) f h = outcome_weak (NamesLast named kind) a b
-    outcome f h
-guarded_weak given named a b kind (Ask question next) f h = (
-  λ q. f (h.0 q),
-  λ answer. guarded_weak given named (a ⊎ Accepts given named kind question answer)
-      (b ⊎ Accepts given named kind question answer) kind (next answer)
-      (either (λ x. inl (f x)) inr) (h.1 answer),
-)
-guarded_weak given named a b kind (Tell entry next) f h = guarded_weak given named a b kind next f h
-
-calls_weak : {E : Type 0} (given : Circumstances) (named : List ℕ → Type 0) (a b : Type 0)
-    (kind : InputKind) (calls : List (Call E)) → (a → b) → AuthorisedCalls given named a kind calls
-    → AuthorisedCalls given named b kind calls
-calls_weak given named a b kind [] f h = tt
-calls_weak given named a b kind (call ∷ calls) f h = (
-  λ q. f (h.0 q),
-  calls_weak given named (a ⊎ IsAccepting given named kind call)
-      (b ⊎ IsAccepting given named kind call) kind calls (either (λ x. inl (f x)) inr) h.1,
-)
-
 -- ---- once a user is accepted, every plan is such
-
-frames_accepted : (a : Type 0) (frames : List Frame) → a → AuthorisedFrames a frames
-frames_accepted a [] x = tt
-frames_accepted a (frame ∷ frames) x = (λ c. x, frames_accepted a frames x)
 
 outcome_accepted : (named : List ℕ → Type 0) (a : Type 0) (outcome : Outcome) → a
     → GuardedOutcome named a outcome
-outcome_accepted named a (Goes frames world) x = (frames_accepted a frames x, inl x)
-outcome_accepted named a (Ends frames) x = frames_accepted a frames x
+outcome_accepted named a (Goes world) x = inl x
+outcome_accepted named a (Ends world) x = inl x
 outcome_accepted named a (Fails fault) x = tt
 
 pub plan_accepted : (given : Circumstances) (named : List ℕ → Type 0) (a : Type 0)
-    (kind : InputKind) (plan : Plan Outcome) → a → Guarded given named a kind plan
+    (kind : InputKind) (plan : Plan Outcome) →
+    a → Guarded given named a kind plan
 plan_accepted given named a kind (Finish outcome) x = outcome_accepted (NamesLast named kind) a
     outcome x
 plan_accepted given named a kind (Ask question next) x = (
@@ -130,9 +111,68 @@ plan_accepted given named a kind (Ask question next) x = (
   λ answer. plan_accepted given named (a ⊎ Accepts given named kind question answer) kind
       (next answer) (inl x),
 )
-plan_accepted given named a kind (Tell entry next) x = plan_accepted given named a kind next x
+plan_accepted given named a kind (Tell entry next) x =
+    (λ n. x, plan_accepted given named a kind next x)
 
--- ---- the calls of such a plan
+-- ---- frames are handed on
+
+low_told : (given : Circumstances) (named : List ℕ → Type 0) (a : Type 0) (kind : InputKind)
+    (frames : List Frame)
+    (next : Plan Outcome) → AreLow frames → Guarded given named a kind next →
+    Guarded given named a kind (tell_all (map Sent frames) next)
+low_told given named a kind [] next low h = h
+low_told given named a kind (frame ∷ frames) next low h = (
+  λ n. absurd (low.0 n),
+  low_told given named a kind frames next low.1 h,
+)
+
+finished_guarded : (given : Circumstances) (named : List ℕ → Type 0) (a : Type 0) (kind : InputKind)
+    (outcome : Outcome) →
+    GuardedOutcome (NamesLast named kind) a outcome → Guarded given named a kind
+    (finish_input outcome)
+finished_guarded given named a kind (Goes world) (inl x) = plan_accepted given named a kind
+    (finish_input (Goes world)) x
+finished_guarded given named a kind (Goes world) (inr clear) =
+    low_told given named a kind world.channels.lines.written (Finish (Goes (handed_on world)))
+    clear.3
+    (inr (clear.0, clear.1, clear.2, tt))
+finished_guarded given named a kind (Ends world) (inl x) = plan_accepted given named a kind
+    (finish_input (Ends world)) x
+finished_guarded given named a kind (Ends world) (inr low) =
+    low_told given named a kind world.channels.lines.written (Finish (Ends (handed_on world))) low
+    (inr tt)
+finished_guarded given named a kind (Fails fault) h = tt
+
+pub input_guarded : (given : Circumstances) (named : List ℕ → Type 0) (a : Type 0)
+    (kind : InputKind) (plan : Plan Outcome) →
+    Guarded given named a kind plan → Guarded given named a kind (after plan finish_input)
+input_guarded given named a kind (Finish outcome) h = finished_guarded given named a kind outcome h
+input_guarded given named a kind (Ask question next) h = (
+  h.0,
+  λ answer. input_guarded given named (a ⊎ Accepts given named kind question answer) kind
+      (next answer) (h.1 answer),
+)
+input_guarded given named a kind (Tell entry next) h =
+    (h.0, input_guarded given named a kind next h.1)
+
+-- ---- what came of such a plan
+
+-- these are the first events of the plan; the last may be an answer that was an error
+abbrev pub Walks : {E : Type 0} → Plan Outcome → List (Event E ⊥) → Type 0
+Walks plan [] = Unit {0}
+Walks (Finish outcome) (event ∷ events) = ⊥
+Walks {E} (Ask question next) (event ∷ events) =
+    ((answer : Answer question) × Answered question answer event × Walks (next answer) events)
+    ⊎ ((error : OutsideError E ⊥) × Refused question error event × (events ≡ []))
+Walks (Tell entry next) (event ∷ events) = (event ≡ Told entry) × Walks next events
+
+-- a call among these events accepts a user
+abbrev pub SomeAccepts : {E : Type 0} → Circumstances → (named : List ℕ → Type 0) → InputKind
+    → List (Event E ⊥) → Type 0
+SomeAccepts given named kind [] = ⊥
+SomeAccepts given named kind (Called call ∷ events) = IsAccepting given named kind call
+    ⊎ SomeAccepts given named kind events
+SomeAccepts given named kind (_ ∷ events) = SomeAccepts given named kind events
 
 -- what follows of an answer that accepts follows of this one
 where_accepted : (P : Auth → Type 0) (holds : Type 0) (answer : Auth) → (holds → P Accept)
@@ -142,8 +182,8 @@ where_accepted P holds _ f h = absurd h
 
 -- an accepting answer makes an accepting call
 accepting : {E : Type 0} (given : Circumstances) (named : List ℕ → Type 0) (kind : InputKind)
-    (question : Question) (answer : Answer question) (call : Call E) → Answered {F = ⊥} question
-    answer (Called call) →
+    (question : Question)
+    (answer : Answer question) (call : Call E) → Answered {F = ⊥} question answer (Called call) →
     Accepts given named kind question answer → IsAccepting given named kind call
 accepting {E} given named kind (Admits admission) answer call is h =
     let P : Auth → Type 0 = λ x. IsAcceptingSo {E = E} given named kind
@@ -154,131 +194,152 @@ accepting {E} given named kind (Admits admission) answer call is h =
     (where_accepted P (IsAdmitted given named kind admission) answer (λ k. k) h)
 accepting given named kind _ answer call is h = absurd h
 
--- what a call was asked
-asked_by : {E : Type 0} (question : Question) (call : Call E) → asked_in {E = E} {F = ⊥}
-    (Called call) ≡ Some question → asked_of call ≡ question
-asked_by question call h = let e : Some (asked_of call) ≡ Some question = h in cc
-
 -- an event that is no call accepts nobody
 silent : {E : Type 0} (given : Circumstances) (named : List ℕ → Type 0) (kind : InputKind)
-    (question : Question) (answer : Answer question) (event : Event E ⊥) → Answered question answer
-    event →
+    (question : Question)
+    (answer : Answer question) (event : Event E ⊥) → Answered question answer event →
     ((call : Call E) → event ≡ Called call → ⊥) → Accepts given named kind question answer → ⊥
 silent given named kind (Admits admission) answer event is none h =
     none (admission_call admission (Ok answer)) is
 silent given named kind _ answer event is none h = h
 
--- what is guarded after an answer is guarded after its call
-after_call : {E : Type 0} (given : Circumstances) (named : List ℕ → Type 0) (a : Type 0)
-    (kind : InputKind) (question : Question) (next : Answer question → Plan Outcome)
-    (answer : Answer question) (call : Call E) →
-    Answered {F = ⊥} question answer (Called call) → Guarded given named a kind (Ask question next)
-    → Guarded given named (a ⊎ IsAccepting given named kind call) kind (next answer)
-after_call given named a kind question next answer call is h =
-    guarded_weak given named (a ⊎ Accepts given named kind question answer)
-    (a ⊎ IsAccepting given named kind call) kind (next answer)
-    (either (λ x. inl x) (λ x. inr (accepting given named kind question answer call is x)))
-    (h.1 answer)
+accepts_now : {E : Type 0} (given : Circumstances) (named : List ℕ → Type 0) (kind : InputKind)
+    (question : Question)
+    (answer : Answer question) (event : Event E ⊥) (events : List (Event E ⊥))
+    → Answered question answer event →
+    Accepts given named kind question answer → SomeAccepts given named kind (event ∷ events)
+accepts_now given named kind question answer (Called call) events is h =
+    inl (accepting given named kind question answer call is h)
+accepts_now given named kind question answer (Stepped step) events is h =
+    absurd (silent given named kind question answer (Stepped step) is (λ call e. cc) h)
+accepts_now given named kind question answer (Told entry) events is h =
+    absurd (silent given named kind question answer (Told entry) is (λ call e. cc) h)
 
--- .. and after another event as before it
-after_silence : {E : Type 0} (given : Circumstances) (named : List ℕ → Type 0) (a : Type 0)
-    (kind : InputKind) (question : Question) (next : Answer question → Plan Outcome)
-    (answer : Answer question) (event : Event E ⊥) →
-    Answered question answer event → ((call : Call E) → event ≡ Called call → ⊥)
-    → Guarded given named a kind (Ask question next) → Guarded given named a kind (next answer)
-after_silence given named a kind question next answer event is none h =
-    guarded_weak given named (a ⊎ Accepts given named kind question answer) a kind (next answer)
-    (either (λ x. x) (λ x. absurd (silent given named kind question answer event is none x)))
-    (h.1 answer)
+accepts_later : {E : Type 0} (given : Circumstances) (named : List ℕ → Type 0) (kind : InputKind)
+    (event : Event E ⊥)
+    (events : List (Event E ⊥)) → SomeAccepts given named kind events → SomeAccepts given named kind
+    (event ∷ events)
+accepts_later given named kind (Called call) events h = inr h
+accepts_later given named kind (Stepped step) events h = h
+accepts_later given named kind (Told entry) events h = h
 
--- the calls by which such a plan came to its rest are authorised, and the rest is such a plan
-reaches_guarded : {E : Type 0} (given : Circumstances) (named : List ℕ → Type 0) (a : Type 0)
-    (kind : InputKind) (plan : Plan Outcome) (events : List (Event E ⊥)) (rest : Plan Outcome)
-    → Guarded given named a kind plan →
-    Reaches plan events rest → AuthorisedCalls given named a kind (calls_in events)
-    × Guarded given named (a ⊎ SomeAccepting given named kind (calls_in events)) kind rest
-reaches_guarded given named a kind plan [] rest h r = (
-  tt,
-  guarded_weak given named a (a ⊎ ⊥) kind rest (λ x. inl x)
-      (subst (Guarded given named a kind) r h),
-)
-reaches_guarded given named a kind (Finish outcome) (event ∷ events) rest h r = absurd r
-reaches_guarded given named a kind (Ask question next) (Called call ∷ events) rest h r =
-    let more = reaches_guarded given named (a ⊎ IsAccepting given named kind call) kind (next r.0)
-    events rest (after_call given named a kind question next r.0 call r.1 h) r.2 in (
-      (
-        λ q. h.0 (subst AsksConnection
-            (asked_by question call (asked_so question r.0 (Called call) r.1)) q),
-        more.0,
-      ),
-      guarded_weak given named ((a ⊎ IsAccepting given named kind call) ⊎ SomeAccepting given named
-          kind (calls_in events)) (a ⊎ SomeAccepting given named kind (call ∷ calls_in events)) kind
-          rest
-          (either (either (λ x. inl x) (λ x. inr (inl x))) (λ x. inr (inr x))) more.1,
-    )
-reaches_guarded given named a kind (Ask question next) (Stepped step ∷ events) rest h r =
-    reaches_guarded given named a kind (next r.0) events rest
-    (after_silence given named a kind question next r.0 (Stepped step) r.1 (λ call e. cc) h) r.2
-reaches_guarded given named a kind (Ask question next) (Told entry ∷ events) rest h r =
-    reaches_guarded given named a kind (next r.0) events rest
-    (after_silence given named a kind question next r.0 (Told entry) r.1 (λ call e. cc) h) r.2
-reaches_guarded given named a kind (Tell entry next) (Called call ∷ events) rest h r =
-    absurd (let e = r.0 in cc)
-reaches_guarded given named a kind (Tell entry next) (Stepped step ∷ events) rest h r =
-    absurd (let e = r.0 in cc)
-reaches_guarded given named a kind (Tell entry next) (Told told ∷ events) rest h r =
-    reaches_guarded given named a kind next events rest h r.1
+-- what an event of a question needs is what the question needs
+asks_user : {E : Type 0} (question : Question) (event : Event E ⊥) → asked_in event ≡ Some question
+    → NeedsUser event →
+    AsksConnection question
+asks_user question (Called call) is needs =
+    let e : Some (asked_of call) ≡ Some question = is in
+    let same : asked_of call ≡ question = cc in
+    subst AsksConnection same needs
+asks_user question (Stepped step) is needs = absurd needs
+asks_user question (Told entry) is needs = absurd (let e : None ≡ Some question = is in cc)
 
-pub begins_guarded : {E : Type 0} (given : Circumstances) (named : List ℕ → Type 0) (a : Type 0)
-    (kind : InputKind) (plan : Plan Outcome) (events : List (Event E ⊥)) → Guarded given named a
-    kind plan → Begins plan events → AuthorisedCalls given named a kind (calls_in events)
-begins_guarded given named a kind plan events h b =
-    (reaches_guarded given named a kind plan events b.0 h b.1).0
+told_user : (E : Type 0) (entry : TraceEntry) → NeedsUser {E = E} (Told entry) → NeedsEntry entry
+told_user E (Sent frame) needs = needs
+told_user E _ needs = absurd needs
 
+never_none : {A : Type 0} (xs : List A) (y : A) (ys : List A) → xs ++ y ∷ ys ≡ [] → ⊥
+never_none [] y ys h = cc
+never_none (x ∷ xs) y ys h = cc
+
+asked_event : {E : Type 0} (question : Question) (next : Answer question → Plan Outcome)
+    (event : Event E ⊥)
+    (events : List (Event E ⊥)) → Walks (Ask question next) (event ∷ events) → asked_in event
+    ≡ Some question
+asked_event question next event events (inl h) = asked_so question h.0 event h.1
+asked_event question next event events (inr h) = refused_so question h.0 event h.1
+
+-- what needs a user has an accepting call before it
+pub walks_guarded : {E : Type 0} (given : Circumstances) (named : List ℕ → Type 0) (a : Type 0)
+    (kind : InputKind)
+    (plan : Plan Outcome) (past : List (Event E ⊥)) (event : Event E ⊥) (more : List (Event E ⊥)) →
+    Guarded given named a kind plan → Walks plan (past ++ event ∷ more) → NeedsUser event → a
+    ⊎ SomeAccepts given named kind past
+walks_guarded given named a kind (Finish outcome) [] event more g w needs = absurd w
+walks_guarded given named a kind (Ask question next) [] event more g w needs =
+    inl (g.0 (asks_user question event (asked_event question next event more w) needs))
+walks_guarded {E} given named a kind (Tell entry next) [] event more g w needs =
+    inl (g.0 (told_user E entry (subst NeedsUser w.0 needs)))
+walks_guarded given named a kind (Finish outcome) (x ∷ past) event more g w needs = absurd w
+walks_guarded given named a kind (Ask question next) (x ∷ past) event more g (inl w) needs =
+    either (either (λ y. inl y) (λ y. inr (accepts_now given named kind question w.0 x past w.1 y)))
+    (λ y. inr (accepts_later given named kind x past y))
+    (walks_guarded given named (a ⊎ Accepts given named kind question w.0) kind (next w.0) past
+    event more (g.1 w.0) w.2 needs)
+walks_guarded given named a kind (Ask question next) (x ∷ past) event more g (inr w) needs =
+    absurd (never_none past event more w.2)
+walks_guarded given named a kind (Tell entry next) (x ∷ past) event more g w needs =
+    either (λ y. inl y) (λ y. inr (accepts_later given named kind x past y))
+    (walks_guarded given named a kind next past event more g.1 w.1 needs)
+
+outcome_weak : (named : List ℕ → Type 0) (a b : Type 0) (outcome : Outcome) → (a → b)
+    → GuardedOutcome named a outcome →
+    GuardedOutcome named b outcome
+outcome_weak named a b (Goes world) f h = either (λ x. inl (f x)) (λ x. inr x) h
+outcome_weak named a b (Ends world) f h = either (λ x. inl (f x)) (λ x. inr x) h
+outcome_weak named a b (Fails fault) f h = tt
+
+-- and so has the world that it came to, or it is one before that
 pub follows_guarded : {E : Type 0} (given : Circumstances) (named : List ℕ → Type 0) (a : Type 0)
-    (kind : InputKind) (plan : Plan Outcome) (events : List (Event E ⊥)) (outcome : Outcome)
-    → Guarded given named a kind plan → Follows plan events outcome →
-    AuthorisedCalls given named a kind (calls_in events) × GuardedOutcome (NamesLast named kind)
-    (a ⊎ SomeAccepting given named kind (calls_in events)) outcome
-follows_guarded given named a kind plan events outcome h b = reaches_guarded given named a kind plan
-    events (Finish outcome) h b
+    (kind : InputKind)
+    (plan : Plan Outcome) (events : List (Event E ⊥)) (outcome : Outcome) → Guarded given named a
+    kind plan →
+    Follows plan events outcome → GuardedOutcome (NamesLast named kind)
+    (a ⊎ SomeAccepts given named kind events) outcome
+follows_guarded given named a kind plan [] outcome g h =
+    outcome_weak (NamesLast named kind) a (a ⊎ ⊥) outcome (λ x. inl x)
+    (subst (Guarded given named a kind) h g)
+follows_guarded given named a kind (Finish other) (event ∷ events) outcome g h = absurd h
+follows_guarded given named a kind (Ask question next) (event ∷ events) outcome g h =
+    outcome_weak (NamesLast named kind) ((a ⊎ Accepts given named kind question h.0)
+    ⊎ SomeAccepts given named kind events)
+    (a ⊎ SomeAccepts given named kind (event ∷ events)) outcome
+    (either (either (λ y. inl y) (λ y. inr (accepts_now given named kind question h.0 event events
+    h.1 y)))
+    (λ y. inr (accepts_later given named kind event events y)))
+    (follows_guarded given named (a ⊎ Accepts given named kind question h.0) kind (next h.0) events
+    outcome (g.1 h.0) h.2)
+follows_guarded given named a kind (Tell entry next) (event ∷ events) outcome g h =
+    outcome_weak (NamesLast named kind) (a ⊎ SomeAccepts given named kind events)
+    (a ⊎ SomeAccepts given named kind (event ∷ events)) outcome
+    (either (λ y. inl y) (λ y. inr (accepts_later given named kind event events y)))
+    (follows_guarded given named a kind next events outcome g.1 h.1)
 
--- calls one after another
-both_authorised : {E : Type 0} (given : Circumstances) (named : List ℕ → Type 0) (a : Type 0)
-    (kind : InputKind) (xs ys : List (Call E)) → AuthorisedCalls given named a kind xs →
-    AuthorisedCalls given named (a ⊎ SomeAccepting given named kind xs) kind ys
-    → AuthorisedCalls given named a kind (xs ++ ys)
-both_authorised given named a kind [] ys h k = calls_weak given named (a ⊎ ⊥) a kind ys
-    (either (λ x. x) (λ x. absurd x)) k
-both_authorised given named a kind (x ∷ xs) ys h k = (
-  h.0,
-  both_authorised given named (a ⊎ IsAccepting given named kind x) kind xs ys h.1
-      (calls_weak given named (a ⊎ SomeAccepting given named kind (x ∷ xs))
-      ((a ⊎ IsAccepting given named kind x) ⊎ SomeAccepting given named kind xs) kind ys
-      (either (λ y. inl (inl y)) (either (λ y. inl (inr y)) (λ y. inr y))) k),
-)
+-- ---- how a plan is walked
 
--- the last call, which answered an error
-last_authorised : {E : Type 0} (given : Circumstances) (named : List ℕ → Type 0) (a : Type 0)
-    (kind : InputKind) (question : Question) (e : E) (event : Event E ⊥)
-    → Refused question (Handler_error e) event →
-    (AsksConnection question → a) → AuthorisedCalls given named a kind (calls_in (event ∷ []))
-last_authorised given named a kind question e (Called call) is h = (
-  λ q. h (subst AsksConnection (asked_by question call (refused_so question (Handler_error e)
-      (Called call) is)) q),
-  tt,
-)
-last_authorised given named a kind question e (Stepped step) is h = tt
-last_authorised given named a kind question e (Told entry) is h = tt
+reaches_walks : {E : Type 0} (plan rest : Plan Outcome) (events : List (Event E ⊥))
+    → Reaches plan events rest → Walks plan events
+reaches_walks plan rest [] h = tt
+reaches_walks (Finish outcome) rest (event ∷ events) h = absurd h
+reaches_walks (Ask question next) rest (event ∷ events) h =
+    inl (h.0, h.1, reaches_walks (next h.0) rest events h.2)
+reaches_walks (Tell entry next) rest (event ∷ events) h = (h.0, reaches_walks next rest events h.1)
 
-pub breaks_guarded : {E : Type 0} (given : Circumstances) (named : List ℕ → Type 0) (a : Type 0)
-    (kind : InputKind) (plan : Plan Outcome) (events : List (Event E ⊥)) (e : E)
-    → Guarded given named a kind plan →
-    Breaks plan events (Handler_error e) → AuthorisedCalls given named a kind (calls_in events)
-breaks_guarded given named a kind plan events e h b =
-    let g = reaches_guarded given named a kind plan b.before (Ask b.question b.next) h b.reaches in
-    subst (λ l. AuthorisedCalls given named a kind (calls_in l)) (sym b.is)
-    (rw (calls_in_both b.before (b.last ∷ [])) (both_authorised given named a kind
-    (calls_in b.before) (calls_in (b.last ∷ [])) g.0
-    (last_authorised given named (a ⊎ SomeAccepting given named kind (calls_in b.before)) kind
-    b.question e b.last b.refused g.1.0)))
+pub begins_walks : {E : Type 0} (plan : Plan Outcome) (events : List (Event E ⊥))
+    → Begins plan events → Walks plan events
+begins_walks plan events h = reaches_walks plan h.0 events h.1
+
+pub follows_walks : {E : Type 0} (plan : Plan Outcome) (events : List (Event E ⊥))
+    (outcome : Outcome) →
+    Follows plan events outcome → Walks plan events
+follows_walks plan events outcome h = reaches_walks plan (Finish outcome) events h
+
+refused_walks : {E : Type 0} (plan : Plan Outcome) (question : Question) (next : Answer question
+    → Plan Outcome)
+    (before : List (Event E ⊥)) (last : Event E ⊥) (error : OutsideError E ⊥)
+    → Reaches plan before (Ask question next) →
+    Refused question error last → Walks plan (before ++ last ∷ [])
+refused_walks plan question next [] last error r h = subst (λ p. Walks p (last ∷ [])) (sym r)
+    (inr (error, h, refl))
+refused_walks (Finish outcome) question next (event ∷ before) last error r h = absurd r
+refused_walks (Ask other later) question next (event ∷ before) last error r h =
+    inl (r.0, r.1, refused_walks (later r.0) question next before last error r.2 h)
+refused_walks (Tell entry later) question next (event ∷ before) last error r h =
+    (r.0, refused_walks later question next before last error r.1 h)
+
+pub breaks_walks : {E : Type 0} (plan : Plan Outcome) (events : List (Event E ⊥))
+    (error : OutsideError E ⊥) →
+    Breaks plan events error → Walks plan events
+breaks_walks plan events error h =
+    subst (Walks plan) (sym h.is) (refused_walks plan h.question h.next h.before h.last error
+    h.reaches h.refused)

@@ -1,387 +1,412 @@
--- By induction over a run: what was sent on each number is what has to be sent there.
-use Rattle.std.proofs.Common.{◌≡◌, ◌<◌, ◌==◌, ℕ, zero, suc, Bool, true, false, Option, Some, None}
-use Rattle.std.proofs.Common.{List, [], ◌∷◌, ◌++◌, map, length, refl, sym, ◌∙◌, ap, subst, arith}
-use Rattle.std.proofs.Common.{append_assoc}
-use Rattle.std.specs.Prelude.{◌^◌, nat_lt, ◌&&◌, ◌≢◌, if◌then◌else◌, bytes_eq, codes, flat_map}
-use Rattle.std.specs.Prelude.{drop}
+-- What was sent on the channels stays what has to be sent, by the acts of rows (RFC 4254 section
+-- 5).
+use Rattle.std.proofs.Common.{◌≡◌, ◌<◌, ◌^◌, ◌==◌, ℕ, List, [], ◌∷◌, Bool}
+use Rattle.std.proofs.Common.{true, false, Option, Some, None}
+use Rattle.std.proofs.Common.{refl, sym, ◌∙◌, ap, subst, arith, append_assoc}
+use Rattle.std.specs.Prelude.{length, min, bytes_eq, codes, IfSome, if◌then◌else◌}
 use Rattle.std.proofs.lemmas.List.{append-nil}
-use Rattle.std.proofs.lemmas.Grind.{common_steps}
-use Rattle.ssh_wire.specs.declared.method.MethodKind.TheVariants as kind
-use Rattle.ssh_link.specs.declared.command.Command.TheVariants as command
+use Rattle.ssh_wire.specs.declared.channel_id.ChannelId.{ChannelId}
+use Rattle.ssh_wire.specs.declared.open_failure.ChannelOpenFailure.{ChannelOpenFailure}
 use Rattle.ssh_link.specs.Frames.{Frame}
-use Rattle.ssh_link.specs.declared.frame.InputKind.{InputKind}
-use Rattle.ssh_link.specs.declared.frame.InputKind.TheVariants as input
+use Rattle.ssh_link.specs.declared.command.Command.{Command}
+use Rattle.ssh_link.specs.declared.command.Command.TheVariants as command
 use Rattle.ssh_link.specs.declared.link.TraceEntry.{TraceEntry}
-use Rattle.ssh_link.specs.declared.link.TraceEntry.TheVariants.{Took, Sent}
+use Rattle.ssh_link.specs.declared.link.TraceEntry.TheVariants.{Answered}
+use Rattle.ssh_link.specs.declared.open_answer.OpenAnswer.{OpenAnswer}
+use Rattle.ssh_link.specs.declared.outcome.Refusal.{Refusal}
 use Rattle.ssh_auth.specs.declared.auth_request.AuthRequest.{AuthRequest}
-use Rattle.ssh_auth.specs.declared.auth_step.AuthVerdict.{AuthVerdict}
 use Rattle.ssh_auth.specs.declared.auth_step.AuthVerdict.TheVariants as verdict
-use Rattle.ssh_keys.specs.declared.algorithm.Algorithm.{Algorithm}
-use Rattle.ssh_keys.specs.declared.key_or_certificate.PublicKeyOrCertificate.{
-  PublicKeyOrCertificate,
-}
-use Rattle.ssh_keys.specs.declared.key_or_certificate.PublicKeyOrCertificate.TheVariants.{
-  PublicKey as Plain,
-  Certificate,
-}
-use Rattle.ssh_keys.specs.Offers.{offered_key}
-use Rattle.ssh_auth.specs.declared.auth.Auth.{Auth}
-use Rattle.ssh_auth.specs.declared.auth.Auth.TheVariants.{Reject, Accept, UnsupportedMethod}
-use Rattle.ssh_auth.specs.declared.auth.Auth.TheVariants.{Partial}
-use Rattle.ssh_auth.specs.Publickey.{Acceptance, Circumstances, Offer}
-use Rattle.ssh_auth.specs.declared.question.Admission.TheVariants as by
-use Rattle.ssh_auth.specs.declared.question.Question.TheVariants.{Banner, Admits}
-use Rattle.ssh_auth.specs.Plan.{Plan, Finish, Ask, after, told_in}
-use Rattle.ssh_auth.specs.Request.{begun, is_probed, prompt_of}
-use Rattle.ssh_auth.specs.Response.{Responded, Responses, Unfit_responses, Unread_responses}
-use Rattle.ssh_auth.specs.Requested as asks
-use Rattle.ssh_auth.specs.Verdict.{method_verdict, after_method as answer_of, refused, taken_away}
-use Rattle.ssh_auth.specs.Verdict.{after_offer, after_proof, after_prompts, proof, signed}
-use Rattle.ssh_auth.specs.Verdict.{permitted, responded, AuthOutcome as Reply, Replies}
+use Rattle.ssh_auth.specs.declared.question.Question.TheVariants.{Banner}
+use Rattle.ssh_auth.specs.Plan.{Plan, Finish, Ask, Tell, after}
+use Rattle.ssh_auth.specs.Verdict.{AuthOutcome, Replies, verdict as verdict_on, response_verdict}
 use Rattle.ssh_auth.specs.Verdict as auth
-use Rattle.ssh_session.specs.declared.gate.Gate.{Gate}
-use Rattle.ssh_session.specs.declared.gate.Gate.TheVariants as gate
-use Rattle.ssh_session.specs.declared.phase.Phase.TheVariants as phase
-use Rattle.ssh_session.specs.Layout.{service_accept, banner, at_once, held}
-use Rattle.ssh_session.specs.ChannelLayout.{close_frame}
-use Rattle.ssh_session.specs.Entry.{Entry, granting, flushed, flush_out}
-use Rattle.ssh_session.specs.Entries.{find, put, without}
-use Rattle.ssh_session.specs.Pending.{Pending}
-use Rattle.ssh_session.specs.Sent.{since_from, since, IsSettled, Settled}
-use Rattle.ssh_session.specs.World.{Settings, World, circumstances, opening_world, next_number}
-use Rattle.ssh_session.specs.World.{has_no_channel}
-use Rattle.ssh_session.specs.Outcome.{Outcome, Goes, Fails}
-use Rattle.ssh_session.specs.Said.{Said, Nothing, Disconnect, Over_cap, Service, Request, Response}
-use Rattle.ssh_session.specs.Said.{Open_session, Open_other, Open_without_packets, Grant, Peer_eof}
-use Rattle.ssh_session.specs.Said.{Peer_close, Unfit, Unbuilt, Fits, Says}
-use Rattle.ssh_session.specs.Gate.{gate_of}
-use Rattle.ssh_session.specs.Rows.{accept_row, moment_after, rejection_hold, own, reply_row}
-use Rattle.ssh_session.specs.Rows.{finished, drawn, open_session_row, grant_row, peer_eof_row}
-use Rattle.ssh_session.specs.Rows.{peer_close_row, row}
-use Rattle.ssh_session.specs.Run.{OwesKind, Turn, Turns, Run, entries}
-use Rattle.ssh_session.proofs.Gates.{fits_of}
-use Rattle.ssh_session.proofs.Settled.{since_both, settled_empty, settled_same, grant_settles}
-use Rattle.ssh_session.proofs.Keeping.{Ledgered, AreFree, close_keeps, free_map, none_put}
-use Rattle.ssh_session.proofs.Commanding.{IsSilent, PlanKeeps, comes_kept, done_all_keeps}
-use Rattle.ssh_session.proofs.Commanding.{command_row_keeps}
+use Rattle.ssh_channels.specs.declared.adjusted.Adjusted.{Adjusted}
+use Rattle.ssh_channels.specs.declared.adjusted.Adjusted.TheVariants.{Dropped, Kept as Within}
+use Rattle.ssh_channels.specs.declared.adjusted.Adjusted.TheVariants.{Granted}
+use Rattle.ssh_channels.specs.declared.chunk.Chunk.{Chunk}
+use Rattle.ssh_channels.specs.declared.chunk.DataKind.TheVariants.{Plain, Extended}
+use Rattle.ssh_channels.specs.Calls.{Op, Send, Eof, Close, Peer_close, Grant, Adjust, Drop_pending}
+use Rattle.ssh_channels.specs.Calls.{Set_wants_reply, Stage}
+use Rattle.ssh_channels.specs.Does.{IsFair, is_idle, does, coming_of}
+use Rattle.ssh_channels.specs.Entry.{Entry, IsDue, opened}
+use Rattle.ssh_channels.specs.Layout.{chunk}
+use Rattle.ssh_channels.specs.Lines.{Lines, find, added, next_number}
+use Rattle.ssh_channels.specs.Sent.{Each, Ledgered, may_go}
+use Rattle.ssh_channels.proofs.Booked.{op_kept, opens_kept, next_absent}
+use Rattle.ssh_channels.proofs.Dues.{all_sound, op_due}
+use Rattle.ssh_channels.proofs.Listed.{one_number, find_new, find_beside}
+use Rattle.ssh_session.specs.declared.state.EncryptedState.{EncryptedState}
+use Rattle.ssh_session.specs.declared.state.EncryptedState.TheVariants.{WaitingAuthRequest}
+use Rattle.ssh_session.specs.Acts.{acts}
+use Rattle.ssh_session.specs.Effect.{Effect, effect, lacks, needs, refused_or, done_by, answers}
+use Rattle.ssh_session.specs.Effect.{decides, fails_open, failure_of, is_too_long}
+use Rattle.ssh_session.specs.Layout.{too_many_attempts, at_once, held}
+use Rattle.ssh_session.specs.Opening.{Opening}
+use Rattle.ssh_session.specs.Opens.{own, opening_of, answered}
+use Rattle.ssh_session.specs.Outcome.{Outcome, Goes, Ends, Fails}
+use Rattle.ssh_session.specs.Reading.{Said, Disconnect, Over_cap, Service, Request, Response, Open}
+use Rattle.ssh_session.specs.Reading.{Unfit, Without_packets}
+use Rattle.ssh_session.specs.Reading as read
+use Rattle.ssh_session.specs.Rows.{row, owed, greeting, greets, is_short, replied, concluded}
+use Rattle.ssh_session.specs.Rows.{asked_of, rejection_hold, moment_after}
+use Rattle.ssh_session.specs.Rows.{data_told, open_acts, aims, served, lets_in, finishes}
+use Rattle.ssh_session.specs.Run.{command_row}
+use Rattle.ssh_session.specs.World.{World, waits_for, lined, writes}
+use Rattle.ssh_session.proofs.Absent.{IsAbsent, data_absent, eof_absent, close_absent}
+use Rattle.ssh_session.proofs.Absent.{peer_close_absent, grant_absent, adjust_absent}
+use Rattle.ssh_session.proofs.Absent.{wants_absent}
+use Rattle.ssh_session.proofs.Acting.{PlanComes, EffectComes, AllBuilt, Law, ActsCome, acts_come}
+use Rattle.ssh_session.proofs.Acting.{one_comes, comes_then}
+use Rattle.ssh_session.proofs.Settled.{Anything, on_come}
+use Rattle.ssh_session.proofs.Waiting.{AllWaiting, found_waiting, still_waiting}
+use Rattle.ssh_session.proofs.Waiting.{removed_waiting, inserted_waiting}
 
--- no frame
-nothing_sent : (w : World) (past : List TraceEntry) → Ledgered w past
-    → Ledgered w (past ++ map Sent [])
-nothing_sent w past h = subst (Ledgered w) (sym (append-nil past)) h
+-- after this trace the channels have sent what they have to, all that is due is framed, and opens
+-- wait on free numbers
+pub record Kept (past : List TraceEntry) (w : World) : Type 0 where
+  pub ledger : Ledgered w.channels.lines past
+  pub due : Each IsDue w.channels.lines
+  pub waiting : AllWaiting 0 w.channels.lines.entries w.channels.opens
 
-either_keeps : (b : Bool) (p q : Plan Outcome) (past : List TraceEntry)
-    → (b ≡ true → PlanKeeps past p) → (b ≡ false → PlanKeeps past q) →
-    PlanKeeps past (if b then p else q)
-either_keeps true p q past f g = f refl
-either_keeps false p q past f g = g refl
+abbrev pub ComesKept : List TraceEntry → Outcome → Type 0
+ComesKept past (Goes w) = Kept past w
+ComesKept past (Ends w) = Kept past w
+ComesKept past (Fails fault) = Unit {0}
+
+-- ---- calls of the table
+
+op_on : (past : List TraceEntry) (o : Op) (w : World) → IsFair o w.channels.lines → is_idle o ≡ true
+    →
+    ((k : ℕ) → IsAbsent k w.channels.lines → IsAbsent k (does o w.channels.lines)) → Kept past w
+    → Kept past (lined (does o) w)
+op_on past o w fair idle absent k = record {
+  ledger = op_kept o w.channels.lines past fair k.ledger;
+  due = op_due o w.channels.lines idle (all_sound w.channels.lines past k.ledger) k.due;
+  waiting = still_waiting 0 w.channels.lines.entries (does o w.channels.lines).entries
+      w.channels.opens absent k.waiting;
+}
 
 -- frames of no channel
-pub unsent : (w : World) (past : List TraceEntry) (frames : List Frame) → Ledgered w past
-    → IsSilent (map Sent frames) → Ledgered w (past ++ map Sent frames)
-unsent w past frames h silent = (settled_same w.entries past (map Sent frames) h.0 silent, h.1)
+abbrev pub ArePlain : List Frame → Type 0
+ArePlain [] = Unit {0}
+ArePlain (frame ∷ frames) = (frame.channel ≡ None) × ArePlain frames
 
--- authentication
-accept_keeps : (w : World) (past : List TraceEntry) (banner : Option (List ℕ)) → Ledgered w past
-    → PlanKeeps past (accept_row w banner)
-accept_keeps w past None h = unsent w past (at_once service_accept ∷ []) h (λ n fs. refl)
-accept_keeps w past (Some text) h =
-    either_keeps (nat_lt (length (banner text)) (2 ^ 32)) _ _ past
-    (λ t. unsent w past (at_once service_accept ∷ at_once (banner text) ∷ []) h (λ n fs. refl))
-    (λ t. tt)
+plain_once : (past : List TraceEntry) (frame : Frame) (w : World) → frame.channel ≡ None
+    → Kept past w →
+    Kept past (writes (frame ∷ []) w)
+plain_once past frame w is k = op_on past (Stage frame) w (rw is refl) refl (λ n h. h) k
 
-reply_keeps : (settings : Settings) (moment : ℕ) (w : World) (requested : Bool)
-    (past : List TraceEntry) (reply : List ℕ) (v : AuthVerdict) → Ledgered w past →
-    PlanKeeps past (reply_row settings moment w requested reply v)
-reply_keeps settings moment w requested past reply verdict.Accepted h =
-    let now = record w { phase = phase.Accepted; requested = requested } in
-    λ commands. done_all_keeps settings now past (at_once reply ∷ []) 0 commands
-    (unsent now past (at_once reply ∷ []) h (λ n fs. refl))
-reply_keeps settings moment w requested past reply (verdict.Rejected none_method) h =
-    unsent w past (held reply (moment_after moment (rejection_hold settings.config none_method
-    w.requested)) ∷ []) h (λ n fs. refl)
-reply_keeps settings moment w requested past reply verdict.Continued h =
-    unsent w past (at_once reply ∷ []) h (λ n fs. refl)
+written_both : (past : List TraceEntry) (frame : Frame) (frames : List Frame) (w : World) →
+    Kept past (writes frames (writes (frame ∷ []) w)) → Kept past (writes (frame ∷ frames) w)
+written_both past frame frames w k =
+    let same = append_assoc w.channels.lines.written (frame ∷ []) frames in
+    record {
+      ledger = subst (λ fs. Ledgered (record w.channels.lines { written = fs }) past) same k.ledger;
+      due = k.due;
+      waiting = k.waiting;
+    }
 
-finished_keeps : (settings : Settings) (moment : ℕ) (w : World) (requested : Bool)
-    (past : List TraceEntry) (reply : Reply) → Ledgered w past
-    → PlanKeeps past (finished settings moment w requested reply)
-finished_keeps settings moment w requested past (Replies reply v state) h = reply_keeps settings
-    moment (record w { auth = state }) requested past reply v h
-finished_keeps settings moment w requested past (auth.Fails fault) h = tt
+pub plain_kept : (past : List TraceEntry) (frames : List Frame) (w : World) → ArePlain frames
+    → Kept past w →
+    Kept past (writes frames w)
+plain_kept past [] w p k = record {
+  ledger = subst (λ fs. Ledgered (record w.channels.lines { written = fs }) past)
+      (sym (append-nil w.channels.lines.written)) k.ledger;
+  due = k.due;
+  waiting = k.waiting;
+}
+plain_kept past (frame ∷ frames) w p k =
+    written_both past frame frames w (plain_kept past frames (writes (frame ∷ []) w) p.1
+    (plain_once past frame w p.0 k))
 
-proof_keeps : (settings : Settings) (moment : ℕ) (w : World) (requested : Bool)
-    (past : List TraceEntry) (state : AuthRequest) (user : List ℕ) (key : PublicKeyOrCertificate)
-    (algorithm : Algorithm) → Ledgered w past →
-    PlanKeeps past (after (proof state user key algorithm) (finished settings moment w requested))
-proof_keeps settings moment w requested past state user (Plain key hash) algorithm h = λ answer.
-    finished_keeps settings moment w requested past (after_proof state answer) h
-proof_keeps settings moment w requested past state user (Certificate certificate) algorithm h =
-    λ answer. finished_keeps settings moment w requested past (after_proof state answer) h
+-- ---- commands
 
-signed_keeps : (settings : Settings) (moment : ℕ) (w : World) (requested : Bool)
-    (past : List TraceEntry) (state : AuthRequest) (user : List ℕ) (offer : Offer)
-    (accepted : Option Bool) → Ledgered w past →
-    PlanKeeps past (after (signed state user offer accepted) (finished settings moment w requested))
-signed_keeps settings moment w requested past state user offer None h = tt
-signed_keeps settings moment w requested past state user offer (Some false) h =
-    finished_keeps settings moment w requested past (refused state) h
-signed_keeps settings moment w requested past state user offer (Some true) h = proof_keeps settings
-    moment w requested past state user offer.key offer.algorithm h
+-- an open that is answered is of no channel any more
+beside_added : (e : Entry) (entries : List Entry) (k : ℕ) → (k == e.number) ≡ false → find k entries
+    ≡ None →
+    find k (added e entries) ≡ None
+beside_added e entries k apart h = find_beside k e entries apart ∙ h
 
-permitted_keeps : (settings : Settings) (moment : ℕ) (w : World) (requested : Bool)
-    (past : List TraceEntry) (state : AuthRequest) (user : List ℕ) (offer : Offer)
-    (accepted : Option Bool) (answer : Auth) → Ledgered w past →
-    PlanKeeps past (after (permitted state answer (signed state user offer accepted))
-    (finished settings moment w requested))
-permitted_keeps settings moment w requested past state user offer accepted Accept h =
-    signed_keeps settings moment w requested past state user offer accepted h
-permitted_keeps settings moment w requested past state user offer accepted (Reject methods partial)
-    h = finished_keeps settings moment w requested past (refused state) h
-permitted_keeps settings moment w requested past state user offer accepted UnsupportedMethod h =
-    finished_keeps settings moment w requested past (refused state) h
-permitted_keeps settings moment w requested past state user offer accepted
-    (Partial name instructions prompts) h = finished_keeps settings moment w requested past
-    (refused state) h
+added_due : (b : Bool) (m : ℕ) (e : Entry) (l : Lines) → (m == e.number) ≡ b
+    → find e.number l.entries ≡ None → IsDue e →
+    Each IsDue l → IfSome (find m (added e l.entries)) IsDue
+added_due true m e l t is p h =
+    let k : find m (added e l.entries) ≡ Some e =
+    ap (λ n. find n (added e l.entries)) (one_number m e.number t) ∙ find_new e l.entries is in
+    subst (λ o. IfSome o IsDue) (sym k) p
+added_due false m e l t is p h = subst (λ o. IfSome o IsDue) (sym (find_beside m e l.entries t))
+    (h m)
 
-asked_first_keeps : (settings : Settings) (moment : ℕ) (w : World) (requested : Bool)
-    (past : List TraceEntry) (state : AuthRequest) (user : List ℕ) (offer : Offer)
-    (accepted : Option Bool) (is_asked : Bool) → Ledgered w past →
-    PlanKeeps past (after (if is_asked then signed state user offer accepted
-    else Ask (Admits (by.PublickeyOffered user (offered_key offer.key) offer.algorithm))
-    (λ answer. permitted state answer (signed state user offer accepted)))
-    (finished settings moment w requested))
-asked_first_keeps settings moment w requested past state user offer accepted true h =
-    signed_keeps settings moment w requested past state user offer accepted h
-asked_first_keeps settings moment w requested past state user offer accepted false h = λ answer.
-    permitted_keeps settings moment w requested past state user offer accepted answer h
+-- of nothing, nothing is due
+none_due : (n : ℕ) → 0 ≡ min 0 n
+none_due n = omega arith
 
-method_keeps : (settings : Settings) (moment : ℕ) (w : World) (requested : Bool)
-    (past : List TraceEntry) (state : AuthRequest) (user : List ℕ) (method : asks.Method)
-    → Ledgered w past →
-    PlanKeeps past (after (method_verdict state user method) (finished settings moment w requested))
-method_keeps settings moment w requested past state user asks.None_method h = λ answer.
-    finished_keeps settings moment w requested past (answer_of state kind.None answer) h
-method_keeps settings moment w requested past state user (asks.Password_method password) h =
-    λ answer. finished_keeps settings moment w requested past (answer_of state kind.Password answer)
-    h
-method_keeps settings moment w requested past state user (asks.Change_method password new_password)
-    h =
-    finished_keeps settings moment w requested past (taken_away state kind.Password) h
-method_keeps settings moment w requested past state user asks.Unusable_method h =
-    finished_keeps settings moment w requested past (refused state) h
-method_keeps settings moment w requested past state user asks.Broken_method h = tt
-method_keeps settings moment w requested past state user (asks.Probe_method offer) h = λ answer.
-    finished_keeps settings moment w requested past (after_offer state offer answer) h
-method_keeps settings moment w requested past state user asks.Misnamed_method h =
-    finished_keeps settings moment w requested past (refused state) h
-method_keeps settings moment w requested past state user (asks.Signed_method offer accepted) h =
-    asked_first_keeps settings moment w requested past state user offer accepted
-    (is_probed state.current offer.name offer.blob) h
-method_keeps settings moment w requested past state user asks.Other_method h =
-    finished_keeps settings moment w requested past (refused state) h
-method_keeps settings moment w requested past state user (asks.Interactive_method submethods) h =
-    λ answer. finished_keeps settings moment w requested past (after_prompts _ answer) h
-method_keeps settings moment w requested past state user (asks.Unfit_method why) h = tt
+confirmed_on : (past : List TraceEntry) (number : ℕ) (opening : Opening) (w : World)
+    → opening_of number w ≡ Some opening →
+    Kept past w → EffectComes (ComesKept past) (Kept past) (decides number opening None None w)
+confirmed_on past number opening w is k =
+    let waits = found_waiting 0 number w.channels.lines.entries w.channels.opens opening k.waiting
+    is in
+    let room = w.settings.config.window_size in
+    let e = opened number opening.peer opening.window room opening.packet in
+    let kept = opens_kept number opening.peer opening.window room opening.packet _ w.channels.lines
+    past waits.1 waits.2 refl waits.0 k.ledger in
+    record {
+      ledger = kept;
+      due = rw waits.0 (λ m. added_due (m == number) m e w.channels.lines refl waits.0
+          (none_due opening.window) k.due);
+      waiting = rw waits.0 (removed_waiting 0 number w.channels.lines.entries
+          (added e w.channels.lines.entries) w.channels.opens
+          (beside_added e w.channels.lines.entries) k.waiting);
+    }
 
-request_keeps : (settings : Settings) (moment : ℕ) (w : World) (past : List TraceEntry)
-    (asked : asks.Requested) → Ledgered w past →
-    PlanKeeps past (row settings moment w (Request asked))
-request_keeps settings moment w past (asks.Request user method) h = method_keeps settings moment w
-    true past (begun w.auth user (codes "ssh-connection")) user method h
-request_keeps settings moment w past asks.Other_service h = tt
-request_keeps settings moment w past asks.Unread h = tt
-request_keeps settings moment w past (asks.Unfit why) h = tt
+-- the frame by which an open is refused
+abbrev pub refusal_frame : (number : ℕ) → (payload : List ℕ) → Frame
+refusal_frame number payload = record {
+  payload = payload;
+  hold_until = None;
+  channel = Some (own number);
+}
 
-response_keeps : (settings : Settings) (moment : ℕ) (w : World) (requested : Bool)
-    (past : List TraceEntry) (state : AuthRequest) (prompt : Option (List ℕ × List ℕ))
-    (said : Responded) → Ledgered w past →
-    PlanKeeps past (after (responded state prompt said) (finished settings moment w requested))
-response_keeps settings moment w requested past state None said h = finished_keeps settings moment w
-    requested past (refused state) h
-response_keeps settings moment w requested past state (Some prompt) (Responses responses) h =
-    λ answer. finished_keeps settings moment w requested past (after_prompts state answer) h
-response_keeps settings moment w requested past state (Some prompt) (Unfit_responses why) h = tt
-response_keeps settings moment w requested past state (Some prompt) Unread_responses h = tt
+failed_step : (past : List TraceEntry) (number : ℕ) (payload : List ℕ) (opening : Opening)
+    (w : World) (long : Bool) →
+    is_too_long payload ≡ long → may_go None (refusal_frame number payload) ≡ true
+    → opening_of number w ≡ Some opening →
+    Kept past w → EffectComes (ComesKept past) (Kept past) (fails_open number payload w)
+failed_step past number payload opening w true is go o k = rw is k
+failed_step past number payload opening w false is go o k =
+    let waits = found_waiting 0 number w.channels.lines.entries w.channels.opens opening k.waiting o
+    in
+    let v = lined (does (Drop_pending number)) (answered number w) in
+    let dropped : Kept past v = record {
+      ledger = op_kept (Drop_pending number) w.channels.lines past tt k.ledger;
+      due = op_due (Drop_pending number) w.channels.lines refl
+          (all_sound w.channels.lines past k.ledger) k.due;
+      waiting = removed_waiting 0 number w.channels.lines.entries w.channels.lines.entries
+          w.channels.opens (λ m apart h. h) k.waiting;
+    } in
+    rw is (op_on past (Stage (refusal_frame number payload)) v (rw waits.0 go) refl (λ m h. h)
+    dropped)
 
--- the peer opens a channel
-no_entries : (es : List Entry) (b : Bool) → ((length es == 0) && b) ≡ true → es ≡ []
-no_entries [] b h = refl
-no_entries (e ∷ es) b h = absurd (grind (arith, common_steps))
+decided_on : (past : List TraceEntry) (number : ℕ) (opening : Opening)
+    (reason : Option ChannelOpenFailure)
+    (texts : Option (List ℕ × List ℕ)) (w : World) → opening_of number w ≡ Some opening
+    → Kept past w →
+    EffectComes (ComesKept past) (Kept past) (decides number opening reason texts w)
+decided_on past number opening None texts w is k = confirmed_on past number opening w is k
+decided_on past number opening (Some reason) texts w is k =
+    failed_step past number (failure_of opening reason texts) opening w
+    (is_too_long (failure_of opening reason texts)) refl refl is k
 
-drawn_free : (es : List Entry) (p : Pending) (ps : List Pending) → find p.number.0 es ≡ None
-    → 0 < p.packet → AreFree es ps → AreFree es (ps ++ p ∷ [])
-drawn_free es p [] new some h = (new, some, tt)
-drawn_free es p (q ∷ ps) new some h = (h.0, h.1, drawn_free es p ps new some h.2)
+answered_on : (past : List TraceEntry) (answer : OpenAnswer) (opening : Option Opening) (w : World)
+    →
+    opening_of answer.channel.0 w ≡ opening → Kept past w → EffectComes (ComesKept past) (Kept past)
+    (answers answer opening w)
+answered_on past answer None w is k = k
+answered_on past answer (Some opening) w is k = decided_on past answer.channel.0 opening
+    answer.rejection answer.texts w is k
 
-pub drawn_ledgered : (w : World) (peer window packet : ℕ) (past : List TraceEntry)
-    → has_no_channel w ≡ true → 0 < packet →
-    Ledgered w past → Ledgered (drawn w peer window packet) past
-drawn_ledgered w peer window packet past none some h =
-    let n = next_number w in
-    let p : Pending = record { number = own n; peer = peer; window = window; packet = packet } in
-    (h.0, drawn_free w.entries p w.pending (ap (find n) (no_entries w.entries _ none)) some h.1)
+done_on : (past : List TraceEntry) (w : World) (commanded : Command) → Kept past w →
+    EffectComes (ComesKept past) (Kept past) (done_by w commanded)
+done_on past w (command.Data channel bytes) k =
+    op_on past (Send channel.0 (chunk Plain bytes) false) w tt refl
+    (λ n. data_absent n channel.0 (chunk Plain bytes) false w.channels.lines) k
+done_on past w (command.ExtendedData channel code bytes) k =
+    op_on past (Send channel.0 (chunk (Extended code) bytes) false) w tt refl
+    (λ n. data_absent n channel.0 (chunk (Extended code) bytes) false w.channels.lines) k
+done_on past w (command.Eof channel) k =
+    op_on past (Eof channel.0) w tt refl (λ n. eof_absent n channel.0 w.channels.lines) k
+done_on past w (command.Close channel) k =
+    op_on past (Close channel.0) w tt refl (λ n. close_absent n channel.0 w.channels.lines) k
+done_on past w (command.Answer answer) k = answered_on past answer (opening_of answer.channel.0 w) w
+    refl k
+done_on past w _ k = tt
 
-open_session_keeps : (settings : Settings) (w : World) (peer window packet : ℕ)
-    (past : List TraceEntry) → 0 < packet → Ledgered w past →
-    PlanKeeps past (open_session_row settings w peer window packet)
-open_session_keeps settings w peer window packet past some h =
-    let now = drawn w peer window packet in
-    either_keeps (has_no_channel w) _ (Finish (Fails _)) past
-    (λ none commands. done_all_keeps settings now past [] 0 commands
-    (nothing_sent now past (drawn_ledgered w peer window packet past none some h))) (λ t. tt)
+refused_on : (past : List TraceEntry) (why : Option Refusal) (w : World) (does : Effect)
+    → Kept past w →
+    EffectComes (ComesKept past) (Kept past) does → EffectComes (ComesKept past) (Kept past)
+    (refused_or why w does)
+refused_on past None w does k h = h
+refused_on past (Some why) w does k h = k
 
--- the peer grants, ends its data, and closes
-grant_keeps : (settings : Settings) (w : World) (n amount : ℕ) (o : Option Entry)
-    (past : List TraceEntry) → find n w.entries ≡ o → Ledgered w past →
-    PlanKeeps past (grant_row settings w amount o)
-grant_keeps settings w n amount None past is h = nothing_sent w past h
-grant_keeps settings w n amount (Some e) past is h =
-    let granted = granting e amount in
-    let now = record w { entries = put (flushed granted) w.entries } in
-    let more : Ledgered now (past ++ map Sent (flush_out granted)) = (
-      grant_settles n amount w.entries e past (map Sent (flush_out granted)) is h.0 (λ k fs. refl),
-      free_map w.entries now.entries w.pending (λ m. none_put m (flushed granted) w.entries) h.1,
-    ) in (
-      λ k fs. refl,
-      (
-        λ k fs. refl,
-        λ commands. done_all_keeps settings now past (flush_out granted) 0
-            commands more,
-      ),
-    )
+pub effect_on : (past : List TraceEntry) (w : World) (commanded : Command) → Kept past w →
+    EffectComes (ComesKept past) (Kept past) (effect w commanded)
+effect_on past w commanded k =
+    refused_on past (lacks w (needs commanded)) w (done_by w commanded) k
+    (done_on past w commanded k)
 
-peer_eof_keeps : (settings : Settings) (w : World) (o : Option Entry) (past : List TraceEntry)
-    → Ledgered w past → PlanKeeps past (peer_eof_row settings w o)
-peer_eof_keeps settings w None past h = nothing_sent w past h
-peer_eof_keeps settings w (Some e) past h = (
-  λ k fs. refl,
-  λ commands. done_all_keeps settings w
-      past [] 0 commands (nothing_sent w past h),
+abbrev Any_command : Command → Type 0
+Any_command command = Unit {0}
+
+pub any_built : (commands : List Command) → AllBuilt Any_command commands
+any_built [] = tt
+any_built (command ∷ commands) = (tt, any_built commands)
+
+abbrev pub law : List TraceEntry → Law
+law past = record {
+  such = Anything;
+  comes = ComesKept past;
+  holds = Kept past;
+  built = Any_command;
+  goes = λ w h. h;
+  lends = λ lent commands s. any_built commands;
+  keeps = λ w command h b. effect_on past w command h;
+}
+
+-- ---- rows
+
+-- a window that is aimed at from now on
+aims_on : (past : List TraceEntry) (window : ℕ) (w : World) → Kept past w
+    → Kept past (aims window w)
+aims_on past window w k = record { ledger = k.ledger; due = k.due; waiting = k.waiting }
+
+told_on : (past : List TraceEntry) (adjusted : Adjusted) (channel : ChannelId) (piece : Chunk)
+    (target : ℕ) (w : World) → Kept past w →
+    ActsCome (law past) (data_told adjusted channel piece target) w
+told_on past Dropped channel piece target w k = tt
+told_on past Within channel piece target w k = λ world h. tt
+told_on past (Granted amount) channel piece target w k = λ window. (
+  aims_on past window w k,
+  λ world h. tt,
 )
 
-peer_close_keeps : (settings : Settings) (w : World) (n : ℕ) (o : Option Entry)
-    (past : List TraceEntry) → find n w.entries ≡ o → Ledgered w past →
-    PlanKeeps past (peer_close_row settings w o)
-peer_close_keeps settings w n None past is h = nothing_sent w past h
-peer_close_keeps settings w n (Some e) past is h = (
-  λ k fs. refl,
-  λ commands. done_all_keeps settings (record w { entries = without e.number w.entries }) past
-      (close_frame e.number e.peer ∷ []) 0 commands
-      (close_keeps n e w past is h),
+-- an open that was read names a packet size, and a window of four bytes
+abbrev pub IsFairOpen : Opening → Type 0
+IsFairOpen opening = (0 < opening.packet) × (opening.window < 2 ^ 32)
+
+open_on : (past : List TraceEntry) (number : Option ℕ) (opening : Opening) (w : World) →
+    next_number w.channels.lines ≡ number → IsFairOpen opening → Kept past w
+    → ActsCome (law past) (open_acts number opening) w
+open_on past None opening w is fair k = tt
+open_on past (Some number) opening w is fair k = (
+  record {
+    ledger = k.ledger;
+    due = k.due;
+    waiting = inserted_waiting 0 number w.channels.lines.entries opening w.channels.opens
+        (omega arith)
+        (next_absent number w.channels.lines is, fair.0, fair.1) k.waiting;
+  },
+  λ world h. tt,
 )
 
--- an open that is read has a packet size
-positive : (n : ℕ) → n ≢ 0 → 0 < n
-positive zero h = absurd (h refl)
-positive (suc n) h = omega arith
+abbrev pub IsFairSaid : Said → Type 0
+IsFairSaid (Open opening) = IsFairOpen opening
+IsFairSaid _ = Unit {0}
 
-read_packets : (at : Gate) (fields : List ℕ) (peer window packet : ℕ)
-    → Fits at fields (Open_session peer window packet) → 0 < packet
-read_packets gate.ChannelOpen fields peer window packet h = positive packet h.1
-read_packets at fields peer window packet h = absurd h
+owed_on : (past : List TraceEntry) (w : World) (said : Said) → IsFairSaid said → Kept past w
+    → ActsCome (law past) (owed w said) w
+owed_on past w (Open opening) fair k = open_on past (next_number w.channels.lines) opening w refl
+    fair k
+owed_on past w (read.Grant channel amount) fair k =
+    on_come (law past) w (find channel w.channels.lines.entries) _
+    (λ e. (
+      op_on past (Grant channel amount) w tt refl (λ n. grant_absent n channel amount
+          w.channels.lines) k,
+      λ world h. tt,
+    ))
+owed_on past w (read.Data channel piece) fair k =
+    let came = coming_of (length piece.bytes) w.channels.target
+    (find channel w.channels.lines.entries) in
+    let v = lined (does (Adjust channel (length piece.bytes) w.channels.target)) w in
+    let kept = op_on past (Adjust channel (length piece.bytes) w.channels.target) w tt refl
+    (λ n. adjust_absent n channel (length piece.bytes) w.channels.target w.channels.lines) k in
+    (kept, told_on past came (own channel) piece w.channels.target v kept)
+owed_on past w (read.Eof channel) fair k =
+    on_come (law past) w (find channel w.channels.lines.entries) _ (λ e. λ world h. tt)
+owed_on past w (read.Close channel) fair k =
+    on_come (law past) w (find channel w.channels.lines.entries) _
+    (λ e. (
+      op_on past (Peer_close channel) w tt refl
+          (λ n. peer_close_absent n channel w.channels.lines) k,
+      λ world h. tt,
+    ))
+owed_on past w (read.Wants channel wanted) fair k = (
+  op_on past (Set_wants_reply channel wanted) w tt refl
+      (λ n. wants_absent n channel wanted w.channels.lines) k,
+  tt,
+)
+owed_on past w Disconnect fair k = k
+owed_on past w Over_cap fair k =
+    let kept = plain_kept past (at_once too_many_attempts ∷ []) w (refl, tt) k in (kept, kept)
+owed_on past w (Unfit why) fair k = tt
+owed_on past w Without_packets fair k = tt
+owed_on past w read.Unbuilt fair k = tt
+owed_on past w _ fair k = tt
 
--- each row
-pub row_keeps : (given : Circumstances) (settings : Settings) (moment : ℕ) (w : World) (at : Gate)
-    (payload : List ℕ) (said : Said) (past : List TraceEntry) → Says given at payload said
-    → Ledgered w past →
-    PlanKeeps past (row settings moment w said)
-row_keeps given settings moment w at payload Nothing past s h = nothing_sent w past h
-row_keeps given settings moment w at payload Disconnect past s h = tt
-row_keeps given settings moment w at payload Over_cap past s h = tt
-row_keeps given settings moment w at payload (Service name) past s h =
-    either_keeps (bytes_eq name (codes "ssh-userauth")) (Ask Banner (accept_row w))
-    (Finish (Goes [] w)) past
-    (λ t banner. accept_keeps w past banner h) (λ t. nothing_sent w past h)
-row_keeps given settings moment w at payload (Request asked) past s h = request_keeps settings
-    moment w past asked h
-row_keeps given settings moment w at payload (Response said) past s h = response_keeps settings
-    moment w w.requested past (record w.auth { partial_success = false }) (prompt_of w.auth) said h
-row_keeps given settings moment w at payload (Open_session peer window packet) past s h =
-    open_session_keeps settings w peer window packet past (read_packets at (drop 1 payload) peer
-    window packet (fits_of given at payload (Open_session peer window packet) tt s)) h
-row_keeps given settings moment w at payload Open_other past s h = tt
-row_keeps given settings moment w at payload Open_without_packets past s h = tt
-row_keeps given settings moment w at payload (Grant channel amount) past s h = grant_keeps settings
-    w channel amount (find channel w.entries) past refl h
-row_keeps given settings moment w at payload (Peer_eof channel) past s h = peer_eof_keeps settings w
-    (find channel w.entries) past h
-row_keeps given settings moment w at payload (Peer_close channel) past s h =
-    peer_close_keeps settings w channel (find channel w.entries) past refl h
-row_keeps given settings moment w at payload (Unfit why) past s h = tt
-row_keeps given settings moment w at payload Unbuilt past s h = tt
+-- a world of another user
+user_on : (past : List TraceEntry) (w v : World) → v.channels ≡ w.channels → Kept past w
+    → Kept past v
+user_on past w v is k = record {
+  ledger = subst (λ c. Ledgered c.lines past) (sym is) k.ledger;
+  due = subst (λ c. Each IsDue c.lines) (sym is) k.due;
+  waiting = subst (λ c. AllWaiting 0 c.lines.entries c.opens) (sym is) k.waiting;
+}
 
--- what an input owes
-owed_keeps : (accepts : Acceptance) (settings : Settings) (w : World) (moment : ℕ)
-    (kind : InputKind) (plan : Plan Outcome) (past : List TraceEntry) → OwesKind accepts settings w
-    moment kind plan → Ledgered w past →
-    PlanKeeps past plan
-owed_keeps accepts settings w moment input.End plan past o h = subst (PlanKeeps past) (sym o) tt
-owed_keeps accepts settings w moment (input.Payload payload) plan past o h =
-    subst (PlanKeeps past) (sym o.2) (row_keeps (circumstances accepts settings moment) settings
-    moment w (gate_of settings w payload) payload o.0 past o.1 h)
-owed_keeps accepts settings w moment (input.Command ticket command) plan past o h =
-    subst (PlanKeeps past) (sym o) (command_row_keeps settings w ticket command past h)
-owed_keeps accepts settings w moment (input.OpenReply ticket answer) plan past o h =
-    subst (PlanKeeps past) (sym o) (command_row_keeps settings w ticket (command.Answer answer) past
-    h)
-owed_keeps accepts settings w moment _ plan past o h = subst (PlanKeeps past) (sym o) tt
-
--- an input that is taken, and what the link is told before the frames, are passed over
-passes_over : (es : List Entry) (past told : List TraceEntry) (frames : List Frame) → IsSilent told
-    → Settled es (past ++ map Sent frames) → Settled es (past ++ (told ++ map Sent frames))
-passes_over es past told frames silent s = λ n.
-    let sent = map Sent frames in
-    let same : since n (past ++ (told ++ sent)) ≡ since n (past ++ sent) =
-    since_both n [] past (told ++ sent) ∙ since_both n (since n past) told sent
-    ∙ ap (λ l. since_from n l sent) (silent n (since n past)) ∙ sym (since_both n [] past sent) in
-    subst (IsSettled n (find n es)) (sym same) (s n)
-
--- one turn
-pub turn_ledgered : {E : Type 0} (accepts : Acceptance) (settings : Settings) (w : World)
-    (turn : Turn E) (v : World) (past : List TraceEntry) → Turns accepts settings w turn v
-    → Ledgered w past →
-    Ledgered v (past ++ entries turn)
-turn_ledgered accepts settings w turn v past t h =
-    let plan = owed_keeps accepts settings w turn.input.moment turn.input.kind t.0 past t.1 h in
-    let k = comes_kept t.0 turn.events turn.frames v past plan t.2 in (
-      passes_over v.entries past (Took turn.commands true turn.input ∷ told_in turn.events)
-          turn.frames k.0 k.1.0,
-      k.1.1,
+concluded_on : (past : List TraceEntry) (w : World) (moment : ℕ) (requested : Bool)
+    (outcome : AuthOutcome) → Kept past w →
+    PlanComes Anything (ComesKept past) (concluded w moment requested outcome)
+concluded_on past w moment requested (Replies reply verdict.Accepted state) k =
+    let v = waits_for (WaitingAuthRequest state) w in
+    acts_come (law past) (replied w moment requested reply verdict.Accepted) v
+    (user_on past w v refl k) (
+      plain_kept past (at_once reply ∷ []) (lets_in (finishes requested v)) (refl, tt)
+          (user_on past w (lets_in (finishes requested v)) refl k),
+      λ world h. tt,
     )
+concluded_on past w moment requested (Replies reply (verdict.Rejected none_method) state) k =
+    let v = finishes requested (waits_for (WaitingAuthRequest state) w) in
+    plain_kept past (held reply (moment_after moment (rejection_hold w.settings.config none_method
+    w.user.requested)) ∷ []) v (refl, tt)
+    (user_on past w v refl k)
+concluded_on past w moment requested (Replies reply verdict.Continued state) k =
+    let v = finishes requested (waits_for (WaitingAuthRequest state) w) in
+    plain_kept past (at_once reply ∷ []) v (refl, tt) (user_on past w v refl k)
+concluded_on past w moment requested (auth.Fails fault) k = tt
 
--- and turns one after another
-pub run_ledgered : {E : Type 0} (accepts : Acceptance) (settings : Settings) (w : World)
-    (turns : List (Turn E)) (v : World) (past : List TraceEntry) → Run accepts settings w turns v
-    → Ledgered w past →
-    Ledgered v (past ++ flat_map entries turns)
-run_ledgered accepts settings w [] v past r h = subst (Ledgered v) (sym (append-nil past))
-    (subst (λ u. Ledgered u past) (sym r) h)
-run_ledgered accepts settings w (turn ∷ turns) v past r h =
-    subst (Ledgered v) (append_assoc past (entries turn) (flat_map entries turns))
-    (run_ledgered accepts settings r.0 turns v (past ++ entries turn) r.2
-    (turn_ledgered accepts settings w turn r.0 past r.1 h))
+asked_on : (past : List TraceEntry) (state : EncryptedState) (next : AuthRequest → Plan AuthOutcome)
+    (w : World) (moment : ℕ)
+    (requested : Bool) → Kept past w →
+    PlanComes Anything (ComesKept past)
+    (asked_of state (λ auth. after (next auth) (concluded w moment requested)) (acts [] w))
+asked_on past (WaitingAuthRequest auth) next w moment requested k =
+    comes_then Anything (ComesKept past) (next auth) (concluded w moment requested)
+    (λ outcome. concluded_on past w moment requested outcome k)
+asked_on past _ next w moment requested k = k
 
-pub settles : {E : Type 0} (accepts : Acceptance) (settings : Settings) (turns : List (Turn E))
-    (v : World) → Run accepts settings (opening_world settings) turns v
-    → Settled v.entries (flat_map entries turns)
-settles accepts settings turns v r = (run_ledgered accepts settings (opening_world settings) turns v
-    [] r (settled_empty, tt)).0
+greeting_plain : (message : Option (List ℕ)) → ArePlain (greeting message)
+greeting_plain None = (refl, tt)
+greeting_plain (Some message) = (refl, (refl, tt))
 
-pub run_splits : {E : Type 0} (accepts : Acceptance) (settings : Settings) (w : World)
-    (earlier later : List (Turn E)) (v : World) → Run accepts settings w (earlier ++ later) v →
-    (mid : World) × Run accepts settings w earlier mid × Run accepts settings mid later v
-run_splits accepts settings w [] later v r = (w, refl, r)
-run_splits accepts settings w (turn ∷ turns) later v r = let k = run_splits accepts settings r.0
-    turns later v r.2 in (k.0, (r.0, r.1, k.1), k.2)
+greets_on : (past : List TraceEntry) (w : World) (message : Option (List ℕ)) (short : Bool)
+    → is_short message ≡ short → Kept past w →
+    PlanComes Anything (ComesKept past) (acts (greets message) w)
+greets_on past w message true is k =
+    rw is (plain_kept past (greeting message) (served w) (greeting_plain message)
+    (user_on past w (served w) refl k))
+greets_on past w message false is k = rw is tt
 
--- after every input that was finished
-pub ledger : {E : Type 0} (accepts : Acceptance) (settings : Settings) (turns : List (Turn E))
-    (v : World) → Run accepts settings (opening_world settings) turns v →
-    (earlier later : List (Turn E)) → turns ≡ earlier ++ later →
-    (w : World) × Run accepts settings (opening_world settings) earlier w
-    × Settled w.entries (flat_map entries earlier)
-ledger accepts settings turns v r earlier later is =
-    let k = run_splits accepts settings (opening_world settings) earlier later v
-    (subst (λ l. Run accepts settings (opening_world settings) l v) is r) in
-    (k.0, k.1, settles accepts settings earlier k.0 k.1)
+service_on : (past : List TraceEntry) (w : World) (b : Bool) → Kept past w →
+    PlanComes Anything (ComesKept past) (if b then Ask Banner (λ message. acts (greets message) w)
+    else acts [] w)
+service_on past w true k = λ message s. greets_on past w message (is_short message) refl k
+service_on past w false k = k
+
+pub row_kept : (past : List TraceEntry) (w : World) (moment : ℕ) (said : Said) → IsFairSaid said
+    → Kept past w →
+    PlanComes Anything (ComesKept past) (row w moment said)
+row_kept past w moment (Service name) fair k = service_on past w
+    (bytes_eq name (codes "ssh-userauth")) k
+row_kept past w moment (Request asked) fair k = asked_on past w.user.state
+    (λ auth. verdict_on auth asked) w moment true k
+row_kept past w moment (Response responded) fair k =
+    asked_on past w.user.state (λ auth. response_verdict auth responded) w moment w.user.requested k
+row_kept past w moment said fair k = acts_come (law past) (owed w said) w k
+    (owed_on past w said fair k)
+
+pub command_kept : (past : List TraceEntry) (w : World) (ticket : ℕ) (commanded : Command)
+    → Kept past w →
+    PlanComes Anything (ComesKept past) (command_row w ticket commanded)
+command_kept past w ticket commanded k =
+    one_comes (law past) (effect w commanded) (λ outcome world. Tell (Answered ticket outcome)
+    (Finish (Goes world)))
+    (effect_on past w commanded k) (λ outcome world h. h)

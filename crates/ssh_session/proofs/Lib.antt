@@ -1,31 +1,35 @@
-mod Accepting
-mod Admitting
-mod Asks
-mod Branches
-mod Built
-mod CloseFrames
+pub mod Serving
 pub mod Commanding
-mod Closing
-mod Complete
-pub mod Cuts
-mod Faultless
-pub mod Keeping
+pub mod Refining
 pub mod Effects
-pub mod Flush
-mod Gates
-mod Guards
-pub mod Kept
-pub mod Ledger
-pub mod Listed
-pub mod KeyFields
-mod Methods
-mod Misfits
-pub mod Places
-mod Replying
-mod Requests
-mod Responses
-pub mod Runs
+pub mod Rows
+pub mod Opened
+pub mod Greeting
+pub mod Requests
+pub mod Stepping
+pub mod Guards
+pub mod Gates
+pub mod FairVerdicts
+pub mod Admitting
+pub mod Acting
 pub mod Settled
-mod Steps
-pub mod Doing
-mod Peers
+pub mod Accepting
+pub mod Ended
+pub mod Waiting
+pub mod Absent
+pub mod Ledger
+pub mod Telling
+pub mod Books
+pub mod KeyFields
+pub mod Methods
+pub mod Responses
+pub mod FineVerdicts
+pub mod Fine
+pub mod Complete
+pub mod Lawful
+pub mod Runs
+pub mod Shorter
+pub mod LayoutsOnce
+pub mod ResponsesOnce
+pub mod RequestsOnce
+pub mod PlansOnce

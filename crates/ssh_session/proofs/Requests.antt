@@ -1,203 +1,278 @@
--- From the verdict on a request of authentication, or on a response, to its row.
-use Rattle.std.proofs.Common.{◌≡◌, ◌<◌, ℕ, List, [], ◌∷◌, ◌++◌, map, Option, Result, Ok, Err, Bool}
-use Rattle.std.proofs.Common.{refl, sym, subst}
-use Rattle.std.proofs.lemmas.List.{append-nil}
-use Rattle.ssh_link.specs.Told.{Adds}
-use Rattle.ssh_link.specs.Frames.{Frame}
-use Rattle.ssh_link.specs.declared.link.TraceEntry.{TraceEntry}
-use Rattle.ssh_auth.specs.declared.call.Call.{Call}
+-- Requests of authentication, and responses to prompts, from the verdict on them to their end.
+use Rattle.std.specs.Prelude.{◌^◌}
+use Rattle.std.proofs.Common.{◌≡◌, ◌<◌, ℕ, Bool, true, false, List, [], length, Result, Ok}
+use Rattle.std.proofs.Common.{Err, refl, sym, ap, subst, arith}
+use Rattle.ssh_link.specs.Faults.{Rose}
+use Rattle.ssh_link.specs.Told.{Adds, ToldBy}
+use Rattle.ssh_link.proofs.Tellings.{adds_nil}
 use Rattle.ssh_auth.specs.declared.auth_request.AuthRequest.{AuthRequest}
 use Rattle.ssh_auth.specs.declared.auth_step.AuthStep.{AuthStep}
-use Rattle.ssh_auth.specs.declared.auth_step.AuthVerdict.TheVariants as verdict
+use Rattle.ssh_auth.specs.declared.call.Call.{Call}
 use Rattle.ssh_auth.specs.declared.error.AuthError.{AuthError}
-use Rattle.ssh_auth.specs.declared.error.AuthError.TheVariants as auth_error
-use Rattle.ssh_auth.specs.Plan.{Plan, Finish, after, Event, Called, Handler_error, Follows}
-use Rattle.ssh_auth.specs.Verdict.{AuthOutcome as Reply, Replies}
-use Rattle.ssh_auth.specs.Verdict as auth
+use Rattle.ssh_auth.specs.declared.error.AuthError.TheVariants as auth
+use Rattle.ssh_auth.specs.Plan.{Plan, Finish, after, Handler_error, Follows, Reaches}
+use Rattle.ssh_auth.specs.Publickey.{Acceptance}
+use Rattle.ssh_auth.specs.Requested.{Requested as Asked, SaysRequest}
+use Rattle.ssh_auth.specs.Response.{Responded, SaysResponses}
+use Rattle.ssh_auth.specs.Serve.{Concludes, calls_alone}
 use Rattle.ssh_auth.specs.Serve as served
-use Rattle.ssh_auth.proofs.Plans.{follows_after, follows_begins, follows_breaks, begins_after}
-use Rattle.ssh_auth.proofs.Plans.{breaks_after}
-use Rattle.ssh_session.specs.declared.error.Flow.{Flow}
-use Rattle.ssh_session.specs.declared.error.Flow.TheVariants.{Continue, Ended}
+use Rattle.ssh_auth.specs.Verdict.{AuthOutcome, Replies, verdict, response_verdict}
+use Rattle.ssh_auth.specs.Verdict as reply
+use Rattle.ssh_auth.proofs.Plans.{reaches_after, begins_after, breaks_after, calls_of_calls}
+use Rattle.ssh_auth.proofs.Plans.{steps_of_calls, told_of_calls}
 use Rattle.ssh_session.specs.declared.error.RunError.{RunError}
-use Rattle.ssh_session.specs.declared.error.RunError.TheVariants as error
 use Rattle.ssh_session.specs.declared.session.Session.{Session}
-use Rattle.ssh_session.specs.World.{Settings, World}
+use Rattle.ssh_session.specs.declared.state.EncryptedState.{EncryptedState}
+use Rattle.ssh_session.specs.declared.state.EncryptedState.TheVariants.{WaitingAuthRequest}
+use Rattle.ssh_session.specs.Acts.{acts}
 use Rattle.ssh_session.specs.Failure.{error_of_auth}
-use Rattle.ssh_session.specs.Outcome.{Outcome, Goes, Ends, Fails, Encoding, Inconsistent, Key}
-use Rattle.ssh_session.specs.Outcome.{Unsupported, Not_built}
-use Rattle.ssh_session.specs.Rows.{finished, reply_row, moment_after, rejection_hold}
-use Rattle.ssh_session.specs.Layout.{held}
-use Rattle.ssh_session.specs.Serve.{Answers, Heard, heard, Serves}
-use Rattle.ssh_session.proofs.Asks.{hears_calls, hears_then, not_asked}
+use Rattle.ssh_session.specs.Heard.{Heard, CallsAlone, AnswersRequest, AnswersResponse}
+use Rattle.ssh_session.specs.Outcome.{Outcome, Goes, Fails, Key}
+use Rattle.ssh_session.specs.Rows.{replied, reply_row, concluded, fault_of, asked_of, request_row}
+use Rattle.ssh_session.specs.Rows.{response_row}
+use Rattle.ssh_session.specs.Serve.{Refines, IsCaused, cause_of, may_stop, Hears, Serves, Does}
+use Rattle.ssh_session.specs.World.{World, circumstances, waits_for}
+use Rattle.ssh_session.proofs.Serving.{reached, completes}
 
-answers_after : {E : Type 0} (settings : Settings) (plan : Plan Reply) (later : Reply
-    → Plan Outcome) (reply : Reply) (rose : Type 0) (xs ys : List (Event E ⊥))
-    (staged staged' : List Frame) (session : Session)
-    (result : Result Flow (RunError E)) → Follows plan xs reply → Answers settings (later reply)
-    rose ys staged staged' session result →
-    Answers settings (after plan later) rose (xs ++ ys) staged staged' session result
-answers_after settings plan later reply rose xs ys staged staged' session (Ok Continue) f h =
-    (h.0, h.1, follows_after plan later xs ys reply (Goes h.0 h.1) f h.2, h.3, h.4)
-answers_after settings plan later reply rose xs ys staged staged' session (Ok Ended) f h =
-    (h.0, follows_after plan later xs ys reply (Ends h.0) f h.1, h.2)
-answers_after settings plan later reply rose xs ys staged staged' session (Err error.NoMemory) f h =
-    follows_begins plan later xs ys reply f h
-answers_after settings plan later reply rose xs ys staged staged' session (Err error.LinkFault) f h
-    = (h.0, follows_begins plan later xs ys reply f h.1)
-answers_after settings plan later reply rose xs ys staged staged' session (Err error.InputLimit) f h
-    = h
-answers_after settings plan later reply rose xs ys staged staged' session (Err (error.Encoding why))
-    f h = follows_after plan later xs ys reply (Fails (Encoding why)) f h
-answers_after settings plan later reply rose xs ys staged staged' session (Err error.Inconsistent) f
-    h = follows_after plan later xs ys reply (Fails Inconsistent) f h
-answers_after settings plan later reply rose xs ys staged staged' session (Err (error.Key why)) f h
-    = (h.0, follows_after plan later xs ys reply (Fails Key) f h.1)
-answers_after settings plan later reply rose xs ys staged staged' session (Err (error.Handler e)) f
-    h = follows_breaks plan later xs ys reply (Handler_error e) f h
-answers_after settings plan later reply rose xs ys staged staged' session
-    (Err error.UnsupportedAuthMethod) f h = follows_after plan later xs ys reply (Fails Unsupported)
-    f h
-answers_after settings plan later reply rose xs ys staged staged' session (Err error.NotBuilt) f h =
-    follows_after plan later xs ys reply (Fails Not_built) f h
+-- the handler alone was asked
+heard : {E : Type 0} (stops : Bool) (a b : Heard E) (calls : List (Call E)) → CallsAlone stops a b
+    calls →
+    Hears stops a b (calls_alone calls)
+heard stops a b calls h = record {
+  called = subst (ToldBy stops a.calls b.calls) (sym (calls_of_calls ⊥ calls)) h.1;
+  told = subst (Adds a.trace b.trace) (sym (told_of_calls ⊥ calls))
+      (subst (λ t. Adds a.trace t []) (sym h.2) (adds_nil a.trace));
+  later = let x = h.3 in omega (arith, x);
+  unstepped = steps_of_calls ⊥ calls;
+  same = h.0;
+}
 
--- the calls of a verdict, and then what its reply goes on to
-pub replied : {E : Type 0} (settings : Settings) (plan : Plan Reply) (later : Reply → Plan Outcome)
-    (reply : Reply) (calls : List (Call E)) (a b : Option (List (Call E)))
-    (trace : Option (List TraceEntry)) (faults : ℕ) (c : Heard E) (staged staged' : List Frame)
-    (session : Session) (result : Result Flow (RunError E)) → Adds a b calls →
-    Follows {F = ⊥} plan (map Called calls) reply → Serves settings (later reply)
-    (heard b trace faults) c staged staged' session result →
-    Serves settings (after plan later) (heard a trace faults) c staged staged' session result
-replied settings plan later reply calls a b trace faults c staged staged' session result h f k = (
-  map Called calls ++ k.0,
-  hears_then result (heard a trace faults) (heard b trace faults) c (map Called calls) k.0
-      (hears_calls {T = Unit {0}} (Ok tt) a b trace faults calls h) k.1,
-  answers_after settings plan later reply (faults < c.faults) (map Called calls) k.0 staged staged'
-      session result f k.2,
+-- there is a verdict, and the reply was finished
+pub answered : {E : Type 0} (w : World) (moment : ℕ) (requested : Bool) (plan : Plan AuthOutcome)
+    (a b c : Heard E)
+    (calls : List (Call E)) (state : AuthRequest) (step : AuthStep) (session : Session)
+    (result : Result (Unit {0}) (RunError E)) →
+    CallsAlone false a b calls → Follows plan (calls_alone calls)
+    (Replies step.reply step.verdict state) →
+    Does (replied (waits_for (WaitingAuthRequest state) w) moment requested step.reply step.verdict)
+    (waits_for (WaitingAuthRequest state) w) b c session result →
+    Serves (after plan (concluded w moment requested)) (λ (_ : Unit {0}) world. Finish (Goes world))
+    a c session result
+answered w moment requested plan a b c calls state step session result h f d =
+    let v = waits_for (WaitingAuthRequest state) w in
+    reached (after plan (concluded w moment requested)) (reply_row moment requested step.reply
+    step.verdict v)
+    (λ (_ : Unit {0}) world. Finish (Goes world)) a b c (calls_alone calls) session result
+    (heard false a b calls h)
+    (reaches_after plan (Finish (Replies step.reply step.verdict state))
+    (concluded w moment requested) (calls_alone calls) f)
+    (completes (replied v moment requested step.reply step.verdict) v b c session result d)
+
+-- there is none
+module _ {E : Type 0} (w : World) (moment : ℕ) (requested : Bool) (plan : Plan AuthOutcome)
+    (a b : Heard E) (calls : List (Call E))
+    (state : AuthRequest) where
+  faulty : (fault : reply.Fault) → Follows plan (calls_alone {E = E} calls) (reply.Fails fault) →
+      Reaches (after plan (concluded w moment requested)) (calls_alone {E = E} calls)
+      (Finish (Fails (fault_of fault)))
+  faulty fault f =
+      reaches_after plan (Finish (reply.Fails fault)) (concluded w moment requested)
+      (calls_alone {E = E} calls) f
+
+  caused : (e : AuthError E) → Concludes plan (calls_alone {E = E} calls) state (Err e) →
+      IsCaused (cause_of (error_of_auth e)) (after plan (concluded w moment requested))
+      (Rose a.faults b.faults)
+      (calls_alone calls)
+  caused auth.NoMemory f = begins_after plan (concluded w moment requested)
+      (calls_alone {E = E} calls) f
+  caused (auth.Encoding why) f = faulty (reply.Encoding why) f
+  caused auth.Inconsistent f = faulty reply.Inconsistent f
+  caused (auth.Key why) f =
+      subst (λ k. Reaches (after plan (concluded w moment requested)) (calls_alone {E = E} calls)
+      (Finish (Fails (Key k))))
+      (sym f.0) (faulty reply.Key f.1)
+  caused (auth.Handler e) f =
+      breaks_after plan (concluded w moment requested) (calls_alone {E = E} calls) (Handler_error e)
+      f
+  caused auth.UnsupportedAuthMethod f = faulty reply.Unsupported f
+
+stops_same : {E : Type 0} (e : AuthError E) →
+    served.may_stop {T = AuthStep} {E = E} (Err e) ≡ may_stop {T = Unit {0}} {E = E}
+    (Err (error_of_auth e))
+stops_same auth.NoMemory = refl
+stops_same (auth.Encoding why) = refl
+stops_same auth.Inconsistent = refl
+stops_same (auth.Key why) = refl
+stops_same (auth.Handler e) = refl
+stops_same auth.UnsupportedAuthMethod = refl
+
+pub unanswered : {T E : Type 0} (w : World) (moment : ℕ) (requested : Bool)
+    (plan : Plan AuthOutcome) (a b : Heard E)
+    (next : T → World → Plan Outcome) (calls : List (Call E)) (state : AuthRequest)
+    (e : AuthError E) (session : Session) →
+    CallsAlone (served.may_stop {T = AuthStep} {E = E} (Err e)) a b calls →
+    Concludes plan (calls_alone calls) state (Err e) →
+    Serves {T = T} (after plan (concluded w moment requested)) next a b session
+    (Err (error_of_auth e))
+unanswered w moment requested plan a b next calls state e session h f = (
+  calls_alone calls,
+  subst (λ stops. Hears stops a b (calls_alone calls)) (stops_same e)
+      (heard (served.may_stop {T = AuthStep} (Err e)) a b calls h),
+  caused w moment requested plan a b calls state e f,
 )
 
-fails_after : {E : Type 0} (plan : Plan Reply) (later : Reply → Plan Outcome) (reply : Reply)
-    (outcome : Outcome) (events : List (Event E ⊥)) →
-    later reply ≡ Finish outcome → Follows plan events reply → Follows (after plan later) events
-    outcome
-fails_after {E} plan later reply outcome events is f =
-    subst (λ l. Follows (after plan later) l outcome) (append-nil events)
-    (follows_after plan later events [] reply outcome f
-    (subst (λ p. Follows {E = E} {F = ⊥} p [] outcome) (sym is) refl))
+-- a session whose state changed, and that says whether a request was finished
+pub finished_as : (requested : Bool) (state : EncryptedState) (session : Session)
+    (fits : length session.session_id < 2 ^ 32)
+    (w : World) → Refines session w →
+    Refines (record session { state = state; requested = requested; session_id_fits = fits })
+    (record w { user = record { state = state; requested = requested } })
+finished_as requested state session fits w r = record {
+  config = r.config;
+  session_id = r.session_id;
+  remote_sshid = r.remote_sshid;
+  state = refl;
+  requested = refl;
+  table = r.table;
+  opens = r.opens;
+  target = r.target;
+  live = r.live;
+}
 
--- a request that gets no reply
-pub refused : {E : Type 0} (settings : Settings) (moment : ℕ) (w : World) (requested : Bool)
-    (plan : Plan Reply) (a b : Option (List (Call E))) (trace : Option (List TraceEntry))
-    (faults : ℕ) (state : AuthRequest) (e : AuthError E)
-    (staged staged' : List Frame) (session : Session) → served.CarriesOut plan a b state (Err e) →
-    Serves settings (after plan (finished settings moment w requested)) (heard a trace faults)
-    (heard b trace faults) staged staged' session (Err (error_of_auth e))
-refused settings moment w requested plan a b trace faults state auth_error.NoMemory staged staged'
-    session h = (
-      map Called h.0,
-      hears_calls {T = Flow} (Err error.NoMemory) a b trace faults h.0 h.1,
-      begins_after plan (finished settings moment w requested) (map Called h.0) h.2,
-    )
-refused settings moment w requested plan a b trace faults state (auth_error.Encoding why) staged
-    staged' session h = (
-      map Called h.0,
-      hears_calls {T = Flow} (Err (error.Encoding why)) a b trace faults h.0 h.1,
-      fails_after plan (finished settings moment w requested) (auth.Fails (auth.Encoding why))
-          (Fails (Encoding why)) (map Called h.0) refl h.2,
-    )
-refused settings moment w requested plan a b trace faults state auth_error.Inconsistent staged
-    staged' session h = (
-      map Called h.0,
-      hears_calls {T = Flow} (Err error.Inconsistent) a b trace faults h.0 h.1,
-      fails_after plan (finished settings moment w requested) (auth.Fails auth.Inconsistent)
-          (Fails Inconsistent) (map Called h.0) refl h.2,
-    )
-refused settings moment w requested plan a b trace faults state (auth_error.Key why) staged staged'
-    session h = (
-      map Called h.0,
-      hears_calls {T = Flow} (Err (error.Key why)) a b trace faults h.0 h.1,
-      (
-        h.2.0,
-        fails_after plan (finished settings moment w requested) (auth.Fails auth.Key) (Fails Key)
-            (map Called h.0) refl h.2.1,
-      ),
-    )
-refused settings moment w requested plan a b trace faults state (auth_error.Handler e) staged
-    staged' session h = (
-      map Called h.0,
-      hears_calls {T = Flow} (Err (error.Handler e)) a b trace faults h.0 h.1,
-      breaks_after plan (finished settings moment w requested) (map Called h.0) (Handler_error e)
-          h.2,
-    )
-refused settings moment w requested plan a b trace faults state auth_error.UnsupportedAuthMethod
-    staged staged' session h = (
-      map Called h.0,
-      hears_calls {T = Flow} (Err error.UnsupportedAuthMethod) a b trace faults h.0 h.1,
-      fails_after plan (finished settings moment w requested) (auth.Fails auth.Unsupported)
-          (Fails Unsupported) (map Called h.0) refl h.2,
-    )
+-- where requests are waited for
+pub requested_row : (w : World) (moment : ℕ) (asked : Asked) (state : AuthRequest) → w.user.state
+    ≡ WaitingAuthRequest state →
+    request_row w moment asked ≡ after (verdict state asked) (concluded w moment true)
+requested_row w moment asked state h =
+    ap (λ s. asked_of s (λ state. after (verdict state asked) (concluded w moment true))
+    (acts [] w)) h
 
--- a rejection that is held until the same moment
-pub held_until : {E : Type 0} (settings : Settings) (moment : ℕ) (w : World) (requested : Bool)
-    (reply : List ℕ) (none_method : Bool) (until : ℕ) (a : Heard E)
-    (staged staged' : List Frame) (session : Session) (result : Result Flow (RunError E)) → until
-    ≡ moment_after moment (rejection_hold settings.config none_method w.requested) →
-    Answers settings (Finish (Goes (held reply until ∷ []) (record w { requested = requested }))) ⊥
-    [] staged staged' session result →
-    Serves settings (reply_row settings moment w requested reply (verdict.Rejected none_method)) a a
-    staged staged' session result
-held_until settings moment w requested reply none_method until a staged staged' session result is h
-    =
-    not_asked settings (reply_row settings moment w requested reply (verdict.Rejected none_method))
-    a staged staged' session result
-    (subst (λ u. Answers settings (Finish
-    (Goes (held reply u ∷ []) (record w { requested = requested }))) ⊥ [] staged staged' session
-    result) is h)
+pub responded_row : (w : World) (moment : ℕ) (responded : Responded) (state : AuthRequest)
+    → w.user.state ≡ WaitingAuthRequest state →
+    response_row w moment responded ≡ after (response_verdict state responded)
+    (concluded w moment w.user.requested)
+responded_row w moment responded state h =
+    ap (λ s. asked_of s (λ state. after (response_verdict state responded)
+    (concluded w moment w.user.requested)) (acts [] w)) h
 
--- a request, or a response, that gets no reply, in the world of the session
-pub unanswered : {E : Type 0} (settings : Settings) (moment : ℕ) (w : World) (requested : Bool)
-    (plan : AuthRequest → Plan Reply) (before : AuthRequest) (a b : Option (List (Call E)))
-    (trace : Option (List TraceEntry)) (faults : ℕ)
-    (state : AuthRequest) (e : AuthError E) (staged : List Frame) (session : Session)
-    (result : Result Flow (RunError E)) → before ≡ w.auth → result ≡ Err (error_of_auth e) →
-    served.CarriesOut (plan before) a b state (Err e) →
-    Serves settings (after (plan w.auth) (finished settings moment w requested))
-    (heard a trace faults) (heard b trace faults) staged staged session result
-unanswered settings moment w requested plan before a b trace faults state e staged session result
-    same is h =
-    subst (λ r. Serves settings (after (plan w.auth) (finished settings moment w requested))
-    (heard a trace faults) (heard b trace faults) staged staged session r) (sym is)
-    (refused settings moment w requested (plan w.auth) a b trace faults state e staged staged
-    session (subst (λ x. served.CarriesOut (plan x) a b state (Err e)) same h))
+-- the state of authentication changed
+pub asked_again : (auth : AuthRequest) (session : Session) (fits : length session.session_id < 2 ^
+    32) (w : World) →
+    Refines session w →
+    Refines (record session { state = WaitingAuthRequest auth; session_id_fits = fits })
+    (waits_for (WaitingAuthRequest auth) w)
+asked_again auth session fits w r = record {
+  config = r.config;
+  session_id = r.session_id;
+  remote_sshid = r.remote_sshid;
+  state = refl;
+  requested = r.requested;
+  table = r.table;
+  opens = r.opens;
+  target = r.target;
+  live = r.live;
+}
 
--- one that gets its reply, in the world of the session
-pub answered : {E : Type 0} (settings : Settings) (moment : ℕ) (w : World) (requested : Bool)
-    (plan : AuthRequest → Plan Reply) (before : AuthRequest) (a b : Option (List (Call E)))
-    (trace : Option (List TraceEntry)) (faults : ℕ)
-    (c : Heard E) (state : AuthRequest) (step : AuthStep) (staged staged' : List Frame)
-    (session : Session) (result : Result Flow (RunError E)) → before ≡ w.auth →
-    served.CarriesOut {E = E} (plan before) a b state (Ok step) →
-    Serves settings (reply_row settings moment (record w { auth = state }) requested step.reply
-    step.verdict) (heard b trace faults) c staged staged' session result →
-    Serves settings (after (plan w.auth) (finished settings moment w requested))
-    (heard a trace faults) c staged staged' session result
-answered settings moment w requested plan before a b trace faults c state step staged staged'
-    session result same h k =
-    replied settings (plan w.auth) (finished settings moment w requested)
-    (Replies step.reply step.verdict state) h.0 a b trace faults c staged staged' session result
-    h.1
-    (subst (λ x. Follows {F = ⊥} (plan x) (map Called h.0) (Replies step.reply step.verdict state))
-    same h.2) k
+pub noted_as : (requested : Bool) (session : Session) (fits : length session.session_id < 2 ^ 32)
+    (w : World) → Refines session w →
+    Refines (record session { requested = requested; session_id_fits = fits })
+    (record w { user = record w.user { requested = requested } })
+noted_as requested session fits w r = record {
+  config = r.config;
+  session_id = r.session_id;
+  remote_sshid = r.remote_sshid;
+  state = r.state;
+  requested = refl;
+  table = r.table;
+  opens = r.opens;
+  target = r.target;
+  live = r.live;
+}
 
--- a reply, where the flag is that of the world
-pub flagged : {E : Type 0} (settings : Settings) (moment : ℕ) (w : World) (flag requested : Bool)
-    (step : AuthStep) (a b : Heard E) (staged staged' : List Frame) (session : Session)
-    (result : Result Flow (RunError E)) →
-    flag ≡ requested → Serves settings (reply_row settings moment w flag step.reply step.verdict) a
-    b staged staged' session result →
-    Serves settings (reply_row settings moment w requested step.reply step.verdict) a b staged
-    staged' session result
-flagged settings moment w flag requested step a b staged staged' session result is h =
-    subst (λ f. Serves settings (reply_row settings moment w f step.reply step.verdict) a b staged
-    staged' session result) is h
+-- ---- a request, from the state that waits for it
+
+module _ {E : Type 0} (accepts : Acceptance) (w : World) (moment : ℕ) (fields session_id : List ℕ)
+    (old new : AuthRequest)
+    (waits : w.user.state ≡ WaitingAuthRequest old) (is : session_id ≡ w.settings.session_id)
+    (a b : Heard E) where
+  says_so : (asked : Asked) → SaysRequest (record {
+    accepts = accepts;
+    session_id = session_id;
+    moment = moment;
+  }) fields asked →
+      SaysRequest (circumstances accepts w.settings moment) fields asked
+  says_so asked h = subst (λ id. SaysRequest (record {
+    accepts = accepts;
+    session_id = id;
+    moment = moment;
+  }) fields asked) is h
+
+  -- it has a reply
+  pub request_answered : (step : AuthStep) (c : Heard E) (session : Session)
+      (result : Result (Unit {0}) (RunError E)) →
+      AnswersRequest (record { accepts = accepts; session_id = session_id; moment = moment }) fields
+      a b old new (Ok step) →
+      Does (replied (waits_for (WaitingAuthRequest new) w) moment true step.reply step.verdict)
+      (waits_for (WaitingAuthRequest new) w) b c session result →
+      (asked : Asked) × SaysRequest (circumstances accepts w.settings moment) fields asked
+      × Serves (request_row w moment asked) (λ (_ : Unit {0}) world. Finish (Goes world)) a c
+      session result
+  request_answered step c session result (asked, says, calls, alone, concludes) d = (
+    asked,
+    says_so asked says,
+    subst (λ p. Serves p (λ (_ : Unit {0}) world. Finish (Goes world)) a c session result)
+        (sym (requested_row w moment asked old waits))
+        (answered w moment true (verdict old asked) a b c calls new step session result alone
+        concludes d),
+  )
+
+  -- it has none
+  pub request_unanswered : {T : Type 0} (next : T → World → Plan Outcome) (e : AuthError E)
+      (session : Session) →
+      AnswersRequest (record { accepts = accepts; session_id = session_id; moment = moment }) fields
+      a b old new (Err e) →
+      (asked : Asked) × SaysRequest (circumstances accepts w.settings moment) fields asked
+      × Serves {T = T} (request_row w moment asked) next a b session (Err (error_of_auth e))
+  request_unanswered {T} next e session (asked, says, calls, alone, concludes) = (
+    asked,
+    says_so asked says,
+    subst (λ p. Serves {T = T} p next a b session (Err (error_of_auth e)))
+        (sym (requested_row w moment asked old waits))
+        (unanswered w moment true (verdict old asked) a b next calls new e session alone concludes),
+  )
+
+-- ---- a response, from the state that waits for it
+
+module _ {E : Type 0} (w : World) (moment : ℕ) (fields : List ℕ) (old new : AuthRequest)
+    (waits : w.user.state ≡ WaitingAuthRequest old) (a b : Heard E) where
+  pub response_answered : (step : AuthStep) (c : Heard E) (session : Session)
+      (result : Result (Unit {0}) (RunError E)) →
+      AnswersResponse fields a b old new (Ok step) →
+      Does (replied (waits_for (WaitingAuthRequest new) w) moment w.user.requested step.reply
+      step.verdict)
+      (waits_for (WaitingAuthRequest new) w) b c session result →
+      (said : Responded) × SaysResponses fields said
+      × Serves (response_row w moment said) (λ (_ : Unit {0}) world. Finish (Goes world)) a c
+      session result
+  response_answered step c session result (said, says, calls, alone, concludes) d = (
+    said,
+    says,
+    subst (λ p. Serves p (λ (_ : Unit {0}) world. Finish (Goes world)) a c session result)
+        (sym (responded_row w moment said old waits))
+        (answered w moment w.user.requested (response_verdict old said) a b c calls new step session
+        result alone concludes d),
+  )
+
+  pub response_unanswered : {T : Type 0} (next : T → World → Plan Outcome) (e : AuthError E)
+      (session : Session) →
+      AnswersResponse fields a b old new (Err e) →
+      (said : Responded) × SaysResponses fields said
+      × Serves {T = T} (response_row w moment said) next a b session (Err (error_of_auth e))
+  response_unanswered {T} next e session (said, says, calls, alone, concludes) = (
+    said,
+    says,
+    subst (λ p. Serves {T = T} p next a b session (Err (error_of_auth e)))
+        (sym (responded_row w moment said old waits))
+        (unanswered w moment w.user.requested (response_verdict old said) a b next calls new e
+        session alone concludes),
+  )

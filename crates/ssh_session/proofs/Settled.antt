@@ -1,302 +1,262 @@
--- What was sent on each number stays what has to be sent there, row by row.
-use Rattle.std.proofs.Common.{◌≡◌, ◌<◌, ◌≤◌, ◌==◌, ◌-◌, ℕ, Bool, true, false, Some, None, List, []}
-use Rattle.std.proofs.Common.{◌∷◌, ◌++◌, map, length, refl, sym, ◌∙◌, ap, subst, inl, append_assoc}
-use Rattle.std.proofs.Common.{rules}
-use Rattle.std.proofs.lemmas.List.{append-nil}
-use Rattle.ssh_link.specs.Frames.{Frame}
-use Rattle.ssh_link.specs.declared.link.TraceEntry.{TraceEntry}
-use Rattle.ssh_link.specs.declared.link.TraceEntry.TheVariants.{Sent}
-use Rattle.ssh_session.specs.ChannelLayout.{confirmation_frame, failure_frame, data_frame}
-use Rattle.ssh_session.specs.ChannelLayout.{eof_frame, close_frame}
-use Rattle.ssh_session.specs.Cut.{cut, left_of}
-use Rattle.ssh_session.specs.Entry.{Entry, opened, accepted, piece_limit, flush_out, flushed}
-use Rattle.ssh_session.specs.Entry.{granting, accepting}
-use Rattle.ssh_session.specs.Entries.{find, put, without}
-use Rattle.ssh_session.specs.Sent.{is_tagged, answers_open, after_frame, after_entry, since_from}
-use Rattle.ssh_session.specs.Sent.{since, Keeps, IsClosed, IsSettled, Settled}
-use Rattle.ssh_session.proofs.Kept.{keeps_open, keeps_before, before_grant, before_accept}
-use Rattle.ssh_session.proofs.Kept.{flush_keeps, keeps_eof, keeps_room, keeps_close}
-use Rattle.ssh_session.proofs.Listed.{same_number, found_number, find_again, found_put, find_other}
-use Rattle.ssh_session.proofs.Listed.{find_without, without_other, end_other, end_new}
+-- What is fixed in a run stays so.
+use Rattle.std.proofs.Common.{◌≡◌, ℕ, List, [], ◌∷◌, subst, Option, Some, None, Bool, true, false}
+use Rattle.std.proofs.Common.{refl}
+use Rattle.std.specs.Prelude.{length, bytes_eq, codes, if◌then◌else◌}
+use Rattle.ssh_link.specs.declared.command.Command.{Command}
+use Rattle.ssh_link.specs.declared.command.Command.TheVariants as command
+use Rattle.ssh_link.specs.declared.frame.InputKind.{InputKind}
+use Rattle.ssh_link.specs.declared.frame.InputKind.TheVariants as input
+use Rattle.ssh_link.specs.declared.link.TraceEntry.TheVariants.{Answered}
+use Rattle.ssh_link.specs.declared.frame.Input.{Input}
+use Rattle.ssh_link.specs.declared.open_answer.OpenAnswer.{OpenAnswer}
+use Rattle.ssh_link.specs.declared.outcome.Refusal.{Refusal}
+use Rattle.ssh_wire.specs.declared.open_failure.ChannelOpenFailure.{ChannelOpenFailure}
+use Rattle.ssh_auth.specs.declared.auth_step.AuthVerdict.TheVariants as verdict
+use Rattle.ssh_auth.specs.declared.auth_request.AuthRequest.{AuthRequest}
+use Rattle.ssh_auth.specs.declared.question.Question.{Question}
+use Rattle.ssh_auth.specs.declared.question.Question.TheVariants.{Banner}
+use Rattle.ssh_auth.specs.Plan.{Plan, Finish, Ask, Tell, Answer, Event, Follows, after}
+use Rattle.ssh_auth.specs.Publickey.{Acceptance}
+use Rattle.ssh_auth.specs.Verdict.{AuthOutcome, Replies, verdict as verdict_on, response_verdict}
+use Rattle.ssh_auth.specs.Verdict as auth
+use Rattle.ssh_channels.specs.Entry.{Entry}
+use Rattle.ssh_channels.specs.Does.{coming_of}
+use Rattle.ssh_channels.specs.Lines.{find, next_number, takes_in}
+use Rattle.ssh_channels.specs.declared.adjusted.Adjusted.{Adjusted}
+use Rattle.ssh_channels.specs.declared.adjusted.Adjusted.TheVariants.{Dropped, Kept, Granted}
+use Rattle.ssh_channels.specs.declared.chunk.Chunk.{Chunk}
+use Rattle.ssh_wire.specs.declared.channel_id.ChannelId.{ChannelId}
+use Rattle.ssh_session.specs.declared.state.EncryptedState.{EncryptedState}
+use Rattle.ssh_session.specs.declared.state.EncryptedState.TheVariants.{WaitingAuthRequest}
+use Rattle.ssh_session.specs.Acts.{Act, acts}
+use Rattle.ssh_session.specs.Effect.{Effect, effect, lacks, needs, refused_or, done_by, answers}
+use Rattle.ssh_session.specs.Effect.{decides, fails_open, failure_of, is_too_long}
+use Rattle.ssh_session.specs.Opening.{Opening}
+use Rattle.ssh_session.specs.Opens.{own, opening_of}
+use Rattle.ssh_session.specs.Outcome.{Outcome, Goes, Ends, Fails}
+use Rattle.ssh_session.specs.Reading.{Said, Disconnect, Over_cap, Service, Request}
+use Rattle.ssh_session.specs.Reading.{Response, Open, Grant, Data, Eof, Close, Unfit}
+use Rattle.ssh_session.specs.Reading.{Wants, Without_packets, Unbuilt}
+use Rattle.ssh_session.specs.Rows.{row, owed, greets, is_short, replied, concluded, asked_of}
+use Rattle.ssh_session.specs.Rows.{on_entry, on_confirmed, data_told, open_acts}
+use Rattle.ssh_session.specs.Run.{OwesKind, Owes, command_row}
+use Rattle.ssh_session.specs.World.{World, Settings, waits_for, lined}
+use Rattle.ssh_session.proofs.Acting.{PlanComes, EffectComes, AllBuilt, Law, ActsCome, acts_come}
+use Rattle.ssh_session.proofs.Acting.{one_comes, comes_then, input_comes}
 
-pub since_both : (n : ℕ) (fs : List Frame) (xs ys : List TraceEntry) → since_from n fs (xs ++ ys)
-    ≡ since_from n (since_from n fs xs) ys
-since_both n fs [] ys = refl
-since_both n fs (x ∷ xs) ys = since_both n (after_entry n fs x) xs ys
+abbrev pub IsSet : Settings → World → Type 0
+IsSet settings w = w.settings ≡ settings
 
--- these frames are the channel's of this number, and none answers an open
-abbrev pub AllOn : ℕ → List Frame → Type 0
-AllOn n [] = Unit {0}
-AllOn n (f ∷ fs) = (f.channel ≡ Some (record { 0 = n })) × (answers_open f.payload ≡ false)
-    × AllOn n fs
+-- the world that it comes to has these settings
+abbrev pub ComesSet : Settings → Outcome → Type 0
+ComesSet settings (Goes w) = IsSet settings w
+ComesSet settings (Ends w) = IsSet settings w
+ComesSet settings (Fails fault) = Unit {0}
 
--- this part of a trace shows these frames on the channels
-abbrev pub Shows : List TraceEntry → List Frame → Type 0
-Shows more frames = (k : ℕ) (fs : List Frame) → since_from k fs more
-    ≡ since_from k fs (map Sent frames)
+-- whatever is answered
+abbrev pub Anything : (question : Question) → Answer question → Type 0
+Anything question answer = Unit {0}
 
--- and none on any channel but the one of this number
-abbrev pub Quiet : ℕ → List TraceEntry → Type 0
-Quiet n more = (k : ℕ) (fs : List Frame) → (n == k) ≡ false → since_from k fs more ≡ fs
+abbrev Any_command : Command → Type 0
+Any_command command = Unit {0}
 
-tagged : (n k : ℕ) (f : Frame) → f.channel ≡ Some (record { 0 = n }) → is_tagged k f.channel
-    ≡ (n == k)
-tagged n k f h = ap (is_tagged k) h
+-- ---- commands
 
-frame_adds : (n : ℕ) (fs : List Frame) (f : Frame) → is_tagged n f.channel ≡ true
-    → answers_open f.payload ≡ false → after_frame n fs f ≡ fs ++ f ∷ []
-frame_adds n fs f h k = rw (h, k) refl
+fails_set : (settings : Settings) (number : ℕ) (payload : List ℕ) (w : World) (long : Bool)
+    → is_too_long payload ≡ long →
+    IsSet settings w → EffectComes (ComesSet settings) (IsSet settings)
+    (fails_open number payload w)
+fails_set settings number payload w true is h = rw is h
+fails_set settings number payload w false is h = rw is h
 
-frame_other : (n : ℕ) (fs : List Frame) (f : Frame) → is_tagged n f.channel ≡ false
-    → after_frame n fs f ≡ fs
-frame_other n fs f h = rw h refl
+decides_set : (settings : Settings) (number : ℕ) (opening : Opening)
+    (reason : Option ChannelOpenFailure)
+    (texts : Option (List ℕ × List ℕ)) (w : World) → IsSet settings w →
+    EffectComes (ComesSet settings) (IsSet settings) (decides number opening reason texts w)
+decides_set settings number opening None texts w h = h
+decides_set settings number opening (Some reason) texts w h =
+    fails_set settings number (failure_of opening reason texts) w
+    (is_too_long (failure_of opening reason texts)) refl h
 
-frame_answers : (n : ℕ) (fs : List Frame) (f : Frame) → is_tagged n f.channel ≡ true
-    → answers_open f.payload ≡ true → after_frame n fs f ≡ []
-frame_answers n fs f h k = rw (h, k) refl
+answers_set : (settings : Settings) (answer : OpenAnswer) (opening : Option Opening) (w : World)
+    → IsSet settings w →
+    EffectComes (ComesSet settings) (IsSet settings) (answers answer opening w)
+answers_set settings answer None w h = h
+answers_set settings answer (Some opening) w h = decides_set settings answer.channel.0 opening
+    answer.rejection answer.texts w h
 
-pub on_since : (n : ℕ) (fs more : List Frame) → AllOn n more → since_from n fs (map Sent more) ≡ fs
-    ++ more
-on_since n fs [] h = sym (append-nil fs)
-on_since n fs (f ∷ more) h =
-    ap (λ l. since_from n l (map Sent more)) (frame_adds n fs f (tagged n n f h.0 ∙ same_number n)
-    h.1)
-    ∙ on_since n (fs ++ f ∷ []) more h.2 ∙ append_assoc fs (f ∷ []) more
+done_set : (settings : Settings) (w : World) (commanded : Command) → IsSet settings w →
+    EffectComes (ComesSet settings) (IsSet settings) (done_by w commanded)
+done_set settings w (command.Data channel bytes) h = h
+done_set settings w (command.ExtendedData channel code bytes) h = h
+done_set settings w (command.Eof channel) h = h
+done_set settings w (command.Close channel) h = h
+done_set settings w (command.Answer answer) h = answers_set settings answer
+    (opening_of answer.channel.0 w) w h
+done_set settings w _ h = tt
 
-pub on_quiet : (n k : ℕ) (fs more : List Frame) → AllOn n more → (n == k) ≡ false
-    → since_from k fs (map Sent more) ≡ fs
-on_quiet n k fs [] h d = refl
-on_quiet n k fs (f ∷ more) h d =
-    ap (λ l. since_from k l (map Sent more)) (frame_other k fs f (tagged n k f h.0 ∙ d))
-    ∙ on_quiet n k fs more h.2 d
+refused_set : (settings : Settings) (why : Option Refusal) (w : World) (does : Effect)
+    → IsSet settings w →
+    EffectComes (ComesSet settings) (IsSet settings) does → EffectComes (ComesSet settings)
+    (IsSet settings) (refused_or why w does)
+refused_set settings None w does h k = k
+refused_set settings (Some why) w does h k = h
 
-pub data_on : (n peer : ℕ) (ps : List (List ℕ)) → AllOn n (map (data_frame n peer) ps)
-data_on n peer [] = tt
-data_on n peer (p ∷ ps) = (refl, refl, data_on n peer ps)
+pub effect_set : (settings : Settings) (w : World) (commanded : Command) → IsSet settings w →
+    EffectComes (ComesSet settings) (IsSet settings) (effect w commanded)
+effect_set settings w commanded h =
+    refused_set settings (lacks w (needs commanded)) w (done_by w commanded) h
+    (done_set settings w commanded h)
 
-pub flush_on : (e : Entry) → AllOn e.number (flush_out e)
-flush_on e = data_on e.number e.peer (cut (piece_limit e.limit) (e.granted - e.framed)
-    (left_of e.framed e.chunks))
+pub any_built : (commands : List Command) → AllBuilt Any_command commands
+any_built [] = tt
+any_built (command ∷ commands) = (tt, any_built commands)
 
--- one channel changed
-put_at : (b : Bool) (n : ℕ) (e f : Entry) (es : List Entry) (trace more : List TraceEntry)
-    → (e.number == n) ≡ b → find e.number es ≡ Some f →
-    Settled es trace → Keeps e (since e.number (trace ++ more)) → Quiet e.number more
-    → IsSettled n (find n (put e es)) (since n (trace ++ more))
-put_at true n e f es trace more t h old new quiet =
-    let same : e.number ≡ n = search rules in
-    let at : IsSettled e.number (find e.number (put e es)) (since e.number (trace ++ more)) =
-    subst (λ o. IsSettled e.number o (since e.number (trace ++ more))) (sym (found_put e es f h))
-    new in
-    subst (λ k. IsSettled k (find k (put e es)) (since k (trace ++ more))) same at
-put_at false n e f es trace more t h old new quiet =
-    let s : since n (trace ++ more) ≡ since n trace = since_both n [] trace more
-    ∙ quiet n (since n trace) t in
-    subst (λ o. IsSettled n o (since n (trace ++ more))) (sym (find_other n e es t))
-    (subst (IsSettled n (find n es)) (sym s) (old n))
+abbrev pub law : Settings → Law
+law settings = record {
+  such = Anything;
+  comes = ComesSet settings;
+  holds = IsSet settings;
+  built = Any_command;
+  goes = λ w h. h;
+  lends = λ lent commands s. any_built commands;
+  keeps = λ w command h b. effect_set settings w command h;
+}
 
-pub settled_put : (e f : Entry) (es : List Entry) (trace more : List TraceEntry) → find e.number es
-    ≡ Some f → Settled es trace →
-    Keeps e (since e.number (trace ++ more)) → Quiet e.number more
-    → Settled (put e es) (trace ++ more)
-settled_put e f es trace more h old new quiet = λ n. put_at (e.number == n) n e f es trace more refl
-    h old new quiet
+-- ---- rows
 
--- nothing changed, and nothing was sent
-pub settled_same : (es : List Entry) (trace more : List TraceEntry) → Settled es trace
-    → Shows more [] → Settled es (trace ++ more)
-settled_same es trace more old shows = λ n. subst (IsSettled n (find n es))
-    (sym (since_both n [] trace more ∙ shows n (since n trace))) (old n)
+-- nothing is owed where no channel is there, or none that both sides agreed to
+agreed_come : (of : Law) (w : World) (confirmed : Bool) (owes : List Act) → ActsCome of owes w →
+    ActsCome of (on_confirmed confirmed owes) w
+agreed_come of w true owes h = h
+agreed_come of w false owes h = tt
 
--- a channel left
-gone_at : (b : Bool) (m n : ℕ) (es : List Entry) (trace more : List TraceEntry) → (m == n) ≡ b
-    → Settled es trace →
-    IsClosed m (since m (trace ++ more)) → Quiet m more → IsSettled n (find n (without m es))
-    (since n (trace ++ more))
-gone_at true m n es trace more t old closed quiet =
-    let same : m ≡ n = search rules in
-    let at : IsSettled m (find m (without m es)) (since m (trace ++ more)) =
-    subst (λ o. IsSettled m o (since m (trace ++ more))) (sym (find_without m es)) closed in
-    subst (λ k. IsSettled k (find k (without m es)) (since k (trace ++ more))) same at
-gone_at false m n es trace more t old closed quiet =
-    let s : since n (trace ++ more) ≡ since n trace = since_both n [] trace more
-    ∙ quiet n (since n trace) t in
-    subst (λ o. IsSettled n o (since n (trace ++ more))) (sym (without_other m n es t))
-    (subst (IsSettled n (find n es)) (sym s) (old n))
+pub on_come : (of : Law) (w : World) (e : Option Entry) (owes : Entry → List Act) →
+    ((e : Entry) → ActsCome of (owes e) w) → ActsCome of (on_entry e owes) w
+on_come of w None owes h = tt
+on_come of w (Some e) owes h = agreed_come of w e.confirmed (owes e) (h e)
 
-pub settled_without : (m : ℕ) (es : List Entry) (trace more : List TraceEntry) → Settled es trace
-    → IsClosed m (since m (trace ++ more)) →
-    Quiet m more → Settled (without m es) (trace ++ more)
-settled_without m es trace more old closed quiet = λ n. gone_at (m == n) m n es trace more refl old
-    closed quiet
+told_set : (settings : Settings) (adjusted : Adjusted) (channel : ChannelId) (piece : Chunk)
+    (target : ℕ) (w : World) →
+    IsSet settings w → ActsCome (law settings) (data_told adjusted channel piece target) w
+told_set settings Dropped channel piece target w h = tt
+told_set settings Kept channel piece target w h = λ world k. tt
+told_set settings (Granted amount) channel piece target w h = λ window. (h, λ world k. tt)
 
--- a number is no channel's, and something was sent on it
-none_at : (b : Bool) (m n : ℕ) (es : List Entry) (trace more : List TraceEntry) → (m == n) ≡ b
-    → find m es ≡ None → Settled es trace →
-    IsClosed m (since m (trace ++ more)) → Quiet m more → IsSettled n (find n es)
-    (since n (trace ++ more))
-none_at true m n es trace more t h old closed quiet =
-    let same : m ≡ n = search rules in
-    let at : IsSettled m (find m es) (since m (trace ++ more)) =
-    subst (λ o. IsSettled m o (since m (trace ++ more))) (sym h) closed in
-    subst (λ k. IsSettled k (find k es) (since k (trace ++ more))) same at
-none_at false m n es trace more t h old closed quiet =
-    let s : since n (trace ++ more) ≡ since n trace = since_both n [] trace more
-    ∙ quiet n (since n trace) t in
-    subst (IsSettled n (find n es)) (sym s) (old n)
+open_set : (settings : Settings) (number : Option ℕ) (opening : Opening) (w : World) →
+    IsSet settings w → ActsCome (law settings) (open_acts number opening) w
+open_set settings None opening w h = tt
+open_set settings (Some number) opening w h = (h, λ world k. tt)
 
-pub settled_none : (m : ℕ) (es : List Entry) (trace more : List TraceEntry) → find m es ≡ None
-    → Settled es trace →
-    IsClosed m (since m (trace ++ more)) → Quiet m more → Settled es (trace ++ more)
-settled_none m es trace more h old closed quiet = λ n. none_at (m == n) m n es trace more refl h old
-    closed quiet
+owed_set : (settings : Settings) (w : World) (said : Said) → IsSet settings w
+    → ActsCome (law settings) (owed w said) w
+owed_set settings w (Open opening) h = open_set settings (next_number w.channels.lines) opening w h
+owed_set settings w (Grant channel amount) h =
+    on_come (law settings) w (find channel w.channels.lines.entries) _ (λ e. (h, λ world k. tt))
+owed_set settings w (Data channel piece) h =
+    let came = coming_of (length piece.bytes) w.channels.target
+    (find channel w.channels.lines.entries) in (
+      h,
+      told_set settings came (own channel) piece w.channels.target
+          (lined (takes_in channel (length piece.bytes) w.channels.target) w) h,
+    )
+owed_set settings w (Eof channel) h =
+    on_come (law settings) w (find channel w.channels.lines.entries) _ (λ e. λ world k. tt)
+owed_set settings w (Close channel) h =
+    on_come (law settings) w (find channel w.channels.lines.entries) _ (λ e. (h, λ world k. tt))
+owed_set settings w (Wants channel wanted) h = (h, tt)
+owed_set settings w Disconnect h = h
+owed_set settings w Over_cap h = (h, h)
+owed_set settings w (Unfit why) h = tt
+owed_set settings w Without_packets h = tt
+owed_set settings w Unbuilt h = tt
+owed_set settings w _ h = tt
 
--- a channel was opened
-opened_at : (b : Bool) (n : ℕ) (e : Entry) (es : List Entry) (trace more : List TraceEntry)
-    → (e.number == n) ≡ b → find e.number es ≡ None →
-    Settled es trace → Keeps e (since e.number (trace ++ more)) → Quiet e.number more
-    → IsSettled n (find n (es ++ e ∷ [])) (since n (trace ++ more))
-opened_at true n e es trace more t h old new quiet =
-    let same : e.number ≡ n = search rules in
-    let at : IsSettled e.number (find e.number (es ++ e ∷ [])) (since e.number (trace ++ more)) =
-    subst (λ o. IsSettled e.number o (since e.number (trace ++ more)))
-    (sym (end_new e.number es e (same_number e.number) h)) new in
-    subst (λ k. IsSettled k (find k (es ++ e ∷ [])) (since k (trace ++ more))) same at
-opened_at false n e es trace more t h old new quiet =
-    let s : since n (trace ++ more) ≡ since n trace = since_both n [] trace more
-    ∙ quiet n (since n trace) t in
-    subst (λ o. IsSettled n o (since n (trace ++ more))) (sym (end_other n es e t))
-    (subst (IsSettled n (find n es)) (sym s) (old n))
+concluded_set : (settings : Settings) (w : World) (moment : ℕ) (requested : Bool)
+    (outcome : AuthOutcome) → IsSet settings w →
+    PlanComes Anything (ComesSet settings) (concluded w moment requested outcome)
+concluded_set settings w moment requested (Replies reply verdict.Accepted state) h =
+    acts_come (law settings) (replied w moment requested reply verdict.Accepted)
+    (waits_for (WaitingAuthRequest state) w) h (h, λ world k. tt)
+concluded_set settings w moment requested (Replies reply (verdict.Rejected none_method) state) h = h
+concluded_set settings w moment requested (Replies reply verdict.Continued state) h = h
+concluded_set settings w moment requested (auth.Fails fault) h = tt
 
-pub settled_open : (e : Entry) (es : List Entry) (trace more : List TraceEntry) → find e.number es
-    ≡ None → Settled es trace →
-    Keeps e (since e.number (trace ++ more)) → Quiet e.number more → Settled (es ++ e ∷ [])
-    (trace ++ more)
-settled_open e es trace more h old new quiet = λ n. opened_at (e.number == n) n e es trace more refl
-    h old new quiet
+asked_set : (settings : Settings) (state : EncryptedState) (next : AuthRequest → Plan AuthOutcome)
+    (w : World) (moment : ℕ)
+    (requested : Bool) → IsSet settings w →
+    PlanComes Anything (ComesSet settings)
+    (asked_of state (λ auth. after (next auth) (concluded w moment requested)) (acts [] w))
+asked_set settings (WaitingAuthRequest auth) next w moment requested h =
+    comes_then Anything (ComesSet settings) (next auth) (concluded w moment requested)
+    (λ outcome. concluded_set settings w moment requested outcome h)
+asked_set settings _ next w moment requested h = h
 
--- before anything was sent, and with no channel
-pub settled_empty : Settled [] []
-settled_empty = λ n. inl refl
+greets_set : (settings : Settings) (w : World) (message : Option (List ℕ)) (short : Bool)
+    → is_short message ≡ short →
+    IsSet settings w → PlanComes Anything (ComesSet settings) (acts (greets message) w)
+greets_set settings w message true is h = rw is h
+greets_set settings w message false is h = rw is tt
 
--- what was sent on a channel that is there
-pub kept_at : (n : ℕ) (es : List Entry) (e : Entry) (trace : List TraceEntry) → find n es ≡ Some e
-    → Settled es trace → Keeps e (since n trace)
-kept_at n es e trace h old = subst (λ o. IsSettled n o (since n trace)) h (old n)
+service_set : (settings : Settings) (w : World) (b : Bool) → IsSet settings w →
+    PlanComes Anything (ComesSet settings)
+    (if b then Ask Banner (λ message. acts (greets message) w) else acts [] w)
+service_set settings w true h = λ message s. greets_set settings w message (is_short message) refl h
+service_set settings w false h = h
 
--- the frames of a channel are those before, and these
-shown_since : (n : ℕ) (trace more : List TraceEntry) (frames : List Frame) → AllOn n frames
-    → Shows more frames →
-    since n (trace ++ more) ≡ since n trace ++ frames
-shown_since n trace more frames on shows =
-    since_both n [] trace more ∙ shows n (since n trace) ∙ on_since n (since n trace) frames on
+row_set : (settings : Settings) (w : World) (moment : ℕ) (said : Said) → IsSet settings w →
+    PlanComes Anything (ComesSet settings) (row w moment said)
+row_set settings w moment (Service name) h = service_set settings w
+    (bytes_eq name (codes "ssh-userauth")) h
+row_set settings w moment (Request asked) h =
+    asked_set settings w.user.state (λ auth. verdict_on auth asked) w moment true h
+row_set settings w moment (Response responded) h =
+    asked_set settings w.user.state (λ auth. response_verdict auth responded) w moment
+    w.user.requested h
+row_set settings w moment said h = acts_come (law settings) (owed w said) w h
+    (owed_set settings w said h)
 
-shown_quiet : (n : ℕ) (more : List TraceEntry) (frames : List Frame) → AllOn n frames
-    → Shows more frames → Quiet n more
-shown_quiet n more frames on shows = λ k fs d. shows k fs ∙ on_quiet n k fs frames on d
+-- ---- inputs
 
--- a channel changed, and these frames of it went out
-pub frames_settle : (e f : Entry) (es : List Entry) (trace more : List TraceEntry)
-    (frames : List Frame) → find e.number es ≡ Some f →
-    Settled es trace → AllOn e.number frames → Shows more frames
-    → Keeps e (since e.number trace ++ frames) → Settled (put e es) (trace ++ more)
-frames_settle e f es trace more frames h old on shows new =
-    settled_put e f es trace more h old
-    (subst (Keeps e) (sym (shown_since e.number trace more frames on shows)) new)
-    (shown_quiet e.number more frames on shows)
+command_set : (settings : Settings) (w : World) (ticket : ℕ) (commanded : Command)
+    → IsSet settings w →
+    PlanComes Anything (ComesSet settings) (command_row w ticket commanded)
+command_set settings w ticket commanded h =
+    one_comes (law settings) (effect w commanded) (λ outcome world. Tell (Answered ticket outcome)
+    (Finish (Goes world)))
+    (effect_set settings w commanded h) (λ outcome world k. k)
 
-pub grant_settles : (n amount : ℕ) (es : List Entry) (e : Entry) (trace more : List TraceEntry)
-    → find n es ≡ Some e → Settled es trace →
-    Shows more (flush_out (granting e amount)) → Settled (put (flushed (granting e amount)) es)
-    (trace ++ more)
-grant_settles n amount es e trace more h old shows =
-    let again = find_again n es e h in
-    let now = granting e amount in
-    let kept = kept_at e.number es e trace again old in
-    frames_settle (flushed now) e es trace more (flush_out now) again old (flush_on now) shows
-    (flush_keeps now (since e.number trace) (before_grant e amount (since e.number trace)
-    (keeps_before e (since e.number trace) kept)))
+kind_set : (accepts : Acceptance) (settings : Settings) (w : World) (moment : ℕ) (kind : InputKind)
+    (plan : Plan Outcome) →
+    OwesKind accepts w moment kind plan → IsSet settings w → PlanComes Anything (ComesSet settings)
+    plan
+kind_set accepts settings w moment input.End plan o h = rw o h
+kind_set accepts settings w moment (input.Payload payload) plan o h =
+    rw o.2 (row_set settings w moment o.0 h)
+kind_set accepts settings w moment (input.Command ticket commanded) plan o h =
+    rw o (command_set settings w ticket commanded h)
+kind_set accepts settings w moment (input.OpenReply ticket answer) plan o h =
+    rw o (command_set settings w ticket (command.Answer answer) h)
+kind_set accepts settings w moment kind plan o h = rw o tt
 
-pub accept_settles : (n : ℕ) (bytes : List ℕ) (es : List Entry) (e : Entry)
-    (trace more : List TraceEntry) → find n es ≡ Some e → e.eof ≡ false →
-    Settled es trace → Shows more (flush_out (accepting e bytes))
-    → Settled (put (flushed (accepting e bytes)) es) (trace ++ more)
-accept_settles n bytes es e trace more h still old shows =
-    let again = find_again n es e h in
-    let now = accepting e bytes in
-    let kept = kept_at e.number es e trace again old in
-    frames_settle (flushed now) e es trace more (flush_out now) again old (flush_on now) shows
-    (flush_keeps now (since e.number trace) (before_accept e bytes (since e.number trace) still
-    (keeps_before e (since e.number trace) kept)))
+-- what an input leads to has the settings of the world before it
+follows_set : {E : Type 0} (settings : Settings) (plan : Plan Outcome) (events : List (Event E ⊥))
+    (outcome : Outcome) →
+    PlanComes Anything (ComesSet settings) plan → Follows plan events outcome
+    → ComesSet settings outcome
+follows_set settings plan [] outcome k h = subst (PlanComes Anything (ComesSet settings)) h k
+follows_set settings (Finish other) (event ∷ events) outcome k h = absurd h
+follows_set settings (Ask question next) (event ∷ events) outcome k h = follows_set settings
+    (next h.0) events outcome (k h.0 tt) h.2
+follows_set settings (Tell entry next) (event ∷ events) outcome k h = follows_set settings next
+    events outcome k h.1
 
-pub eof_settles : (n : ℕ) (es : List Entry) (e : Entry) (trace more : List TraceEntry) → find n es
-    ≡ Some e → e.eof ≡ false →
-    length (accepted e) ≤ e.granted → Settled es trace → Shows more (eof_frame e.number e.peer ∷ [])
-    → Settled (put (record e { eof = true }) es) (trace ++ more)
-eof_settles n es e trace more h still all old shows =
-    let again = find_again n es e h in
-    frames_settle (record e { eof = true }) e es trace more (eof_frame e.number e.peer ∷ []) again
-    old (refl, refl, tt) shows
-    (keeps_eof e (since e.number trace) still all (kept_at e.number es e trace again old))
-
--- this side's grants change, and nothing is sent on the channel
-pub room_settles : (n room : ℕ) (es : List Entry) (e : Entry) (trace more : List TraceEntry)
-    → find n es ≡ Some e → Settled es trace →
-    Shows more [] → Settled (put (record e { room = room }) es) (trace ++ more)
-room_settles n room es e trace more h old shows =
-    let again = find_again n es e h in
-    let kept = keeps_room e room (since e.number trace) (kept_at e.number es e trace again old) in
-    frames_settle (record e { room = room }) e es trace more [] again old tt shows
-    (subst (Keeps (record e { room = room })) (sym (append-nil (since e.number trace))) kept)
-
--- a CLOSE frame, and the channel leaves
-pub close_settles : (n : ℕ) (es : List Entry) (e : Entry) (trace more : List TraceEntry) → find n es
-    ≡ Some e → Settled es trace →
-    Shows more (close_frame e.number e.peer ∷ []) → Settled (without n es) (trace ++ more)
-close_settles n es e trace more h old shows =
-    let same = found_number n es e h in
-    let frames = close_frame e.number e.peer ∷ [] in
-    let closed = keeps_close e (since e.number trace)
-    (kept_at e.number es e trace (find_again n es e h) old) in
-    subst (λ k. Settled (without k es) (trace ++ more)) same
-    (settled_without e.number es trace more old
-    (subst (IsClosed e.number) (sym (shown_since e.number trace more frames (refl, refl, tt) shows))
-    closed)
-    (shown_quiet e.number more frames (refl, refl, tt) shows))
-
--- a frame that answers an open with this number: nothing was sent on it since
-answer_since : (n : ℕ) (trace more : List TraceEntry) (f : Frame) → f.channel
-    ≡ Some (record { 0 = n }) → answers_open f.payload ≡ true →
-    Shows more (f ∷ []) → since n (trace ++ more) ≡ []
-answer_since n trace more f on answers shows =
-    since_both n [] trace more ∙ shows n (since n trace) ∙ frame_answers n (since n trace) f
-    (tagged n n f on ∙ same_number n) answers
-
-answer_quiet : (n : ℕ) (more : List TraceEntry) (f : Frame) → f.channel ≡ Some (record { 0 = n })
-    → Shows more (f ∷ []) → Quiet n more
-answer_quiet n more f on shows = λ k fs d. shows k fs ∙ frame_other k fs f (tagged n k f on ∙ d)
-
--- a CONFIRMATION frame, and the channel is there
-pub open_settles : (own peer window packet room : ℕ) (own_window own_packet : ℕ) (es : List Entry)
-    (trace more : List TraceEntry) →
-    find own es ≡ None → 0 < packet → Settled es trace
-    → Shows more (confirmation_frame own peer own_window own_packet ∷ []) →
-    Settled (es ++ opened own peer window packet room ∷ []) (trace ++ more)
-open_settles own peer window packet room own_window own_packet es trace more h positive old shows =
-    let e = opened own peer window packet room in
-    let f = confirmation_frame own peer own_window own_packet in
-    settled_open e es trace more h old
-    (subst (Keeps e) (sym (answer_since own trace more f refl refl shows))
-    (keeps_open own peer window packet room positive))
-    (answer_quiet own more f refl shows)
-
--- an OPEN_FAILURE frame
-pub fail_settles : (own peer reason : ℕ) (description language : List ℕ) (es : List Entry)
-    (trace more : List TraceEntry) →
-    find own es ≡ None → Settled es trace
-    → Shows more (failure_frame own peer reason description language ∷ [])
-    → Settled es (trace ++ more)
-fail_settles own peer reason description language es trace more h old shows =
-    let f = failure_frame own peer reason description language in
-    settled_none own es trace more h old (inl (answer_since own trace more f refl refl shows))
-    (answer_quiet own more f refl shows)
+pub stays_set : {E : Type 0} (accepts : Acceptance) (settings : Settings) (w : World)
+    (input : Input) (plan : Plan Outcome)
+    (events : List (Event E ⊥)) (world : World) → Owes accepts w input plan
+    → Follows plan events (Goes world) →
+    w.settings ≡ settings → world.settings ≡ settings
+stays_set accepts settings w input plan events world o f h =
+    follows_set settings plan events (Goes world)
+    (rw o.2 (input_comes Anything (ComesSet settings) o.0 (λ v. (λ x. x, λ x. x))
+    (kind_set accepts settings w input.moment input.kind o.0 o.1 h))) f

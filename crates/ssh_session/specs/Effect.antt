@@ -1,72 +1,75 @@
--- What one command does (RFC 4254 section 5), or why it is refused.
-use Rattle.std.specs.Prelude.{◌^◌, ℕ, List, [], ◌∷◌, ◌++◌, length, nat_le, codes, true, if◌then◌else◌, Option, Some, None}
+-- What one command does, or why it is refused (RFC 4254 section 5).
+use Rattle.std.specs.Prelude.{◌^◌, ◌||◌, ℕ, List, [], ◌∷◌, length, nat_le, codes, true, false}
+use Rattle.std.specs.Prelude.{if◌then◌else◌, Bool, Option, Some, None}
+use Rattle.ssh_wire.specs.declared.channel_id.ChannelId.{ChannelId}
 use Rattle.ssh_wire.specs.declared.open_failure.ChannelOpenFailure.{ChannelOpenFailure}
 use Rattle.ssh_wire.specs.Open.{open_failure}
 use Rattle.ssh_wire.specs.OpenFailures.{open_failure_code, open_failure_text}
 use Rattle.ssh_link.specs.declared.command.Command.{Command}
 use Rattle.ssh_link.specs.declared.command.Command.TheVariants as command
-use Rattle.ssh_link.specs.Frames.{Frame}
 use Rattle.ssh_link.specs.declared.notice.Notice.{Notice}
 use Rattle.ssh_link.specs.declared.notice.Notice.TheVariants.{Ready}
 use Rattle.ssh_link.specs.declared.open_answer.OpenAnswer.{OpenAnswer}
 use Rattle.ssh_link.specs.declared.outcome.CommandOutcome.{CommandOutcome}
 use Rattle.ssh_link.specs.declared.outcome.CommandOutcome.TheVariants.{Accepted, Refused}
 use Rattle.ssh_link.specs.declared.outcome.Refusal.{Refusal}
-use Rattle.ssh_link.specs.declared.outcome.Refusal.TheVariants.{UnknownChannel, UnknownOpen, SendingEnded, TooLong}
-use Rattle.ssh_session.specs.Pending.{Pending, pending_of, answered}
-use Rattle.ssh_session.specs.ChannelLayout.{on_channel, confirmation_frame, eof_frame, close_frame}
-use Rattle.ssh_session.specs.Entry.{Entry, opened, accepting, flushed, flush_out, waits}
-use Rattle.ssh_session.specs.Entries.{find, put, without}
-use Rattle.ssh_session.specs.World.{Settings, World}
+use Rattle.ssh_link.specs.declared.outcome.Refusal.TheVariants.{UnknownChannel, UnknownOpen}
+use Rattle.ssh_link.specs.declared.outcome.Refusal.TheVariants.{NotConfirmed, SendingEnded, TooLong}
+use Rattle.ssh_channels.specs.declared.chunk.DataKind.TheVariants.{Plain, Extended}
+use Rattle.ssh_channels.specs.Entry.{Entry, opened}
+use Rattle.ssh_channels.specs.Layout.{chunk}
+use Rattle.ssh_channels.specs.Lines.{find, takes_data, takes_eof, takes_close, adds, drops_pending}
+use Rattle.ssh_session.specs.Opening.{Opening}
+use Rattle.ssh_session.specs.Opens.{opening_of, answered, confirmation_frame, failure_frame}
+use Rattle.ssh_session.specs.World.{World, lined, writes}
 
-pub data Effect : Type 0 where
-  -- these notices are given, these frames go out, this is the answer, and this is the world from then on
-  Does : (notices : List Notice) → (frames : List Frame) → (outcome : CommandOutcome) → (world : World) → Effect
-  -- it is not built
-  Not_built : Effect
+-- what a command needs, to be done
+pub data Need : Type 0 where
+  -- a channel on which more may be sent, or that may be closed (section 5.3)
+  Sending : (channel : ChannelId) → Need
+  Closing : (channel : ChannelId) → Need
+  -- an open of the peer's that waits for its answer (section 5.1)
+  Opening_of : (channel : ChannelId) → Need
+  -- nothing
+  Nothing : Need
 
--- a command that is refused does nothing
-abbrev pub refuses : Refusal → World → Effect
-refuses why w = Does [] [] (Refused why) w
+-- one line a command
+abbrev pub needs : Command → Need
+needs (command.Data channel bytes) = Sending channel
+needs (command.ExtendedData channel code bytes) = Sending channel
+needs (command.Eof channel) = Sending channel
+needs (command.Close channel) = Closing channel
+needs (command.Answer answer) = Opening_of answer.channel
+needs _ = Nothing
 
-abbrev pub accepts : List Frame → World → Effect
-accepts frames w = Does [] frames Accepted w
+-- what keeps a channel from being used: the peer has not confirmed it, or what is asked for was
+-- ended
+abbrev pub not_usable : (confirmed ended : Bool) → Option Refusal
+not_usable false ended = Some NotConfirmed
+not_usable true true = Some SendingEnded
+not_usable true false = None
 
--- of the bytes what the peer granted goes out, and the rest waits (section 5.2)
-abbrev pub sends : World → List ℕ → Entry → Effect
-sends w bytes e = accepts (flush_out (accepting e bytes)) (record w { entries = put (flushed (accepting e bytes)) w.entries })
+abbrev pub no_sending : Option Entry → Option Refusal
+no_sending None = Some UnknownChannel
+no_sending (Some e) = not_usable e.confirmed (e.eof || e.close)
 
-abbrev pub data_effect : World → List ℕ → Option Entry → Effect
-data_effect w bytes None = refuses UnknownChannel w
-data_effect w bytes (Some e) = if e.eof then refuses SendingEnded w else sends w bytes e
+abbrev pub no_closing : Option Entry → Option Refusal
+no_closing None = Some UnknownChannel
+no_closing (Some e) = not_usable e.confirmed e.close
 
--- an end of file goes out at once (section 5.3); one behind data that wait is not built
-abbrev pub ends_data : World → Entry → Effect
-ends_data w e =
-    if waits e then Not_built else accepts (eof_frame e.number e.peer ∷ []) (record w { entries = put (record e { eof = true }) w.entries })
+abbrev pub no_open : Option Opening → Option Refusal
+no_open None = Some UnknownOpen
+no_open (Some opening) = None
 
-abbrev pub eof_effect : World → Option Entry → Effect
-eof_effect w None = refuses UnknownChannel w
-eof_effect w (Some e) = if e.eof then refuses SendingEnded w else ends_data w e
+-- what is missing, where something is
+abbrev pub lacks : World → Need → Option Refusal
+lacks w (Sending channel) = no_sending (find channel.0 w.channels.lines.entries)
+lacks w (Closing channel) = no_closing (find channel.0 w.channels.lines.entries)
+lacks w (Opening_of channel) = no_open (opening_of channel.0 w)
+lacks w Nothing = None
 
--- a close goes out at once, and the channel is gone (section 5.3); one behind data that wait is not built
-abbrev pub close_effect : World → Option Entry → Effect
-close_effect w None = refuses UnknownChannel w
-close_effect w (Some e) =
-    if waits e then Not_built else accepts (close_frame e.number e.peer ∷ []) (record w { entries = without e.number w.entries })
-
--- the open becomes a channel (section 5.1)
-abbrev pub confirms : Settings → World → Pending → Effect
-confirms settings w opening = Does
-    (Ready opening.number opening.window opening.packet ∷ [])
-    (confirmation_frame opening.number.0 opening.peer settings.config.window_size settings.config.maximum_packet_size ∷ [])
-    Accepted
-    (record w {
-      pending = answered opening.number.0 w.pending;
-      entries = w.entries ++ opened opening.number.0 opening.peer opening.window opening.packet settings.config.window_size ∷ [];
-    })
-
--- the description of a refusal and its language: those of the answer, or that of its reason in English
+-- the description of a refusal and its language: those of the answer, or that of its reason in
+-- English
 abbrev pub description_of : ChannelOpenFailure → Option (List ℕ × List ℕ) → List ℕ
 description_of reason None = open_failure_text reason
 description_of reason (Some texts) = texts.0
@@ -75,29 +78,69 @@ abbrev pub language_of : Option (List ℕ × List ℕ) → List ℕ
 language_of None = codes "en"
 language_of (Some texts) = texts.1
 
--- a payload of a refusal, which has at most 2^32 - 1 bytes
-abbrev pub failure_of : Pending → ChannelOpenFailure → (description language : List ℕ) → List ℕ
-failure_of opening reason description language = open_failure opening.peer (open_failure_code reason) description language
+-- the payload of a refusal
+abbrev pub failure_of : Opening → ChannelOpenFailure → Option (List ℕ × List ℕ) → List ℕ
+failure_of opening reason texts =
+    open_failure opening.peer (open_failure_code reason) (description_of reason texts)
+    (language_of texts)
+
+-- a payload has at most 2^32 - 1 bytes (RFC 4253 section 6)
+abbrev pub is_too_long : List ℕ → Bool
+is_too_long payload = nat_le (2 ^ 32) (length payload)
+
+-- this notice is given, this is the answer, and this is the world from then on
+pub data Effect : Type 0 where
+  Does : (notices : List Notice) → (outcome : CommandOutcome) → (world : World) → Effect
+  -- it is not built
+  Unbuilt : Effect
+
+abbrev pub accepts : World → Effect
+accepts w = Does [] Accepted w
+
+abbrev pub refuses : Refusal → World → Effect
+refuses why w = Does [] (Refused why) w
+
+-- the open becomes a channel (section 5.1)
+abbrev pub confirms : (number : ℕ) → Opening → World → Effect
+confirms number opening w = Does
+    (Ready (record { 0 = number }) opening.window opening.packet ∷ [])
+    Accepted
+    (writes (confirmation_frame number opening.peer w.settings.config.window_size
+    w.settings.config.maximum_packet_size ∷ [])
+    (lined (adds (opened number opening.peer opening.window w.settings.config.window_size
+    opening.packet)) (answered number w)))
 
 -- the open is refused (section 5.1)
-abbrev pub fails_open : World → Pending → ChannelOpenFailure → (description language : List ℕ) → Effect
-fails_open w opening reason description language =
-    if nat_le (2 ^ 32) (length (failure_of opening reason description language))
+abbrev pub fails_open : (number : ℕ) → (payload : List ℕ) → World → Effect
+fails_open number payload w = if is_too_long payload
     then refuses TooLong w
-    else accepts (on_channel opening.number.0 (failure_of opening reason description language) ∷ []) (record w { pending = answered opening.number.0 w.pending })
+    else accepts (writes (failure_frame number payload ∷ [])
+    (lined (drops_pending number) (answered number w)))
 
-abbrev pub decides : Settings → World → Pending → Option ChannelOpenFailure → Option (List ℕ × List ℕ) → Effect
-decides settings w opening None texts = confirms settings w opening
-decides settings w opening (Some reason) texts = fails_open w opening reason (description_of reason texts) (language_of texts)
+abbrev pub decides : (number : ℕ) → Opening → Option ChannelOpenFailure → Option (List ℕ × List ℕ)
+    → World → Effect
+decides number opening None texts w = confirms number opening w
+decides number opening (Some reason) texts w = fails_open number (failure_of opening reason texts) w
 
-abbrev pub answer_effect : Settings → World → OpenAnswer → Option Pending → Effect
-answer_effect settings w answer None = refuses UnknownOpen w
-answer_effect settings w answer (Some opening) = decides settings w opening answer.rejection answer.texts
+abbrev pub answers : OpenAnswer → Option Opening → World → Effect
+answers answer None w = accepts w
+answers answer (Some opening) w = decides answer.channel.0 opening answer.rejection answer.texts w
 
--- one command, done in this world; those of other kinds are not built
-abbrev pub effect : Settings → World → Command → Effect
-effect settings w (command.Data channel bytes) = data_effect w bytes (find channel.0 w.entries)
-effect settings w (command.Eof channel) = eof_effect w (find channel.0 w.entries)
-effect settings w (command.Close channel) = close_effect w (find channel.0 w.entries)
-effect settings w (command.Answer answer) = answer_effect settings w answer (pending_of answer.channel.0 w.pending)
-effect settings w _ = Not_built
+-- a command that lacks nothing is done: one line a command
+abbrev pub done_by : World → Command → Effect
+done_by w (command.Data channel bytes) =
+    accepts (lined (takes_data channel.0 (chunk Plain bytes) false) w)
+done_by w (command.ExtendedData channel code bytes) =
+    accepts (lined (takes_data channel.0 (chunk (Extended code) bytes) false) w)
+done_by w (command.Eof channel) = accepts (lined (takes_eof channel.0) w)
+done_by w (command.Close channel) = accepts (lined (takes_close channel.0) w)
+done_by w (command.Answer answer) = answers answer (opening_of answer.channel.0 w) w
+done_by w _ = Unbuilt
+
+-- a command that is refused does nothing
+abbrev pub refused_or : Option Refusal → World → Effect → Effect
+refused_or (Some why) w does = refuses why w
+refused_or None w does = does
+
+abbrev pub effect : World → Command → Effect
+effect w command = refused_or (lacks w (needs command)) w (done_by w command)

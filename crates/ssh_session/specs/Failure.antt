@@ -1,4 +1,5 @@
--- The error of a run that a field's error is, or that of a message, of a request of authentication, or of a link.
+-- The error of a run that a field's error is, or that of a message, of a request of authentication,
+-- or of a link.
 use Rattle.ssh_wire.specs.declared.error.WireError.{WireError}
 use Rattle.ssh_wire.specs.declared.error.WireError.TheVariants as wire
 use Rattle.ssh_wire.specs.declared.error.LayoutError.{LayoutError}
@@ -7,6 +8,8 @@ use Rattle.ssh_link.specs.declared.link.LinkFault.{LinkFault}
 use Rattle.ssh_link.specs.declared.link.LinkFault.TheVariants as link
 use Rattle.ssh_auth.specs.declared.error.AuthError.{AuthError}
 use Rattle.ssh_auth.specs.declared.error.AuthError.TheVariants as auth
+use Rattle.ssh_channels.specs.declared.error.TableError.{TableError}
+use Rattle.ssh_channels.specs.declared.error.TableError.TheVariants as table
 use Rattle.ssh_session.specs.declared.error.RunError.{RunError}
 use Rattle.ssh_session.specs.declared.error.RunError.TheVariants as error
 
@@ -29,3 +32,8 @@ error_of_layout layout.Inconsistent = error.Inconsistent
 abbrev pub error_of_link : {E : Type 0} → LinkFault → RunError E
 error_of_link link.Failed = error.LinkFault
 error_of_link link.NoMemory = error.NoMemory
+
+abbrev pub error_of_table : {E : Type 0} → TableError → RunError E
+error_of_table table.NoMemory = error.NoMemory
+error_of_table table.Inconsistent = error.Inconsistent
+error_of_table table.Full = error.ChannelsFull

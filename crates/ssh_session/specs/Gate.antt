@@ -1,44 +1,63 @@
 -- Which payloads a session reads, by their number (RFC 4250 section 4.1.2).
-use Rattle.std.specs.Prelude.{ℕ, List, [], ◌∷◌, ◌==◌, ◌&&◌, ◌||◌, Bool, nat_le, nat_lt, if◌then◌else◌}
-use Rattle.ssh_session.specs.declared.phase.Phase.{Phase}
-use Rattle.ssh_session.specs.declared.phase.Phase.TheVariants.{ServiceRequest, Authentication, Accepted}
+use Rattle.std.specs.Prelude.{ℕ, ◌==◌, ◌&&◌, ◌||◌, Bool, nat_le, nat_lt, List, [], ◌∷◌}
+use Rattle.std.specs.Prelude.{if◌then◌else◌}
+use Rattle.ssh_handler.specs.declared.config.Config.{Config}
+use Rattle.ssh_auth.specs.declared.auth_request.AuthRequest.{AuthRequest}
 use Rattle.ssh_session.specs.declared.gate.Gate.{Gate}
 use Rattle.ssh_session.specs.declared.gate.Gate.TheVariants as gate
-use Rattle.ssh_session.specs.World.{Settings, World}
+use Rattle.ssh_session.specs.declared.state.EncryptedState.{EncryptedState}
+use Rattle.ssh_session.specs.declared.state.EncryptedState.TheVariants.{WaitingAuthServiceRequest}
+use Rattle.ssh_session.specs.declared.state.EncryptedState.TheVariants.{WaitingAuthRequest}
+use Rattle.ssh_session.specs.declared.state.EncryptedState.TheVariants.{InitCompression}
+use Rattle.ssh_session.specs.declared.state.EncryptedState.TheVariants.{Authenticated}
+use Rattle.ssh_session.specs.World.{World}
 
 -- so many requests were rejected that no more are read
-abbrev pub is_over_cap : Settings → World → Bool
-is_over_cap settings w =
-    nat_lt 0 settings.config.max_auth_attempts && nat_le settings.config.max_auth_attempts w.auth.rejection_count
+abbrev pub is_over_cap : Config → AuthRequest → Bool
+is_over_cap config auth = nat_lt 0 config.max_auth_attempts && nat_le config.max_auth_attempts
+    auth.rejection_count
+
+-- what a number means while requests of authentication are read: USERAUTH_REQUEST is 50, and
+-- USERAUTH_INFO_RESPONSE 61
+abbrev pub authentication_gate : Config → AuthRequest → ℕ → Gate
+authentication_gate config auth n =
+    if (n == 50) || (n == 61)
+    then (if is_over_cap config auth then gate.OverCap else (if n == 50 then gate.UserauthRequest
+    else gate.InfoResponse))
+    else gate.Nothing
 
 -- GLOBAL_REQUEST and its replies are 80 to 82, and the messages of channels 90 to 98
 abbrev pub is_connection_number : ℕ → Bool
 is_connection_number n = (nat_le 80 n && nat_le n 82) || (nat_le 90 n && nat_le n 98)
 
--- what a number means while requests of authentication are read: USERAUTH_REQUEST is 50, and USERAUTH_INFO_RESPONSE 61
-abbrev pub authentication_gate : Settings → World → ℕ → Gate
-authentication_gate settings w n =
-    if (n == 50) || (n == 61)
-    then (if is_over_cap settings w then gate.OverCap else (if n == 50 then gate.UserauthRequest else gate.InfoResponse))
-    else gate.Nothing
-
--- what a number means once a user is accepted: CHANNEL_OPEN is 90, CHANNEL_WINDOW_ADJUST 93, CHANNEL_EOF 96, CHANNEL_CLOSE 97
+-- what a number means once a user is accepted
 abbrev pub connection_gate : ℕ → Gate
 connection_gate n =
     if n == 90 then gate.ChannelOpen
     else (if n == 93 then gate.WindowAdjust
+    else (if n == 94 then gate.ChannelData
+    else (if n == 95 then gate.ChannelExtendedData
     else (if n == 96 then gate.ChannelEof
     else (if n == 97 then gate.ChannelClose
-    else (if is_connection_number n then gate.NotBuilt else gate.Nothing))))
+    else (if n == 98 then gate.ChannelRequest
+    else (if is_connection_number n then gate.NotBuilt else gate.Nothing)))))))
 
--- what a number means to a phase: SERVICE_REQUEST is 5
-abbrev pub phase_gate : Settings → World → Phase → ℕ → Gate
-phase_gate settings w ServiceRequest n = if n == 5 then gate.ServiceRequest else gate.Nothing
-phase_gate settings w Authentication n = authentication_gate settings w n
-phase_gate settings w Accepted n = connection_gate n
+-- what a number means to what is waited for: SERVICE_REQUEST is 5
+abbrev pub state_gate : Config → EncryptedState → ℕ → Gate
+state_gate config (WaitingAuthServiceRequest sent accepted) n = if n == 5 then gate.ServiceRequest
+    else gate.Nothing
+state_gate config (WaitingAuthRequest auth) n = authentication_gate config auth n
+state_gate config InitCompression n = connection_gate n
+state_gate config Authenticated n = connection_gate n
 
--- what a payload is to a session: DISCONNECT is 1, and an exchange begins with 20
-abbrev pub gate_of : Settings → World → List ℕ → Gate
-gate_of settings w [] = gate.Nothing
-gate_of settings w (n ∷ fields) =
-    if n == 1 then gate.Ends else (if n == 20 then gate.NotBuilt else phase_gate settings w w.phase n)
+-- what a payload is to a session: DISCONNECT is 1, and an exchange of keys begins with 20
+abbrev pub gate_of : World → List ℕ → Gate
+gate_of w [] = gate.Nothing
+gate_of w (n ∷ fields) =
+    if n == 1 then gate.Ends else (if n == 20 then gate.NotBuilt else state_gate w.settings.config
+    w.user.state n)
+
+-- requests of authentication are waited for
+abbrev pub IsRequesting : EncryptedState → Type 0
+IsRequesting (WaitingAuthRequest auth) = Unit {0}
+IsRequesting _ = ⊥

@@ -5,7 +5,8 @@ use Rattle.ssh_link.specs.Frames.{Frame}
 
 -- DISCONNECT: byte 1, uint32 reason, string description, string language (RFC 4253 section 11.1)
 abbrev pub disconnect : ℕ → List ℕ → List ℕ → List ℕ
-disconnect reason description language = 1 ∷ number reason ++ (string description ++ string language)
+disconnect reason description language = 1 ∷ number reason
+    ++ (string description ++ string language)
 
 -- no more methods are available: 14
 abbrev pub too_many_attempts : List ℕ

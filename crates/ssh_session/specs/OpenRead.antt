@@ -2,22 +2,22 @@
 use Rattle.std.specs.Prelude.{ℕ, List}
 use Rattle.ssh_wire.specs.declared.error.LayoutError.{LayoutError}
 use Rattle.ssh_wire.specs.declared.error.LayoutError.TheVariants as layout
-use Rattle.ssh_session.specs.declared.gate.Gate.TheVariants as gate
 use Rattle.ssh_session.specs.declared.message.OpenRequest.{OpenRequest}
 use Rattle.ssh_session.specs.declared.message.OpenRequest.TheVariants as request
-use Rattle.ssh_session.specs.Said.{Said, Open_session, Open_other, Open_without_packets, Unfit, Fits}
+use Rattle.ssh_session.specs.Reading.{Said, Open, Unbuilt, Without_packets, Unfit, SaysOpen}
 
 abbrev pub said_by : OpenRequest → Said
-said_by (request.Session peer window packet) = Open_session peer window packet
-said_by request.Other = Open_other
-
-abbrev pub SaysOpen : OpenRequest → List ℕ → Type 0
-SaysOpen asked fields = Fits gate.ChannelOpen fields (said_by asked)
+said_by (request.Session peer window packet) =
+    Open (record { peer = peer; window = window; packet = packet })
+said_by request.Other = Unbuilt
 
 -- it is not read
 abbrev pub unread : LayoutError → Said
 unread (layout.Wire why) = Unfit why
-unread layout.Inconsistent = Open_without_packets
+unread layout.Inconsistent = Without_packets
 
-abbrev pub MisfitsRead : List ℕ → LayoutError → Type 0
-MisfitsRead fields why = Fits gate.ChannelOpen fields (unread why)
+abbrev pub IsRead : OpenRequest → List ℕ → Type 0
+IsRead asked fields = SaysOpen fields (said_by asked)
+
+abbrev pub IsUnread : List ℕ → LayoutError → Type 0
+IsUnread fields why = SaysOpen fields (unread why)

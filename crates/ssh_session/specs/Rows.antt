@@ -1,147 +1,253 @@
 -- The reply table: what each input owes, row by row.
-use Rattle.std.specs.Prelude.{ℕ, ◌+◌, ◌-◌, ◌^◌, min, nat_lt, List, [], ◌∷◌, ◌++◌, length, Bool, true, false, Option, Some, None, unwrap_or, if◌then◌else◌, bytes_eq, codes}
+use Rattle.std.specs.Prelude.{ℕ, ◌+◌, ◌-◌, ◌^◌, ◌==◌, min, nat_lt, List, [], ◌∷◌, length}
+use Rattle.std.specs.Prelude.{Bool, true, false, Option, Some, None, unwrap_or, if◌then◌else◌}
+use Rattle.std.specs.Prelude.{bytes_eq, codes}
 use Rattle.ssh_wire.specs.declared.error.WireError.TheVariants.{TooLong}
 use Rattle.ssh_wire.specs.declared.channel_id.ChannelId.{ChannelId}
 use Rattle.ssh_link.specs.Frames.{Frame}
-use Rattle.ssh_link.specs.declared.link.TraceEntry.TheVariants.{Noticed}
+use Rattle.ssh_link.specs.declared.notice.ChannelMsg.{ChannelMsg}
 use Rattle.ssh_link.specs.declared.notice.ChannelMsg.TheVariants as msg
 use Rattle.ssh_link.specs.declared.notice.Notice.TheVariants.{Channel, Granted}
+use Rattle.ssh_auth.specs.declared.auth_request.AuthRequest.{AuthRequest}
 use Rattle.ssh_auth.specs.declared.auth_step.AuthVerdict.{AuthVerdict}
 use Rattle.ssh_auth.specs.declared.auth_step.AuthVerdict.TheVariants as verdict
-use Rattle.ssh_auth.specs.declared.question.Question.TheVariants.{Banner, Lends}
-use Rattle.ssh_auth.specs.declared.question.Lent.TheVariants.{Succeeded, Opens, Happened}
-use Rattle.ssh_auth.specs.declared.question.OpenType.TheVariants as type
+use Rattle.ssh_auth.specs.declared.question.Question.TheVariants.{Banner}
+use Rattle.ssh_auth.specs.declared.question.Happening.{Happening}
 use Rattle.ssh_auth.specs.declared.question.Happening.TheVariants as what
-use Rattle.ssh_auth.specs.Plan.{Plan, Finish, Ask, Tell, after}
-use Rattle.ssh_auth.specs.Response.{Responded}
+use Rattle.ssh_auth.specs.declared.question.Lent.TheVariants.{Succeeded, Opens, Happened}
+use Rattle.ssh_auth.specs.declared.question.OpenType.TheVariants.{Session}
+use Rattle.ssh_auth.specs.Plan.{Plan, Ask, after}
+use Rattle.ssh_auth.specs.Request.{server_request}
 use Rattle.ssh_auth.specs.Requested.{Requested as Asked}
-use Rattle.ssh_auth.specs.Verdict.{verdict as verdict_on, response_verdict, AuthOutcome as Reply, Replies}
+use Rattle.ssh_auth.specs.Response.{Responded}
+use Rattle.ssh_auth.specs.Verdict.{verdict as verdict_on, response_verdict, AuthOutcome as Reply}
+use Rattle.ssh_auth.specs.Verdict.{Replies}
 use Rattle.ssh_auth.specs.Verdict as auth
 use Rattle.ssh_handler.specs.declared.config.Config.{Config}
-use Rattle.ssh_session.specs.declared.phase.Phase.TheVariants.{Authentication, Accepted}
+use Rattle.ssh_channels.specs.declared.chunk.Chunk.{Chunk}
+use Rattle.ssh_channels.specs.declared.chunk.DataKind.{DataKind}
+use Rattle.ssh_channels.specs.declared.chunk.DataKind.TheVariants.{Plain, Extended}
+use Rattle.ssh_channels.specs.Entry.{Entry, flushed, granting}
+use Rattle.ssh_channels.specs.Lines.{find, takes_grant, takes_in, peer_closes, wants, drawn}
+use Rattle.ssh_channels.specs.Lines.{next_number}
+use Rattle.ssh_channels.specs.Does.{coming_of}
+use Rattle.ssh_channels.specs.declared.adjusted.Adjusted.{Adjusted}
+use Rattle.ssh_channels.specs.declared.adjusted.Adjusted.TheVariants.{Dropped, Kept}
+use Rattle.ssh_channels.specs.declared.adjusted.Adjusted.TheVariants.{Granted as Filled}
+use Rattle.std.specs.Ordering.{nat_cmp}
+use Rattle.std.specs.BTreeMap.{insert_entry}
+use Rattle.ssh_keys.specs.declared.error.KeyError.TheVariants.{Blob}
+use Rattle.ssh_session.specs.Opening.{Opening}
+use Rattle.ssh_session.specs.declared.state.EncryptedState.{EncryptedState}
+use Rattle.ssh_session.specs.declared.state.EncryptedState.TheVariants.{WaitingAuthRequest}
+use Rattle.ssh_session.specs.declared.state.EncryptedState.TheVariants.{InitCompression}
 use Rattle.ssh_session.specs.Layout.{service_accept, banner, too_many_attempts, at_once, held}
-use Rattle.ssh_session.specs.ChannelLayout.{close_frame}
-use Rattle.ssh_session.specs.Entry.{Entry, granting, flushed, flush_out, credit_left}
-use Rattle.ssh_session.specs.Entries.{find, put, without}
-use Rattle.ssh_session.specs.World.{Settings, World, next_number, has_no_channel}
-use Rattle.ssh_session.specs.Commanded.{done_all}
-use Rattle.ssh_session.specs.Said.{Said, Nothing, Disconnect, Over_cap, Service, Request, Response, Open_session, Open_other, Open_without_packets, Grant, Peer_eof, Peer_close, Unfit, Unbuilt}
-use Rattle.ssh_session.specs.Outcome.{Fault, Encoding, Inconsistent, Key, Unsupported, Starved, Not_built, Outcome, Goes, Ends, Fails}
+use Rattle.ssh_session.specs.Opens.{own}
+use Rattle.ssh_session.specs.Outcome.{Fault, Encoding, Inconsistent, Key, Unsupported, Starved}
+use Rattle.ssh_session.specs.Outcome.{Channels_full, Not_built, Outcome}
+use Rattle.ssh_session.specs.Reading.{Said, Disconnect, Over_cap, Service, Request, Response, Open}
+use Rattle.ssh_session.specs.Reading.{Grant, Data, Eof, Close, Wants, Unfit, Without_packets}
+use Rattle.ssh_session.specs.Reading.{Unbuilt}
+use Rattle.ssh_session.specs.World.{World, waits_for, lined, writes}
+use Rattle.ssh_session.specs.Acts.{Act, Notes, Calls, Adjusts_by, Turns, Is_over, Stops, acts}
 
--- userauth service, with what the banner callback answered: SERVICE_ACCEPT, and BANNER where one was given
-abbrev pub accept_row : World → Option (List ℕ) → Plan Outcome
-accept_row w None = Finish (Goes (at_once service_accept ∷ []) (record w { phase = Authentication }))
-accept_row w (Some message) =
-    if nat_lt (length (banner message)) (2 ^ 32)
-    then Finish (Goes (at_once service_accept ∷ at_once (banner message) ∷ []) (record w { phase = Authentication }))
-    else Finish (Fails (Encoding TooLong))
+-- ---- the service (RFC 4253 section 10)
 
--- userauth service asks for a banner; an unknown service does nothing
+-- SERVICE_ACCEPT, and the banner where the handler gave one (RFC 4252 section 5.4)
+abbrev pub greeting : Option (List ℕ) → List Frame
+greeting None = at_once service_accept ∷ []
+greeting (Some message) = at_once service_accept ∷ at_once (banner message) ∷ []
+
+abbrev pub is_short : Option (List ℕ) → Bool
+is_short None = true
+is_short (Some message) = nat_lt (length (banner message)) (2 ^ 32)
+
+-- requests of authentication are read from now on
+abbrev pub served : World → World
+served w = waits_for (WaitingAuthRequest (server_request w.settings.config.methods)) w
+
+abbrev pub greets : Option (List ℕ) → List Act
+greets message =
+    if is_short message then Turns (λ w. writes (greeting message) (served w))
+    ∷ [] else Stops (Encoding TooLong) ∷ []
+
+-- authentication is offered, with what the banner callback answered; another service does nothing
 abbrev pub service_row : World → List ℕ → Plan Outcome
 service_row w name =
-    if bytes_eq name (codes "ssh-userauth")
-    then Ask Banner (accept_row w)
-    else Finish (Goes [] w)
+    if bytes_eq name (codes "ssh-userauth") then Ask Banner (λ message. acts (greets message) w)
+    else acts [] w
 
--- how long a rejection is held, in milliseconds: one of method none before any finished request has a time of its own
+-- ---- authentication (RFC 4252)
+
+-- how long a rejection is held, in milliseconds: one of method none before any finished request has
+-- a time of its own
 abbrev pub rejection_hold : Config → (none_method requested : Bool) → ℕ
-rejection_hold config true false = unwrap_or config.auth_rejection_time_initial config.auth_rejection_time
+rejection_hold config true false = unwrap_or config.auth_rejection_time_initial
+    config.auth_rejection_time
 rejection_hold config none_method requested = config.auth_rejection_time
 
 -- a moment and a time after it, which stays at the end of the numbers
 abbrev pub moment_after : ℕ → ℕ → ℕ
 moment_after moment time = min (moment + time) (2 ^ 64 - 1)
 
--- this is the reply: a rejection is held, and an accepted user is told to the handler; from then on it counts as requested
--- that a USERAUTH_REQUEST was finished
-abbrev pub reply_row : Settings → ℕ → World → (requested : Bool) → List ℕ → AuthVerdict → Plan Outcome
-reply_row settings moment w requested reply verdict.Accepted =
-    Ask (Lends Succeeded) (done_all settings (record w { phase = Accepted; requested = requested }) (at_once reply ∷ []) 0)
-reply_row settings moment w requested reply (verdict.Rejected none_method) =
-    Finish (Goes (held reply (moment_after moment (rejection_hold settings.config none_method w.requested)) ∷ []) (record w { requested = requested }))
-reply_row settings moment w requested reply verdict.Continued = Finish (Goes (at_once reply ∷ []) (record w { requested = requested }))
+-- whether a USERAUTH_REQUEST was finished
+abbrev pub finishes : (requested : Bool) → World → World
+finishes requested w = record w { user = record w.user { requested = requested } }
+
+abbrev pub lets_in : World → World
+lets_in = waits_for InitCompression
+
+-- a reply: a rejection is held, and an accepted user is told to the handler
+abbrev pub replied : World → (moment : ℕ) → (requested : Bool) → List ℕ → AuthVerdict → List Act
+replied w moment requested reply verdict.Accepted =
+    Turns (λ v. writes (at_once reply ∷ []) (lets_in (finishes requested v))) ∷ Calls Succeeded ∷ []
+replied w moment requested reply (verdict.Rejected none_method) =
+    Turns (λ v. writes (held reply (moment_after moment
+    (rejection_hold w.settings.config none_method w.user.requested)) ∷ [])
+    (finishes requested v)) ∷ []
+replied w moment requested reply verdict.Continued =
+    Turns (λ v. writes (at_once reply ∷ []) (finishes requested v)) ∷ []
 
 -- a request that gets no reply
 abbrev pub fault_of : auth.Fault → Fault
 fault_of (auth.Encoding why) = Encoding why
 fault_of auth.Inconsistent = Inconsistent
-fault_of auth.Key = Key
+fault_of auth.Key = Key Blob
 fault_of auth.Starved = Starved
 fault_of auth.Unsupported = Unsupported
 
 -- what the verdict on a request or on a response comes to
-abbrev pub finished : Settings → ℕ → World → (requested : Bool) → Reply → Plan Outcome
-finished settings moment w requested (Replies reply verdict state) = reply_row settings moment (record w { auth = state }) requested reply verdict
-finished settings moment w requested (auth.Fails fault) = Finish (Fails (fault_of fault))
+abbrev pub reply_row : (moment : ℕ) → (requested : Bool) → List ℕ → AuthVerdict → World
+    → Plan Outcome
+reply_row moment requested reply verdict w = acts (replied w moment requested reply verdict) w
 
--- authentication: the verdict on the request, and what it comes to
-abbrev pub request_row : Settings → ℕ → World → Asked → Plan Outcome
-request_row settings moment w asked = after (verdict_on w.auth asked) (finished settings moment w true)
+abbrev pub concluded : World → (moment : ℕ) → (requested : Bool) → Reply → Plan Outcome
+concluded w moment requested (Replies reply verdict state) =
+    reply_row moment requested reply verdict (waits_for (WaitingAuthRequest state) w)
+concluded w moment requested (auth.Fails fault) = acts (Stops (fault_of fault) ∷ []) w
 
--- the same of a response to prompts, which is no request
-abbrev pub response_row : Settings → ℕ → World → Responded → Plan Outcome
-response_row settings moment w responded = after (response_verdict w.auth responded) (finished settings moment w w.requested)
+-- where requests are waited for
+abbrev pub asked_of : EncryptedState → (AuthRequest → Plan Outcome) → Plan Outcome → Plan Outcome
+asked_of (WaitingAuthRequest state) next other = next state
+asked_of _ next other = other
 
--- the channel of this number on this side
-abbrev pub own : ℕ → ChannelId
-own number = record { 0 = number }
+abbrev pub request_row : World → (moment : ℕ) → Asked → Plan Outcome
+request_row w moment asked =
+    asked_of w.user.state (λ state. after (verdict_on state asked) (concluded w moment true))
+    (acts [] w)
 
--- the open draws a number, and waits for its answer
-abbrev pub drawn : World → (peer window packet : ℕ) → World
-drawn w peer window packet = record w {
-  last = next_number w;
-  pending = w.pending ++ (record { number = own (next_number w); peer = peer; window = window; packet = packet }) ∷ [];
+-- a response to prompts is no request
+abbrev pub response_row : World → (moment : ℕ) → Responded → Plan Outcome
+response_row w moment responded =
+    asked_of w.user.state (λ state. after (response_verdict state responded)
+    (concluded w moment w.user.requested)) (acts [] w)
+
+-- ---- channels (RFC 4254 section 5)
+
+-- a message of a channel is told twice: to its user as a notice, and to the handler as a callback
+abbrev pub told : ChannelId → ChannelMsg → Happening → List Act
+told channel message happening = Notes (Channel channel message)
+    ∷ Calls (Happened channel happening) ∷ []
+
+-- on a channel that both sides agreed to, and nothing on another
+abbrev pub on_confirmed : Bool → List Act → List Act
+on_confirmed true owes = owes
+on_confirmed false owes = []
+
+abbrev pub on_entry : Option Entry → (Entry → List Act) → List Act
+on_entry None owes = []
+on_entry (Some e) owes = on_confirmed e.confirmed (owes e)
+
+abbrev pub on : (channel : ℕ) → World → (Entry → List Act) → List Act
+on channel w owes = on_entry (find channel w.channels.lines.entries) owes
+
+-- the peer grants more: the old grants' data go first, and it is told how many bytes may still be
+-- sent (section 5.2)
+abbrev pub credit_left : (amount : ℕ) → Entry → ℕ
+credit_left amount e = (flushed (granting amount e)).granted - (flushed (granting amount e)).framed
+
+abbrev pub grant_acts : (channel amount credit : ℕ) → List Act
+grant_acts channel amount credit =
+    Turns (lined (takes_grant channel amount))
+    ∷ Notes (Granted (own channel) amount)
+    ∷ told (own channel) (msg.WindowAdjusted credit) (what.WindowAdjusted credit)
+
+-- data are told by their kind (section 5.2)
+abbrev pub data_notice : DataKind → List ℕ → ChannelMsg
+data_notice Plain bytes = msg.Data bytes
+data_notice (Extended code) bytes = msg.ExtendedData bytes code
+
+abbrev pub data_happening : DataKind → List ℕ → Happening
+data_happening Plain bytes = what.Data bytes
+data_happening (Extended code) bytes = what.ExtendedData code bytes
+
+-- the window that a channel's room is filled up to from now on: 0 leaves it as it is
+abbrev pub aims : (window : ℕ) → World → World
+aims window w = record w {
+  channels = record w.channels {
+    target = if window == 0 then w.channels.target else window;
+  };
 }
 
--- the peer opens a session channel (RFC 4254 section 6.1); beside another channel it is not built
-abbrev pub open_session_row : Settings → World → (peer window packet : ℕ) → Plan Outcome
-open_session_row settings w peer window packet =
-    if has_no_channel w
-    then Ask (Lends (Opens (own (next_number w)) type.Session)) (done_all settings (drawn w peer window packet) [] 0)
-    else Finish (Fails Not_built)
+-- both are told of data, and the handler is asked for the next window where the room was filled up
+abbrev pub noted : ChannelId → Chunk → Act
+noted channel piece = Notes (Channel channel (data_notice piece.kind piece.bytes))
 
--- it is told how many bytes may still be sent (RFC 4254 section 5.2)
-abbrev pub window_told : Settings → World → List Frame → ChannelId → (new_size : ℕ) → Plan Outcome
-window_told settings w frames channel new_size =
-    Tell (Noticed (Channel channel (msg.WindowAdjusted new_size))) (Ask (Lends (Happened channel (what.WindowAdjusted new_size))) (done_all settings w frames 0))
+abbrev pub called : ChannelId → Chunk → Act
+called channel piece = Calls (Happened channel (data_happening piece.kind piece.bytes))
 
--- the peer has granted more on this channel (RFC 4254 section 5.2)
-abbrev pub granted_row : Settings → World → (amount : ℕ) → Entry → Plan Outcome
-granted_row settings w amount e =
-    Tell (Noticed (Granted (own e.number) amount))
-    (window_told settings (record w { entries = put (flushed e) w.entries }) (flush_out e) (own e.number) (credit_left e))
+abbrev pub data_told : Adjusted → ChannelId → Chunk → (target : ℕ) → List Act
+data_told Dropped channel piece target = []
+data_told Kept channel piece target = noted channel piece ∷ called channel piece ∷ []
+data_told (Filled amount) channel piece target =
+    noted channel piece ∷ Adjusts_by channel target aims ∷ called channel piece ∷ []
 
--- the peer grants more; on no channel it does nothing
-abbrev pub grant_row : Settings → World → (amount : ℕ) → Option Entry → Plan Outcome
-grant_row settings w amount None = Finish (Goes [] w)
-grant_row settings w amount (Some e) = granted_row settings w amount (granting e amount)
+-- data come in; those that are larger than the room are dropped (section 5.2)
+abbrev pub data_acts : Adjusted → ChannelId → Chunk → (target : ℕ) → List Act
+data_acts adjusted channel piece target =
+    Turns (lined (takes_in channel.0 (length piece.bytes) target)) ∷ data_told adjusted channel
+    piece target
 
--- the peer sends no more data (RFC 4254 section 5.3)
-abbrev pub peer_eof_row : Settings → World → Option Entry → Plan Outcome
-peer_eof_row settings w None = Finish (Goes [] w)
-peer_eof_row settings w (Some e) = Tell (Noticed (Channel (own e.number) msg.Eof)) (Ask (Lends (Happened (own e.number) what.Eof)) (done_all settings w [] 0))
+-- ---- opens of the peer (section 5.1)
 
--- the peer closes, and is answered by a close; what still waited is dropped (RFC 4254 section 5.3)
-abbrev pub peer_close_row : Settings → World → Option Entry → Plan Outcome
-peer_close_row settings w None = Finish (Goes [] w)
-peer_close_row settings w (Some e) =
-    Tell (Noticed (Channel (own e.number) msg.Close))
-    (Ask (Lends (Happened (own e.number) what.Close)) (done_all settings (record w { entries = without e.number w.entries }) (close_frame e.number e.peer ∷ []) 0))
+-- the number is drawn, and waits for the answer of the open
+abbrev pub waits : (number : ℕ) → Opening → World → World
+waits number said w = record w {
+  channels = record w.channels {
+    lines = drawn (Some number) w.channels.lines;
+    opens = insert_entry nat_cmp w.channels.opens number said;
+  };
+}
+
+-- an open draws the next number, and the handler is asked
+abbrev pub open_acts : (number : Option ℕ) → Opening → List Act
+open_acts None opening = Stops Channels_full ∷ []
+open_acts (Some number) opening = Turns (waits number opening) ∷ Calls (Opens (own number) Session)
+    ∷ []
+
+-- ---- one line a row
+
+abbrev pub owed : World → Said → List Act
+owed w (Open opening) = open_acts (next_number w.channels.lines) opening
+owed w (Grant channel amount) = on channel w (λ e. grant_acts channel amount (credit_left amount e))
+owed w (Data channel piece) = data_acts
+    (coming_of (length piece.bytes) w.channels.target (find channel w.channels.lines.entries))
+    (own channel) piece w.channels.target
+owed w (Eof channel) = on channel w (λ e. told (own channel) msg.Eof what.Eof)
+owed w (Close channel) = on channel w (λ e. Turns (lined (peer_closes channel))
+    ∷ told (own channel) msg.Close what.Close)
+-- a channel that the peer has not agreed to keeps whether its last request wants a reply
+owed w (Wants channel wanted) = Turns (lined (wants channel wanted)) ∷ []
+owed w Disconnect = Is_over ∷ []
+owed w Over_cap = Turns (writes (at_once too_many_attempts ∷ [])) ∷ Is_over ∷ []
+owed w (Unfit why) = Stops (Encoding why) ∷ []
+owed w Without_packets = Stops Inconsistent ∷ []
+owed w Unbuilt = Stops Not_built ∷ []
+owed w _ = []
 
 -- what a payload owes by what it says
-abbrev pub row : Settings → ℕ → World → Said → Plan Outcome
-row settings moment w Nothing = Finish (Goes [] w)
-row settings moment w Disconnect = Finish (Ends [])
-row settings moment w Over_cap = Finish (Ends (at_once too_many_attempts ∷ []))
-row settings moment w (Service name) = service_row w name
-row settings moment w (Request asked) = request_row settings moment w asked
-row settings moment w (Response responded) = response_row settings moment w responded
-row settings moment w (Open_session peer window packet) = open_session_row settings w peer window packet
--- the other types are not built
-row settings moment w Open_other = Finish (Fails Not_built)
-row settings moment w Open_without_packets = Finish (Fails Inconsistent)
-row settings moment w (Grant channel amount) = grant_row settings w amount (find channel w.entries)
-row settings moment w (Peer_eof channel) = peer_eof_row settings w (find channel w.entries)
-row settings moment w (Peer_close channel) = peer_close_row settings w (find channel w.entries)
-row settings moment w (Unfit why) = Finish (Fails (Encoding why))
-row settings moment w Unbuilt = Finish (Fails Not_built)
+abbrev pub row : World → (moment : ℕ) → Said → Plan Outcome
+row w moment (Service name) = service_row w name
+row w moment (Request asked) = request_row w moment asked
+row w moment (Response responded) = response_row w moment responded
+row w moment said = acts (owed w said) w

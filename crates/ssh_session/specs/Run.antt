@@ -1,64 +1,102 @@
--- A run: inputs, each with its calls and its frames.
-use Rattle.std.specs.Prelude.{◌≡◌, ℕ, Bool, List, [], ◌∷◌, ◌++◌, map, true}
+-- A run: inputs, each with its calls and what the link was told.
+use Rattle.std.specs.Prelude.{◌≡◌, ℕ, Bool, true, false, List, [], ◌∷◌, map, drop}
 use Rattle.ssh_link.specs.Asked.{IsAsked}
 use Rattle.ssh_link.specs.declared.command.Command.TheVariants.{Answer}
-use Rattle.ssh_link.specs.Frames.{Frame}
 use Rattle.ssh_link.specs.declared.frame.Input.{Input}
 use Rattle.ssh_link.specs.declared.frame.InputKind.{InputKind}
 use Rattle.ssh_link.specs.declared.frame.InputKind.TheVariants.{Payload, Command, OpenReply, End}
 use Rattle.ssh_link.specs.declared.link.TraceEntry.{TraceEntry}
-use Rattle.ssh_link.specs.declared.link.TraceEntry.TheVariants.{Took, Sent}
+use Rattle.ssh_link.specs.declared.link.TraceEntry.TheVariants.{Took, Sent, Answered}
+use Rattle.ssh_link.specs.declared.command.Command.{Command as Commanded}
 use Rattle.ssh_auth.specs.declared.call.Call.{Call}
 use Rattle.ssh_auth.specs.Publickey.{Acceptance}
-use Rattle.ssh_auth.specs.Plan.{Plan, Finish, Event, calls_in, steps_in, told_in, Follows}
-use Rattle.ssh_session.specs.World.{Settings, World, circumstances}
+use Rattle.ssh_auth.specs.Plan.{Plan, Finish, Tell, Event, after, calls_in, steps_in, told_in}
+use Rattle.ssh_auth.specs.Plan.{Follows}
+use Rattle.ssh_channels.specs.Lines.{hands_on}
+use Rattle.ssh_channels.specs.Does.{has}
+use Rattle.ssh_channels.specs.Entry.{all_framed}
+use Rattle.ssh_session.specs.Acts.{done, tell_all}
+use Rattle.ssh_session.specs.Effect.{effect}
 use Rattle.ssh_session.specs.Gate.{gate_of}
-use Rattle.ssh_session.specs.Said.{Said, Says}
 use Rattle.ssh_session.specs.Outcome.{Outcome, Goes, Ends, Fails, Not_built}
-use Rattle.ssh_session.specs.Entries.{nothing_waits}
-use Rattle.ssh_session.specs.Commanded.{command_row}
+use Rattle.ssh_session.specs.Reading.{Said, Says}
 use Rattle.ssh_session.specs.Rows.{row}
+use Rattle.ssh_session.specs.World.{World, circumstances, lined}
+use Rattle.std.specs.List.{list_all}
 
--- an input of this kind, taken in this world at this moment, owes this plan, where the verifier accepts these signatures
-abbrev pub OwesKind : Acceptance → Settings → World → ℕ → InputKind → Plan Outcome → Type 0
-OwesKind accepts settings w moment End plan = plan ≡ Finish (Ends [])
-OwesKind accepts settings w moment (Payload payload) plan =
-    (said : Said) × Says (circumstances accepts settings moment) (gate_of settings w payload) payload said × (plan ≡ row settings moment w said)
--- a command, and a reply to an open, is done
-OwesKind accepts settings w moment (Command ticket command) plan = plan ≡ command_row settings w ticket command
-OwesKind accepts settings w moment (OpenReply ticket answer) plan = plan ≡ command_row settings w ticket (Answer answer)
+-- a channel of this number is there, which both sides agreed to
+abbrev pub is_there : World → ℕ → Bool
+is_there w channel = has (λ e. e.confirmed) channel w.channels.lines
+
+-- a command from outside is done, and its ticket is answered
+abbrev pub command_row : World → (ticket : ℕ) → Commanded → Plan Outcome
+command_row w ticket command = done (effect w command) (λ outcome world.
+    Tell (Answered ticket outcome) (Finish (Goes world)))
+
+-- what an input of this kind owes before its frames are handed on, taken in this world at this
+-- moment, where the verifier accepts these signatures
+abbrev pub OwesKind : Acceptance → World → (moment : ℕ) → InputKind → Plan Outcome → Type 0
+OwesKind accepts w moment End plan = plan ≡ Finish (Ends w)
+OwesKind accepts w moment (Payload payload) plan =
+    (said : Said) × Says (circumstances accepts w.settings moment) (is_there w) (gate_of w payload)
+    (drop 1 payload) said
+    × (plan ≡ row w moment said)
+OwesKind accepts w moment (Command ticket command) plan = plan ≡ command_row w ticket command
+OwesKind accepts w moment (OpenReply ticket answer) plan = plan ≡ command_row w ticket
+    (Answer answer)
 -- ticks are not built
-OwesKind accepts settings w moment _ plan = plan ≡ Finish (Fails Not_built)
+OwesKind accepts w moment _ plan = plan ≡ Finish (Fails Not_built)
 
-abbrev pub Owes : Acceptance → Settings → World → Input → Plan Outcome → Type 0
-Owes accepts settings w input plan = OwesKind accepts settings w input.moment input.kind plan
+-- the written frames are handed on
+abbrev pub handed_on : World → World
+handed_on = lined (hands_on false)
 
--- an input, whether commands were asked for when it was taken, its calls and what the link was told, and the frames that were handed on
+abbrev pub hand_on : World → (World → Outcome) → Plan Outcome
+hand_on w comes = tell_all (map Sent w.channels.lines.written) (Finish (comes (handed_on w)))
+
+-- the end of an input
+abbrev pub finish_input : Outcome → Plan Outcome
+finish_input (Goes w) = hand_on w Goes
+finish_input (Ends w) = hand_on w Ends
+finish_input (Fails why) = Finish (Fails why)
+
+-- an input owes this
+abbrev pub Owes : Acceptance → World → Input → Plan Outcome → Type 0
+Owes accepts w input plan =
+    (first : Plan Outcome) × OwesKind accepts w input.moment input.kind first
+    × (plan ≡ after first finish_input)
+
+-- an input, whether commands were asked for when it was taken, its calls and what the link was told
 pub record Turn (E : Type 0) : Type 0 where
   pub input : Input
   pub commands : Bool
   pub events : List (Event E ⊥)
-  pub frames : List Frame
 
--- the calls that a turn made
-abbrev pub calls_of : {E : Type 0} → Turn E → List (Call E)
-calls_of turn = calls_in turn.events
+-- on no channel data wait
+abbrev pub nothing_waits : World → Bool
+nothing_waits w = list_all all_framed w.channels.lines.entries
 
--- commands are asked for exactly where on no channel data wait, and replies to opens always; a link gives only what is asked for; and
--- no exchange is asked for anything
+-- commands are asked for exactly where on no channel data wait, and replies to opens always; a link
+-- gives only what is asked for; and no exchange is asked for anything
 abbrev pub IsTaken : {E : Type 0} → World → Turn E → Type 0
-IsTaken w turn = (turn.commands ≡ nothing_waits w.entries) × IsAsked turn.commands true turn.input.kind × (steps_in turn.events ≡ [])
+IsTaken w turn = (turn.commands ≡ nothing_waits w) × IsAsked turn.commands true turn.input.kind
+    × (steps_in turn.events ≡ [])
 
--- the turn is the row of its input, and leads from world to world
-abbrev pub Turns : {E : Type 0} → Acceptance → Settings → World → Turn E → World → Type 0
-Turns accepts settings w turn world =
-    (plan : Plan Outcome) × Owes accepts settings w turn.input plan × Follows plan turn.events (Goes turn.frames world) × IsTaken w turn
+-- the turn is what its input owes, and leads from world to world
+abbrev pub Turns : {E : Type 0} → Acceptance → World → Turn E → World → Type 0
+Turns accepts w turn world =
+    (plan : Plan Outcome) × Owes accepts w turn.input plan × Follows plan turn.events (Goes world)
+    × IsTaken w turn
 
 -- these turns one after another
-abbrev pub Run : {E : Type 0} → Acceptance → Settings → World → List (Turn E) → World → Type 0
-Run accepts settings w [] world = world ≡ w
-Run accepts settings w (turn ∷ turns) world = (mid : World) × Turns accepts settings w turn mid × Run accepts settings mid turns world
+abbrev pub Run : {E : Type 0} → Acceptance → World → List (Turn E) → World → Type 0
+Run accepts w [] world = world ≡ w
+Run accepts w (turn ∷ turns) world = (mid : World) × Turns accepts w turn mid
+    × Run accepts mid turns world
 
 -- what the link tells of a turn: the input that it gave, notices and answers, and the frames
 abbrev pub entries : {E : Type 0} → Turn E → List TraceEntry
-entries turn = Took turn.commands true turn.input ∷ told_in turn.events ++ map Sent turn.frames
+entries turn = Took turn.commands true turn.input ∷ told_in turn.events
+
+abbrev pub calls_of : {E : Type 0} → Turn E → List (Call E)
+calls_of turn = calls_in turn.events

@@ -1,118 +1,188 @@
--- What serving an input does, and how a session stands for a world.
-use Rattle.std.specs.Prelude.{◌≡◌, ◌≤◌, ℕ, List, [], ◌++◌, Bool, true, false, Option, option_to_list, Result, Ok, Err}
-use Rattle.ssh_link.specs.Faults.{Rose}
-use Rattle.ssh_link.specs.Told.{Adds, ToldBy, Tells}
+-- What serving does, and how a session stands for a world.
+use Rattle.std.specs.Prelude.{◌≡◌, ◌≤◌, ℕ, Bool, true, false, not, List, [], ◌++◌, map}
+use Rattle.std.specs.Prelude.{option_to_list, Result, Ok, Err}
 use Rattle.ssh_link.specs.Frames.{Frame}
-use Rattle.ssh_link.specs.declared.link.TraceEntry.{TraceEntry}
-use Rattle.ssh_keys.specs.declared.error.KeyError.TheVariants.{Blob}
+use Rattle.ssh_link.specs.declared.link.TraceEntry.TheVariants.{Sent}
+use Rattle.ssh_link.specs.Faults.{Rose}
+use Rattle.ssh_link.specs.Told.{Adds, ToldBy}
 use Rattle.ssh_auth.specs.declared.call.Call.{Call}
 use Rattle.ssh_auth.specs.declared.question.Question.{Question}
-use Rattle.ssh_auth.specs.Plan.{Plan, Answer, Answered, Refused, Event, Called, Handler_error, calls_in, steps_in, told_in, Follows, Begins, Breaks, Reaches}
+use Rattle.ssh_auth.specs.Plan.{Plan, Finish, Answer, Answered, Refused, Event, Called}
+use Rattle.ssh_auth.specs.Plan.{Handler_error, calls_in, steps_in, told_in, Reaches, Begins, Breaks}
 use Rattle.ssh_handler.specs.declared.config.Config.{Config}
 use Rattle.ssh_handler.specs.Loan.{Loan}
+use Rattle.ssh_channels.specs.Stands.{Stands}
+use Rattle.ssh_channels.specs.Table.{some_wait}
+use Rattle.ssh_session.specs.declared.apply.Done.{Done}
 use Rattle.ssh_session.specs.declared.error.Flow.{Flow}
 use Rattle.ssh_session.specs.declared.error.Flow.TheVariants.{Continue, Ended}
 use Rattle.ssh_session.specs.declared.error.RunError.{RunError}
 use Rattle.ssh_session.specs.declared.error.RunError.TheVariants as error
 use Rattle.ssh_session.specs.declared.session.Session.{Session}
-use Rattle.ssh_session.specs.Held.{AllHold}
-use Rattle.ssh_session.specs.declared.apply.Done.{Done}
-use Rattle.ssh_session.specs.Effect.{Effect, Does}
-use Rattle.ssh_session.specs.Effect as effect
-use Rattle.ssh_session.specs.World.{Settings, World}
-use Rattle.ssh_session.specs.Outcome.{Outcome, Goes, Ends, Fails, Encoding, Inconsistent, Key, Unsupported, Not_built}
+use Rattle.ssh_session.specs.Acts.{Act, acts, tell_all}
+use Rattle.ssh_session.specs.Effect.{Effect, Does as Does_so, Unbuilt}
+use Rattle.ssh_session.specs.Heard.{Heard, AreSame, Calls}
+use Rattle.ssh_session.specs.Outcome.{Fault, Encoding, Inconsistent, Key, Unsupported}
+use Rattle.ssh_session.specs.Outcome.{Channels_full, Not_built, Outcome, Goes, Ends, Fails}
+use Rattle.ssh_session.specs.World.{Settings, World, opening_world}
+
+-- ---- how a session stands for a world
 
 -- an input of the session ended it or failed: it serves nothing more
 abbrev pub is_spent : Session → Bool
 is_spent session = session.spent
 
--- what a session lends to a callback, which has recorded no command yet
+-- what a session lends to a callback, which has recorded no command yet: commands are taken from
+-- outside where no data wait, and answers to opens always
 abbrev pub lends : Session → Loan
-lends session = record { recorded = []; config = session.config; remote_sshid = session.remote_sshid }
+lends session = record {
+  recorded = [];
+  table = session.table;
+  config = session.config;
+  remote_sshid = session.remote_sshid;
+  commands_wanted = not (some_wait session.table);
+  replies_wanted = true;
+}
 
--- a handler that suits these servers and peers suits the session: it may be called with what the session lends
+-- a handler that suits these servers and peers suits the session: it may be called with what the
+-- session lends
 abbrev pub IsSuited : (suits : Config → List ℕ → Type 0) → Session → Type 0
 IsSuited suits session = suits session.config session.remote_sshid
 
+-- the config and the peer are the same
+abbrev pub IsSamePeer : Session → Session → Type 0
+IsSamePeer before after = (after.config ≡ before.config)
+    × (after.remote_sshid ≡ before.remote_sshid)
+
 -- the session, which is not spent, is in this world
-pub record Refines (settings : Settings) (session : Session) (w : World) : Type 0 where
-  pub config : session.config ≡ settings.config
-  pub session_id : session.session_id ≡ settings.session_id
-  pub remote_sshid : session.remote_sshid ≡ settings.remote_sshid
-  pub phase : session.phase ≡ w.phase
-  pub auth : session.auth ≡ w.auth
-  pub requested : session.requested ≡ w.requested
-  pub last : session.last_channel ≡ w.last
-  pub pending : session.pending.items ≡ w.pending
-  pub channels : AllHold session.channels.items w.entries
+pub record Refines (session : Session) (w : World) : Type 0 where
+  pub config : session.config ≡ w.settings.config
+  pub session_id : session.session_id ≡ w.settings.session_id
+  pub remote_sshid : session.remote_sshid ≡ w.settings.remote_sshid
+  pub state : session.state ≡ w.user.state
+  pub requested : session.requested ≡ w.user.requested
+  pub table : Stands session.table w.channels.lines
+  pub opens : session.opens.entries ≡ w.channels.opens
+  pub target : session.target ≡ w.channels.target
   pub live : session.spent ≡ false
 
--- the call in which this was asked, and so answered
-abbrev pub IsAnsweredBy : {E : Type 0} → (question : Question) → Result (Answer question) E → Call E → Type 0
-IsAnsweredBy {E} question (Ok answer) call = Answered {E = E} {F = ⊥} question answer (Called call)
-IsAnsweredBy {E} question (Err e) call = Refused {E = E} {F = ⊥} question (Handler_error e) (Called call)
+-- the session is before its first input, and the handler suits its config and its peer
+abbrev pub BeginsSuited : (suits : Config → List ℕ → Type 0) → Session → Type 0
+BeginsSuited suits session = (settings : Settings) × Refines session (opening_world settings)
+    × suits settings.config settings.remote_sshid
 
--- the question was put to a handler that told these calls before and after, and was answered so
-abbrev pub Puts : {E : Type 0} → (question : Question) → Option (List (Call E)) → Option (List (Call E)) → Result (Answer question) E → Type 0
-Puts {E} question told told' answer = (call : Call E) × IsAnsweredBy question answer call × Tells told told' answer call
+-- ---- why a session stops
 
--- what the handler and the link have told, and how often the link has failed
-pub record Heard (E : Type 0) : Type 0 where
-  pub calls : Option (List (Call E))
-  pub trace : Option (List TraceEntry)
-  pub faults : ℕ
+pub data Cause (E : Type 0) : Type 0 where
+  Wants_memory : Cause E
+  Link_failed : Cause E
+  Limit_reached : Cause E
+  Faulty : (fault : Fault) → Cause E
+  Refused_by : (error : E) → Cause E
 
-abbrev pub heard : {E : Type 0} → Option (List (Call E)) → Option (List TraceEntry) → ℕ → Heard E
-heard calls trace faults = record { calls = calls; trace = trace; faults = faults }
+-- one line an error
+abbrev pub cause_of : {E : Type 0} → RunError E → Cause E
+cause_of error.NoMemory = Wants_memory
+cause_of error.LinkFault = Link_failed
+cause_of error.InputLimit = Limit_reached
+cause_of (error.Encoding why) = Faulty (Encoding why)
+cause_of error.Inconsistent = Faulty Inconsistent
+cause_of (error.Key why) = Faulty (Key why)
+cause_of error.UnsupportedAuthMethod = Faulty Unsupported
+cause_of (error.Handler e) = Refused_by e
+cause_of error.ChannelsFull = Faulty Channels_full
+cause_of error.NotBuilt = Faulty Not_built
 
--- with these events the plan gives this answer, where no exchange answers an error, since none is built; staged are the frames before and after, and rose says that the link's faults rose
-abbrev pub Answers : {E : Type 0} → Settings → Plan Outcome → Type 0 → List (Event E ⊥) → List Frame → List Frame → Session → Result Flow (RunError E) → Type 0
-Answers settings plan rose events staged staged' session (Ok Continue) =
-    (frames : List Frame) × (world : World) × Follows plan events (Goes frames world) × (staged' ≡ staged ++ frames) × Refines settings session world
-Answers settings plan rose events staged staged' session (Ok Ended) =
-    (frames : List Frame) × Follows plan events (Ends frames) × (staged' ≡ staged ++ frames)
-Answers settings plan rose events staged staged' session (Err error.NoMemory) = Begins plan events
-Answers settings plan rose events staged staged' session (Err error.LinkFault) = rose × Begins plan events
-Answers settings plan rose events staged staged' session (Err error.InputLimit) = ⊥
-Answers settings plan rose events staged staged' session (Err (error.Encoding why)) = Follows plan events (Fails (Encoding why))
-Answers settings plan rose events staged staged' session (Err error.Inconsistent) = Follows plan events (Fails Inconsistent)
-Answers settings plan rose events staged staged' session (Err (error.Key why)) = (why ≡ Blob) × Follows plan events (Fails Key)
-Answers settings plan rose events staged staged' session (Err error.UnsupportedAuthMethod) = Follows plan events (Fails Unsupported)
-Answers settings plan rose events staged staged' session (Err (error.Handler e)) = Breaks plan events (Handler_error e)
-Answers settings plan rose events staged staged' session (Err error.NotBuilt) = Follows plan events (Fails Not_built)
+-- with these events the plan gives this cause; rose says that the link's faults rose
+abbrev pub IsCaused : {E : Type 0} → Cause E → Plan Outcome → (rose : Type 0) → List (Event E ⊥)
+    → Type 0
+IsCaused Wants_memory plan rose events = Begins plan events
+IsCaused Link_failed plan rose events = rose × Begins plan events
+IsCaused Limit_reached plan rose events = ⊥
+IsCaused (Faulty fault) plan rose events = Reaches plan events (Finish (Fails fault))
+IsCaused (Refused_by e) plan rose events = Breaks plan events (Handler_error e)
+
+-- ---- what serving does
+
+-- with these events the plan goes on as next says, by the result and in the world that the session
+-- is then in; an error says where it stopped
+abbrev pub Answers : {T E : Type 0} → Plan Outcome → (T → World → Plan Outcome) → (rose : Type 0)
+    → List (Event E ⊥) → Session → Result T (RunError E) → Type 0
+Answers plan next rose events session (Ok value) = (world : World)
+    × Reaches plan events (next value world) × Refines session world
+Answers plan next rose events session (Err e) = IsCaused (cause_of e) plan rose events
 
 -- after a callback that answered an error the handler may tell nothing
+abbrev pub is_refused : {E : Type 0} → Cause E → Bool
+is_refused (Refused_by e) = true
+is_refused _ = false
+
 abbrev pub may_stop : {T E : Type 0} → Result T (RunError E) → Bool
-may_stop (Err (error.Handler e)) = true
-may_stop _ = false
+may_stop (Ok value) = false
+may_stop (Err e) = is_refused (cause_of e)
 
 -- what was told meanwhile are these events, and no exchange was asked for anything
-abbrev pub Hears : {T E : Type 0} → Result T (RunError E) → Heard E → Heard E → List (Event E ⊥) → Type 0
-Hears result before after events =
-    ToldBy (may_stop result) before.calls after.calls (calls_in events) × Adds before.trace after.trace (told_in events) × (before.faults ≤ after.faults)
-    × (steps_in events ≡ [])
+pub record Hears {E : Type 0} (stops : Bool) (before after : Heard E) (events : List (Event E ⊥)) :
+    Type 0 where
+  pub called : ToldBy stops before.calls after.calls (calls_in events)
+  pub told : Adds before.trace after.trace (told_in events)
+  pub later : before.faults ≤ after.faults
+  pub unstepped : steps_in events ≡ []
+  pub same : AreSame before after
 
--- the same, and the handler and the link were told these events
-abbrev pub Serves : {E : Type 0} → Settings → Plan Outcome → Heard E → Heard E → List Frame → List Frame → Session → Result Flow (RunError E) → Type 0
-Serves {E} settings plan before after staged staged' session result =
-    (events : List (Event E ⊥)) × Hears result before after events × Answers settings plan (Rose before.faults after.faults) events staged staged' session result
+abbrev pub Serves : {T E : Type 0} → Plan Outcome → (T → World → Plan Outcome) → Heard E → Heard E
+    → Session → Result T (RunError E) → Type 0
+Serves {T} {E} plan next before after session result =
+    (events : List (Event E ⊥)) × Hears (may_stop result) before after events
+    × Answers plan next (Rose before.faults after.faults) events session result
 
--- what a command did in code: the frames that it staged, the notice that it gives, and the session after it
-abbrev pub HasEffect : {E : Type 0} → Settings → Effect → List Frame → List Frame → Session → Result Done (RunError E) → Type 0
-HasEffect settings does staged staged' session (Ok done) = (frames : List Frame) × (world : World)
-    × (does ≡ Does (option_to_list done.notice) frames done.outcome world) × (staged' ≡ staged ++ frames) × Refines settings session world
-HasEffect settings does staged staged' session (Err error.NoMemory) = Unit {0}
-HasEffect settings does staged staged' session (Err error.NotBuilt) = does ≡ effect.Not_built
-HasEffect settings does staged staged' session (Err _) = ⊥
+-- these acts were done, whatever follows them
+abbrev pub Does : {E : Type 0} → List Act → World → Heard E → Heard E → Session
+    → Result (Unit {0}) (RunError E) → Type 0
+Does now w before after session result = (later : List Act) → Serves (acts (now ++ later) w)
+    (λ _. acts later) before after session result
 
--- one recorded command was done: what is left of the plan begins with the next
-abbrev pub DoesOne : {E : Type 0} → Settings → Plan Outcome → (List Frame → World → Plan Outcome) → Heard E → Heard E → List Frame → List Frame → Session → Result (Unit {0}) (RunError E) → Type 0
-DoesOne {E} settings plan next before after base staged' session (Ok done) = (events : List (Event E ⊥)) × (frames : List Frame) × (world : World)
-    × Hears {T = Unit {0}} (Ok tt) before after events × Reaches plan events (next frames world) × (staged' ≡ base ++ frames) × Refines settings session world
-DoesOne settings plan next before after base staged' session (Err e) = Serves settings plan before after base staged' session (Err e)
+-- the same, where nobody was told or asked anything
+abbrev pub Turned : {E : Type 0} → List Act → World → Session → Result (Unit {0}) (RunError E)
+    → Type 0
+Turned {E} now w session result =
+    (later : List Act) → Answers {E = E} (acts (now ++ later) w) (λ _. acts later) ⊥ [] session
+    result
 
--- a part of a plan came to what is next, or a call answered an error
-abbrev pub Passes : {E : Type 0} → Plan Outcome → Plan Outcome → List (Event E ⊥) → Result (Unit {0}) (RunError E) → Type 0
-Passes plan next events (Ok done) = Reaches plan events next
-Passes plan next events (Err (error.Handler e)) = Breaks plan events (Handler_error e)
-Passes plan next events (Err _) = ⊥
+-- whether the run goes on in this world
+abbrev pub comes : Flow → World → Outcome
+comes Continue w = Goes w
+comes Ended w = Ends w
+
+-- the plan came to its end
+abbrev pub Completes : {E : Type 0} → Plan Outcome → Heard E → Heard E → Session
+    → Result Flow (RunError E) → Type 0
+Completes plan before after session result = Serves plan (λ flow world. Finish (comes flow world))
+    before after session result
+
+-- the question was put, and answered so
+abbrev pub IsAnsweredBy : {E : Type 0} → (question : Question) → Result (Answer question) E → Call E
+    → Type 0
+IsAnsweredBy {E} question (Ok answer) call = Answered {E = E} {F = ⊥} question answer (Called call)
+IsAnsweredBy {E} question (Err e) call = Refused {E = E} {F = ⊥} question (Handler_error e)
+    (Called call)
+
+abbrev pub Puts : {E : Type 0} → (question : Question) → Heard E → Heard E
+    → Result (Answer question) E → Type 0
+Puts {E} question before after answer = (call : Call E) × IsAnsweredBy question answer call
+    × Calls before after answer call
+
+-- these frames were handed on, whatever follows them
+abbrev pub SendsEach : {E : Type 0} → List Frame → Heard E → Heard E
+    → Result (Unit {0}) (RunError E) → Type 0
+SendsEach {E} frames before after result = (w : World) (session : Session) → Refines session w
+    → (next : Plan Outcome) →
+    Serves (tell_all (map Sent frames) next) (λ (_ : Unit {0}) _. next) before after session result
+
+-- the command did this, or there was no memory, or it is not built
+abbrev pub HasEffect : {E : Type 0} → Effect → Session → Result Done (RunError E) → Type 0
+HasEffect does session (Ok done) = (world : World)
+    × (does ≡ Does_so (option_to_list done.notice) done.outcome world) × Refines session world
+HasEffect does session (Err error.NoMemory) = Unit {0}
+HasEffect does session (Err error.NotBuilt) = does ≡ Unbuilt
+HasEffect does session (Err _) = ⊥

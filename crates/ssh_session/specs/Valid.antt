@@ -1,10 +1,12 @@
 -- Which inputs a session can finish, said positively.
-use Rattle.std.specs.Prelude.{◌≡◌, ◌≢◌, ◌<◌, ◌^◌, ◌⊎◌, ℕ, List, [], ◌∷◌, length, Option, Some, None, Bool, true, false, Result, Ok, Err, codes, drop}
+use Rattle.std.specs.Prelude.{◌≡◌, ◌≢◌, ◌<◌, ◌^◌, ◌⊎◌, ℕ, List, [], ◌∷◌, length, Option, Some, None}
+use Rattle.std.specs.Prelude.{Bool, true, false, Result, Ok, Err, codes, drop}
 use Rattle.ssh_wire.specs.Field.{Flag, Number, Text, SpellsAll, SpellsWhole}
 use Rattle.ssh_wire.specs.Open.{Leads}
 use Rattle.ssh_link.specs.declared.command.Command.{Command as Commanded}
 use Rattle.ssh_link.specs.declared.command.Command.TheVariants as command
-use Rattle.ssh_auth.specs.Requested.{Named, Is_none, Is_password, Is_publickey, Is_interactive, Is_other, named_by, head_fields}
+use Rattle.ssh_auth.specs.Requested.{Named, Is_none, Is_password, Is_publickey, Is_interactive}
+use Rattle.ssh_auth.specs.Requested.{Is_other, named_by, head_fields}
 use Rattle.ssh_link.specs.declared.frame.InputKind.{InputKind}
 use Rattle.ssh_link.specs.declared.frame.InputKind.TheVariants.{Payload, Command, OpenReply, End}
 use Rattle.ssh_keys.specs.declared.signature.Signature.{Signature}
@@ -12,7 +14,8 @@ use Rattle.ssh_keys.specs.Signatures.{EndsInSignature}
 use Rattle.ssh_auth.specs.Layout.{pk_ok, info_request}
 use Rattle.ssh_auth.specs.Request.{prompt_of}
 use Rattle.ssh_auth.specs.Response.{strings, values}
-use Rattle.ssh_auth.specs.Publickey.{Acceptance, Circumstances, Offer, OffersNothing, offer_fields, Offers}
+use Rattle.ssh_auth.specs.Publickey.{Acceptance, Circumstances, Offer, OffersNothing, offer_fields}
+use Rattle.ssh_auth.specs.Publickey.{Offers}
 use Rattle.ssh_auth.specs.declared.auth.Auth.{Auth}
 use Rattle.ssh_auth.specs.declared.auth.Auth.TheVariants.{Accept, UnsupportedMethod, Partial}
 use Rattle.ssh_auth.specs.declared.call.Call.{Call}
@@ -21,85 +24,132 @@ use Rattle.ssh_auth.specs.declared.question.Admission.TheVariants as by
 use Rattle.ssh_auth.specs.declared.question.Question.{Question}
 use Rattle.ssh_auth.specs.declared.question.Question.TheVariants as ask
 use Rattle.ssh_auth.specs.Plan.{Answer}
-use Rattle.ssh_auth.specs.Was.{Was, Banner_so, Admitted_so, Lent_so, Judged_so, Listened_so, Adjusted_so, Done_so, was}
+use Rattle.ssh_auth.specs.Was.{Was, Banner_so, Admitted_so, Lent_so, Judged_so, Listened_so}
+use Rattle.ssh_auth.specs.Was.{Adjusted_so, Done_so, was}
 use Rattle.ssh_session.specs.declared.error.RunError.{RunError}
 use Rattle.ssh_session.specs.declared.error.RunError.TheVariants as error
 use Rattle.ssh_session.specs.declared.gate.Gate.{Gate}
 use Rattle.ssh_session.specs.declared.gate.Gate.TheVariants as gate
-use Rattle.ssh_session.specs.World.{Settings, World, circumstances, has_no_channel}
+use Rattle.ssh_channels.specs.Lines.{next_number}
+use Rattle.ssh_wire.specs.Field.{Values}
+use Rattle.std.specs.Prelude.{IsSome}
+use Rattle.ssh_session.specs.declared.state.EncryptedState.{EncryptedState}
+use Rattle.ssh_session.specs.declared.state.EncryptedState.TheVariants.{WaitingAuthRequest}
+use Rattle.ssh_session.specs.World.{World, circumstances}
 use Rattle.ssh_session.specs.Gate.{gate_of}
 use Rattle.ssh_session.specs.Layout.{banner}
-use Rattle.ssh_session.specs.Said.{grant_fields, channel_field}
-use Rattle.ssh_session.specs.Run.{Turn, calls_of}
+use Rattle.ssh_session.specs.Reading.{Layout, Leaves, Whole, Fields, grant, data_message}
+use Rattle.ssh_session.specs.Reading.{extended_message, eof, close}
+use Rattle.ssh_wire.specs.Messages.{channel_request}
+use Rattle.ssh_session.specs.Run.{Turn, calls_of, is_there}
 
--- boolean signed, string algorithm name, string blob: nothing that can be used is offered, and the rest is not read;
--- or a usable offer is asked about; or it is signed, and string signature ends the request, which holds a signature
+-- boolean signed, string algorithm name, string blob: nothing that can be used is offered, and the
+-- rest is not read; or a usable offer is asked about; or it is signed, and string signature ends
+-- the request, which holds a signature
 abbrev pub AreValidKeyFields : Circumstances → List ℕ → Type 0
 AreValidKeyFields given fields =
-    ((signed : Bool) × (name blob rest : List ℕ) × SpellsAll offer_fields (signed, (name, (blob, tt))) fields rest
+    ((signed : Bool) × (name blob rest : List ℕ) × SpellsAll offer_fields (
+      signed,
+      (name, (blob, tt)),
+    ) fields rest
     × OffersNothing given.accepts given.moment name blob)
     ⊎ ((offer : Offer) × Offers given false offer fields [])
-    ⊎ ((offer : Offer) × (rest : List ℕ) × (signature : Signature) × Offers given true offer fields rest × EndsInSignature signature rest)
+    ⊎ ((offer : Offer) × (rest : List ℕ) × (signature : Signature) × Offers given true offer fields
+    rest × EndsInSignature signature rest)
 
 -- the fields of a request's method fit their layout
 abbrev pub AreValidMethodFields : Circumstances → Named → List ℕ → Type 0
 AreValidMethodFields given Is_none fields = fields ≡ []
 AreValidMethodFields given Is_password fields =
     ((password : List ℕ) × SpellsWhole (Flag ∷ Text ∷ []) (false, (password, tt)) fields)
-    ⊎ ((password new_password : List ℕ) × SpellsWhole (Flag ∷ Text ∷ Text ∷ []) (true, (password, (new_password, tt))) fields)
+    ⊎ ((password new_password : List ℕ) × SpellsWhole (Flag ∷ Text ∷ Text ∷ []) (
+      true,
+      (password, (new_password, tt)),
+    ) fields)
 AreValidMethodFields given Is_publickey fields = AreValidKeyFields given fields
-AreValidMethodFields given Is_interactive fields = (language submethods : List ℕ) × SpellsWhole (Text ∷ Text ∷ []) (language, (submethods, tt)) fields
+AreValidMethodFields given Is_interactive fields = (language submethods : List ℕ)
+    × SpellsWhole (Text ∷ Text ∷ []) (language, (submethods, tt)) fields
 -- of a method that the server does not have nothing is read
 AreValidMethodFields given Is_other fields = Unit {0}
+
+-- no prompts wait for a response
+abbrev pub HasNoPrompt : EncryptedState → Type 0
+HasNoPrompt (WaitingAuthRequest auth) = prompt_of auth ≡ None
+HasNoPrompt _ = Unit {0}
+
+-- the bytes fit the layout
+abbrev pub FitsLayout : Layout → List ℕ → Type 0
+FitsLayout (Leaves said) bytes = Unit {0}
+FitsLayout (Whole fields says) bytes = (values : Values fields) × SpellsWhole fields values bytes
+FitsLayout (Fields fields next) bytes = (values : Values fields) × (rest : List ℕ)
+    × SpellsAll fields values bytes rest × FitsLayout (next values) rest
 
 -- the fields fit their layout, and ask for what is built
 abbrev pub AreValidFields : Circumstances → World → Gate → List ℕ → Type 0
 AreValidFields given w gate.Nothing fields = Unit {0}
 AreValidFields given w gate.Ends fields = Unit {0}
 AreValidFields given w gate.OverCap fields = Unit {0}
-AreValidFields given w gate.ServiceRequest fields = (name : List ℕ) × SpellsWhole (Text ∷ []) (name, tt) fields
+AreValidFields given w gate.ServiceRequest fields = (name : List ℕ) × SpellsWhole (Text ∷ []) (
+  name,
+  tt,
+) fields
 -- a request for the service ssh-connection
 AreValidFields given w gate.UserauthRequest fields = (user name rest : List ℕ)
-    × SpellsAll head_fields (user, (codes "ssh-connection", (name, tt))) fields rest × AreValidMethodFields given (named_by name) rest
+    × SpellsAll head_fields (user, (codes "ssh-connection", (name, tt))) fields rest
+    × AreValidMethodFields given (named_by name) rest
 -- a response to prompts; where none wait it is not read
-AreValidFields given w gate.InfoResponse fields = (prompt_of w.auth ≡ None)
-    ⊎ ((responses : List (List ℕ)) × SpellsWhole (Number ∷ strings responses) (length responses, values responses) fields)
--- an open of a session channel, the only one, with a packet size that is not 0
+AreValidFields given w gate.InfoResponse fields = HasNoPrompt w.user.state
+    ⊎ ((responses : List (List ℕ)) × SpellsWhole (Number ∷ strings responses) (
+      length responses,
+      values responses,
+    ) fields)
+-- an open of a session, for which a number is free
 AreValidFields given w gate.ChannelOpen fields = (peer window packet : ℕ)
-    × Leads (codes "session") peer window packet fields [] × (packet ≢ 0) × (has_no_channel w ≡ true)
-AreValidFields given w gate.WindowAdjust fields = (channel amount : ℕ) × SpellsWhole grant_fields (channel, (amount, tt)) fields
-AreValidFields given w gate.ChannelEof fields = (channel : ℕ) × SpellsWhole channel_field (channel, tt) fields
-AreValidFields given w gate.ChannelClose fields = (channel : ℕ) × SpellsWhole channel_field (channel, tt) fields
+    × Leads (codes "session") peer window packet fields [] × (packet ≢ 0)
+    × IsSome (next_number w.channels.lines)
+AreValidFields given w gate.WindowAdjust fields = FitsLayout grant fields
+AreValidFields given w gate.ChannelData fields = FitsLayout (data_message (is_there w)) fields
+AreValidFields given w gate.ChannelExtendedData fields = FitsLayout (extended_message (is_there w))
+    fields
+AreValidFields given w gate.ChannelEof fields = FitsLayout eof fields
+AreValidFields given w gate.ChannelClose fields = FitsLayout close fields
+-- a request on no channel
+AreValidFields given w gate.ChannelRequest fields = (channel : ℕ) × (name : List ℕ)
+    × (wanted : Bool) × (rest : List ℕ)
+    × SpellsAll channel_request.fields (channel, (name, (wanted, tt))) fields rest
+    × (is_there w channel ≡ false)
 AreValidFields given w gate.NotBuilt fields = ⊥
 
 -- what the command does is built
 abbrev pub IsBuiltCommand : Commanded → Type 0
 IsBuiltCommand (command.Data channel bytes) = Unit {0}
+IsBuiltCommand (command.ExtendedData channel code bytes) = Unit {0}
 IsBuiltCommand (command.Eof channel) = Unit {0}
 IsBuiltCommand (command.Close channel) = Unit {0}
 IsBuiltCommand (command.Answer answer) = Unit {0}
 IsBuiltCommand _ = ⊥
 
 -- a tick is not built
-abbrev pub IsValidKind : Circumstances → Settings → World → InputKind → Type 0
-IsValidKind given settings w End = Unit {0}
-IsValidKind given settings w (Payload payload) = AreValidFields given w (gate_of settings w payload) (drop 1 payload)
-IsValidKind given settings w (Command ticket commanded) = IsBuiltCommand commanded
-IsValidKind given settings w (OpenReply ticket answer) = Unit {0}
-IsValidKind given settings w _ = ⊥
+abbrev pub IsValidKind : Circumstances → World → InputKind → Type 0
+IsValidKind given w End = Unit {0}
+IsValidKind given w (Payload payload) = AreValidFields given w (gate_of w payload) (drop 1 payload)
+IsValidKind given w (Command ticket commanded) = IsBuiltCommand commanded
+IsValidKind given w (OpenReply ticket answer) = Unit {0}
+IsValidKind given w _ = ⊥
 
--- PK_OK, the reply to a probe whose key may sign, is no longer than a payload can be (RFC 4252 section 7)
+-- PK_OK, the reply to a probe whose key may sign, is no longer than a payload can be (RFC 4252
+-- section 7)
 abbrev pub HasShortReply : InputKind → Type 0
 HasShortReply (Payload payload) = (user name blob rest : List ℕ) →
-    SpellsAll head_fields (user, (codes "ssh-connection", (codes "publickey", tt))) (drop 1 payload) rest →
+    SpellsAll head_fields (user, (codes "ssh-connection", (codes "publickey", tt))) (drop 1 payload)
+    rest →
     SpellsAll offer_fields (false, (name, (blob, tt))) rest [] → length (pk_ok name blob) < 2 ^ 32
 HasShortReply _ = Unit {0}
 
--- a callback records nothing but answers to opens: the other commands are not built
-abbrev pub AreAnswers : List Commanded → Type 0
-AreAnswers [] = Unit {0}
-AreAnswers (command.Answer answer ∷ commands) = AreAnswers commands
-AreAnswers (_ ∷ commands) = ⊥
+-- a callback records nothing that is not built
+abbrev pub AreBuilt : List Commanded → Type 0
+AreBuilt [] = Unit {0}
+AreBuilt (command ∷ commands) = IsBuiltCommand command × AreBuilt commands
 
 -- the banner is not too long
 abbrev pub IsFineBanner : Option (List ℕ) → Type 0
@@ -109,7 +159,8 @@ IsFineBanner (Some message) = length (banner message) < 2 ^ 32
 -- keyboard-interactive is had, and the prompts are not too long
 abbrev pub IsFinePrompt : Auth → Type 0
 IsFinePrompt UnsupportedMethod = ⊥
-IsFinePrompt (Partial name instructions prompts) = length (info_request name instructions prompts) < 2 ^ 32
+IsFinePrompt (Partial name instructions prompts) = length (info_request name instructions prompts) <
+    2 ^ 32
 IsFinePrompt _ = Unit {0}
 
 -- a probe is accepted only where its reply is not too long
@@ -126,18 +177,18 @@ IsFineAdmission kind _ answer = Unit {0}
 abbrev pub IsFineAnswer : InputKind → (question : Question) → Answer question → Type 0
 IsFineAnswer kind ask.Banner message = IsFineBanner message
 IsFineAnswer kind (ask.Admits admission) answer = IsFineAdmission kind admission answer
-IsFineAnswer kind (ask.Lends lent) commands = AreAnswers commands
-IsFineAnswer kind (ask.Judges judged) judgement = AreAnswers judgement.commands
-IsFineAnswer kind (ask.Listens address port) listening = AreAnswers listening.commands
+IsFineAnswer kind (ask.Lends lent) commands = AreBuilt commands
+IsFineAnswer kind (ask.Judges judged) judgement = AreBuilt judgement.commands
+IsFineAnswer kind (ask.Listens address port) listening = AreBuilt listening.commands
 IsFineAnswer kind _ answer = Unit {0}
 
 -- the call answered no error, and is fine so
 abbrev pub IsFineSo : {E : Type 0} → InputKind → Was E → Type 0
 IsFineSo kind (Banner_so (Ok message)) = IsFineBanner message
 IsFineSo kind (Admitted_so admission (Ok answer)) = IsFineAdmission kind admission answer
-IsFineSo kind (Lent_so lent (Ok done) commands) = AreAnswers commands
-IsFineSo kind (Judged_so judged (Ok granted) commands) = AreAnswers commands
-IsFineSo kind (Listened_so address port port_after (Ok granted) commands) = AreAnswers commands
+IsFineSo kind (Lent_so lent (Ok done) commands) = AreBuilt commands
+IsFineSo kind (Judged_so judged (Ok granted) commands) = AreBuilt commands
+IsFineSo kind (Listened_so address port port_after (Ok granted) commands) = AreBuilt commands
 IsFineSo kind (Adjusted_so channel current (Ok window)) = Unit {0}
 IsFineSo kind (Done_so place outcome (Ok done)) = Unit {0}
 IsFineSo kind _ = ⊥
@@ -149,10 +200,12 @@ abbrev pub AreFine : {E : Type 0} → InputKind → List (Call E) → Type 0
 AreFine kind [] = Unit {0}
 AreFine kind (call ∷ calls) = IsFine kind call × AreFine kind calls
 
--- in this world the input is valid, and so are the answers that it got, where the verifier accepts these signatures
-abbrev pub IsValid : {E : Type 0} → Acceptance → Settings → World → Turn E → Type 0
-IsValid accepts settings w turn =
-    IsValidKind (circumstances accepts settings turn.input.moment) settings w turn.input.kind × AreFine turn.input.kind (calls_of turn)
+-- in this world the input is valid, and so are the answers that it got, where the verifier accepts
+-- these signatures
+abbrev pub IsValid : {E : Type 0} → Acceptance → World → Turn E → Type 0
+IsValid accepts w turn =
+    IsValidKind (circumstances accepts w.settings turn.input.moment) w turn.input.kind
+    × AreFine turn.input.kind (calls_of turn)
 
 -- no answer but these three
 abbrev pub IsComplete : {E : Type 0} → Result (Unit {0}) (RunError E) → Type 0
@@ -162,7 +215,8 @@ IsComplete (Err error.InputLimit) = Unit {0}
 IsComplete (Err e) = ⊥
 
 -- an input that ends a run: the end, DISCONNECT, whose number is 1, or a request over the cap
-abbrev pub IsEnding : Settings → World → InputKind → Type 0
-IsEnding settings w End = Unit {0}
-IsEnding settings w (Payload payload) = ((fields : List ℕ) × (payload ≡ 1 ∷ fields)) ⊎ (gate_of settings w payload ≡ gate.OverCap)
-IsEnding settings w _ = ⊥
+abbrev pub IsEnding : World → InputKind → Type 0
+IsEnding w End = Unit {0}
+IsEnding w (Payload payload) = ((fields : List ℕ) × (payload ≡ 1 ∷ fields))
+    ⊎ (gate_of w payload ≡ gate.OverCap)
+IsEnding w _ = ⊥

@@ -1,14 +1,13 @@
 -- The state of a session in the standard's terms. It is a record of the definitions alone: the code
 -- has what it needs of it, and the relation `Refines` ties the two.
-use Rattle.std.specs.Prelude.{◌+◌, ◌%◌, ◌^◌, ◌==◌, ◌&&◌, ℕ, List, [], length, Bool, false}
+use Rattle.std.specs.Prelude.{ℕ, Bool, List, [], false}
+use Rattle.ssh_link.specs.Frames.{Frame}
 use Rattle.ssh_handler.specs.declared.config.Config.{Config}
-use Rattle.ssh_session.specs.declared.phase.Phase.{Phase}
-use Rattle.ssh_session.specs.declared.phase.Phase.TheVariants.{ServiceRequest}
-use Rattle.ssh_session.specs.Pending.{Pending}
-use Rattle.ssh_auth.specs.declared.auth_request.AuthRequest.{AuthRequest}
 use Rattle.ssh_auth.specs.Publickey.{Acceptance, Circumstances}
-use Rattle.ssh_auth.specs.Request.{server_request}
-use Rattle.ssh_session.specs.Entry.{Entry}
+use Rattle.ssh_channels.specs.Lines.{Lines, no_lines, write}
+use Rattle.ssh_session.specs.declared.state.EncryptedState.{EncryptedState}
+use Rattle.ssh_session.specs.declared.state.EncryptedState.TheVariants.{WaitingAuthServiceRequest}
+use Rattle.ssh_session.specs.Opening.{Opening}
 
 -- what is fixed in a run
 pub record Settings : Type 0 where
@@ -18,42 +17,54 @@ pub record Settings : Type 0 where
   -- the line by which the peer's software named itself (RFC 4253 section 4.2)
   pub remote_sshid : List ℕ
 
--- a run of a server that is set up so, over a key exchange with this session id, for a peer of this name
+-- a run of a server that is set up so, over a key exchange with this session id, for a peer of this
+-- name
 abbrev pub settings_of : Config → List ℕ → List ℕ → Settings
-settings_of config session_id remote_sshid = record { config = config; session_id = session_id; remote_sshid = remote_sshid }
+settings_of config session_id remote_sshid =
+    record { config = config; session_id = session_id; remote_sshid = remote_sshid }
+
+-- how far authentication has come (RFC 4252)
+pub record User : Type 0 where
+  -- what is waited for, with what the requests so far left
+  pub state : EncryptedState
+  -- a USERAUTH_REQUEST was finished
+  pub requested : Bool
+
+-- the channels (RFC 4254 section 5)
+pub record Channels : Type 0 where
+  -- each channel, the numbers that are pending, and the frames that were written
+  pub lines : Lines
+  -- what the peer said of each open that waits for its answer, by this side's number
+  pub opens : List (ℕ × Opening)
+  -- up to how many bytes the room of a channel is filled
+  pub target : ℕ
+
+pub record World : Type 0 where
+  pub settings : Settings
+  pub user : User
+  pub channels : Channels
+
+-- before the first input
+abbrev pub opening_world : Settings → World
+opening_world settings = record {
+  settings = settings;
+  user = record { state = WaitingAuthServiceRequest false false; requested = false };
+  channels = record { lines = no_lines; opens = []; target = settings.config.window_size };
+}
 
 -- what a request at this moment is judged by, where the verifier accepts these signatures
 abbrev pub circumstances : Acceptance → Settings → (moment : ℕ) → Circumstances
-circumstances accepts settings moment = record { accepts = accepts; session_id = settings.session_id; moment = moment }
+circumstances accepts settings moment =
+    record { accepts = accepts; session_id = settings.session_id; moment = moment }
 
-pub record World : Type 0 where
-  pub phase : Phase
-  -- the bound user and service, the methods that can continue, the partial flag and the count of rejections
-  pub auth : AuthRequest
-  -- a USERAUTH_REQUEST was finished
-  pub requested : Bool
-  -- the channel number that was drawn last
-  pub last : ℕ
-  -- the opens of the peer that were not answered yet
-  pub pending : List Pending
-  -- the channels
-  pub entries : List Entry
+-- the peer waits for this from now on
+abbrev pub waits_for : EncryptedState → World → World
+waits_for state w = record w { user = record w.user { state = state } }
 
--- before the first input; the first channel number that is drawn is 2
-abbrev pub opening_world : Settings → World
-opening_world settings = record {
-  phase = ServiceRequest;
-  auth = server_request settings.config.methods;
-  requested = false;
-  last = 1;
-  pending = [];
-  entries = [];
-}
+-- the channels are these from now on
+abbrev pub lined : (Lines → Lines) → World → World
+lined change w = record w { channels = record w.channels { lines = change w.channels.lines } }
 
--- the number after the one that was drawn last; no number is taken when one is drawn
-abbrev pub next_number : World → ℕ
-next_number w = (w.last + 1) % 2 ^ 32
-
--- no channel is open, and no open waits for its answer
-abbrev pub has_no_channel : World → Bool
-has_no_channel w = (length w.entries == 0) && (length w.pending == 0)
+-- these frames are written
+abbrev pub writes : List Frame → World → World
+writes frames = lined (write frames)

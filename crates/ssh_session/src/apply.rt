@@ -1,22 +1,20 @@
-// What one command does.
-ghost use Rattle.std.specs.Prelude.{◌≡◌, ◌++◌, ◌∷◌, [], OnOk, IfErr, Some};
-ghost use Rattle.ssh_wire.specs.declared.error.WireError.TheVariants.{NoMemory};
-ghost use Rattle.ssh_session.specs.World.{Settings, World};
-ghost use Rattle.ssh_session.specs.Pending.{pending_of, answered};
-ghost use Rattle.ssh_session.specs.Entries.{find, without};
-ghost use Rattle.ssh_session.specs.ChannelLayout as layout;
-ghost use Rattle.ssh_session.specs.Effect.{effect, data_effect, eof_effect, close_effect, answer_effect, decides, confirms, fails_open};
-ghost use Rattle.ssh_session.specs.Serve.{Refines, HasEffect};
+// What one command does, or why it is refused (RFC 4254 section 5).
+ghost use Rattle.std.specs.Prelude.{◌≡◌, None};
+ghost use Rattle.ssh_session.specs.World.{World};
+ghost use Rattle.ssh_session.specs.Opens.{opening_of};
+ghost use Rattle.ssh_wire.specs.Open.{open_failure};
+ghost use Rattle.ssh_wire.specs.OpenFailures.{open_failure_code};
+ghost use Rattle.ssh_session.specs.Effect.{not_usable, effect, done_by, needs, lacks, Sending};
+ghost use Rattle.ssh_session.specs.Effect.{Closing, Opening_of, answers, confirms};
+ghost use Rattle.ssh_session.specs.Effect.{fails_open, failure_of};
+ghost use Rattle.ssh_session.specs.Serve.{Refines, HasEffect, IsSamePeer};
 
-use crate::channel::Channel;
-use crate::channel_frames::{close_frame, confirmation_frame, eof_frame, failure_frame};
-use crate::pending::{PendingOpen, pending_of};
-use crate::table::{place_of, remove};
+use crate::channel_frames::{confirmation_frame, failure_frame};
+use crate::peer_open::PeerOpen;
 use crate::{RunError, Session};
-use bytes::Bytes;
-use ssh_link::{Command, CommandOutcome, Frame, Notice, OpenAnswer, Refusal};
+use ssh_channels::ChannelParams;
+use ssh_link::{Command, CommandOutcome, Notice, OpenAnswer, Refusal};
 use ssh_wire::{ChannelId, ChannelOpenFailure, Text, WireError};
-use std::mem;
 
 /// What came of a command, and the notice that it gives.
 #[derive(Debug, Drop)]
@@ -47,21 +45,104 @@ impl Done {
     }
 }
 
+/// Why a channel cannot be used: the peer has not confirmed it, or what is asked for was ended.
+fn unusable(confirmed: bool, ended: bool) -> Option<Refusal>
+    ensures { result ≡ not_usable confirmed ended }
+{
+    if !confirmed {
+        return Some(Refusal::NotConfirmed);
+    }
+    if ended {
+        return Some(Refusal::SendingEnded);
+    }
+    None
+}
+
 impl Session {
-    /// Does one command: its frames are staged.
-    pub(crate) fn apply<E>(
-        &mut self,
-        command: Command,
-        staged: &mut Vec<Frame>,
-    ) -> Result<Done, RunError<E>>
-        ensures { (settings : Settings) (w : World) → Refines settings self.old w →
-            HasEffect settings (effect settings w command) staged.old.items staged.new.items self.new result }
+    /// Does one command, or refuses it.
+    pub(crate) fn apply<E>(&mut self, command: Command) -> Result<Done, RunError<E>>
+        ensures does { (w : World) → Refines self.old w →
+            HasEffect (effect w command) self.new result }
+        ensures peer { IsSamePeer self.old self.new }
+    {
+        match self.refusal(&command) {
+            Some(why) => {
+                drop(command);
+                Ok(Done::refused(why))
+            }
+            None => self.do_command(command),
+        }
+    }
+
+    /// Why the command is refused.
+    fn refusal(&self, command: &Command) -> Option<Refusal>
+        ensures { (w : World) → Refines self.now w → result ≡ lacks w (needs command.now) }
     {
         match command {
-            Command::Data { channel, bytes } => self.send_data(channel, bytes, staged),
-            Command::Eof { channel } => self.send_eof(channel, staged),
-            Command::Close { channel } => self.close(channel, staged),
-            Command::Answer(answer) => self.answer_open(answer, staged),
+            Command::Data { channel, .. } => self.no_sending(*channel),
+            Command::ExtendedData { channel, .. } => self.no_sending(*channel),
+            Command::Eof { channel } => self.no_sending(*channel),
+            Command::Close { channel } => self.no_closing(*channel),
+            Command::Answer(answer) => self.no_open(answer.channel),
+            _ => None,
+        }
+    }
+
+    fn no_sending(&self, channel: ChannelId) -> Option<Refusal>
+        ensures { (w : World) → Refines self.now w → result ≡ lacks w (Sending channel) }
+    {
+        match self.table.params(channel) {
+            Some(line) => unusable(line.confirmed, line.ended),
+            None => Some(Refusal::UnknownChannel),
+        }
+    }
+
+    fn no_closing(&self, channel: ChannelId) -> Option<Refusal>
+        ensures { (w : World) → Refines self.now w → result ≡ lacks w (Closing channel) }
+    {
+        match self.table.params(channel) {
+            Some(line) => unusable(line.confirmed, line.pending_close),
+            None => Some(Refusal::UnknownChannel),
+        }
+    }
+
+    fn no_open(&self, channel: ChannelId) -> Option<Refusal>
+        ensures { (w : World) → Refines self.now w → result ≡ lacks w (Opening_of channel) }
+    {
+        match self.opens.get(&channel.0) {
+            Some(_) => None,
+            None => Some(Refusal::UnknownOpen),
+        }
+    }
+
+    /// A command that lacks nothing is done.
+    fn do_command<E>(&mut self, command: Command) -> Result<Done, RunError<E>>
+        ensures does { (w : World) → Refines self.old w →
+            HasEffect (done_by w command) self.new result }
+        ensures peer { IsSamePeer self.old self.new }
+    {
+        match command {
+            Command::Data { channel, bytes } => {
+                self.table.data(channel, bytes, false)?;
+                Ok(Done::accepted())
+            }
+            Command::ExtendedData {
+                channel,
+                ext,
+                bytes,
+            } => {
+                self.table.extended_data(channel, ext, bytes, false)?;
+                Ok(Done::accepted())
+            }
+            Command::Eof { channel } => {
+                self.table.eof(channel)?;
+                Ok(Done::accepted())
+            }
+            Command::Close { channel } => {
+                self.table.close(channel)?;
+                Ok(Done::accepted())
+            }
+            Command::Answer(answer) => self.answer_open(answer),
             unbuilt => {
                 drop(unbuilt);
                 Err(RunError::NotBuilt)
@@ -69,209 +150,106 @@ impl Session {
         }
     }
 
-    /// Data for the peer (RFC 4254 section 5.2).
-    fn send_data<E>(
-        &mut self,
-        channel: ChannelId,
-        bytes: Bytes,
-        staged: &mut Vec<Frame>,
-    ) -> Result<Done, RunError<E>>
-        ensures { (settings : Settings) (w : World) → Refines settings self.old w →
-            HasEffect settings (data_effect w bytes (find channel.0 w.entries)) staged.old.items staged.new.items self.new result }
-    {
-        let Some(place) = place_of(&self.channels, channel) else {
-            return Ok(Done::refused(Refusal::UnknownChannel));
-        };
-        if self.channels[place].eof {
-            return Ok(Done::refused(Refusal::SendingEnded));
-        }
-        self.channels[place].accept(self.alloc, bytes, staged)?;
-        Ok(Done::accepted())
-    }
-
-    /// The end of the data for the peer (RFC 4254 section 5.3).
-    fn send_eof<E>(
-        &mut self,
-        channel: ChannelId,
-        staged: &mut Vec<Frame>,
-    ) -> Result<Done, RunError<E>>
-        ensures { (settings : Settings) (w : World) → Refines settings self.old w →
-            HasEffect settings (eof_effect w (find channel.0 w.entries)) staged.old.items staged.new.items self.new result }
-    {
-        let Some(place) = place_of(&self.channels, channel) else {
-            return Ok(Done::refused(Refusal::UnknownChannel));
-        };
-        let entry = &self.channels[place];
-        if entry.eof {
-            return Ok(Done::refused(Refusal::SendingEnded));
-        }
-        if entry.waits() {
-            return Err(RunError::NotBuilt);
-        }
-        staged.push(eof_frame(channel, entry.peer))?;
-        self.channels[place].eof = true;
-        Ok(Done::accepted())
-    }
-
-    /// The close of a channel (RFC 4254 section 5.3).
-    fn close<E>(&mut self, channel: ChannelId, staged: &mut Vec<Frame>) -> Result<Done, RunError<E>>
-        ensures { (settings : Settings) (w : World) → Refines settings self.old w →
-            HasEffect settings (close_effect w (find channel.0 w.entries)) staged.old.items staged.new.items self.new result }
-    {
-        let Some(place) = place_of(&self.channels, channel) else {
-            return Ok(Done::refused(Refusal::UnknownChannel));
-        };
-        let entry = &self.channels[place];
-        if entry.waits() {
-            return Err(RunError::NotBuilt);
-        }
-        let peer = entry.peer;
-        self.drop_channel(channel, peer, staged)?;
-        Ok(Done::accepted())
-    }
-
     /// The answer to an open of the peer (RFC 4254 section 5.1).
-    fn answer_open<E>(
-        &mut self,
-        answer: OpenAnswer,
-        staged: &mut Vec<Frame>,
-    ) -> Result<Done, RunError<E>>
-        ensures { (settings : Settings) (w : World) → Refines settings self.old w →
-            HasEffect settings (answer_effect settings w answer (pending_of answer.channel.0 w.pending)) staged.old.items staged.new.items self.new result }
+    fn answer_open<E>(&mut self, answer: OpenAnswer) -> Result<Done, RunError<E>>
+        ensures does { (w : World) → Refines self.old w →
+            HasEffect (answers answer (opening_of answer.channel.0 w) w) self.new result }
+        ensures peer { IsSamePeer self.old self.new }
     {
         let OpenAnswer {
             channel,
             rejection,
             texts,
         } = answer;
-        let Some(opening) = pending_of(&self.pending, channel) else {
-            return Ok(Done::refused(Refusal::UnknownOpen));
+        let Some(opening) = self.opens.get(&channel.0).copied() else {
+            return Ok(Done::accepted());
         };
         match rejection {
-            None => self.confirm_open(opening, staged),
-            Some(reason) => self.reject_open(opening, reason, texts, staged),
+            None => self.confirm_open(channel, opening),
+            Some(reason) => self.refuse_open(channel, opening, reason, texts),
         }
     }
 
-    /// The open of this number waits no longer.
-    fn take_pending(&mut self, channel: ChannelId) -> Result<(), WireError>
-        ensures ok { OnOk result (self.new ≡ record self.old { pending = self.new.pending }) }
-        ensures answered { OnOk result (self.new.pending.items ≡ answered channel.0 self.old.pending.items) }
-        ensures memory { IfErr result (λ e. e ≡ NoMemory) }
-    {
-        let pending = mem::replace(&mut self.pending, Vec::new(self.alloc));
-        self.pending = pending
-            .into_iter()
-            .filter(|opening| opening.number != channel)
-            .collect(self.alloc)?;
-        Ok(())
-    }
-
     /// The open becomes a channel.
-    fn confirm_open<E>(
-        &mut self,
-        opening: PendingOpen,
-        staged: &mut Vec<Frame>,
-    ) -> Result<Done, RunError<E>>
-        ensures { (settings : Settings) (w : World) → Refines settings self.old w →
-            HasEffect settings (confirms settings w opening) staged.old.items staged.new.items self.new result }
+    fn confirm_open<E>(&mut self, number: ChannelId, said: PeerOpen) -> Result<Done, RunError<E>>
+        ensures does { (w : World) → Refines self.old w →
+            HasEffect (confirms number.0 said w) self.new result }
+        ensures peer { IsSamePeer self.old self.new }
     {
         let room = self.config.window_size;
-        let frame = confirmation_frame(
+        let own_packet = self.config.maximum_packet_size;
+        let frame = confirmation_frame(self.alloc, number, said.peer, room, own_packet)?;
+        let params = ChannelParams::new(
             self.alloc,
-            opening.number,
-            opening.peer,
+            said.peer,
+            number,
+            said.window,
             room,
-            self.config.maximum_packet_size,
-        )?;
-        staged.push(frame)?;
-        self.take_pending(opening.number)?;
-        self.channels.push(Channel::open(
-            self.alloc,
-            opening.number,
-            opening.peer,
-            opening.window,
-            opening.packet,
-            room,
-        ))?;
+            said.packet,
+            own_packet,
+        );
+        self.table.insert(params)?;
+        let _ = self.opens.remove(&number.0);
+        self.table.stage(frame)?;
         Ok(Done {
             notice: Some(Notice::Ready {
-                channel: opening.number,
-                window: opening.window,
-                packet: opening.packet,
+                channel: number,
+                window: said.window,
+                packet: said.packet,
             }),
             outcome: CommandOutcome::Accepted,
         })
     }
 
-    /// The open is refused, in the words of the answer, or in those of the reason.
-    fn reject_open<E>(
+    /// The open is refused, with these words or those of the reason.
+    fn refuse_open<E>(
         &mut self,
-        opening: PendingOpen,
+        number: ChannelId,
+        said: PeerOpen,
         reason: ChannelOpenFailure,
         texts: Option<(Text, Text)>,
-        staged: &mut Vec<Frame>,
     ) -> Result<Done, RunError<E>>
-        ensures { (settings : Settings) (w : World) → Refines settings self.old w →
-            HasEffect settings (decides settings w opening (Some reason) texts) staged.old.items staged.new.items self.new result }
+        ensures does { (w : World) → Refines self.old w →
+            HasEffect (fails_open number.0 (failure_of said reason texts) w) self.new result }
+        ensures peer { IsSamePeer self.old self.new }
     {
         match texts {
-            None => self.fail_open(opening, reason, reason.description(), "en", staged),
-            Some((description, language)) => self.fail_open(
-                opening,
-                reason,
-                description.as_str(),
-                language.as_str(),
-                staged,
-            ),
+            Some((description, language)) => {
+                self.fail_open(
+                    number,
+                    said,
+                    reason,
+                    description.as_str(),
+                    language.as_str(),
+                )
+            }
+            None => self.fail_open(number, said, reason, reason.description(), "en"),
         }
     }
 
-    /// The open is refused in these words.
     fn fail_open<E>(
         &mut self,
-        opening: PendingOpen,
+        number: ChannelId,
+        said: PeerOpen,
         reason: ChannelOpenFailure,
         description: &str,
         language: &str,
-        staged: &mut Vec<Frame>,
     ) -> Result<Done, RunError<E>>
-        ensures { (settings : Settings) (w : World) → Refines settings self.old w →
-            HasEffect settings (fails_open w opening reason description.now language.now) staged.old.items staged.new.items self.new result }
+        ensures does { (w : World) → Refines self.old w →
+            HasEffect (fails_open number.0 (open_failure said.peer (open_failure_code reason)
+            description.now language.now) w) self.new result }
+        ensures peer { IsSamePeer self.old self.new }
     {
-        let frame = match failure_frame(
-            self.alloc,
-            opening.number,
-            opening.peer,
-            reason,
-            description,
-            language,
-        ) {
-            Ok(frame) => frame,
-            Err(WireError::TooLong) => return Ok(Done::refused(Refusal::TooLong)),
-            Err(_) => return Err(RunError::NoMemory),
-        };
-        staged.push(frame)?;
-        self.take_pending(opening.number)?;
-        Ok(Done::accepted())
-    }
-
-    /// A CLOSE goes out, and the channel is gone.
-    pub(crate) fn drop_channel(
-        &mut self,
-        channel: ChannelId,
-        peer: u32,
-        staged: &mut Vec<Frame>,
-    ) -> Result<(), WireError>
-        ensures gone { (settings : Settings) (w : World) → Refines settings self.old w →
-            OnOk result (Refines settings self.new (record w { entries = without channel.0 w.entries })) }
-        ensures closes { OnOk result (staged.new.items ≡ staged.old.items ++ layout.close_frame channel.0 peer ∷ []) }
-        ensures kept { OnOk result (self.new ≡ record self.old { channels = self.new.channels }) }
-        ensures memory { IfErr result (λ e. e ≡ NoMemory) }
-    {
-        staged.push(close_frame(channel, peer))?;
-        let channels = mem::replace(&mut self.channels, Vec::new(self.alloc));
-        self.channels = remove(self.alloc, channels, channel)?;
-        Ok(())
+        let alloc = self.alloc;
+        match failure_frame(alloc, number, said.peer, reason, description, language) {
+            Ok(frame) => {
+                self.table.stage(frame)?;
+                self.table.drop_pending(number);
+                let _ = self.opens.remove(&number.0);
+                Ok(Done::accepted())
+            }
+            Err(WireError::TooLong) => Ok(Done::refused(Refusal::TooLong)),
+            Err(_) => Err(RunError::NoMemory),
+        }
     }
 }

@@ -3,13 +3,12 @@ ghost use Rattle.std.specs.Prelude.{◌≡◌, ◌≤◌, ◌<◌, ◌^◌, ◌�
 ghost use Rattle.ssh_wire.specs.declared.error.WireError.TheVariants.{TooLong, NoMemory};
 ghost use Rattle.ssh_wire.specs.OpenFailures.{open_failure_code};
 ghost use Rattle.ssh_wire.specs.Open.{open_failure};
-ghost use Rattle.ssh_session.specs.ChannelLayout as layout;
+ghost use Rattle.ssh_channels.specs.Layout.{on_channel};
+ghost use Rattle.ssh_session.specs.Opens as layout;
 
 use bytes::Bytes;
 use ssh_link::Frame;
-use ssh_wire::message::{
-    CHANNEL_CLOSE, CHANNEL_EOF, CHANNEL_OPEN_CONFIRMATION, CHANNEL_OPEN_FAILURE,
-};
+use ssh_wire::message::{CHANNEL_OPEN_CONFIRMATION, CHANNEL_OPEN_FAILURE};
 use ssh_wire::{ChannelId, ChannelOpenFailure, WireError, put_text, put_u8, put_u32};
 use std::alloc::Global;
 
@@ -19,7 +18,7 @@ const MAX_FAILURE_TEXTS: usize = u32::MAX as usize - 17;
 
 /// A frame of this side's channel with this payload, which may go out at once.
 fn frame_on(own: ChannelId, payload: Vec<u8>) -> Result<Frame, WireError>
-    ensures ok { IfOk result (λ f. f ≡ layout.on_channel own.0 payload.items) }
+    ensures ok { IfOk result (λ f. f ≡ on_channel own.0 payload.items) }
     ensures memory { IfErr result (λ e. e ≡ NoMemory) }
 {
     Ok(Frame::new(Bytes::from_vec(payload)?, None, Some(own)))
@@ -56,9 +55,12 @@ pub(crate) fn failure_frame(
     description: &str,
     language: &str,
 ) -> Result<Frame, WireError>
-    ensures ok { IfOk result (λ f. f ≡ layout.failure_frame own.0 peer (open_failure_code reason) description.now language.now) }
+    ensures ok { IfOk result (λ f. f
+        ≡ layout.failure_frame own.0
+        (open_failure peer (open_failure_code reason) description.now language.now)) }
     ensures too_long { IsErrOf result WireError.TooLong
-        ↔ (2 ^ 32 ≤ length (open_failure peer (open_failure_code reason) description.now language.now)) }
+        ↔ (2 ^ 32 ≤ length (open_failure peer (open_failure_code reason) description.now
+        language.now)) }
     ensures errors { IfErr result (λ e. (e ≡ TooLong) ⊎ (e ≡ NoMemory)) }
 {
     if description.len().saturating_add(language.len()) > MAX_FAILURE_TEXTS {
@@ -78,7 +80,8 @@ fn failure_payload(
 ) -> Result<Vec<u8>, WireError>
     requires description { length description.now < 2 ^ 32 }
     requires language { length language.now < 2 ^ 32 }
-    ensures ok { IfOk result (λ payload. payload.items ≡ open_failure peer (open_failure_code reason) description.now language.now) }
+    ensures ok { IfOk result (λ payload. payload.items
+        ≡ open_failure peer (open_failure_code reason) description.now language.now) }
     ensures memory { IfErr result (λ e. e ≡ NoMemory) }
 {
     let mut payload = Vec::new(alloc);
@@ -88,20 +91,4 @@ fn failure_payload(
     put_text(&mut payload, description)?;
     put_text(&mut payload, language)?;
     Ok(payload)
-}
-
-/// CHANNEL_EOF: no more data follow. Takes no memory (RFC 4254 section 5.3).
-pub(crate) fn eof_frame(own: ChannelId, peer: u32) -> Frame
-    ensures { result ≡ layout.eof_frame own.0 peer }
-{
-    let [a, b, c, d] = peer.to_be_bytes();
-    Frame::short(&[CHANNEL_EOF, a, b, c, d], None, Some(own))
-}
-
-/// CHANNEL_CLOSE: nothing more follows. Takes no memory (RFC 4254 section 5.3).
-pub(crate) fn close_frame(own: ChannelId, peer: u32) -> Frame
-    ensures { result ≡ layout.close_frame own.0 peer }
-{
-    let [a, b, c, d] = peer.to_be_bytes();
-    Frame::short(&[CHANNEL_CLOSE, a, b, c, d], None, Some(own))
 }

@@ -1,172 +1,112 @@
-// Messages of the peer on its channels.
-ghost use Rattle.std.specs.Prelude.{◌≡◌, ◌++◌, ℕ, List};
-ghost use Rattle.ssh_link.specs.Frames.{Frame as FrameOf};
-ghost use Rattle.ssh_session.specs.declared.gate.Gate.TheVariants as gate;
-ghost use Rattle.ssh_session.specs.World.{Settings, World};
-ghost use Rattle.ssh_session.specs.Entries.{find};
-ghost use Rattle.ssh_session.specs.Said.{Said, Fits};
-ghost use Rattle.ssh_session.specs.Rows.{row, grant_row, window_told, peer_eof_row, peer_close_row};
-ghost use Rattle.ssh_session.specs.Serve.{Refines, Serves, heard, IsSuited};
+// The channels of a session: each call of their table, as the standard sees it.
+ghost use Rattle.std.specs.Prelude.{◌≡◌, ◌∷◌, [], false, length, OnOk, OnErr, IfOk, IfErr};
+ghost use Rattle.ssh_channels.specs.declared.error.TableError.TheVariants.{NoMemory};
+ghost use Rattle.ssh_channels.specs.Lines.{find, takes_grant, takes_in, peer_closes, goes_on};
+ghost use Rattle.ssh_channels.specs.Lines.{wants};
+ghost use Rattle.ssh_session.specs.World.{World, lined, writes};
+ghost use Rattle.ssh_session.specs.Run.{is_there};
+ghost use Rattle.ssh_channels.specs.Does.{credit_after, coming_of, goes_out};
+ghost use Rattle.ssh_session.specs.Serve.{Refines, IsSamePeer, is_spent};
 
-use crate::message::{read_channel, read_grant};
-use crate::table::place_of;
-use crate::{Flow, RunError, Session};
-use ssh_auth::{Happening, Lent};
-use ssh_handler::Handler;
-use ssh_link::{ChannelMsg, Frame, Link, Notice};
+use crate::Session;
+use bytes::Bytes;
+use ssh_channels::{Adjusted, TableError};
+use ssh_link::Frame;
 use ssh_wire::ChannelId;
 
 impl Session {
-    /// CHANNEL_WINDOW_ADJUST (RFC 4254 section 5.2).
-    pub(crate) fn serve_window_adjust<H: Handler, L: Link>(
-        &mut self,
-        handler: &mut H,
-        link: &mut L,
-        fields: &[u8],
-        staged: &mut Vec<Frame>,
-    ) -> Result<Flow, RunError<H::Error>>
-        requires suits { IsSuited H.suits self.old }
-        ensures { (settings : Settings) (w : World) (moment : ℕ) → Refines settings self.old w →
-            (said : Said) × Fits gate.WindowAdjust fields.now said × Serves settings (row settings moment w said)
-            (heard (H.AuthHandler.told handler.old) (L.trace link.old) (L.faults link.old)) (heard (H.AuthHandler.told handler.new) (L.trace link.new) (L.faults link.new)) staged.old.items staged.new.items self.new result }
+    /// Whether there is a channel of this number that both sides agreed to.
+    pub(crate) fn is_there(&self, channel: ChannelId) -> bool
+        ensures { (w : World) → Refines self.now w → result ≡ is_there w channel.0 }
     {
-        let (channel, amount) = read_grant(fields)?;
-        self.grant(handler, link, channel, amount, staged)
+        match self.table.params(channel) {
+            Some(line) => line.confirmed,
+            None => false,
+        }
     }
 
-    /// CHANNEL_EOF (RFC 4254 section 5.3).
-    pub(crate) fn serve_channel_eof<H: Handler, L: Link>(
-        &mut self,
-        handler: &mut H,
-        link: &mut L,
-        fields: &[u8],
-        staged: &mut Vec<Frame>,
-    ) -> Result<Flow, RunError<H::Error>>
-        requires suits { IsSuited H.suits self.old }
-        ensures { (settings : Settings) (w : World) (moment : ℕ) → Refines settings self.old w →
-            (said : Said) × Fits gate.ChannelEof fields.now said × Serves settings (row settings moment w said)
-            (heard (H.AuthHandler.told handler.old) (L.trace link.old) (L.faults link.old)) (heard (H.AuthHandler.told handler.new) (L.trace link.new) (L.faults link.new)) staged.old.items staged.new.items self.new result }
+    /// A frame is written.
+    pub(crate) fn write(&mut self, frame: Frame) -> Result<(), TableError>
+        ensures world { OnOk result ((w : World) → Refines self.old w →
+            Refines self.new (writes (frame ∷ []) w)) }
+        ensures memory { IfErr result (λ e. e ≡ NoMemory) }
+        ensures peer { IsSamePeer self.old self.new }
     {
-        let channel = read_channel(fields)?;
-        self.peer_eof(handler, link, channel, staged)
+        self.table.stage(frame)
     }
 
-    /// CHANNEL_CLOSE (RFC 4254 section 5.3).
-    pub(crate) fn serve_channel_close<H: Handler, L: Link>(
+    /// The peer grants more. Answers how many bytes may still be sent, where the channel is there.
+    pub(crate) fn take_grant(
         &mut self,
-        handler: &mut H,
-        link: &mut L,
-        fields: &[u8],
-        staged: &mut Vec<Frame>,
-    ) -> Result<Flow, RunError<H::Error>>
-        requires suits { IsSuited H.suits self.old }
-        ensures { (settings : Settings) (w : World) (moment : ℕ) → Refines settings self.old w →
-            (said : Said) × Fits gate.ChannelClose fields.now said × Serves settings (row settings moment w said)
-            (heard (H.AuthHandler.told handler.old) (L.trace link.old) (L.faults link.old)) (heard (H.AuthHandler.told handler.new) (L.trace link.new) (L.faults link.new)) staged.old.items staged.new.items self.new result }
-    {
-        let channel = read_channel(fields)?;
-        self.peer_close(handler, link, channel, staged)
-    }
-
-    /// The peer grants more on a channel: what waits goes out, as far as the credit goes.
-    fn grant<H: Handler, L: Link>(
-        &mut self,
-        handler: &mut H,
-        link: &mut L,
         channel: ChannelId,
         amount: u32,
-        staged: &mut Vec<Frame>,
-    ) -> Result<Flow, RunError<H::Error>>
-        requires suits { IsSuited H.suits self.old }
-        ensures { (settings : Settings) (w : World) → Refines settings self.old w →
-            Serves settings (grant_row settings w amount (find channel.0 w.entries))
-            (heard (H.AuthHandler.told handler.old) (L.trace link.old) (L.faults link.old)) (heard (H.AuthHandler.told handler.new) (L.trace link.new) (L.faults link.new)) staged.old.items staged.new.items self.new result }
+    ) -> Result<Option<u32>, TableError>
+        ensures credit { (w : World) → Refines self.old w →
+            IfOk result (λ credit. credit
+            ≡ credit_after amount (find channel.0 w.channels.lines.entries)) }
+        ensures world { OnOk result ((w : World) → Refines self.old w →
+            Refines self.new (lined (takes_grant channel.0 amount) w)) }
+        ensures memory { IfErr result (λ e. e ≡ NoMemory) }
+        ensures peer { IsSamePeer self.old self.new }
     {
-        let Some(place) = place_of(&self.channels, channel) else {
-            return Ok(Flow::Continue);
-        };
-        let alloc = self.alloc;
-        let new_size = self.channels[place].grant(alloc, amount, staged)?;
-        if let Err(fault) = link.notice(Notice::Granted { channel, amount }) {
-            return Err(RunError::from(fault));
-        }
-        self.tell_window(handler, link, channel, new_size, staged)
+        self.table.grant(channel, amount, false)
     }
 
-    /// Tells how many bytes may still be sent.
-    fn tell_window<H: Handler, L: Link>(
+    /// Data of the peer come in.
+    pub(crate) fn take_in(
         &mut self,
-        handler: &mut H,
-        link: &mut L,
         channel: ChannelId,
-        new_size: u32,
-        staged: &mut Vec<Frame>,
-    ) -> Result<Flow, RunError<H::Error>>
-        requires suits { IsSuited H.suits self.old }
-        ensures { (settings : Settings) (w : World) (base frames : List FrameOf) → Refines settings self.old w → staged.old.items ≡ base ++ frames →
-            Serves settings (window_told settings w frames channel new_size)
-            (heard (H.AuthHandler.told handler.old) (L.trace link.old) (L.faults link.old)) (heard (H.AuthHandler.told handler.new) (L.trace link.new) (L.faults link.new)) base staged.new.items self.new result }
+        bytes: &Bytes,
+    ) -> Result<Adjusted, TableError>
+        ensures coming { (w : World) → Refines self.old w →
+            IfOk result (λ adjusted. adjusted
+            ≡ coming_of (length bytes.now) w.channels.target
+            (find channel.0 w.channels.lines.entries)) }
+        ensures world { OnOk result ((w : World) → Refines self.old w →
+            Refines self.new (lined (takes_in channel.0 (length bytes.now) w.channels.target) w)) }
+        ensures memory { IfErr result (λ e. e ≡ NoMemory) }
+        ensures peer { IsSamePeer self.old self.new }
     {
-        let msg = ChannelMsg::WindowAdjusted { new_size };
-        if let Err(fault) = link.notice(Notice::Channel(channel, msg)) {
-            return Err(RunError::from(fault));
-        }
-        let adjusted = Happening::WindowAdjusted { new_size };
-        match self.ask(handler, Lent::Happened(channel, adjusted)) {
-            Ok(commands) => self.finish_commands(handler, link, commands, staged),
-            Err(e) => Err(RunError::Handler(e)),
-        }
+        self.table
+            .adjust_window_size(channel, bytes.as_slice(), self.target)
     }
 
-    /// The peer sends no more data on a channel.
-    fn peer_eof<H: Handler, L: Link>(
-        &mut self,
-        handler: &mut H,
-        link: &mut L,
-        channel: ChannelId,
-        staged: &mut Vec<Frame>,
-    ) -> Result<Flow, RunError<H::Error>>
-        requires suits { IsSuited H.suits self.old }
-        ensures { (settings : Settings) (w : World) → Refines settings self.old w →
-            Serves settings (peer_eof_row settings w (find channel.0 w.entries))
-            (heard (H.AuthHandler.told handler.old) (L.trace link.old) (L.faults link.old)) (heard (H.AuthHandler.told handler.new) (L.trace link.new) (L.faults link.new)) staged.old.items staged.new.items self.new result }
+    /// The peer closes the channel, which is answered by a CLOSE. Says whether it was there.
+    pub(crate) fn take_peer_close(&mut self, channel: ChannelId) -> Result<bool, TableError>
+        ensures there { (w : World) → Refines self.old w →
+            IfOk result (λ there. there ≡ is_there w channel.0) }
+        ensures world { OnOk result ((w : World) → Refines self.old w →
+            Refines self.new (lined (peer_closes channel.0) w)) }
+        ensures memory { IfErr result (λ e. e ≡ NoMemory) }
+        ensures peer { IsSamePeer self.old self.new }
     {
-        if !self.is_open(channel) {
-            return Ok(Flow::Continue);
-        }
-        if let Err(fault) = link.notice(Notice::Channel(channel, ChannelMsg::Eof)) {
-            return Err(RunError::from(fault));
-        }
-        match self.ask(handler, Lent::Happened(channel, Happening::Eof)) {
-            Ok(commands) => self.finish_commands(handler, link, commands, staged),
-            Err(e) => Err(RunError::Handler(e)),
-        }
+        self.table.peer_close(channel)
     }
 
-    /// The peer closes a channel, which is answered by a close; what still waited is dropped.
-    fn peer_close<H: Handler, L: Link>(
-        &mut self,
-        handler: &mut H,
-        link: &mut L,
-        channel: ChannelId,
-        staged: &mut Vec<Frame>,
-    ) -> Result<Flow, RunError<H::Error>>
-        requires suits { IsSuited H.suits self.old }
-        ensures { (settings : Settings) (w : World) → Refines settings self.old w →
-            Serves settings (peer_close_row settings w (find channel.0 w.entries))
-            (heard (H.AuthHandler.told handler.old) (L.trace link.old) (L.faults link.old)) (heard (H.AuthHandler.told handler.new) (L.trace link.new) (L.faults link.new)) staged.old.items staged.new.items self.new result }
+    /// The last request on the channel wants a reply, or none.
+    pub(crate) fn want_reply(&mut self, channel: ChannelId, wanted: bool)
+        ensures world { (w : World) → Refines self.old w →
+            Refines self.new (lined (wants channel.0 wanted) w) }
+        ensures peer { IsSamePeer self.old self.new }
     {
-        let Some(place) = place_of(&self.channels, channel) else {
-            return Ok(Flow::Continue);
-        };
-        let peer = self.channels[place].peer;
-        self.drop_channel(channel, peer, staged)?;
-        if let Err(fault) = link.notice(Notice::Channel(channel, ChannelMsg::Close)) {
-            return Err(RunError::from(fault));
-        }
-        match self.ask(handler, Lent::Happened(channel, Happening::Close)) {
-            Ok(commands) => self.finish_commands(handler, link, commands, staged),
-            Err(e) => Err(RunError::Handler(e)),
-        }
+        let _is_there = self.table.set_wants_reply(channel, wanted);
+    }
+
+    /// What waits on the channel is written as far as the credit goes, and then the EOF and the
+    /// CLOSE that waited behind it; with the CLOSE the channel is gone (RFC 4254 sections 5.2 and
+    /// 5.3). Answers how many bytes of data were written, and 0 where there is no such channel.
+    /// `NoMemory` is the only error, and leaves the session as it was. What is written is handed on
+    /// at the end of the next input. The session must not be spent.
+    pub fn flush_pending(&mut self, channel: ChannelId) -> Result<usize, TableError>
+        requires live { is_spent self.old ≡ false }
+        ensures framed { (w : World) → Refines self.old w →
+            IfOk result (λ count. count ≡ goes_out (find channel.0 w.channels.lines.entries)) }
+        ensures world { OnOk result ((w : World) → Refines self.old w →
+            Refines self.new (lined (goes_on channel.0) w)) }
+        ensures unchanged { OnErr result (self.new ≡ self.old) }
+        ensures memory { IfErr result (λ e. e ≡ NoMemory) }
+        ensures peer { IsSamePeer self.old self.new }
+    {
+        self.table.flush_pending(channel)
     }
 }

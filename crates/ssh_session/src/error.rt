@@ -1,9 +1,11 @@
 // How a session goes on, and why it may not.
 ghost use Rattle.std.specs.Prelude.{◌≡◌};
 ghost use Rattle.ssh_session.specs.declared.error.RunError.TheVariants.{NoMemory};
-ghost use Rattle.ssh_session.specs.Failure.{run_error_of, error_of_auth, error_of_layout, error_of_link};
+ghost use Rattle.ssh_session.specs.Failure.{run_error_of, error_of_auth, error_of_layout};
+ghost use Rattle.ssh_session.specs.Failure.{error_of_link, error_of_table};
 
 use ssh_auth::AuthError;
+use ssh_channels::TableError;
 use ssh_keys::KeyError;
 use ssh_link::LinkFault as LinkFailure;
 use ssh_wire::{LayoutError, WireError};
@@ -14,7 +16,8 @@ use std::alloc::{AllocError, AllocFailed};
 pub enum Flow {
     /// It takes the next one.
     Continue,
-    /// This input ended the run, well: the end, a DISCONNECT, or a request over the cap on attempts.
+    /// This input ended the run, well: the end, a DISCONNECT, or a request over the cap on
+    /// attempts.
     Ended,
 }
 
@@ -40,10 +43,12 @@ pub enum RunError<HE> {
     UnsupportedAuthMethod,
     /// The handler answered this error.
     Handler(HE),
-    /// The input asks for what is not built yet: a key exchange, a message of the connection but the
-    /// open of a session channel and the grants, the end of file and the close of its peer, a second
-    /// channel, a tick, or an end of file or a close behind data that wait; or it brings a command,
-    /// or a callback records one, that is none of data, end of file, close and answer to an open.
+    /// The peer opens a channel, and every number is taken.
+    ChannelsFull,
+    /// The input asks for what is not built yet: a key exchange, an open of another type than a
+    /// session, an answer to an open, a global request or an answer to one, a request on a channel,
+    /// or a tick; or it brings a command, or a callback records one, that is none of data of both
+    /// kinds, end of file, close and answer to an open.
     NotBuilt,
 }
 
@@ -81,6 +86,18 @@ impl<HE> From<LayoutError> for RunError<HE> {
         match error {
             LayoutError::Wire(why) => RunError::from(why),
             LayoutError::Inconsistent => RunError::Inconsistent,
+        }
+    }
+}
+
+impl<HE> From<TableError> for RunError<HE> {
+    ghost from_gives = { λ e r. r ≡ error_of_table e };
+
+    fn from(error: TableError) -> RunError<HE> {
+        match error {
+            TableError::NoMemory => RunError::NoMemory,
+            TableError::Inconsistent => RunError::Inconsistent,
+            TableError::Full => RunError::ChannelsFull,
         }
     }
 }

@@ -31,8 +31,10 @@ pub(crate) fn service_accept_frame(alloc: Global) -> Result<Frame, WireError>
 /// BANNER with no language tag (RFC 4252 section 5.4). `TooLong` exactly where it has more than
 /// 2^32 - 1 bytes, and no other error but `NoMemory`.
 pub(crate) fn banner_frame(alloc: Global, message: &str) -> Result<Frame, WireError>
-    ensures ok { IfOk result (λ f. (f ≡ at_once (banner message.now)) × (length (banner message.now) < 2 ^ 32)) }
-    ensures refused { IfErr result (λ e. (e ≡ NoMemory) ⊎ ((e ≡ TooLong) × (2 ^ 32 ≤ length (banner message.now)))) }
+    ensures ok { IfOk result (λ f. (f ≡ at_once (banner message.now))
+        × (length (banner message.now) < 2 ^ 32)) }
+    ensures refused { IfErr result (λ e. (e ≡ NoMemory)
+        ⊎ ((e ≡ TooLong) × (2 ^ 32 ≤ length (banner message.now)))) }
 {
     let mut payload = Vec::new(alloc);
     put_u8(&mut payload, USERAUTH_BANNER)?;

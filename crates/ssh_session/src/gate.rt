@@ -1,15 +1,19 @@
 // Which payloads a session reads, by their number.
 ghost use Rattle.std.specs.Prelude.{◌≡◌, ◌==◌, if◌then◌else◌};
 ghost use Rattle.ssh_auth.specs.Serve.{IsNumbered};
-ghost use Rattle.ssh_session.specs.World.{Settings, World};
+ghost use Rattle.ssh_session.specs.World.{World};
 ghost use Rattle.ssh_session.specs.Serve.{Refines};
-ghost use Rattle.ssh_session.specs.Gate.{gate_of, phase_gate, authentication_gate, is_over_cap, connection_gate};
+ghost use Rattle.ssh_session.specs.Gate.{gate_of, state_gate, authentication_gate, is_over_cap};
+ghost use Rattle.ssh_session.specs.Gate.{connection_gate, IsRequesting};
 
 use crate::Session;
-use crate::phase::Phase;
+use crate::state::EncryptedState;
+use ssh_auth::AuthRequest;
+use ssh_handler::Config;
 use ssh_wire::message::{
-    CHANNEL_CLOSE, CHANNEL_EOF, CHANNEL_OPEN, CHANNEL_WINDOW_ADJUST, DISCONNECT, KEXINIT,
-    SERVICE_REQUEST, USERAUTH_INFO_RESPONSE, USERAUTH_REQUEST,
+    CHANNEL_CLOSE, CHANNEL_DATA, CHANNEL_EOF, CHANNEL_EXTENDED_DATA, CHANNEL_OPEN, CHANNEL_REQUEST,
+    CHANNEL_WINDOW_ADJUST, DISCONNECT, KEXINIT, SERVICE_REQUEST, USERAUTH_INFO_RESPONSE,
+    USERAUTH_REQUEST,
 };
 
 /// What a payload is to a session, by its number alone.
@@ -31,10 +35,16 @@ pub enum Gate {
     ChannelOpen,
     /// It grants more on a channel.
     WindowAdjust,
+    /// It brings data on a channel.
+    ChannelData,
+    /// It brings data of another type on a channel.
+    ChannelExtendedData,
     /// It ends the peer's data on a channel.
     ChannelEof,
     /// It closes a channel.
     ChannelClose,
+    /// It asks for something on a channel.
+    ChannelRequest,
     /// What it asks for is not built.
     NotBuilt,
 }
@@ -42,9 +52,11 @@ pub enum Gate {
 impl Session {
     /// What this payload is to the session.
     pub(crate) fn gate(&self, payload: &[u8]) -> Gate
-        ensures gate { (settings : Settings) (w : World) → Refines settings self.now w → result ≡ gate_of settings w payload.now }
-        ensures request { result ≡ Gate.UserauthRequest → IsNumbered 50 payload.now }
-        ensures response { result ≡ Gate.InfoResponse → IsNumbered 61 payload.now }
+        ensures gate { (w : World) → Refines self.now w → result ≡ gate_of w payload.now }
+        ensures request { result ≡ Gate.UserauthRequest → IsNumbered 50 payload.now
+            × IsRequesting self.now.state }
+        ensures response { result ≡ Gate.InfoResponse → IsNumbered 61 payload.now
+            × IsRequesting self.now.state }
     {
         let Some(number) = payload.first() else {
             return Gate::Nothing;
@@ -56,46 +68,45 @@ impl Session {
         if number == KEXINIT {
             return Gate::NotBuilt;
         }
-        self.phase_gate(number)
+        state_gate(&self.config, &self.state, number)
     }
+}
 
-    /// What a message of this number is to the session's phase.
-    fn phase_gate(&self, number: u8) -> Gate
-        ensures request { result ≡ Gate.UserauthRequest → number ≡ 50 }
-        ensures response { result ≡ Gate.InfoResponse → number ≡ 61 }
-        ensures gate { (settings : Settings) (w : World) → Refines settings self.now w → result ≡ phase_gate settings w w.phase number }
-    {
-        match self.phase {
-            Phase::ServiceRequest => service_gate(number),
-            Phase::Authentication => self.authentication_gate(number),
-            Phase::Accepted => connection_gate(number),
-        }
+/// What a message of this number is to what is waited for.
+fn state_gate(config: &Config, state: &EncryptedState, number: u8) -> Gate
+    ensures request { result ≡ Gate.UserauthRequest → (number ≡ 50) × IsRequesting state.now }
+    ensures response { result ≡ Gate.InfoResponse → (number ≡ 61) × IsRequesting state.now }
+    ensures gate { result ≡ state_gate config.now state.now number }
+{
+    match state {
+        EncryptedState::WaitingAuthServiceRequest { .. } => service_gate(number),
+        EncryptedState::WaitingAuthRequest(auth) => authentication_gate(config, auth, number),
+        EncryptedState::InitCompression | EncryptedState::Authenticated => connection_gate(number),
     }
+}
 
-    fn authentication_gate(&self, number: u8) -> Gate
-        ensures request { result ≡ Gate.UserauthRequest → number ≡ 50 }
-        ensures response { result ≡ Gate.InfoResponse → number ≡ 61 }
-        ensures gate { (settings : Settings) (w : World) → Refines settings self.now w → result ≡ authentication_gate settings w number }
-    {
-        if number != USERAUTH_REQUEST && number != USERAUTH_INFO_RESPONSE {
-            return Gate::Nothing;
-        }
-        if self.is_over_cap() {
-            return Gate::OverCap;
-        }
-        if number == USERAUTH_REQUEST {
-            return Gate::UserauthRequest;
-        }
-        Gate::InfoResponse
+fn authentication_gate(config: &Config, auth: &AuthRequest, number: u8) -> Gate
+    ensures request { result ≡ Gate.UserauthRequest → number ≡ 50 }
+    ensures response { result ≡ Gate.InfoResponse → number ≡ 61 }
+    ensures gate { result ≡ authentication_gate config.now auth.now number }
+{
+    if number != USERAUTH_REQUEST && number != USERAUTH_INFO_RESPONSE {
+        return Gate::Nothing;
     }
+    if is_over_cap(config, auth) {
+        return Gate::OverCap;
+    }
+    if number == USERAUTH_REQUEST {
+        return Gate::UserauthRequest;
+    }
+    Gate::InfoResponse
+}
 
-    /// Whether so many requests were rejected that no more are read.
-    fn is_over_cap(&self) -> bool
-        ensures { (settings : Settings) (w : World) → Refines settings self.now w → result ≡ is_over_cap settings w }
-    {
-        self.config.max_auth_attempts > 0
-            && self.auth.rejection_count >= self.config.max_auth_attempts
-    }
+/// Whether so many requests were rejected that no more are read.
+fn is_over_cap(config: &Config, auth: &AuthRequest) -> bool
+    ensures { result ≡ is_over_cap config.now auth.now }
+{
+    config.max_auth_attempts > 0 && auth.rejection_count >= config.max_auth_attempts
 }
 
 fn service_gate(number: u8) -> Gate
@@ -108,15 +119,18 @@ fn service_gate(number: u8) -> Gate
     }
 }
 
-/// The messages of the connection; most are not built.
+/// The messages of the connection; some are not built.
 fn connection_gate(number: u8) -> Gate
     ensures { result ≡ connection_gate number }
 {
     match number {
         CHANNEL_OPEN => Gate::ChannelOpen,
         CHANNEL_WINDOW_ADJUST => Gate::WindowAdjust,
+        CHANNEL_DATA => Gate::ChannelData,
+        CHANNEL_EXTENDED_DATA => Gate::ChannelExtendedData,
         CHANNEL_EOF => Gate::ChannelEof,
         CHANNEL_CLOSE => Gate::ChannelClose,
+        CHANNEL_REQUEST => Gate::ChannelRequest,
         80..=82 | 90..=98 => Gate::NotBuilt,
         _ => Gate::Nothing,
     }

@@ -1,32 +1,34 @@
-//! A session of an SSH server above the encrypted transport: it takes opened payloads one at a
-//! time, calls a handler and hands on payloads to send (RFC 4252, RFC 4253 section 10, RFC 4254
-//! section 5).
-//!
-//! What the crates above rely on is the contract of [`run_stream`]: the callbacks, the frames and
-//! the answer are exactly those that the inputs owe by the reply table in `specs/Rows.antt`.
+//! One side of an SSH connection above the encrypted transport, as a server has it: a session takes
+//! opened payloads, commands and ticks, one at a time, calls a handler and hands on payloads to
+//! send.
 #![tactic(auto)]
 
 mod apply;
 mod authentication;
-mod channel;
+mod callbacks;
 mod channel_frames;
+mod channel_requests;
 mod channels;
 mod commands;
-mod data;
+mod endings;
 mod error;
+mod finish;
 mod frames;
 mod gate;
-mod lent;
 mod message;
+mod once;
 mod opens;
-mod pending;
-mod phase;
+mod outside;
+mod peer_open;
+mod readers;
 mod run;
 mod service;
 mod session;
+mod state;
 mod step;
-mod table;
+mod windows;
 
 pub use error::{Flow, RunError};
+pub use once::one_plan;
 pub use run::run_stream;
 pub use session::Session;

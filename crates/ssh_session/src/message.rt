@@ -1,8 +1,9 @@
 // The messages that a session reads, field by field.
-ghost use Rattle.std.specs.Prelude.{[], ◌∷◌, MatchResult};
-ghost use Rattle.ssh_wire.specs.Field.{Text, SpellsWhole, MisfitsWhole};
-ghost use Rattle.ssh_session.specs.Said.{grant_fields, channel_field};
-ghost use Rattle.ssh_session.specs.OpenRead.{SaysOpen, MisfitsRead};
+ghost use Rattle.std.specs.Prelude.{ℕ, List, [], ◌∷◌, IfOk, IfErr, MatchResult};
+ghost use Rattle.ssh_wire.specs.Field.{Bytes, Flag, Number, Text, SpellsAll, SpellsWhole};
+ghost use Rattle.ssh_wire.specs.Field.{Misfits, MisfitsAll, MisfitsWhole};
+ghost use Rattle.ssh_wire.specs.Reading.{Reads};
+ghost use Rattle.ssh_session.specs.OpenRead.{IsRead, IsUnread};
 
 use ssh_wire::{ChannelId, LayoutError, Reader, WireError};
 
@@ -37,7 +38,8 @@ pub(crate) enum OpenRequest {
 /// CHANNEL_OPEN (RFC 4254 section 5.1). `Inconsistent` at a packet size of 0, before what follows
 /// it is looked at.
 pub(crate) fn read_open(fields: &[u8]) -> Result<OpenRequest, LayoutError>
-    ensures { MatchResult result (λ request. SaysOpen request fields.now) (λ why. MisfitsRead fields.now why) }
+    ensures { MatchResult result (λ request. IsRead request fields.now)
+        (λ why. IsUnread fields.now why) }
 {
     let mut reader = Reader::new(fields);
     let name = reader.text()?;
@@ -61,8 +63,8 @@ pub(crate) fn read_open(fields: &[u8]) -> Result<OpenRequest, LayoutError>
 /// CHANNEL_WINDOW_ADJUST (RFC 4254 section 5.2): the channel, and how many bytes are granted.
 pub(crate) fn read_grant(fields: &[u8]) -> Result<(ChannelId, u32), WireError>
     ensures { MatchResult result
-        (λ grant. SpellsWhole grant_fields (grant.0.0, (grant.1, tt)) fields.now)
-        (λ why. MisfitsWhole grant_fields fields.now why) }
+        (λ grant. SpellsWhole (Number ∷ Number ∷ []) (grant.0.0, (grant.1, tt)) fields.now)
+        (λ why. MisfitsWhole (Number ∷ Number ∷ []) fields.now why) }
 {
     let mut reader = Reader::new(fields);
     let channel = reader.u32()?;
@@ -74,11 +76,71 @@ pub(crate) fn read_grant(fields: &[u8]) -> Result<(ChannelId, u32), WireError>
 /// CHANNEL_EOF or CHANNEL_CLOSE (RFC 4254 section 5.3): the channel.
 pub(crate) fn read_channel(fields: &[u8]) -> Result<ChannelId, WireError>
     ensures { MatchResult result
-        (λ channel. SpellsWhole channel_field (channel.0, tt) fields.now)
-        (λ why. MisfitsWhole channel_field fields.now why) }
+        (λ channel. SpellsWhole (Number ∷ []) (channel.0, tt) fields.now)
+        (λ why. MisfitsWhole (Number ∷ []) fields.now why) }
 {
     let mut reader = Reader::new(fields);
     let channel = reader.u32()?;
     reader.end()?;
     Ok(ChannelId(channel))
+}
+
+/// The channel that a message is for, and the fields behind it.
+pub(crate) fn read_recipient(fields: &[u8]) -> Result<(ChannelId, &[u8]), WireError>
+    ensures { MatchResult result
+        (λ read. SpellsAll (Number ∷ []) (read.0.0, tt) fields.now read.1.now)
+        (λ why. MisfitsAll (Number ∷ []) fields.now why) }
+{
+    let mut reader = Reader::new(fields);
+    let channel = reader.u32()?;
+    Ok((ChannelId(channel), reader.rest()))
+}
+
+/// A boolean, which is false exactly at 0 (RFC 4251 section 5).
+fn read_flag(reader: &mut Reader<'_>) -> Result<bool, WireError>
+    ensures ok { IfOk result (Reads Flag reader.old reader.new) }
+    ensures misfit { IfErr result (Misfits Flag reader.old.left) }
+{
+    let byte = reader.u8()?;
+    Ok(byte != 0)
+}
+
+/// CHANNEL_REQUEST (RFC 4254 section 5.4), as far as each request goes: the channel, and whether a
+/// reply is wanted.
+pub(crate) fn read_request(fields: &[u8]) -> Result<(ChannelId, bool), WireError>
+    ensures { MatchResult result
+        (λ read. (name : List ℕ) × (rest : List ℕ)
+        × SpellsAll (Number ∷ Text ∷ Flag ∷ []) (read.0.0, (name, (read.1, tt))) fields.now rest)
+        (λ why. MisfitsAll (Number ∷ Text ∷ Flag ∷ []) fields.now why) }
+{
+    let mut reader = Reader::new(fields);
+    let channel = reader.u32()?;
+    reader.text()?;
+    let wanted = read_flag(&mut reader)?;
+    Ok((ChannelId(channel), wanted))
+}
+
+/// CHANNEL_DATA behind its channel (RFC 4254 section 5.2): the bytes.
+pub(crate) fn read_data(rest: &[u8]) -> Result<&[u8], WireError>
+    ensures { MatchResult result
+        (λ bytes. SpellsWhole (Bytes ∷ []) (bytes.now, tt) rest.now)
+        (λ why. MisfitsWhole (Bytes ∷ []) rest.now why) }
+{
+    let mut reader = Reader::new(rest);
+    let bytes = reader.bytes()?;
+    reader.end()?;
+    Ok(bytes)
+}
+
+/// CHANNEL_EXTENDED_DATA behind its channel (RFC 4254 section 5.2): the code and the bytes.
+pub(crate) fn read_extended_data(rest: &[u8]) -> Result<(u32, &[u8]), WireError>
+    ensures { MatchResult result
+        (λ read. SpellsWhole (Number ∷ Bytes ∷ []) (read.0, (read.1.now, tt)) rest.now)
+        (λ why. MisfitsWhole (Number ∷ Bytes ∷ []) rest.now why) }
+{
+    let mut reader = Reader::new(rest);
+    let code = reader.u32()?;
+    let bytes = reader.bytes()?;
+    reader.end()?;
+    Ok((code, bytes))
 }

@@ -1,33 +1,34 @@
-// Channels that the peer opens.
-ghost use Rattle.std.specs.Prelude.{◌≡◌, ◌<◌, ℕ, OnOk, IfErr};
-ghost use Rattle.ssh_wire.specs.declared.error.WireError.TheVariants.{NoMemory};
-ghost use Rattle.ssh_session.specs.declared.gate.Gate.TheVariants as gate;
-ghost use Rattle.ssh_session.specs.World.{Settings, World};
-ghost use Rattle.ssh_session.specs.Said.{Said, Fits};
-ghost use Rattle.ssh_session.specs.Rows.{row, open_session_row, drawn};
-ghost use Rattle.ssh_session.specs.Serve.{Refines, Serves, heard, IsSuited};
+// Opens of the peer (RFC 4254 section 5.1).
+ghost use Rattle.std.specs.Prelude.{◌≡◌, ◌⊎◌, ℕ, Some, None, IfOk, IfErr, IsErrOf};
+ghost use Rattle.ssh_channels.specs.declared.error.TableError.TheVariants.{NoMemory};
+ghost use Rattle.ssh_channels.specs.Lines.{next_number};
+ghost use Rattle.ssh_session.specs.World.{World};
+ghost use Rattle.ssh_session.specs.Reading.{Said, SaysOpen, Open};
+ghost use Rattle.ssh_session.specs.Rows.{row, waits};
+ghost use Rattle.ssh_session.specs.Heard.{AreSame};
+ghost use Rattle.ssh_session.specs.Serve.{Refines, Completes, IsSuited, IsSamePeer};
 
 use crate::message::{OpenRequest, read_open};
-use crate::pending::PendingOpen;
+use crate::outside::Outside;
+use crate::peer_open::PeerOpen;
 use crate::{Flow, RunError, Session};
 use ssh_auth::{Lent, OpenType};
-use ssh_handler::Handler;
-use ssh_link::{Frame, Link};
-use ssh_wire::WireError;
+use ssh_channels::TableError;
+use ssh_wire::ChannelId;
 
 impl Session {
-    /// CHANNEL_OPEN (RFC 4254 section 5.1): the types but the session are not built.
-    pub(crate) fn serve_channel_open<H: Handler, L: Link>(
+    /// CHANNEL_OPEN: each type but the session is not built.
+    pub(crate) fn serve_channel_open<O: Outside>(
         &mut self,
-        handler: &mut H,
-        link: &mut L,
+        outside: &mut O,
         fields: &[u8],
-        staged: &mut Vec<Frame>,
-    ) -> Result<Flow, RunError<H::Error>>
-        requires suits { IsSuited H.suits self.old }
-        ensures { (settings : Settings) (w : World) (moment : ℕ) → Refines settings self.old w →
-            (said : Said) × Fits gate.ChannelOpen fields.now said × Serves settings (row settings moment w said)
-            (heard (H.AuthHandler.told handler.old) (L.trace link.old) (L.faults link.old)) (heard (H.AuthHandler.told handler.new) (L.trace link.new) (L.faults link.new)) staged.old.items staged.new.items self.new result }
+    ) -> Result<Flow, RunError<O::Error>>
+        requires suits { IsSuited O.suits self.old }
+        ensures does { (w : World) (moment : ℕ) → Refines self.old w →
+            (said : Said) × SaysOpen fields.now said
+            × Completes (row w moment said) (O.heard outside.old) (O.heard outside.new) self.new
+            result }
+        ensures same { AreSame (O.heard outside.old) (O.heard outside.new) }
     {
         match read_open(fields) {
             Ok(
@@ -36,55 +37,50 @@ impl Session {
                     window,
                     packet,
                 },
-            ) => self.open_session(handler, link, peer, window, packet, staged),
+            ) => self.open(
+                outside,
+                PeerOpen {
+                    peer,
+                    window,
+                    packet,
+                },
+            ),
             Ok(OpenRequest::Other) => Err(RunError::NotBuilt),
             Err(e) => Err(RunError::from(e)),
         }
     }
 
-    /// A session channel (RFC 4254 section 6.1): its number is drawn, and the handler is asked.
-    /// `peer`, `window` and `packet` are the peer's number, window and packet size.
-    fn open_session<H: Handler, L: Link>(
+    /// The open of the peer draws the next number, and the handler is asked.
+    fn open<O: Outside>(
         &mut self,
-        handler: &mut H,
-        link: &mut L,
-        peer: u32,
-        window: u32,
-        packet: u32,
-        staged: &mut Vec<Frame>,
-    ) -> Result<Flow, RunError<H::Error>>
-        requires suits { IsSuited H.suits self.old }
-        requires packet_size { 0 < packet }
-        ensures { (settings : Settings) (w : World) → Refines settings self.old w →
-            Serves settings (open_session_row settings w peer window packet)
-            (heard (H.AuthHandler.told handler.old) (L.trace link.old) (L.faults link.old)) (heard (H.AuthHandler.told handler.new) (L.trace link.new) (L.faults link.new)) staged.old.items staged.new.items self.new result }
+        outside: &mut O,
+        said: PeerOpen,
+    ) -> Result<Flow, RunError<O::Error>>
+        requires suits { IsSuited O.suits self.old }
+        ensures does { (w : World) (moment : ℕ) → Refines self.old w →
+            Completes (row w moment (Open said)) (O.heard outside.old) (O.heard outside.new)
+            self.new result }
+        ensures same { AreSame (O.heard outside.old) (O.heard outside.new) }
     {
-        if !self.has_no_channel() {
-            return Err(RunError::NotBuilt);
-        }
-        let number = self.next_number();
-        self.draw(peer, window, packet)?;
-        match self.ask(handler, Lent::Opens(number, OpenType::Session)) {
-            Ok(commands) => self.finish_commands(handler, link, commands, staged),
-            Err(e) => Err(RunError::Handler(e)),
-        }
+        let number = self.draw(said)?;
+        self.call(outside, Lent::Opens(number, OpenType::Session))?;
+        Ok(Flow::Continue)
     }
 
-    /// The open takes the next number, and waits for its answer.
-    fn draw(&mut self, peer: u32, window: u32, packet: u32) -> Result<(), WireError>
-        requires { 0 < packet }
-        ensures drawn { (settings : Settings) (w : World) → Refines settings self.old w → OnOk result (Refines settings self.new (drawn w peer window packet)) }
-        ensures kept { OnOk result (self.new ≡ record self.old { last_channel = self.new.last_channel; pending = self.new.pending }) }
-        ensures memory { IfErr result (λ e. e ≡ NoMemory) }
+    /// The next number is drawn for an open of the peer that said this of itself. `Full` where
+    /// every number is taken.
+    fn draw(&mut self, said: PeerOpen) -> Result<ChannelId, TableError>
+        ensures number { (w : World) → Refines self.old w →
+            IfOk result (λ number. next_number w.channels.lines ≡ Some number.0) }
+        ensures world { (w : World) → Refines self.old w →
+            IfOk result (λ number. Refines self.new (waits number.0 said w)) }
+        ensures full { (w : World) → Refines self.old w → IsErrOf result TableError.Full →
+            next_number w.channels.lines ≡ None }
+        ensures errors { IfErr result (λ e. (e ≡ NoMemory) ⊎ (e ≡ TableError.Full)) }
+        ensures peer { IsSamePeer self.old self.new }
     {
-        let number = self.next_number();
-        self.pending.push(PendingOpen {
-            number,
-            peer,
-            window,
-            packet,
-        })?;
-        self.last_channel = number.0;
-        Ok(())
+        let number = self.table.new_channel_id()?;
+        self.opens.insert(number.0, said)?;
+        Ok(number)
     }
 }

@@ -1,73 +1,97 @@
-// The service request.
-ghost use Rattle.std.specs.Prelude.{◌≡◌, [], ℕ, List, Option};
-ghost use Rattle.ssh_link.specs.declared.link.TraceEntry.{TraceEntry};
-ghost use Rattle.ssh_session.specs.declared.gate.Gate.TheVariants as gate;
-ghost use Rattle.ssh_session.specs.World.{Settings, World};
-ghost use Rattle.ssh_session.specs.Said.{Said, Fits};
-ghost use Rattle.ssh_session.specs.Rows.{row, service_row, accept_row};
-ghost use Rattle.ssh_session.specs.Serve.{Refines, Serves, Answers, heard};
+// The service request (RFC 4253 section 10).
+ghost use Rattle.std.specs.Prelude.{ℕ, Some, None};
+ghost use Rattle.ssh_session.specs.World.{World};
+ghost use Rattle.ssh_session.specs.Outcome.{Goes};
+ghost use Rattle.ssh_auth.specs.Plan.{Finish};
+ghost use Rattle.ssh_session.specs.Reading.{Said, Spells, service};
+ghost use Rattle.ssh_session.specs.Rows.{row, service_row, served, greets};
+ghost use Rattle.ssh_session.specs.Heard.{AreSame};
+ghost use Rattle.ssh_session.specs.Serve.{Refines, Serves, Completes, Turned};
 
 use crate::frames::{banner_frame, service_accept_frame};
 use crate::message::read_service;
-use crate::phase::Phase;
+use crate::outside::Outside;
+use crate::state::EncryptedState;
 use crate::{Flow, RunError, Session};
-use ssh_handler::Handler;
-use ssh_link::Frame;
+use ssh_auth::AuthRequest;
 use ssh_wire::Text;
 
 impl Session {
-    /// SERVICE_REQUEST (RFC 4253 section 10).
-    pub(crate) fn serve_service_request<H: Handler>(
+    /// SERVICE_REQUEST.
+    pub(crate) fn serve_service_request<O: Outside>(
         &mut self,
-        handler: &mut H,
+        outside: &mut O,
         fields: &[u8],
-        staged: &mut Vec<Frame>,
-    ) -> Result<Flow, RunError<H::Error>>
-        ensures { (settings : Settings) (w : World) (moment : ℕ) (trace : Option (List TraceEntry)) (faults : ℕ) → Refines settings self.old w →
-            (said : Said) × Fits gate.ServiceRequest fields.now said × Serves settings (row settings moment w said)
-            (heard (H.AuthHandler.told handler.old) trace faults) (heard (H.AuthHandler.told handler.new) trace faults) staged.old.items staged.new.items self.new result }
+    ) -> Result<Flow, RunError<O::Error>>
+        ensures does { (w : World) (moment : ℕ) → Refines self.old w →
+            (said : Said) × Spells service fields.now said
+            × Completes (row w moment said) (O.heard outside.old) (O.heard outside.new) self.new
+            result }
+        ensures same { AreSame (O.heard outside.old) (O.heard outside.new) }
     {
         let name = read_service(fields)?;
-        self.serve_service(handler, name, staged)
+        self.serve_service(outside, name)?;
+        Ok(Flow::Continue)
     }
 
     /// The service `ssh-userauth` asks for a banner; another does nothing.
-    fn serve_service<H: Handler>(
+    fn serve_service<O: Outside>(
         &mut self,
-        handler: &mut H,
+        outside: &mut O,
         name: &str,
-        staged: &mut Vec<Frame>,
-    ) -> Result<Flow, RunError<H::Error>>
-        ensures { (settings : Settings) (w : World) (trace : Option (List TraceEntry)) (faults : ℕ) → Refines settings self.old w → Serves settings (service_row w name.now)
-            (heard (H.AuthHandler.told handler.old) trace faults) (heard (H.AuthHandler.told handler.new) trace faults) staged.old.items staged.new.items self.new result }
+    ) -> Result<(), RunError<O::Error>>
+        ensures does { (w : World) → Refines self.old w →
+            Serves (service_row w name.now) (λ _ world. Finish (Goes world))
+            (O.heard outside.old) (O.heard outside.new) self.new result }
+        ensures same { AreSame (O.heard outside.old) (O.heard outside.new) }
     {
         if name != "ssh-userauth" {
-            return Ok(Flow::Continue);
+            return Ok(());
         }
-        match handler.authentication_banner() {
-            Ok(banner) => self.accept_service(banner, staged),
+        match outside.banner() {
+            Ok(banner) => self.greet(banner),
             Err(e) => Err(RunError::Handler(e)),
         }
     }
 
     /// SERVICE_ACCEPT, and BANNER where there is one (RFC 4252 section 5.4). Requests of
     /// authentication are read from now on.
-    fn accept_service<E>(
-        &mut self,
-        banner: Option<Text>,
-        staged: &mut Vec<Frame>,
-    ) -> Result<Flow, RunError<E>>
-        ensures { (settings : Settings) (w : World) → Refines settings self.old w →
-            Answers settings (accept_row w banner) ⊥ [] staged.old.items staged.new.items self.new result }
+    fn greet<E>(&mut self, banner: Option<Text>) -> Result<(), RunError<E>>
+        ensures { (w : World) → Refines self.old w → Turned (greets banner) w self.new result }
+    {
+        match banner {
+            Some(message) => self.greet_with(message.as_str()),
+            None => self.greet_alone(),
+        }
+    }
+
+    /// SERVICE_ACCEPT alone.
+    fn greet_alone<E>(&mut self) -> Result<(), RunError<E>>
+        ensures { (w : World) → Refines self.old w → Turned (greets None) w self.new result }
     {
         let accept = service_accept_frame(self.alloc)?;
-        staged.push(accept)?;
-        self.phase = Phase::Authentication;
-        let Some(message) = banner else {
-            return Ok(Flow::Continue);
-        };
-        let banner = banner_frame(self.alloc, message.as_str())?;
-        staged.push(banner)?;
-        Ok(Flow::Continue)
+        self.wait_for_requests();
+        self.write(accept)?;
+        Ok(())
+    }
+
+    /// SERVICE_ACCEPT, and this BANNER.
+    fn greet_with<E>(&mut self, message: &str) -> Result<(), RunError<E>>
+        ensures { (w : World) → Refines self.old w →
+            Turned (greets (Some message.now)) w self.new result }
+    {
+        let accept = service_accept_frame(self.alloc)?;
+        let banner = banner_frame(self.alloc, message)?;
+        self.wait_for_requests();
+        self.write(accept)?;
+        self.write(banner)?;
+        Ok(())
+    }
+
+    /// Requests of authentication are read from now on.
+    fn wait_for_requests(&mut self)
+        ensures { (w : World) → Refines self.old w → Refines self.new (served w) }
+    {
+        self.state = EncryptedState::WaitingAuthRequest(AuthRequest::server(self.config.methods));
     }
 }

@@ -1,60 +1,94 @@
-use Rattle.std.proofs.Common.{◌≡◌, sym, ◌∙◌, ap, subst, Err}
+use Rattle.std.proofs.Common.{◌≡◌, rules, refl, sym, ◌∙◌, ap, subst, Err}
 use Rattle.std.proofs.lemmas.Result.{err_from_is_err_and}
-use Rattle.ssh_session.specs.declared.error.RunError.TheVariants as error
-use Rattle.ssh_session.specs.World.{settings_of}
-use Rattle.ssh_session.specs.Failure.{run_error_of}
-use Rattle.ssh_session.specs.Step.{Ran}
-use Rattle.ssh_session.proofs.Runs.{starts, not_begun, goes_on, ends, stopped, link_left}
+use Rattle.ssh_link.specs.Asked.{IsAsked}
+use Rattle.ssh_link.specs.Told.{AddsOne}
+use Rattle.ssh_link.specs.declared.link.TraceEntry.TheVariants.{Took}
+use Rattle.ssh_session.specs.Account.{Ran}
+use Rattle.ssh_session.proofs.Runs.{starts, goes_on, ends, stopped, link_left, limit_reached}
+use Rattle.ssh_session.proofs.Runs.{still_suits}
 use Rattle.ssh_session.proofs.run.run_inputs.Goals as goal
 
-pub returns-in-Ok-Ended : goal.returns-in-Ok-Ended
-returns-in-Ok-Ended g c = let settings = settings_of c.args.config.now c.args.session_id.now
-    c.args.remote_sshid.now in
-    ends (g.V.Verifier.accepts c.args.verifier.now) settings _ _ _ _ _ _ _ _ _ _ _ c.loop.counter
-    c.args.max_inputs c.loop.session c.step.new.self c.asks_commands.result c.in-Ok.input
-    c.loop.invariant c.in-Ok.ensures.took c.in-Ok.ensures.asked
-    (c.asks_commands.ensures settings) c.next.ensures.later
-    (λ w r. rw c.in-Ok-Ended.field-0-is at (c.in-Ok-Ended.ensures.taken settings w r))
-    c.loop-test.true
-
-pub returns-in-Err-step : goal.returns-in-Err-step
-returns-in-Err-step g c = let settings = settings_of c.args.config.now c.args.session_id.now
-    c.args.remote_sshid.now in
-    stopped (g.V.Verifier.accepts c.args.verifier.now) settings _ _ _ _ _ _ _ _ _ _ _ c.loop.counter
-    c.args.max_inputs c.loop.session c.step.new.self c.asks_commands.result c.in-Ok.input
-    c.in-Err-step.e c.loop.invariant c.in-Ok.ensures.took c.in-Ok.ensures.asked
-    (c.asks_commands.ensures settings) c.next.ensures.later
-    (λ w r. c.in-Err-step.ensures.taken settings w r) c.loop-test.true
-
-pub loop-preserved : goal.loop-preserved
-loop-preserved g c = let settings = settings_of c.args.config.now c.args.session_id.now
-    c.args.remote_sshid.now in
-    goes_on (g.V.Verifier.accepts c.args.verifier.now) settings _ _ _ _ _ _ _ _ _ _ _ c.loop.counter
-    c.loop.session c.step.new.self c.asks_commands.result c.in-Ok.input c.loop.invariant
-    c.in-Ok.ensures.took c.in-Ok.ensures.asked (c.asks_commands.ensures settings)
-    c.next.ensures.later
-    (λ w r. rw c.in-Ok-Continue.field-0-is at (c.in-Ok-Continue.ensures.taken settings w r))
-
-pub returns-in_err-session : goal.returns-in_err-session
-returns-in_err-session g c = let settings = settings_of c.args.config.now c.args.session_id.now
-    c.args.remote_sshid.now in
-    let p = err_from_is_err_and c.from_residual.result c.from_residual.ensures.1 in
-    let is : c.from_residual.result ≡ Err error.NoMemory = p.1
-    ∙ ap Err (p.2 ∙ ap run_error_of c.in_err-session.ensures.memory) in
-    subst (Ran (g.V.Verifier.accepts c.args.verifier.now) settings _ _ _ _ _ _ c.args.max_inputs)
-    (sym is) (not_begun g.row.H-Error.Denot (g.V.Verifier.accepts c.args.verifier.now) settings
-    _ _ _ c.args.max_inputs)
-
 pub loop-init : goal.loop-init
-loop-init g c = starts g.row.H-Error.Denot (g.V.Verifier.accepts c.args.verifier.now)
-    (settings_of c.args.config.now c.args.session_id.now c.args.remote_sshid.now) _ _ _
-    c.in_ok-session.session c.in_ok-session.ensures.opens
+loop-init g c settings r = starts g.row.H-Error.Denot (g.V.Verifier.accepts c.args.verifier.now)
+    settings _ c.args.session.now r
+
+pub step-requires : goal.step-requires
+step-requires g c =
+    let settings = c.requires.begins.0 in
+    record {
+      suits = λ live. still_suits g.H.Handler.suits
+          (g.V.Verifier.accepts c.args.verifier.now) settings _ _ c.loop.counter
+          c.loop.session (c.loop.invariant settings c.requires.begins.1) c.requires.begins.2;
+    }
+
+pub returns-in_err-input : goal.returns-in_err-input
+returns-in_err-input g c settings r =
+    let p = err_from_is_err_and c.from_residual.result c.from_residual.ensures.1 in
+    subst (Ran (g.V.Verifier.accepts c.args.verifier.now) settings _ _ c.args.max_inputs)
+    (sym (p.1 ∙ ap Err p.2))
+    (link_left (g.V.Verifier.accepts c.args.verifier.now) settings _ _ _ c.loop.counter
+    c.args.max_inputs c.loop.session
+    c.in_err-input.field-0.0 (c.loop.invariant settings r) c.in_err-input.ensures.err refl
+    c.next.ensures.later
+    (λ i. c.in_err-input.ensures.cause (ap Err i)) c.loop-test.true)
+
+pub returns-in-Ok-Ended : goal.returns-in-Ok-Ended
+returns-in-Ok-Ended g c settings r =
+    ends (g.V.Verifier.accepts c.args.verifier.now) settings _ _ _ _ c.loop.counter
+    c.args.max_inputs c.loop.session c.step.new.self
+    c.commands_wanted.result c.in_ok-input.input (c.loop.invariant settings r)
+    (record {
+      took = subst (λ replies. AddsOne (g.L.Link.trace c.loop.link)
+          (g.L.Link.trace c.next.new.self)
+          (Took c.commands_wanted.result replies c.in_ok-input.input))
+          c.replies_wanted.ensures c.in_ok-input.ensures.took;
+      uncalled = refl;
+      asked = subst (λ replies. IsAsked c.commands_wanted.result replies
+          c.in_ok-input.input.kind) c.replies_wanted.ensures c.in_ok-input.ensures.asked;
+      flag = c.commands_wanted.ensures.world;
+      later = c.next.ensures.later;
+    })
+    (λ w k. rw c.in-Ok-Ended.field-0-is at (c.in-Ok-Ended.ensures.taken w k)) c.loop-test.true
 
 pub returns-in-Err : goal.returns-in-Err
-returns-in-Err g c =
-    link_left (g.V.Verifier.accepts c.args.verifier.now)
-    (settings_of c.args.config.now c.args.session_id.now c.args.remote_sshid.now) _ _ _ _ _ _ _
-    _ c.loop.counter c.args.max_inputs c.loop.session c.in-Err.fault (Err c.from.result)
-    (ap Err c.from.ensures)
-    c.loop.invariant c.in-Err.ensures.err c.next.ensures.later
-    (λ i. c.in-Err.ensures.cause (ap Err i)) c.loop-test.true
+returns-in-Err g c settings r =
+    stopped (g.V.Verifier.accepts c.args.verifier.now) settings _ _ _ _ c.loop.counter
+    c.args.max_inputs c.loop.session c.step.new.self
+    c.commands_wanted.result c.in_ok-input.input c.in-Err.e (c.loop.invariant settings r)
+    (record {
+      took = subst (λ replies. AddsOne (g.L.Link.trace c.loop.link)
+          (g.L.Link.trace c.next.new.self)
+          (Took c.commands_wanted.result replies c.in_ok-input.input))
+          c.replies_wanted.ensures c.in_ok-input.ensures.took;
+      uncalled = refl;
+      asked = subst (λ replies. IsAsked c.commands_wanted.result replies
+          c.in_ok-input.input.kind) c.replies_wanted.ensures c.in_ok-input.ensures.asked;
+      flag = c.commands_wanted.ensures.world;
+      later = c.next.ensures.later;
+    })
+    (λ w k. c.in-Err.ensures.taken w k) c.loop-test.true
+
+pub loop-preserved : goal.loop-preserved
+loop-preserved g c settings r =
+    goes_on (g.V.Verifier.accepts c.args.verifier.now) settings _ _ _ _ c.loop.counter
+    c.loop.session c.step.new.self
+    c.commands_wanted.result c.in_ok-input.input (c.loop.invariant settings r)
+    (record {
+      took = subst (λ replies. AddsOne (g.L.Link.trace c.loop.link)
+          (g.L.Link.trace c.next.new.self)
+          (Took c.commands_wanted.result replies c.in_ok-input.input))
+          c.replies_wanted.ensures c.in_ok-input.ensures.took;
+      uncalled = refl;
+      asked = subst (λ replies. IsAsked c.commands_wanted.result replies
+          c.in_ok-input.input.kind) c.replies_wanted.ensures c.in_ok-input.ensures.asked;
+      flag = c.commands_wanted.ensures.world;
+      later = c.next.ensures.later;
+    })
+    (λ w k. rw c.in-Ok-Continue.field-0-is at (c.in-Ok-Continue.ensures.taken w k))
+
+pub returns : goal.returns
+returns g c settings r =
+    let all : c.loop.counter ≡ c.args.max_inputs = search rules in
+    limit_reached (g.V.Verifier.accepts c.args.verifier.now) settings _ _ c.loop.counter
+    c.args.max_inputs c.loop.session
+    (c.loop.invariant settings r) all

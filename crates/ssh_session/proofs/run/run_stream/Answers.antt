@@ -1,36 +1,32 @@
+use Rattle.std.proofs.Common.{◌≡◌, sym, ◌∙◌, ap, subst, Err}
+use Rattle.std.proofs.lemmas.Result.{err_from_is_err_and}
+use Rattle.ssh_session.specs.declared.error.RunError.TheVariants as error
+use Rattle.ssh_session.specs.Account.{Laws}
+use Rattle.ssh_session.specs.Failure.{run_error_of}
 use Rattle.ssh_session.specs.World.{settings_of}
-use Rattle.ssh_session.proofs.Complete.{completes, link_fault, ended}
-use Rattle.ssh_session.proofs.Accepting.{authorised}
-use Rattle.ssh_session.proofs.Closing.{closes_only}
-use Rattle.ssh_session.proofs.Ledger.{ledger}
+use Rattle.ssh_session.proofs.Runs.{not_begun, laws_of}
 use Rattle.ssh_session.proofs.run.run_stream.Goals as goal
 
-pub returns-clause-ended : goal.returns-clause-ended
-returns-clause-ended g c = ended (g.V.Verifier.accepts c.args.verifier.now)
-    (settings_of c.args.config.now c.args.session_id.now c.args.remote_sshid.now) _ _ _ _ _ _
-    c.args.max_inputs c.run_inputs.result
+pub returns-in_err-session : goal.returns-in_err-session
+returns-in_err-session g c =
+    let settings = settings_of c.args.config.now c.args.session_id.now c.args.remote_sshid.now in
+    let p = err_from_is_err_and c.from_residual.result c.from_residual.ensures.1 in
+    let is : c.from_residual.result ≡ Err error.NoMemory = p.1
+    ∙ ap Err (p.2 ∙ ap run_error_of c.in_err-session.ensures.memory) in
+    record {
+      laws = subst (Laws (g.V.Verifier.accepts c.args.verifier.now) settings _ _
+          c.args.max_inputs) (sym is)
+          (laws_of (g.V.Verifier.accepts c.args.verifier.now) settings _ _ c.args.max_inputs
+          (Err error.NoMemory)
+          (not_begun g.row.H-Error.Denot (g.V.Verifier.accepts c.args.verifier.now) settings _
+          c.args.max_inputs));
+    }
 
-pub returns-clause-authorised : goal.returns-clause-authorised
-returns-clause-authorised g c = authorised (g.V.Verifier.accepts c.args.verifier.now)
-    (settings_of c.args.config.now c.args.session_id.now c.args.remote_sshid.now) _ _ _ _ _ _
-    c.args.max_inputs c.run_inputs.result
-
-pub returns-clause-complete : goal.returns-clause-complete
-returns-clause-complete g c = completes (g.V.Verifier.accepts c.args.verifier.now)
-    (settings_of c.args.config.now c.args.session_id.now c.args.remote_sshid.now) _ _ _ _ _ _
-    c.args.max_inputs c.run_inputs.result
-
-pub returns-clause-link_fault : goal.returns-clause-link_fault
-returns-clause-link_fault g c = link_fault (g.V.Verifier.accepts c.args.verifier.now)
-    (settings_of c.args.config.now c.args.session_id.now c.args.remote_sshid.now) _ _ _ _ _ _
-    c.args.max_inputs c.run_inputs.result c.run_inputs.ensures
-
-pub returns-clause-ledger : goal.returns-clause-ledger
-returns-clause-ledger g c = λ account. ledger (g.V.Verifier.accepts c.args.verifier.now)
-    (settings_of c.args.config.now c.args.session_id.now c.args.remote_sshid.now) account.turns
-    account.world account.run
-
-pub returns-clause-closing : goal.returns-clause-closing
-returns-clause-closing g c = λ account. closes_only (g.V.Verifier.accepts c.args.verifier.now)
-    (settings_of c.args.config.now c.args.session_id.now c.args.remote_sshid.now) _ _ _ _ _ _
-    c.args.max_inputs c.run_inputs.result account
+pub returns : goal.returns
+returns g c =
+    let settings = settings_of c.args.config.now c.args.session_id.now c.args.remote_sshid.now in
+    record {
+      laws = laws_of (g.V.Verifier.accepts c.args.verifier.now) settings _ _
+          c.args.max_inputs c.run_inputs-result.result
+          (c.run_inputs-result.ensures settings c.in_ok-session.ensures.opens);
+    }

@@ -1,49 +1,24 @@
-use Rattle.std.proofs.Common.{◌≡◌, [], ◌∷◌, ◌++◌, ◌∙◌, ap, refl, Err}
-use Rattle.std.proofs.lemmas.Result.{err_from_is_err_and}
-use Rattle.ssh_auth.specs.declared.question.Question.TheVariants.{Lends}
-use Rattle.ssh_auth.specs.declared.question.Lent.TheVariants.{Succeeded}
-use Rattle.ssh_auth.specs.Plan.{Ask}
-use Rattle.ssh_session.specs.declared.phase.Phase.TheVariants.{Accepted}
+use Rattle.std.proofs.Common.{◌∷◌, [], ap, subst}
+use Rattle.ssh_session.specs.declared.state.EncryptedState.TheVariants.{InitCompression}
+use Rattle.ssh_session.specs.Acts.{acts}
+use Rattle.ssh_session.specs.Failure.{error_of_table}
 use Rattle.ssh_session.specs.Layout.{at_once}
-use Rattle.ssh_session.specs.Commanded.{done_all}
-use Rattle.ssh_session.proofs.Asks.{asked, asked_in_vain, starved_by}
+use Rattle.ssh_session.specs.Rows.{lets_in, finishes}
+use Rattle.ssh_session.specs.Serve.{Refines}
+use Rattle.ssh_session.specs.World.{writes}
+use Rattle.ssh_session.proofs.Requests.{finished_as}
+use Rattle.ssh_session.proofs.Serving.{starved}
 use Rattle.ssh_session.proofs.session.Session.accept.Goals as goal
 
-pub returns-in-Ok : goal.returns-in-Ok
-returns-in-Ok g c = λ settings w moment r.
-    let accepted = record w { phase = Accepted; requested = c.args.requested } in
-    let pushed : c.push.new.self.items ≡ c.args.staged.now.items ++ at_once c.args.reply ∷ [] =
-    rw (← c.new.ensures) c.in_ok-push.ensures.items in
-    let f = c.finish_commands in
-    asked settings (Lends Succeeded) (done_all settings accepted (at_once c.args.reply ∷ []) 0)
-    c.in-Ok.commands _ _ _ _ _ c.args.staged.now.items f.new.staged.items f.new.self f.result
-    c.in-Ok.ensures
-    (f.ensures settings accepted c.args.staged.now.items (at_once c.args.reply ∷ [])
-    (record {
-      config = r.config;
-      session_id = r.session_id;
-      remote_sshid = r.remote_sshid;
-      phase = refl;
-      auth = r.auth;
-      requested = refl;
-      last = r.last;
-      pending = r.pending;
-      channels = r.channels;
-      live = r.live;
-    })
-    pushed)
+pub returns-in_err-write-clause-does : goal.returns-in_err-write-clause-does
+returns-in_err-write-clause-does g c = λ w moment r later.
+    starved _ (λ (_ : Unit {0}). acts later) _ c.write.new.self _ _ c.from_residual.ensures.1
+    (ap error_of_table c.in_err-write.ensures.memory)
 
-pub returns-in-Err : goal.returns-in-Err
-returns-in-Err g c = λ settings w moment r.
-    let accepted = record w { phase = Accepted; requested = c.args.requested } in
-    asked_in_vain settings (Lends Succeeded) (done_all settings accepted (at_once c.args.reply ∷ [])
-    0) c.in-Err.e _ _ _ _ c.args.staged.now.items c.push.new.self.items c.args.self.now
-    c.in-Err.ensures
-
-pub returns-in_err-push : goal.returns-in_err-push
-returns-in_err-push g c = λ settings w moment r.
-    let accepted = record w { phase = Accepted; requested = c.args.requested } in
-    let p = err_from_is_err_and c.from_residual.result c.from_residual.ensures.1 in
-    starved_by settings (Ask (Lends Succeeded) (done_all settings accepted (at_once c.args.reply
-    ∷ []) 0)) _ c.args.staged.now.items c.push.new.self.items c.args.self.now
-    c.from_residual.result (p.1 ∙ ap Err p.2)
+pub returns-clause-does : goal.returns-clause-does
+returns-clause-does g c = λ w moment r.
+    c.call.ensures.does (writes (at_once c.args.reply ∷ []) (lets_in (finishes c.args.requested w)))
+    (finished_as c.args.requested InitCompression c.write.new.self _
+    (writes (at_once c.args.reply ∷ []) w)
+    (subst (λ f. Refines c.write.new.self (writes (f ∷ []) w)) c.new.ensures
+    (c.in_ok-write.ensures.world w r)))

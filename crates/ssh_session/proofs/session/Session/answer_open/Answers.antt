@@ -1,44 +1,20 @@
-use Rattle.std.proofs.Common.{Some, None, ◌∙◌, ap}
-use Rattle.ssh_link.specs.declared.outcome.Refusal.TheVariants.{UnknownOpen}
-use Rattle.ssh_session.specs.Effect.{answer_effect, confirms, decides}
-use Rattle.ssh_session.specs.Pending.{pending_of}
-use Rattle.ssh_session.proofs.Effects.{refused, effect_is, waits_for_answer}
+use Rattle.std.proofs.Common.{◌≡◌, ◌∙◌, Some, ap, subst, sym}
+use Rattle.std.specs.Ordering.{nat_cmp}
+use Rattle.std.specs.BTreeMap.{is_at}
+use Rattle.std.specs.Map.{lookup}
+use Rattle.ssh_session.specs.Effect.{answers, decides}
+use Rattle.ssh_session.specs.Opens.{opening_of}
+use Rattle.ssh_session.specs.Serve.{HasEffect}
 use Rattle.ssh_session.proofs.session.Session.answer_open.Goals as goal
 
-pub returns-in_default : goal.returns-in_default
-returns-in_default g c = λ settings w r.
-    let a = c.args in
-    let n = a.answer.channel.0 in
-    let p = waits_for_answer n c.deref.result.now a.self.now.pending.items w.pending None
-    c.in_default.ensures c.deref.ensures.value r.pending in
-    refused settings (answer_effect settings w a.answer (pending_of n w.pending)) w UnknownOpen
-    c.refused.result a.staged.now.items a.self.now
-    (ap (answer_effect settings w a.answer) p) c.refused.ensures r
-
-pub returns-in-None : goal.returns-in-None
-returns-in-None g c = λ settings w r.
-    let a = c.args in
-    let n = a.answer.channel.0 in
+pub returns-in-None-clause-does : goal.returns-in-None-clause-does
+returns-in-None-clause-does g c = λ w r.
+    let a = c.args.answer in
+    let n = a.channel.0 in
     let o = c.in-Some.opening in
-    let f = c.confirm_open in
-    let p = waits_for_answer n c.deref.result.now a.self.now.pending.items w.pending (Some o)
-    c.in-Some.ensures c.deref.ensures.value r.pending in
-    effect_is settings (answer_effect settings w a.answer (pending_of n w.pending))
-    (confirms settings w o) a.staged.now.items f.new.staged.items f.new.self f.result
-    (ap (answer_effect settings w a.answer) p ∙ ap (λ x. decides settings w o x a.answer.texts)
-    c.in-None.is) (f.ensures settings w r)
-
-pub returns-in-Some-rejection : goal.returns-in-Some-rejection
-returns-in-Some-rejection g c = λ settings w r.
-    let a = c.args in
-    let n = a.answer.channel.0 in
-    let o = c.in-Some.opening in
-    let reason = c.in-Some-rejection.reason in
-    let f = c.reject_open in
-    let p = waits_for_answer n c.deref.result.now a.self.now.pending.items w.pending (Some o)
-    c.in-Some.ensures c.deref.ensures.value r.pending in
-    effect_is settings (answer_effect settings w a.answer (pending_of n w.pending))
-    (decides settings w o (Some reason) a.answer.texts)
-    a.staged.now.items f.new.staged.items f.new.self f.result
-    (ap (answer_effect settings w a.answer) p ∙ ap (λ x. decides settings w o x a.answer.texts)
-    c.in-Some-rejection.is) (f.ensures settings w r)
+    let e : Some o ≡ opening_of n w = c.in-Some.ensures ∙ c.get.ensures.value
+    ∙ ap (lookup (is_at (nat_cmp n))) r.opens in
+    subst (λ x. HasEffect (answers a x w) c.confirm_open.new.self c.confirm_open.result) e
+    (subst (λ x. HasEffect (decides n o x a.texts w) c.confirm_open.new.self c.confirm_open.result)
+    (sym c.in-None.is)
+    (c.confirm_open.ensures.does w r))

@@ -1,44 +1,47 @@
-use Rattle.std.proofs.Common.{[], ◌∷◌, ◌++◌, ◌∙◌, sym, ap}
-use Rattle.ssh_session.specs.ChannelLayout.{confirmation_frame}
+use Rattle.std.proofs.Common.{◌≡◌, ◌∷◌, ◌∙◌, [], refl, ap, subst, sym}
+use Rattle.std.specs.Ordering.{nat_cmp}
+use Rattle.std.specs.BTreeMap.{is_at}
+use Rattle.std.specs.Map.{remove_entry}
+use Rattle.ssh_link.specs.Frames.{Frame}
+use Rattle.ssh_channels.specs.Calls.{stage}
+use Rattle.ssh_channels.specs.Entry.{opened}
+use Rattle.ssh_channels.specs.Lines.{write, adds}
+use Rattle.ssh_channels.specs.Numbers.{insert}
+use Rattle.ssh_channels.specs.Stands.{Stands}
+use Rattle.ssh_handler.specs.declared.config.Config.{Config}
 use Rattle.ssh_session.specs.Effect.{confirms}
-use Rattle.ssh_session.specs.Entry.{opened}
-use Rattle.ssh_session.specs.Pending.{answered}
-use Rattle.ssh_session.proofs.Effects.{staged_one, waits_no_longer, joins}
+use Rattle.ssh_session.specs.Opens.{answered, confirmation_frame}
+use Rattle.ssh_session.specs.World.{lined, writes}
+use Rattle.ssh_session.proofs.Opened.{changed, confirms_stands}
 use Rattle.ssh_session.proofs.session.Session.confirm_open.Goals as goal
 
-pub returns : goal.returns
-returns g c = λ settings w r.
+pub returns-clause-does : goal.returns-clause-does
+returns-clause-does g c = λ w r.
     let a = c.args in
-    let o = c.opening.inside in
-    let n = o.number.0 in
-    let room = settings.config.window_size in
-    let f = confirmation_frame n o.peer room settings.config.maximum_packet_size in
-    let left = c.take_pending.new.self in
-    let l = waits_no_longer settings a.self.now left w n r c.in_ok-take_pending.ensures.ok
-    c.in_ok-take_pending.ensures.answered in (
-      f ∷ [],
-      record w {
-        pending = answered n w.pending;
-        entries = w.entries ++ opened n o.peer o.window
-            o.packet room ∷ [];
-      },
-      ap (confirms settings w) (sym c.opening.view_is),
-      staged_one c.in_ok-frame.frame f a.staged.now.items c.push.new.self.items
-          (c.in_ok-frame.ensures.ok ∙ ap (λ k. confirmation_frame n o.peer k.window_size
-          k.maximum_packet_size) r.config) c.in_ok-push.ensures.items,
-      record {
-        config = l.config;
-        session_id = l.session_id;
-        remote_sshid = l.remote_sshid;
-        phase = l.phase;
-        auth = l.auth;
-        requested = l.requested;
-        last = l.last;
-        pending = l.pending;
-        live = l.live;
-        channels = joins left.channels.items c.push-2.new.self.items w.entries c.open.result n
-            o.peer o.window o.packet a.self.now.config.window_size room
-            (ap (λ k. k.window_size) r.config) l.channels c.open.ensures
-            c.in_ok-push-2.ensures.items;
-      },
+    let n = a.number.0 in
+    let old = a.self.now in
+    let o = c.said.inside in
+    let room = w.settings.config.window_size in
+    let frame = confirmation_frame n o.peer room w.settings.config.maximum_packet_size in
+    let lines = w.channels.lines in
+    let framed : c.in_ok-frame.frame ≡ frame = c.in_ok-frame.ensures.ok
+    ∙ ap (λ (k : Config). confirmation_frame n o.peer k.window_size k.maximum_packet_size)
+    r.config in
+    let stands = confirms_stands c.stage.new.self old w o.peer a.number o.window
+    old.config.window_size o.packet
+    old.config.maximum_packet_size c.in_ok-frame.frame c.said.invariant.0 c.said.invariant.1
+    (c.in_ok-stage.ensures.table ∙ ap (stage c.in_ok-frame.frame)
+    (c.in_ok-insert.ensures.table ∙ ap (λ p. insert p old.table) c.new-params.ensures)) r in (
+      writes (frame ∷ []) (lined (adds (opened n o.peer o.window room o.packet)) (answered n w)),
+      ap (λ s. confirms n s w) (sym c.said.view_is),
+      changed old _ w (remove_entry (is_at (nat_cmp n)) w.channels.opens)
+          (write (frame ∷ []) (adds (opened n o.peer o.window room o.packet) lines)) refl refl refl
+          refl refl refl refl
+          (c.remove.ensures.entries ∙ ap (remove_entry (is_at (nat_cmp n))) r.opens)
+          (subst (λ (k : Config). Stands c.stage.new.self
+          (write (frame ∷ []) (adds (opened n o.peer o.window k.window_size o.packet) lines)))
+          r.config
+          (subst (λ (f : Frame). Stands c.stage.new.self
+          (write (f ∷ []) (adds (opened n o.peer o.window old.config.window_size o.packet) lines)))
+          framed stands)) r,
     )

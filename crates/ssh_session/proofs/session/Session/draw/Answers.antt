@@ -1,33 +1,27 @@
-use Rattle.std.proofs.Common.{◌++◌, ◌∷◌, [], ◌∙◌, ap}
-use Rattle.ssh_session.proofs.Branches.{own_is}
-use Rattle.ssh_session.specs.World.{next_number}
+use Rattle.std.proofs.Common.{◌∙◌, refl, sym, ap, Some, Err}
+use Rattle.std.proofs.lemmas.Result.{err_from_is_err_and}
+use Rattle.std.specs.Ordering.{nat_cmp}
+use Rattle.std.specs.BTreeMap.{insert_entry}
+use Rattle.ssh_channels.specs.Lines.{drawn}
+use Rattle.ssh_session.proofs.Opened.{changed, draws_stands}
+use Rattle.ssh_session.proofs.Refining.{next_same}
 use Rattle.ssh_session.proofs.session.Session.draw.Goals as goal
 
-pub returns-clause-drawn : goal.returns-clause-drawn
-returns-clause-drawn c = λ settings w r.
-    let n = c.next_number-number.ensures settings w r in
-    record {
-      config = r.config;
-      session_id = r.session_id;
-      remote_sshid = r.remote_sshid;
-      phase = r.phase;
-      auth = r.auth;
-      requested = r.requested;
-      last = n;
-      pending = c.in_ok-push.ensures.items
-          ∙ ap (λ ps. ps ++ (record {
-            number = c.next_number-number.result;
-            peer = c.args.peer;
-            window = c.args.window;
-            packet = c.args.packet;
-          }) ∷ []) r.pending
-          ∙ ap (λ k. w.pending ++ (record {
-            number = k;
-            peer = c.args.peer;
-            window = c.args.window;
-            packet = c.args.packet;
-          }) ∷ []) (own_is c.next_number-number.result (next_number w)
-          n);
-      channels = r.channels;
-      live = r.live;
-    }
+pub returns-clause-number : goal.returns-clause-number
+returns-clause-number c = λ w r. sym (next_same c.args.self.now w r) ∙ c.in_ok-number.ensures.number
+
+pub returns-clause-world : goal.returns-clause-world
+returns-clause-world c = λ w r.
+    let n = c.in_ok-number.number.0 in
+    let old = c.args.self.now in
+    changed old _ w (insert_entry nat_cmp w.channels.opens n c.args.said)
+    (drawn (Some n) w.channels.lines) refl refl refl refl refl refl refl
+    (c.in_ok-insert.ensures.entries ∙ ap (λ l. insert_entry nat_cmp l n c.args.said) r.opens)
+    (draws_stands c.new_channel_id.new.self old w n c.in_ok-number.ensures.table
+    (sym (next_same old w r) ∙ c.in_ok-number.ensures.number) r) r
+
+pub returns-in_err-number-clause-full : goal.returns-in_err-number-clause-full
+returns-in_err-number-clause-full c = λ w r h.
+    let p = err_from_is_err_and c.from_residual.result c.from_residual.ensures.1 in
+    sym (next_same c.args.self.now w r) ∙ c.in_err-number.ensures.full.0 (sym (p.1 ∙ ap Err p.2)
+    ∙ h)

@@ -1,41 +1,44 @@
-use Rattle.std.proofs.Common.{[], ◌∷◌, ◌∙◌, Err, sym, ap}
-use Rattle.ssh_link.specs.declared.outcome.Refusal.TheVariants.{TooLong}
-use Rattle.ssh_session.specs.ChannelLayout.{on_channel}
-use Rattle.ssh_session.specs.Effect.{fails_open, failure_of}
-use Rattle.ssh_session.specs.Pending.{Pending, answered}
-use Rattle.ssh_session.proofs.Effects.{refused, accepted, staged_one, waits_no_longer}
-use Rattle.ssh_session.proofs.Effects.{fails_too_long, fails_in_words}
+use Rattle.std.proofs.Common.{◌∷◌, ◌∙◌, [], refl, sym, ap, subst}
+use Rattle.std.specs.Prelude.{option_to_list}
+use Rattle.std.specs.Ordering.{nat_cmp}
+use Rattle.std.specs.BTreeMap.{is_at}
+use Rattle.std.specs.Map.{remove_entry}
+use Rattle.ssh_wire.specs.Open.{open_failure}
+use Rattle.ssh_wire.specs.OpenFailures.{open_failure_code}
+use Rattle.ssh_channels.specs.Lines.{write, drops_pending}
+use Rattle.ssh_channels.specs.Numbers.{drop_pending}
+use Rattle.ssh_channels.specs.Stands.{Stands}
+use Rattle.ssh_session.specs.declared.apply.Done.{Done}
+use Rattle.ssh_session.specs.Effect.{Does, fails_open}
+use Rattle.ssh_session.specs.Opening.{Opening}
+use Rattle.ssh_session.specs.Opens.{answered, failure_frame}
+use Rattle.ssh_session.specs.World.{lined, writes}
+use Rattle.ssh_session.proofs.Effects.{short}
+use Rattle.ssh_session.proofs.Opened.{changed, fails_stands}
 use Rattle.ssh_session.proofs.session.Session.fail_open.Goals as goal
 
-pub returns-in-Err-TooLong : goal.returns-in-Err-TooLong
-returns-in-Err-TooLong g c = λ settings w r.
+pub returns-in_ok-stage-in-Ok-clause-does : goal.returns-in_ok-stage-in-Ok-clause-does
+returns-in_ok-stage-in-Ok-clause-does g c = λ w r.
     let a = c.args in
-    refused settings (fails_open w a.opening a.reason a.description.now a.language.now) w TooLong
-    c.refused.result a.staged.now.items a.self.now
-    (fails_too_long w a.opening a.reason a.description.now a.language.now
-    (c.in-Err-TooLong.ensures.too_long.0 (ap Err c.in-Err-TooLong.field-0-is)))
-    c.refused.ensures r
-
-pub returns : goal.returns
-returns g c = λ settings w r.
-    let a = c.args in
-    let i = c.opening.inside in
-    let o : Pending = record {
-      number = i.number;
-      peer = i.peer;
-      window = i.window;
-      packet = i.packet;
-    } in
-    let f = on_channel o.number.0 (failure_of o a.reason a.description.now a.language.now) in
-    let left = c.take_pending.new.self in
-    accepted settings (fails_open w a.opening a.reason a.description.now a.language.now) (f ∷ [])
-    (record w { pending = answered o.number.0 w.pending })
-    c.accepted.result a.staged.now.items c.push.new.self.items left
-    (ap (λ p. fails_open w p a.reason a.description.now a.language.now) (sym c.opening.view_is)
-    ∙ fails_in_words w o a.reason a.description.now a.language.now c.in-Ok.frame
-    c.in-Ok.ensures.too_long.1)
-    c.accepted.ensures
-    (staged_one c.in-Ok.frame f a.staged.now.items c.push.new.self.items c.in-Ok.ensures.ok
-    c.in_ok-push.ensures.items)
-    (waits_no_longer settings a.self.now left w o.number.0 r c.in_ok-take_pending.ensures.ok
-    c.in_ok-take_pending.ensures.answered)
+    let n = a.number.0 in
+    let old = a.self.now in
+    let lines = w.channels.lines in
+    let payload = open_failure c.said.inside.peer (open_failure_code a.reason) a.description.now
+    a.language.now in
+    let stands = fails_stands c.drop_pending.new.self old w n c.in-Ok.frame
+    (c.drop_pending.ensures.table ∙ ap (drop_pending n) c.in_ok-stage-in-Ok.ensures.table) r in
+    let world = writes (failure_frame n payload ∷ []) (lined (drops_pending n) (answered n w)) in (
+      world,
+      ap (λ (o : Opening).
+          fails_open n (open_failure o.peer (open_failure_code a.reason) a.description.now
+          a.language.now) w) (sym c.said.view_is)
+          ∙ short n payload w (λ l. let k = c.in-Ok.ensures.too_long.1 l in absurd (cc))
+          ∙ ap (λ (x : Done). Does (option_to_list x.notice) x.outcome world)
+          (sym c.accepted.ensures),
+      changed old _ w (remove_entry (is_at (nat_cmp n)) w.channels.opens)
+          (write (failure_frame n payload ∷ []) (drops_pending n lines)) refl refl refl refl refl
+          refl refl
+          (c.remove.ensures.entries ∙ ap (remove_entry (is_at (nat_cmp n))) r.opens)
+          (subst (λ f. Stands c.drop_pending.new.self (write (f ∷ []) (drops_pending n lines)))
+          c.in-Ok.ensures.ok stands) r,
+    )

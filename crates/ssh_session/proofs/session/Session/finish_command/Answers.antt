@@ -1,28 +1,54 @@
-use Rattle.std.proofs.Common.{◌+◌, ◌∷◌, ◌++◌, ap, Err}
-use Rattle.ssh_session.specs.Commanded.{done_all, tell_done}
+use Rattle.std.proofs.Common.{◌+◌, ◌∷◌}
+use Rattle.ssh_link.specs.declared.outcome.CommandOutcome.{CommandOutcome}
+use Rattle.ssh_auth.specs.Plan.{Plan}
+use Rattle.ssh_session.specs.declared.apply.Done.{Done}
+use Rattle.ssh_session.specs.Acts.{done_all, tell_done}
 use Rattle.ssh_session.specs.Effect.{effect}
-use Rattle.ssh_session.proofs.Doing.{not_done, finished_one, link_stopped}
+use Rattle.ssh_session.specs.Outcome.{Outcome}
+use Rattle.ssh_session.specs.World.{World}
+use Rattle.ssh_session.proofs.Commanding.{commanded, not_noticed, not_done}
+use Rattle.ssh_session.proofs.Serving.{settled_by, passed}
 use Rattle.ssh_session.proofs.session.Session.finish_command.Goals as goal
 
-pub returns-in-Err : goal.returns-in-Err
-returns-in-Err g c = λ settings w base frames commands r is.
-    not_done settings (effect settings w c.args.command) (λ outcome more world.
-    tell_done c.args.place outcome (done_all settings world (frames ++ more) (c.args.place + 1)
-    commands))
-    _ base c.args.staged.now.items c.apply.new.staged.items c.apply.new.self c.in-Err.e
-    (c.in-Err.ensures settings w r)
+pub returns-in_err-notice-clause-does : goal.returns-in_err-notice-clause-does
+returns-in_err-notice-clause-does g c = λ w r later next.
+    let finish : Unit {0} → World → Plan Outcome = λ _ world. done_all (c.args.place + 1) later
+    world next in
+    let onward : CommandOutcome → World → Plan Outcome =
+    λ outcome world. tell_done c.args.place outcome (done_all (c.args.place + 1) later world next)
+    in
+    passed (done_all c.args.place (c.args.command ∷ later) w next) finish finish _ _
+    c.apply.new.self c.apply.new.self _ _
+    c.from_residual.ensures.1
+    (not_done (effect w c.args.command) onward finish _ c.apply.new.self c.apply.new.self _
+    (c.in_err-notice.ensures.does w r))
 
-pub returns-in-Ok-give : goal.returns-in-Ok-give
-returns-in-Ok-give g c = λ settings w base frames commands r is.
-    finished_one settings w frames c.args.place c.args.command commands _ _ _ _ _ _ base
-    c.args.staged.now.items c.apply.new.staged.items c.apply.new.self c.in-Ok.done
+pub returns-in_err-give-clause-does : goal.returns-in_err-give-clause-does
+returns-in_err-give-clause-does g c = λ w r later next.
+    let finish : Unit {0} → World → Plan Outcome = λ _ world. done_all (c.args.place + 1) later
+    world next in
+    let onward : CommandOutcome → World → Plan Outcome =
+    λ outcome world. tell_done c.args.place outcome (done_all (c.args.place + 1) later world next)
+    in
+    let made : Done = c.in_ok-notice.field-0 in
+    passed (done_all c.args.place (c.args.command ∷ later) w next) finish finish _ _
+    c.apply.new.self c.apply.new.self _ _
+    c.from_residual-in_err-give.ensures.1
+    (not_noticed (effect w c.args.command) onward finish made _ _ c.apply.new.self c.apply.new.self
+    _
+    (c.in_ok-notice.ensures.does w r) (λ v q l. c.in_err-give.ensures.does v q l))
+
+pub returns-clause-does : goal.returns-clause-does
+returns-clause-does g c = λ w r later next.
+    let finish : Unit {0} → World → Plan Outcome = λ _ world. done_all (c.args.place + 1) later
+    world next in
+    let onward : CommandOutcome → World → Plan Outcome =
+    λ outcome world. tell_done c.args.place outcome (done_all (c.args.place + 1) later world next)
+    in
+    let made : Done = c.in_ok-notice.field-0 in
+    commanded (effect w c.args.command) onward finish made _ _ _ c.apply.new.self c.apply.new.self
     c.tell_done.result
-    (c.in-Ok.ensures settings w r) is c.in-Ok-give.ensures.given c.give.ensures.later
-    c.tell_done.ensures
-
-pub returns-in-Err-give : goal.returns-in-Err-give
-returns-in-Err-give g c = λ settings w base frames commands r is.
-    link_stopped settings (done_all settings w frames c.args.place (c.args.command ∷ commands)) _ _
-    _ _ _ base c.apply.new.staged.items c.apply.new.self
-    c.in-Err-give.fault (Err c.from.result) (ap Err c.from.ensures) c.in-Err-give.ensures.err
-    c.give.ensures.later c.in-Err-give.ensures.cause
+    (c.in_ok-notice.ensures.does w r) (λ v q l. c.in_ok-give.ensures.does v q l)
+    (λ v q. settled_by (onward made.outcome v) (λ u. done_all (c.args.place + 1) later u next) _ _ v
+    c.apply.new.self
+    c.tell_done.result q (c.tell_done.ensures.does v q (done_all (c.args.place + 1) later v next)))

@@ -1,51 +1,70 @@
-use Rattle.std.proofs.Common.{length, Ok, Err, arith, ap}
-use Rattle.ssh_session.specs.Commanded.{done_all}
-use Rattle.ssh_session.proofs.Doing.{rest, does_none, does_next, does_all, none_left}
+use Rattle.std.proofs.Common.{◌≡◌, ◌+◌, [], Ok, Err, length, arith, ap, subst, sym, refl, ◌∙◌}
+use Rattle.ssh_auth.specs.Plan.{Plan, Reaches}
+use Rattle.ssh_session.specs.World.{World}
+use Rattle.ssh_session.specs.Serve.{Serves}
+use Rattle.ssh_session.specs.Acts.{done_all}
+use Rattle.ssh_session.specs.Outcome.{Outcome}
+use Rattle.ssh_session.proofs.Serving.{serves_nothing, served_both, served_then_error, none_left}
 use Rattle.ssh_session.proofs.session.Session.finish_commands.Goals as goal
 
 pub loop-place-init : goal.loop-place-init
 loop-place-init g c = record {
   left = omega arith;
-  does = λ settings w base frames r is. does_none settings (rest settings 0 c.args.commands) _ base
-      c.args.staged.now.items frames w c.args.self.now is r;
+  does = λ w r next. serves_nothing tt (λ (_ : Unit {0}) world. done_all 0 c.args.commands world
+      next) _ w c.args.self.now r;
+  peer = (refl, refl);
+  same = (refl, refl);
 }
 
 pub loop-place-preserved : goal.loop-place-preserved
 loop-place-preserved g c = record {
   left = let l = c.loop-place.invariant.left in let e = ap length c.in-Some.ensures in
       omega (arith, l, e);
-  does = λ settings w base frames r is.
-      does_next settings (done_all settings w frames 0 c.args.commands) c.loop-place.place
-      c.loop-place.commands c.in-Some.command c.take_first.new.self
-      _ _ _ base c.loop-place.staged.items c.finish_command.new.staged.items c.loop-place.self
-      c.finish_command.new.self (Ok tt) c.in-Some.ensures (c.loop-place.invariant.does settings
-      w base frames r is)
-      (λ frames' world refines is'. c.in-Ok.ensures settings world base frames'
-      c.take_first.new.self refines is');
+  does = λ w r next.
+      let place = c.loop-place.place in
+      let done_so : Unit {0} → World → Plan Outcome = λ _ v. done_all place c.loop-place.commands v
+      next in
+      let more : Unit {0} → World → Plan Outcome = λ _ v. done_all (place + 1) c.take_first.new.self
+      v next in
+      served_both tt (done_all 0 c.args.commands w next) done_so more _ _ _ c.loop-place.self
+      c.finish_command.new.self (Ok tt)
+      (c.loop-place.invariant.does w r next)
+      (λ v q. rw c.in-Some.ensures (c.in_default-finish_command.ensures.does v q
+      c.take_first.new.self next));
+  peer = let a = c.loop-place.invariant.peer in let b = c.finish_command.ensures.peer in
+      (b.0 ∙ a.0, b.1 ∙ a.1);
+  same = let a = c.loop-place.invariant.same in let b = c.finish_command.ensures.same in
+      (b.0 ∙ a.0, b.1 ∙ a.1);
 }
 
-pub returns-in-Err : goal.returns-in-Err
-returns-in-Err g c = λ settings w base frames r is.
-    does_next settings (done_all settings w frames 0 c.args.commands) c.loop-place.place
-    c.loop-place.commands c.in-Some.command c.take_first.new.self
-    _ _ _ base c.loop-place.staged.items c.finish_command.new.staged.items c.loop-place.self
-    c.finish_command.new.self (Err c.in-Err.e) c.in-Some.ensures
-    (c.loop-place.invariant.does settings w base frames r is)
-    (λ frames' world refines is'. c.in-Err.ensures settings world base frames' c.take_first.new.self
-    refines is')
+pub returns-in-Err-clause-does : goal.returns-in-Err-clause-does
+returns-in-Err-clause-does g c = λ w r next.
+    let place = c.loop-place.place in
+    let done_so : Unit {0} → World → Plan Outcome = λ _ v. done_all place c.loop-place.commands v
+    next in
+    served_then_error tt (done_all 0 c.args.commands w next) done_so (λ (_ : Unit {0}). next) _ _ _
+    c.loop-place.self
+    c.finish_command.new.self c.in-Err.e (c.loop-place.invariant.does w r next)
+    (λ v. λ (_ : Unit {0}) u. done_all (place + 1) c.take_first.new.self u next)
+    (λ v q. subst (λ l. Serves (done_all place l v next) (λ (_ : Unit {0}) u. done_all (place + 1)
+    c.take_first.new.self u next)
+    (g.O.Outside.heard c.loop-place.outside) (g.O.Outside.heard c.finish_command.new.outside)
+    c.finish_command.new.self (Err c.in-Err.e))
+    (sym c.in-Some.ensures) (c.in-Err.ensures.does v q c.take_first.new.self next))
 
-pub returns-in_default : goal.returns-in_default
-returns-in_default g c = λ settings w base frames r is.
-    does_all settings (done_all settings w frames 0 c.args.commands) c.loop-place.place
-    c.loop-place.commands _ _ base c.loop-place.staged.items c.loop-place.self
-    c.in_default.ensures.0
-    (c.loop-place.invariant.does settings w base frames r is)
-
-pub returns : goal.returns
-returns g c = λ settings w base frames r is.
+pub returns-clause-does : goal.returns-clause-does
+returns-clause-does g c = λ w r next.
     let left = c.loop-place.invariant.left in let end = c.len-place-end.ensures in
     let over = c.loop-place-test.false in
-    does_all settings (done_all settings w frames 0 c.args.commands) c.loop-place.place
-    c.loop-place.commands _ _ base c.loop-place.staged.items c.loop-place.self
-    (none_left c.loop-place.commands (omega (arith, left, end, over)))
-    (c.loop-place.invariant.does settings w base frames r is)
+    let none : c.loop-place.commands ≡ [] = none_left c.loop-place.commands
+    (omega (arith, left, end, over)) in
+    let s = c.loop-place.invariant.does w r next in (
+      s.0,
+      s.1,
+      (
+        s.2.0,
+        subst (λ l. Reaches (done_all 0 c.args.commands w next) s.0
+            (done_all c.loop-place.place l s.2.0 next)) none s.2.1,
+        s.2.2,
+      ),
+    )

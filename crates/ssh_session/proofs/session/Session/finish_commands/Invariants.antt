@@ -1,20 +1,19 @@
-use Rattle.std.proofs.Common.{◌≡◌, ◌+◌, ◌++◌, List, Ok, length}
-use Rattle.ssh_link.specs.Frames.{Frame}
-use Rattle.ssh_session.specs.World.{Settings, World}
-use Rattle.ssh_session.specs.Commanded.{done_all}
-use Rattle.ssh_session.specs.Serve.{Refines, DoesOne, heard}
-use Rattle.ssh_session.proofs.Doing.{rest}
+use Rattle.std.proofs.Common.{◌≡◌, ◌+◌, Ok, length}
+use Rattle.ssh_auth.specs.Plan.{Plan}
+use Rattle.ssh_session.specs.World.{World}
+use Rattle.ssh_session.specs.Acts.{done_all}
+use Rattle.ssh_session.specs.Heard.{AreSame}
+use Rattle.ssh_session.specs.Outcome.{Outcome}
+use Rattle.ssh_session.specs.Serve.{Refines, Serves, IsSamePeer}
 use Rattle.ssh_session.proofs.session.Session.finish_commands.Given as goal
 
 abbrev pub invariant-loop-place : goal.invariant-loop-place
 invariant-loop-place g l = record {
   left : l.place + length l.commands ≡ length l.fn.commands;
-  does : (settings : Settings) (w : World) (base frames : List Frame) → Refines settings l.fn.self w
-      → l.fn.staged.items ≡ base ++ frames →
-      DoesOne settings (done_all settings w frames 0 l.fn.commands)
-      (rest settings l.place l.commands)
-      (heard (g.H.AuthHandler.told l.fn.handler) (g.L.Link.trace l.fn.link)
-      (g.L.Link.faults l.fn.link)) (heard (g.H.AuthHandler.told l.handler)
-      (g.L.Link.trace l.link) (g.L.Link.faults l.link))
-      base l.staged.items l.self (Ok tt);
+  does : (w : World) → Refines l.fn.self w → (next : World → Plan Outcome) →
+      Serves (done_all 0 l.fn.commands w next) (λ (_ : Unit {0}) world. done_all l.place l.commands
+      world next)
+      (g.O.Outside.heard l.fn.outside) (g.O.Outside.heard l.outside) l.self (Ok tt);
+  peer : IsSamePeer l.fn.self l.self;
+  same : AreSame (g.O.Outside.heard l.fn.outside) (g.O.Outside.heard l.outside);
 }

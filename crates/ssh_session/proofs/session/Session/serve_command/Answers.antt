@@ -1,43 +1,68 @@
-use Rattle.std.proofs.Common.{Ok, Err, ap}
+use Rattle.std.proofs.Common.{Ok, Err}
 use Rattle.ssh_link.specs.declared.link.TraceEntry.TheVariants.{Answered}
-use Rattle.ssh_auth.specs.Plan.{Finish, Tell}
+use Rattle.ssh_link.specs.declared.outcome.CommandOutcome.{CommandOutcome}
+use Rattle.ssh_auth.specs.Plan.{Plan, Finish, Tell}
+use Rattle.ssh_session.specs.declared.apply.Done.{Done}
+use Rattle.ssh_session.specs.declared.error.Flow.{Flow}
 use Rattle.ssh_session.specs.declared.error.Flow.TheVariants.{Continue}
-use Rattle.ssh_session.specs.Commanded.{command_row}
 use Rattle.ssh_session.specs.Effect.{effect}
-use Rattle.ssh_session.specs.Outcome.{Goes}
-use Rattle.ssh_session.proofs.Doing.{not_done, answered, goes_on, link_stopped}
+use Rattle.ssh_session.specs.Outcome.{Outcome, Goes}
+use Rattle.ssh_session.specs.Run.{command_row}
+use Rattle.ssh_session.specs.Serve.{comes}
+use Rattle.ssh_session.specs.World.{World}
+use Rattle.ssh_session.proofs.Commanding.{commanded, not_noticed, not_done}
+use Rattle.ssh_session.proofs.Serving.{settled, passed, given, not_given}
 use Rattle.ssh_session.proofs.session.Session.serve_command.Goals as goal
 
-pub returns-in-Err : goal.returns-in-Err
-returns-in-Err g c = λ settings w calls r.
-    not_done settings (effect settings w c.args.command) (λ outcome frames world.
-    Tell (Answered c.args.ticket outcome) (Finish (Goes frames world)))
-    _ c.args.staged.now.items c.args.staged.now.items c.apply.new.staged.items c.apply.new.self
-    c.in-Err.e (c.in-Err.ensures settings w r)
+pub returns-in_err-notice-clause-does : goal.returns-in_err-notice-clause-does
+returns-in_err-notice-clause-does g c = λ w r.
+    let finish : Flow → World → Plan Outcome = λ flow world. Finish (comes flow world) in
+    let onward : CommandOutcome → World → Plan Outcome =
+    λ outcome world. Tell (Answered c.args.ticket outcome) (Finish (Goes world)) in
+    passed (command_row w c.args.ticket c.args.command) finish finish _ _ c.apply.new.self
+    c.apply.new.self _ _
+    c.from_residual.ensures.1
+    (not_done (effect w c.args.command) onward finish _ c.apply.new.self c.apply.new.self _
+    (c.in_err-notice.ensures.does w r))
 
-pub returns-in-Ok-answer : goal.returns-in-Ok-answer
-returns-in-Ok-answer g c = λ settings w calls r.
-    answered settings w c.args.ticket c.args.command calls _ _ _ _ _ c.args.staged.now.items
-    c.apply.new.staged.items c.apply.new.self c.in-Ok.done (Ok Continue)
-    (c.in-Ok.ensures settings w r) c.in_default.ensures.given c.give.ensures.later
-    (λ frames world is refines. goes_on settings (Answered c.args.ticket c.in-Ok.done.outcome) calls
-    _ _ _ _ c.args.staged.now.items c.apply.new.staged.items frames world c.apply.new.self
-    c.in-Ok-answer.ensures.answered c.answer.ensures.later is refines)
+pub returns-in_err-give-clause-does : goal.returns-in_err-give-clause-does
+returns-in_err-give-clause-does g c = λ w r.
+    let finish : Flow → World → Plan Outcome = λ flow world. Finish (comes flow world) in
+    let onward : CommandOutcome → World → Plan Outcome =
+    λ outcome world. Tell (Answered c.args.ticket outcome) (Finish (Goes world)) in
+    let made : Done = c.in_ok-notice.field-0 in
+    passed (command_row w c.args.ticket c.args.command) finish finish _ _ c.apply.new.self
+    c.apply.new.self _ _
+    c.from_residual-in_err-give.ensures.1
+    (not_noticed (effect w c.args.command) onward finish made _ _ c.apply.new.self c.apply.new.self
+    _
+    (c.in_ok-notice.ensures.does w r) (λ v q l. c.in_err-give.ensures.does v q l))
 
-pub returns-in-Err-answer : goal.returns-in-Err-answer
-returns-in-Err-answer g c = λ settings w calls r.
-    answered settings w c.args.ticket c.args.command calls _ _ _ _ _ c.args.staged.now.items
-    c.apply.new.staged.items c.apply.new.self c.in-Ok.done (Err c.from-in-Err-answer.result)
-    (c.in-Ok.ensures settings w r) c.in_default.ensures.given c.give.ensures.later
-    (λ frames world is refines. link_stopped settings
-    (Tell (Answered c.args.ticket c.in-Ok.done.outcome) (Finish (Goes frames world))) calls _ _
-    _ _ c.args.staged.now.items c.apply.new.staged.items c.apply.new.self
-    c.in-Err-answer.fault (Err c.from-in-Err-answer.result) (ap Err c.from-in-Err-answer.ensures)
-    c.in-Err-answer.ensures.err c.answer.ensures.later (λ i. c.in-Err-answer.ensures.cause i))
+pub returns-in_err-answer-clause-does : goal.returns-in_err-answer-clause-does
+returns-in_err-answer-clause-does g c = λ w r.
+    let finish : Flow → World → Plan Outcome = λ flow world. Finish (comes flow world) in
+    let onward : CommandOutcome → World → Plan Outcome =
+    λ outcome world. Tell (Answered c.args.ticket outcome) (Finish (Goes world)) in
+    let made : Done = c.in_ok-notice.field-0 in
+    passed (command_row w c.args.ticket c.args.command) finish finish _ _ c.apply.new.self
+    c.apply.new.self _ _
+    c.from_residual-in_err-answer.ensures.1
+    (commanded (effect w c.args.command) onward finish made _ _ _ c.apply.new.self c.apply.new.self
+    (Err _)
+    (c.in_ok-notice.ensures.does w r) (λ v q l. c.in_ok-give.ensures.does v q l)
+    (λ v q. not_given (Answered c.args.ticket made.outcome) (onward made.outcome v) finish _ _
+    c.apply.new.self _
+    c.in_err-answer.ensures))
 
-pub returns-in-Err-give : goal.returns-in-Err-give
-returns-in-Err-give g c = λ settings w calls r.
-    link_stopped settings (command_row settings w c.args.ticket c.args.command) calls _ _ _ _
-    c.args.staged.now.items c.apply.new.staged.items c.apply.new.self
-    c.in-Err-give.fault (Err c.from.result) (ap Err c.from.ensures) c.in-Err-give.ensures.err
-    c.give.ensures.later (λ i. c.in-Err-give.ensures.cause i)
+pub returns-clause-does : goal.returns-clause-does
+returns-clause-does g c = λ w r.
+    let finish : Flow → World → Plan Outcome = λ flow world. Finish (comes flow world) in
+    let onward : CommandOutcome → World → Plan Outcome =
+    λ outcome world. Tell (Answered c.args.ticket outcome) (Finish (Goes world)) in
+    let made : Done = c.in_ok-notice.field-0 in
+    commanded (effect w c.args.command) onward finish made _ _ _ c.apply.new.self c.apply.new.self
+    (Ok Continue)
+    (c.in_ok-notice.ensures.does w r) (λ v q l. c.in_ok-give.ensures.does v q l)
+    (λ v q. settled Continue (onward made.outcome v) finish _ _ v c.apply.new.self q
+    (given (Answered c.args.ticket made.outcome) (Finish (Goes v)) _ _ v c.apply.new.self q
+    c.in_ok-answer.ensures))

@@ -1,48 +1,68 @@
-use Rattle.std.proofs.Common.{refl, ap, Err}
-use Rattle.ssh_auth.specs.Verdict.{response_verdict}
-use Rattle.ssh_session.specs.Said.{Response}
-use Rattle.ssh_session.proofs.Requests.{answered, unanswered, flagged}
+use Rattle.std.proofs.Common.{◌∙◌, sym, refl, drop, Ok, Err, subst}
+use Rattle.ssh_auth.specs.Plan.{Plan, Finish}
+use Rattle.ssh_session.specs.declared.error.Flow.{Flow}
+use Rattle.ssh_session.specs.declared.state.EncryptedState.TheVariants.{WaitingAuthRequest}
+use Rattle.ssh_session.specs.Outcome.{Outcome, Goes}
+use Rattle.ssh_session.specs.Reading.{Response}
+use Rattle.ssh_session.specs.Rows.{response_row, replied}
+use Rattle.ssh_session.specs.Serve.{Does, comes}
+use Rattle.ssh_session.specs.World.{World, waits_for}
+use Rattle.ssh_session.proofs.Requests.{response_answered, response_unanswered, asked_again}
+use Rattle.ssh_session.proofs.Serving.{passed, goes_on_plan}
 use Rattle.ssh_session.proofs.session.Session.serve_info_response.Goals as goal
 
-pub returns-in-Ok : goal.returns-in-Ok
-returns-in-Ok g c = λ settings w r.
-    let said = c.in-Ok.ensures.verdict in
-    let state = c.serve_response.new.auth in
-    let now = record w { auth = state } in
-    let f = c.finish_request in (
-      Response said.0,
-      said.1,
-      answered settings c.args.moment w w.requested (λ auth. response_verdict auth said.0)
-          c.args.self.now.auth (g.H.AuthHandler.told c.args.handler.now)
-          (g.H.AuthHandler.told c.serve_response.new.handler)
-          _ _ _ state c.in-Ok.step c.args.staged.now.items f.new.staged.items f.new.self f.result
-          r.auth said.2
-          (flagged settings c.args.moment now c.args.self.now.requested w.requested c.in-Ok.step _ _
-          c.args.staged.now.items f.new.staged.items f.new.self f.result r.requested
-          (f.ensures settings now
-          (record {
-            config = r.config;
-            session_id = r.session_id;
-            remote_sshid = r.remote_sshid;
-            phase = r.phase;
-            auth = refl;
-            requested = r.requested;
-            last = r.last;
-            pending = r.pending;
-            channels = r.channels;
-            live = r.live;
-          }))),
+pub returns-in_err-step-clause-does : goal.returns-in_err-step-clause-does
+returns-in_err-step-clause-does g c = λ w r.
+    let finish : Flow → World → Plan Outcome = λ flow world. Finish (comes flow world) in
+    let k = response_unanswered w c.args.moment (drop 1 c.args.payload.now)
+    c.in-WaitingAuthRequest.auth c.response.new.auth
+    (sym r.state ∙ c.in-WaitingAuthRequest.is) _ _ finish c.in_err-step.field-0.0
+    c.args.self.now c.in_err-step.ensures in (
+      Response k.0,
+      (k.0, k.1, refl),
+      passed (response_row w c.args.moment k.0) finish finish _ _ c.args.self.now _ _ _
+          c.from_residual.ensures.1 k.2,
     )
 
-pub returns-in-Err : goal.returns-in-Err
-returns-in-Err g c = λ settings w r.
-    let said = c.in-Err.ensures.verdict in (
-      Response said.0,
-      said.1,
-      unanswered settings c.args.moment w w.requested (λ auth. response_verdict auth said.0)
-          c.args.self.now.auth (g.H.AuthHandler.told c.args.handler.now)
-          (g.H.AuthHandler.told c.serve_response.new.handler) _ _
-          c.serve_response.new.auth c.in-Err.e c.args.staged.now.items
-          (record c.args.self.now { auth = c.serve_response.new.auth }) (Err c.from.result)
-          r.auth (ap Err c.from.ensures) said.2,
+pub returns-in_err-conclude-clause-does : goal.returns-in_err-conclude-clause-does
+returns-in_err-conclude-clause-does g c = λ w r.
+    let new = c.response.new.auth in
+    let v = waits_for (WaitingAuthRequest new) w in
+    let d = subst (λ q. Does (replied v c.args.moment q c.in_ok-step.step.reply
+    c.in_ok-step.step.verdict) v
+    (g.O.Outside.heard c.response.new.self) (g.O.Outside.heard c.conclude.new.outside)
+    c.conclude.new.self
+    (Err c.in_err-conclude.field-0.0)) r.requested
+    (c.in_err-conclude.ensures.does v (asked_again new c.args.self.now _ w r)) in
+    let k = response_answered w c.args.moment (drop 1 c.args.payload.now)
+    c.in-WaitingAuthRequest.auth new
+    (sym r.state ∙ c.in-WaitingAuthRequest.is) _ _ c.in_ok-step.step _ c.conclude.new.self
+    (Err c.in_err-conclude.field-0.0)
+    c.in_ok-step.ensures d in (
+      Response k.0,
+      (k.0, k.1, refl),
+      passed (response_row w c.args.moment k.0) (λ (_ : Unit {0}) world. Finish (Goes world))
+          (λ flow world. Finish (comes flow world))
+          _ _ c.conclude.new.self c.conclude.new.self _ _ c.from_residual-in_err-conclude.ensures.1
+          k.2,
+    )
+
+pub returns-clause-does : goal.returns-clause-does
+returns-clause-does g c = λ w r.
+    let new = c.response.new.auth in
+    let v = waits_for (WaitingAuthRequest new) w in
+    let d = subst (λ q. Does (replied v c.args.moment q c.in_ok-step.step.reply
+    c.in_ok-step.step.verdict) v
+    (g.O.Outside.heard c.response.new.self) (g.O.Outside.heard c.conclude.new.outside)
+    c.conclude.new.self
+    (Ok tt)) r.requested
+    (c.in_ok-conclude.ensures.does v (asked_again new c.args.self.now _ w r)) in
+    let k = response_answered w c.args.moment (drop 1 c.args.payload.now)
+    c.in-WaitingAuthRequest.auth new
+    (sym r.state ∙ c.in-WaitingAuthRequest.is) _ _ c.in_ok-step.step _ c.conclude.new.self
+    (Ok tt)
+    c.in_ok-step.ensures d in (
+      Response k.0,
+      (k.0, k.1, refl),
+      goes_on_plan (response_row w c.args.moment k.0) _ _ c.conclude.new.self k.2,
     )

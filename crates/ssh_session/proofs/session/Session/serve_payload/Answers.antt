@@ -1,133 +1,158 @@
-use Rattle.std.proofs.Common.{[], Ok, Err, refl, sym, subst}
-use Rattle.std.proofs.lemmas.List.{append-nil}
+use Rattle.std.proofs.Common.{drop, refl, subst}
 use Rattle.ssh_auth.specs.Plan.{Finish}
+use Rattle.ssh_session.specs.declared.error.Flow.{Flow}
 use Rattle.ssh_session.specs.declared.error.Flow.TheVariants.{Continue, Ended}
-use Rattle.ssh_session.specs.declared.error.RunError.TheVariants as error
-use Rattle.ssh_session.specs.Outcome.{Goes, Ends, Fails, Not_built}
-use Rattle.ssh_session.specs.World.{circumstances}
+use Rattle.ssh_session.specs.Reading.{Says, Nothing, Disconnect, Over_cap, Unbuilt}
 use Rattle.ssh_session.specs.Rows.{row}
-use Rattle.ssh_session.proofs.Asks.{not_asked}
-use Rattle.ssh_session.specs.declared.gate.Gate.TheVariants as gate
-use Rattle.ssh_session.specs.Said.{Fits, Says, Nothing, Disconnect, Over_cap, Unbuilt}
+use Rattle.ssh_session.specs.Run.{is_there}
+use Rattle.ssh_session.specs.Serve.{comes}
+use Rattle.ssh_session.specs.World.{circumstances}
+use Rattle.ssh_session.proofs.Serving.{serves_nothing, unbuilt_input, quiet}
 use Rattle.ssh_session.proofs.session.Session.serve_payload.Goals as goal
 
-pub returns-in-ServiceRequest : goal.returns-in-ServiceRequest
-returns-in-ServiceRequest g c = λ settings w r.
-    let served = c.serve_service_request.ensures settings w c.args.moment _ _ r in (
+pub returns-in-ServiceRequest-clause-does : goal.returns-in-ServiceRequest-clause-does
+returns-in-ServiceRequest-clause-does g c = λ w r.
+    let served = rw c.fields_of-fields.ensures at (c.serve_service_request.ensures.does w
+    c.args.moment r) in (
       served.0,
-      subst (λ at. Says (circumstances (g.V.Verifier.accepts c.args.verifier.now) settings
-          c.args.moment) at c.args.payload.now served.0) (c.in-ServiceRequest.ensures.gate settings
-          w r)
-          (subst (λ fields. Fits gate.ServiceRequest fields served.0) c.fields_of-fields.ensures
-          served.1),
+      subst (λ at. Says (circumstances (g.V.Verifier.accepts c.args.verifier.now) w.settings
+          c.args.moment) (is_there w) at (drop 1 c.args.payload.now) served.0)
+          (c.in-ServiceRequest.ensures.gate w r) served.1,
       served.2,
     )
 
-pub returns-in-UserauthRequest : goal.returns-in-UserauthRequest
-returns-in-UserauthRequest g c = λ settings w r.
-    let served = c.serve_userauth_request.ensures settings w r in (
+pub returns-in-ChannelOpen-clause-does : goal.returns-in-ChannelOpen-clause-does
+returns-in-ChannelOpen-clause-does g c = λ w r.
+    let served = rw c.fields_of-fields.ensures at (c.serve_channel_open.ensures.does w c.args.moment
+    r) in (
       served.0,
-      subst (λ at. Says (circumstances (g.V.Verifier.accepts c.args.verifier.now) settings
-          c.args.moment) at c.args.payload.now served.0) (c.in-UserauthRequest.ensures.gate settings
-          w
-          r) served.1,
+      subst (λ at. Says (circumstances (g.V.Verifier.accepts c.args.verifier.now) w.settings
+          c.args.moment) (is_there w) at (drop 1 c.args.payload.now) served.0)
+          (c.in-ChannelOpen.ensures.gate w r) served.1,
       served.2,
     )
 
-pub returns-in-InfoResponse : goal.returns-in-InfoResponse
-returns-in-InfoResponse g c = λ settings w r.
-    let served = c.serve_info_response.ensures settings w r in (
+pub returns-in-WindowAdjust-clause-does : goal.returns-in-WindowAdjust-clause-does
+returns-in-WindowAdjust-clause-does g c = λ w r.
+    let served = rw c.fields_of-fields.ensures at (c.serve_window_adjust.ensures.does w
+    c.args.moment r) in (
       served.0,
-      subst (λ at. Says (circumstances (g.V.Verifier.accepts c.args.verifier.now) settings
-          c.args.moment) at c.args.payload.now served.0) (c.in-InfoResponse.ensures.gate settings w
-          r)
-          served.1,
+      subst (λ at. Says (circumstances (g.V.Verifier.accepts c.args.verifier.now) w.settings
+          c.args.moment) (is_there w) at (drop 1 c.args.payload.now) served.0)
+          (c.in-WindowAdjust.ensures.gate w r) served.1,
       served.2,
     )
 
-pub returns-in-Nothing : goal.returns-in-Nothing
-returns-in-Nothing g c = λ settings w r. (
+pub returns-in-ChannelData-clause-does : goal.returns-in-ChannelData-clause-does
+returns-in-ChannelData-clause-does g c = λ w r.
+    let served = rw c.fields_of-fields.ensures at (c.serve_channel_data.ensures.does w c.args.moment
+    r) in (
+      served.0,
+      subst (λ at. Says (circumstances (g.V.Verifier.accepts c.args.verifier.now) w.settings
+          c.args.moment) (is_there w) at (drop 1 c.args.payload.now) served.0)
+          (c.in-ChannelData.ensures.gate w r) served.1,
+      served.2,
+    )
+
+pub returns-in-ChannelExtendedData-clause-does : goal.returns-in-ChannelExtendedData-clause-does
+returns-in-ChannelExtendedData-clause-does g c = λ w r.
+    let served = rw c.fields_of-fields.ensures at (c.serve_channel_extended_data.ensures.does w
+    c.args.moment r) in (
+      served.0,
+      subst (λ at. Says (circumstances (g.V.Verifier.accepts c.args.verifier.now) w.settings
+          c.args.moment) (is_there w) at (drop 1 c.args.payload.now) served.0)
+          (c.in-ChannelExtendedData.ensures.gate w r) served.1,
+      served.2,
+    )
+
+pub returns-in-ChannelEof-clause-does : goal.returns-in-ChannelEof-clause-does
+returns-in-ChannelEof-clause-does g c = λ w r.
+    let served = rw c.fields_of-fields.ensures at (c.serve_channel_eof.ensures.does w c.args.moment
+    r) in (
+      served.0,
+      subst (λ at. Says (circumstances (g.V.Verifier.accepts c.args.verifier.now) w.settings
+          c.args.moment) (is_there w) at (drop 1 c.args.payload.now) served.0)
+          (c.in-ChannelEof.ensures.gate w r) served.1,
+      served.2,
+    )
+
+pub returns-in-ChannelClose-clause-does : goal.returns-in-ChannelClose-clause-does
+returns-in-ChannelClose-clause-does g c = λ w r.
+    let served = rw c.fields_of-fields.ensures at (c.serve_channel_close.ensures.does w
+    c.args.moment r) in (
+      served.0,
+      subst (λ at. Says (circumstances (g.V.Verifier.accepts c.args.verifier.now) w.settings
+          c.args.moment) (is_there w) at (drop 1 c.args.payload.now) served.0)
+          (c.in-ChannelClose.ensures.gate w r) served.1,
+      served.2,
+    )
+
+pub returns-in-ChannelRequest-clause-does : goal.returns-in-ChannelRequest-clause-does
+returns-in-ChannelRequest-clause-does g c = λ w r.
+    let served = rw c.fields_of-fields.ensures at (c.serve_channel_request.ensures w c.args.moment
+    r) in (
+      served.0,
+      subst (λ at. Says (circumstances (g.V.Verifier.accepts c.args.verifier.now) w.settings
+          c.args.moment) (is_there w) at (drop 1 c.args.payload.now) served.0)
+          (c.in-ChannelRequest.ensures.gate w r) served.1,
+      quiet (row w c.args.moment served.0) (λ flow world. Finish (comes flow world)) _
+          c.serve_channel_request.new.self c.serve_channel_request.result served.2,
+    )
+
+pub returns-in-UserauthRequest-clause-does : goal.returns-in-UserauthRequest-clause-does
+returns-in-UserauthRequest-clause-does g c = λ w r.
+    let served = c.serve_userauth_request.ensures.does w r in (
+      served.0,
+      subst (λ at. Says (circumstances (g.V.Verifier.accepts c.args.verifier.now) w.settings
+          c.args.moment) (is_there w) at (drop 1 c.args.payload.now) served.0)
+          (c.in-UserauthRequest.ensures.gate w r) served.1,
+      served.2,
+    )
+
+pub returns-in-InfoResponse-clause-does : goal.returns-in-InfoResponse-clause-does
+returns-in-InfoResponse-clause-does g c = λ w r.
+    let served = c.serve_info_response.ensures.does w r in (
+      served.0,
+      subst (λ at. Says (circumstances (g.V.Verifier.accepts c.args.verifier.now) w.settings
+          c.args.moment) (is_there w) at (drop 1 c.args.payload.now) served.0)
+          (c.in-InfoResponse.ensures.gate w r) served.1,
+      served.2,
+    )
+
+pub returns-in-Nothing-clause-does : goal.returns-in-Nothing-clause-does
+returns-in-Nothing-clause-does g c = λ w r. (
   Nothing,
-  subst (λ at. Says (circumstances (g.V.Verifier.accepts c.args.verifier.now) settings
-      c.args.moment) at c.args.payload.now Nothing) (c.in-Nothing.ensures.gate settings w r) tt,
-  not_asked settings (Finish (Goes [] w)) _ c.args.staged.now.items c.args.staged.now.items
-      c.args.self.now (Ok Continue)
-      ([], w, refl, sym (append-nil c.args.staged.now.items), r),
+  subst (λ at. Says (circumstances (g.V.Verifier.accepts c.args.verifier.now) w.settings
+      c.args.moment) (is_there w) at (drop 1 c.args.payload.now) Nothing)
+      (c.in-Nothing.ensures.gate w r) refl,
+  serves_nothing Continue (λ flow world. Finish (comes flow world)) _ w c.args.self.now r,
 )
 
-pub returns-in-Ends : goal.returns-in-Ends
-returns-in-Ends g c = λ settings w r. (
+pub returns-in-Ends-clause-does : goal.returns-in-Ends-clause-does
+returns-in-Ends-clause-does g c = λ w r. (
   Disconnect,
-  subst (λ at. Says (circumstances (g.V.Verifier.accepts c.args.verifier.now) settings
-      c.args.moment) at c.args.payload.now Disconnect) (c.in-Ends.ensures.gate settings w r) tt,
-  not_asked settings (Finish (Ends [])) _ c.args.staged.now.items c.args.staged.now.items
-      c.args.self.now (Ok Ended)
-      ([], refl, sym (append-nil c.args.staged.now.items)),
+  subst (λ at. Says (circumstances (g.V.Verifier.accepts c.args.verifier.now) w.settings
+      c.args.moment) (is_there w) at (drop 1 c.args.payload.now) Disconnect)
+      (c.in-Ends.ensures.gate w r) refl,
+  serves_nothing Ended (λ flow world. Finish (comes flow world)) _ w c.args.self.now r,
 )
 
-pub returns-in-OverCap : goal.returns-in-OverCap
-returns-in-OverCap g c = λ settings w r. (
+pub returns-in-OverCap-clause-does : goal.returns-in-OverCap-clause-does
+returns-in-OverCap-clause-does g c = λ w r. (
   Over_cap,
-  subst (λ at. Says (circumstances (g.V.Verifier.accepts c.args.verifier.now) settings
-      c.args.moment) at c.args.payload.now Over_cap) (c.in-OverCap.ensures.gate settings w r) tt,
-  not_asked settings (row settings c.args.moment w Over_cap) _ c.args.staged.now.items
-      c.serve_over_cap.new.staged.items
-      c.serve_over_cap.new.self c.serve_over_cap.result (c.serve_over_cap.ensures settings w
-      c.args.moment),
+  subst (λ at. Says (circumstances (g.V.Verifier.accepts c.args.verifier.now) w.settings
+      c.args.moment) (is_there w) at (drop 1 c.args.payload.now) Over_cap)
+      (c.in-OverCap.ensures.gate w r) refl,
+  quiet (row w c.args.moment Over_cap) (λ flow world. Finish (comes flow world)) _
+      c.serve_over_cap.new.self c.serve_over_cap.result
+      (c.serve_over_cap.ensures w c.args.moment r),
 )
 
-pub returns-in-NotBuilt : goal.returns-in-NotBuilt
-returns-in-NotBuilt g c = λ settings w r. (
+pub returns-in-NotBuilt-clause-does : goal.returns-in-NotBuilt-clause-does
+returns-in-NotBuilt-clause-does g c = λ w r. (
   Unbuilt,
-  subst (λ at. Says (circumstances (g.V.Verifier.accepts c.args.verifier.now) settings
-      c.args.moment) at c.args.payload.now Unbuilt) (c.in-NotBuilt.ensures.gate settings w r) tt,
-  not_asked settings (Finish (Fails Not_built)) _ c.args.staged.now.items c.args.staged.now.items
-      c.args.self.now (Err error.NotBuilt) refl,
+  subst (λ at. Says (circumstances (g.V.Verifier.accepts c.args.verifier.now) w.settings
+      c.args.moment) (is_there w) at (drop 1 c.args.payload.now) Unbuilt)
+      (c.in-NotBuilt.ensures.gate w r) refl,
+  unbuilt_input (λ (flow : Flow) world. Finish (comes flow world)) _ c.args.self.now,
 )
-
-pub returns-in-ChannelOpen : goal.returns-in-ChannelOpen
-returns-in-ChannelOpen g c = λ settings w r.
-    let served = c.serve_channel_open.ensures settings w c.args.moment r in (
-      served.0,
-      subst (λ at. Says (circumstances (g.V.Verifier.accepts c.args.verifier.now) settings
-          c.args.moment) at c.args.payload.now served.0) (c.in-ChannelOpen.ensures.gate settings w
-          r)
-          (subst (λ fields. Fits gate.ChannelOpen fields served.0) c.fields_of-fields.ensures
-          served.1),
-      served.2,
-    )
-
-pub returns-in-WindowAdjust : goal.returns-in-WindowAdjust
-returns-in-WindowAdjust g c = λ settings w r.
-    let served = c.serve_window_adjust.ensures settings w c.args.moment r in (
-      served.0,
-      subst (λ at. Says (circumstances (g.V.Verifier.accepts c.args.verifier.now) settings
-          c.args.moment) at c.args.payload.now served.0) (c.in-WindowAdjust.ensures.gate settings w
-          r)
-          (subst (λ fields. Fits gate.WindowAdjust fields served.0) c.fields_of-fields.ensures
-          served.1),
-      served.2,
-    )
-
-pub returns-in-ChannelEof : goal.returns-in-ChannelEof
-returns-in-ChannelEof g c = λ settings w r.
-    let served = c.serve_channel_eof.ensures settings w c.args.moment r in (
-      served.0,
-      subst (λ at. Says (circumstances (g.V.Verifier.accepts c.args.verifier.now) settings
-          c.args.moment) at c.args.payload.now served.0) (c.in-ChannelEof.ensures.gate settings w r)
-          (subst (λ fields. Fits gate.ChannelEof fields served.0) c.fields_of-fields.ensures
-          served.1),
-      served.2,
-    )
-
-pub returns-in-ChannelClose : goal.returns-in-ChannelClose
-returns-in-ChannelClose g c = λ settings w r.
-    let served = c.serve_channel_close.ensures settings w c.args.moment r in (
-      served.0,
-      subst (λ at. Says (circumstances (g.V.Verifier.accepts c.args.verifier.now) settings
-          c.args.moment) at c.args.payload.now served.0) (c.in-ChannelClose.ensures.gate settings w
-          r)
-          (subst (λ fields. Fits gate.ChannelClose fields served.0) c.fields_of-fields.ensures
-          served.1),
-      served.2,
-    )

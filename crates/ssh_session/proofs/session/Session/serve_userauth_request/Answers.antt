@@ -1,57 +1,63 @@
-use Rattle.std.proofs.Common.{true, refl, ◌∙◌, ap, subst, drop, Err}
-use Rattle.ssh_auth.specs.Requested.{SaysRequest as Asks}
-use Rattle.ssh_auth.specs.Verdict.{verdict}
-use Rattle.ssh_session.specs.Said.{Request}
-use Rattle.ssh_session.proofs.Requests.{answered, unanswered}
+use Rattle.std.proofs.Common.{◌∙◌, sym, refl, drop, Ok, Err}
+use Rattle.ssh_auth.specs.Plan.{Plan, Finish}
+use Rattle.ssh_session.specs.declared.error.Flow.{Flow}
+use Rattle.ssh_session.specs.declared.state.EncryptedState.TheVariants.{WaitingAuthRequest}
+use Rattle.ssh_session.specs.Outcome.{Outcome, Goes}
+use Rattle.ssh_session.specs.Reading.{Request}
+use Rattle.ssh_session.specs.Rows.{request_row}
+use Rattle.ssh_session.specs.Serve.{comes}
+use Rattle.ssh_session.specs.World.{World, waits_for}
+use Rattle.ssh_session.proofs.Requests.{request_answered, request_unanswered, asked_again}
+use Rattle.ssh_session.proofs.Serving.{passed, goes_on_plan}
 use Rattle.ssh_session.proofs.session.Session.serve_userauth_request.Goals as goal
 
-pub returns-in-Ok : goal.returns-in-Ok
-returns-in-Ok g c = λ settings w r.
-    let asked = c.in-Ok.ensures.verdict in
-    let state = c.serve_request.new.auth in (
-      Request asked.0,
-      subst (λ id. Asks (record {
-        accepts = g.V.Verifier.accepts c.args.verifier.now;
-        session_id =
-            id;
-        moment = c.args.moment;
-      }) (drop 1 c.args.payload.now) asked.0)
-          (c.as_slice.ensures ∙ r.session_id) asked.1,
-      answered settings c.args.moment w true (λ auth. verdict auth asked.0) c.args.self.now.auth
-          (g.H.AuthHandler.told c.args.handler.now)
-          (g.H.AuthHandler.told c.serve_request.new.handler)
-          _ _ _ state c.in-Ok.step c.args.staged.now.items c.finish_request.new.staged.items
-          c.finish_request.new.self c.finish_request.result r.auth asked.2
-          (c.finish_request.ensures settings (record w { auth = state })
-          (record {
-            config = r.config;
-            session_id = r.session_id;
-            remote_sshid = r.remote_sshid;
-            phase = r.phase;
-            auth = refl;
-            requested = r.requested;
-            last = r.last;
-            pending = r.pending;
-            channels = r.channels;
-            live = r.live;
-          })),
+pub returns-in_err-step-clause-does : goal.returns-in_err-step-clause-does
+returns-in_err-step-clause-does g c = λ w r.
+    let finish : Flow → World → Plan Outcome = λ flow world. Finish (comes flow world) in
+    let old = c.in-WaitingAuthRequest.auth in
+    let k = request_unanswered (g.V.Verifier.accepts c.args.verifier.now) w c.args.moment
+    (drop 1 c.args.payload.now)
+    c.as_slice-id.result.now old c.request.new.auth (sym r.state ∙ c.in-WaitingAuthRequest.is)
+    (c.as_slice-id.ensures ∙ r.session_id) _ _ finish c.in_err-step.field-0.0 c.args.self.now
+    c.in_err-step.ensures in (
+      Request k.0,
+      (k.0, k.1, refl),
+      passed (request_row w c.args.moment k.0) finish finish _ _ c.args.self.now _ _ _
+          c.from_residual.ensures.1 k.2,
     )
 
-pub returns-in-Err : goal.returns-in-Err
-returns-in-Err g c = λ settings w r.
-    let asked = c.in-Err.ensures.verdict in (
-      Request asked.0,
-      subst (λ id. Asks (record {
-        accepts = g.V.Verifier.accepts c.args.verifier.now;
-        session_id =
-            id;
-        moment = c.args.moment;
-      }) (drop 1 c.args.payload.now) asked.0)
-          (c.as_slice.ensures ∙ r.session_id) asked.1,
-      unanswered settings c.args.moment w true (λ auth. verdict auth asked.0) c.args.self.now.auth
-          (g.H.AuthHandler.told c.args.handler.now)
-          (g.H.AuthHandler.told c.serve_request.new.handler) _ _
-          c.serve_request.new.auth c.in-Err.e c.args.staged.now.items
-          (record c.args.self.now { auth = c.serve_request.new.auth }) (Err c.from.result)
-          r.auth (ap Err c.from.ensures) asked.2,
+pub returns-in_err-conclude-clause-does : goal.returns-in_err-conclude-clause-does
+returns-in_err-conclude-clause-does g c = λ w r.
+    let old = c.in-WaitingAuthRequest.auth in
+    let new = c.request.new.auth in
+    let v = waits_for (WaitingAuthRequest new) w in
+    let k = request_answered (g.V.Verifier.accepts c.args.verifier.now) w c.args.moment
+    (drop 1 c.args.payload.now)
+    c.as_slice-id.result.now old new (sym r.state ∙ c.in-WaitingAuthRequest.is)
+    (c.as_slice-id.ensures ∙ r.session_id) _ _ c.in_ok-step.step _ c.conclude.new.self
+    (Err c.in_err-conclude.field-0.0)
+    c.in_ok-step.ensures (c.in_err-conclude.ensures.does v (asked_again new c.args.self.now _ w
+    r)) in (
+      Request k.0,
+      (k.0, k.1, refl),
+      passed (request_row w c.args.moment k.0) (λ (_ : Unit {0}) world. Finish (Goes world))
+          (λ flow world. Finish (comes flow world))
+          _ _ c.conclude.new.self c.conclude.new.self _ _ c.from_residual-in_err-conclude.ensures.1
+          k.2,
+    )
+
+pub returns-clause-does : goal.returns-clause-does
+returns-clause-does g c = λ w r.
+    let old = c.in-WaitingAuthRequest.auth in
+    let new = c.request.new.auth in
+    let v = waits_for (WaitingAuthRequest new) w in
+    let k = request_answered (g.V.Verifier.accepts c.args.verifier.now) w c.args.moment
+    (drop 1 c.args.payload.now)
+    c.as_slice-id.result.now old new (sym r.state ∙ c.in-WaitingAuthRequest.is)
+    (c.as_slice-id.ensures ∙ r.session_id) _ _ c.in_ok-step.step _ c.conclude.new.self (Ok tt)
+    c.in_ok-step.ensures (c.in_ok-conclude.ensures.does v (asked_again new c.args.self.now _ w
+    r)) in (
+      Request k.0,
+      (k.0, k.1, refl),
+      goes_on_plan (request_row w c.args.moment k.0) _ _ c.conclude.new.self k.2,
     )

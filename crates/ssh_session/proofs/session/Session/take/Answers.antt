@@ -1,33 +1,39 @@
-use Rattle.std.specs.Prelude.{Ok, Err}
-use Rattle.std.proofs.Common.{◌∙◌, ap, sym, subst}
-use Rattle.ssh_session.specs.Step.{Steps}
-use Rattle.ssh_session.proofs.Steps.{not_served, served_and_sent, served_and_stopped, from_empty}
+use Rattle.std.proofs.Common.{Ok, Err, refl}
+use Rattle.ssh_auth.specs.Plan.{Finish, after}
+use Rattle.ssh_session.specs.Run.{finish_input}
+use Rattle.ssh_session.specs.Serve.{comes}
+use Rattle.ssh_session.proofs.Serving.{unfinished, finished, passed}
 use Rattle.ssh_session.proofs.session.Session.take.Goals as goal
 
-pub returns-in-Err : goal.returns-in-Err
-returns-in-Err g c = λ settings w r.
-    not_served (g.V.Verifier.accepts c.args.verifier.now) settings w c.args.input _ _ _ _ _ _
-    c.serve.new.staged.items c.serve.new.self c.in-Err.e
-    (from_empty (g.V.Verifier.accepts c.args.verifier.now) settings w c.args.input _ _
-    c.new-staged.result.items c.serve.new.staged.items c.serve.new.self (Err c.in-Err.e)
-    c.new-staged.ensures.items (c.in-Err.ensures settings w r))
+pub returns-in_err-flow-clause-does : goal.returns-in_err-flow-clause-does
+returns-in_err-flow-clause-does g c = λ w r.
+    let s = c.in_err-flow.ensures.does w r in (
+      after s.0 finish_input,
+      (s.0, s.1, refl),
+      passed (after s.0 finish_input) (λ flow world. Finish (comes flow world))
+          (λ flow world. Finish (comes flow world)) _ _
+          c.serve.new.self c.serve.new.self _ _ c.from_residual.ensures.1
+          (unfinished s.0 _ _ c.serve.new.self c.serve.new.self _ s.2),
+    )
 
-pub returns-in-Ok-send_all : goal.returns-in-Ok-send_all
-returns-in-Ok-send_all g c = λ settings w r.
-    served_and_sent (g.V.Verifier.accepts c.args.verifier.now) settings w c.args.input _ _ _ _ _ _ _
-    _ c.serve.new.staged.items c.serve.new.self c.in-Ok.flow
-    (from_empty (g.V.Verifier.accepts c.args.verifier.now) settings w c.args.input _ _
-    c.new-staged.result.items c.serve.new.staged.items c.serve.new.self (Ok c.in-Ok.flow)
-    c.new-staged.ensures.items (c.in-Ok.ensures settings w r))
-    c.in-Ok-send_all.ensures.sent c.send_all.ensures.later
+pub returns-in_err-hand_on-clause-does : goal.returns-in_err-hand_on-clause-does
+returns-in_err-hand_on-clause-does g c = λ w r.
+    let s = c.in_ok-flow.ensures.does w r in (
+      after s.0 finish_input,
+      (s.0, s.1, refl),
+      passed (after s.0 finish_input) (λ flow world. Finish (comes flow world))
+          (λ flow world. Finish (comes flow world)) _ _
+          c.hand_on.new.self c.hand_on.new.self _ _ c.from_residual-in_err-hand_on.ensures.1
+          (finished c.in_ok-flow.flow s.0 _ _ _ c.serve.new.self c.hand_on.new.self (Err _) s.2
+          (λ v q. c.in_err-hand_on.ensures.does v q (λ u. Finish (comes c.in_ok-flow.flow u)))),
+    )
 
-pub returns-in-Err-send_all : goal.returns-in-Err-send_all
-returns-in-Err-send_all g c = λ settings w r. let p = c.in-Err-send_all.ensures.part in
-    subst (Steps (g.V.Verifier.accepts c.args.verifier.now) settings w c.args.input _ _ _ _ _ _
-    c.serve.new.self) (ap Err (sym c.from.ensures))
-    (served_and_stopped (g.V.Verifier.accepts c.args.verifier.now) settings w c.args.input _ _ _ _ _
-    _ _ _ c.serve.new.staged.items p.0 p.1 c.serve.new.self c.in-Ok.flow c.in-Err-send_all.fault
-    (from_empty (g.V.Verifier.accepts c.args.verifier.now) settings w c.args.input _ _
-    c.new-staged.result.items c.serve.new.staged.items c.serve.new.self (Ok c.in-Ok.flow)
-    c.new-staged.ensures.items (c.in-Ok.ensures settings w r))
-    p.2 p.3 c.send_all.ensures.later (λ i. c.send_all.ensures.cause (c.in-Err-send_all.is ∙ i)))
+pub returns-clause-does : goal.returns-clause-does
+returns-clause-does g c = λ w r.
+    let s = c.in_ok-flow.ensures.does w r in (
+      after s.0 finish_input,
+      (s.0, s.1, refl),
+      finished c.in_ok-flow.flow s.0 _ _ _ c.serve.new.self c.hand_on.new.self
+          (Ok c.in_ok-flow.flow) s.2
+          (λ v q. c.in_ok-hand_on.ensures.does v q (λ u. Finish (comes c.in_ok-flow.flow u))),
+    )

@@ -1,0 +1,150 @@
+-- Laws of rows, by their acts: what each turn of the world and each command keeps, a row keeps.
+use Rattle.std.proofs.Common.{ℕ, ◌+◌, List, [], ◌∷◌, map}
+use Rattle.ssh_link.specs.declared.command.Command.{Command}
+use Rattle.ssh_link.specs.declared.link.TraceEntry.{TraceEntry}
+use Rattle.ssh_link.specs.declared.link.TraceEntry.TheVariants.{Noticed, Sent}
+use Rattle.ssh_link.specs.declared.outcome.CommandOutcome.{CommandOutcome}
+use Rattle.ssh_link.specs.declared.outcome.CommandOutcome.TheVariants.{Accepted, Opened, Refused}
+use Rattle.ssh_auth.specs.declared.question.Lent.{Lent}
+use Rattle.ssh_auth.specs.declared.question.Question.{Question}
+use Rattle.ssh_auth.specs.declared.question.Question.TheVariants.{Lends}
+use Rattle.ssh_auth.specs.Plan.{Plan, Finish, Ask, Tell, Answer, after}
+use Rattle.ssh_session.specs.Acts.{Act, Notes, Calls, Adjusts_by, Turns, Is_over, Stops, tell_all}
+use Rattle.ssh_session.specs.Acts.{tell_done, done, done_all, acts}
+use Rattle.ssh_session.specs.Effect.{Effect, Does, Unbuilt, effect}
+use Rattle.ssh_session.specs.Outcome.{Outcome, Goes, Ends, Fails, Not_built}
+use Rattle.ssh_session.specs.Run.{finish_input, handed_on}
+use Rattle.ssh_session.specs.World.{World}
+
+-- where each answer is such a one, this holds of what the plan comes to
+abbrev pub PlanComes : (such : (question : Question) → Answer question → Type 0)
+    → (comes : Outcome → Type 0) → Plan Outcome → Type 0
+PlanComes such comes (Finish outcome) = comes outcome
+PlanComes such comes (Ask question next) = (answer : Answer question) → such question answer
+    → PlanComes such comes (next answer)
+PlanComes such comes (Tell entry next) = PlanComes such comes next
+
+-- what a command leads to: such a world, or it may not be built
+abbrev pub EffectComes : (comes : Outcome → Type 0) → (holds : World → Type 0) → Effect → Type 0
+EffectComes comes holds (Does notices outcome world) = holds world
+EffectComes comes holds Unbuilt = comes (Fails Not_built)
+
+-- each of these commands is such a one
+abbrev pub AllBuilt : (built : Command → Type 0) → List Command → Type 0
+AllBuilt built [] = Unit {0}
+AllBuilt built (command ∷ commands) = built command × AllBuilt built commands
+
+-- a law: of which answers it speaks, of which outcomes, of which worlds and commands on the way;
+-- worlds of which it speaks are outcomes, the commands of such an answer are such, and each leads
+-- from such a world to such a world
+pub record Law : Type 1 where
+  pub such : (question : Question) → Answer question → Type 0
+  pub comes : Outcome → Type 0
+  pub holds : World → Type 0
+  pub built : Command → Type 0
+  pub goes : (w : World) → holds w → comes (Goes w)
+  pub lends : (lent : Lent) (commands : List Command) → such (Lends lent) commands
+      → AllBuilt built commands
+  pub keeps : (w : World) (command : Command) → holds w → built command → EffectComes comes holds
+      (effect w command)
+
+-- each turn of the world leads to such a world, from this one up to the first callback and from any
+-- such one after it; and the end, or a fault, is such an outcome
+abbrev pub ActsCome : (law : Law) → List Act → World → Type 0
+ActsCome law [] w = Unit {0}
+ActsCome law (Notes notice ∷ later) w = ActsCome law later w
+ActsCome law (Calls lent ∷ later) w = (world : World) → law.holds world → ActsCome law later world
+ActsCome law (Adjusts_by channel current by ∷ later) w = (window : ℕ) → law.holds (by window w)
+    × ActsCome law later (by window w)
+ActsCome law (Turns by ∷ later) w = law.holds (by w) × ActsCome law later (by w)
+ActsCome law (Is_over ∷ later) w = law.comes (Ends w)
+ActsCome law (Stops why ∷ later) w = law.comes (Fails why)
+
+tells_come : (law : Law) (entries : List TraceEntry) (next : Plan Outcome)
+    → PlanComes law.such law.comes next →
+    PlanComes law.such law.comes (tell_all entries next)
+tells_come law [] next h = h
+tells_come law (entry ∷ entries) next h = tells_come law entries next h
+
+told_done : (law : Law) (place : ℕ) (outcome : CommandOutcome) (next : Plan Outcome)
+    → PlanComes law.such law.comes next →
+    PlanComes law.such law.comes (tell_done place outcome next)
+told_done law place Accepted next h = h
+told_done law place (Opened channel) next h = λ _ _. h
+told_done law place (Refused why) next h = λ _ _. h
+
+-- one command, and then what follows
+pub one_comes : (law : Law) (does : Effect) (next : CommandOutcome → World → Plan Outcome)
+    → EffectComes law.comes law.holds does →
+    ((outcome : CommandOutcome) (world : World) → law.holds world → PlanComes law.such law.comes
+    (next outcome world)) →
+    PlanComes law.such law.comes (done does next)
+one_comes law (Does notices outcome world) next k h = tells_come law (map Noticed notices)
+    (next outcome world) (h outcome world k)
+one_comes law Unbuilt next k h = k
+
+all_come : (law : Law) (place : ℕ) (commands : List Command) (w : World) (next : World
+    → Plan Outcome) → law.holds w →
+    AllBuilt law.built commands →
+    ((world : World) → law.holds world → PlanComes law.such law.comes (next world)) →
+    PlanComes law.such law.comes (done_all place commands w next)
+all_come law place [] w next s b h = h w s
+all_come law place (command ∷ commands) w next s b h =
+    one_comes law (effect w command) (λ outcome world. tell_done place outcome
+    (done_all (place + 1) commands world next))
+    (law.keeps w command s b.0)
+    (λ outcome world t. told_done law place outcome (done_all (place + 1) commands world next)
+    (all_come law (place + 1) commands world next t b.1 h))
+
+pub acts_come : (law : Law) (now : List Act) (w : World) → law.holds w → ActsCome law now w →
+    PlanComes law.such law.comes (acts now w)
+acts_come law [] w h k = law.goes w h
+acts_come law (Notes notice ∷ later) w h k = acts_come law later w h k
+acts_come law (Calls lent ∷ later) w h k = λ commands s.
+    all_come law 0 commands w (acts later) h (law.lends lent commands s)
+    (λ world t. acts_come law later world t (k world t))
+acts_come law (Adjusts_by channel current by ∷ later) w h k = λ window s.
+    acts_come law later (by window w) (k window).0 (k window).1
+acts_come law (Turns by ∷ later) w h k = acts_come law later (by w) k.0 k.1
+acts_come law (Is_over ∷ later) w h k = k
+acts_come law (Stops why ∷ later) w h k = k
+
+-- a plan, and then the one that its outcome leads to
+pub comes_then : {A : Type 0} (such : (question : Question) → Answer question → Type 0)
+    (comes : Outcome → Type 0)
+    (plan : Plan A) (later : A → Plan Outcome)
+    → ((outcome : A) → PlanComes such comes (later outcome)) →
+    PlanComes such comes (after plan later)
+comes_then such comes (Finish outcome) later h = h outcome
+comes_then such comes (Ask question next) later h = λ answer s. comes_then such comes (next answer)
+    later h
+comes_then such comes (Tell entry next) later h = comes_then such comes next later h
+
+-- the end of an input
+told_come : (such : (question : Question) → Answer question → Type 0) (comes : Outcome → Type 0)
+    (entries : List TraceEntry)
+    (next : Plan Outcome) → PlanComes such comes next → PlanComes such comes (tell_all entries next)
+told_come such comes [] next h = h
+told_come such comes (entry ∷ entries) next h = told_come such comes entries next h
+
+-- what frames that are handed on take nothing from
+abbrev pub IsPassedOn : (comes : Outcome → Type 0) → Type 0
+IsPassedOn comes = (w : World) → (comes (Goes w) → comes (Goes (handed_on w)))
+    × (comes (Ends w) → comes (Ends (handed_on w)))
+
+finish_comes : (such : (question : Question) → Answer question → Type 0) (comes : Outcome → Type 0)
+    (outcome : Outcome) →
+    IsPassedOn comes → comes outcome → PlanComes such comes (finish_input outcome)
+finish_comes such comes (Goes w) passes h = told_come such comes (map Sent w.channels.lines.written)
+    _ ((passes w).0 h)
+finish_comes such comes (Ends w) passes h = told_come such comes (map Sent w.channels.lines.written)
+    _ ((passes w).1 h)
+finish_comes such comes (Fails fault) passes h = h
+
+pub input_comes : (such : (question : Question) → Answer question → Type 0) (comes : Outcome
+    → Type 0) (plan : Plan Outcome) →
+    IsPassedOn comes → PlanComes such comes plan → PlanComes such comes (after plan finish_input)
+input_comes such comes (Finish outcome) passes h = finish_comes such comes outcome passes h
+input_comes such comes (Ask question next) passes h = λ answer s. input_comes such comes
+    (next answer) passes (h answer s)
+input_comes such comes (Tell entry next) passes h = input_comes such comes next passes h

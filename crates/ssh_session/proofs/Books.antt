@@ -1,0 +1,248 @@
+-- After each input of a run each channel has sent what it has to.
+use Rattle.std.proofs.Common.{◌≡◌, ◌≢◌, ◌<◌, ℕ, List, [], ◌∷◌, ◌++◌, map, Bool, true}
+use Rattle.std.proofs.Common.{false, refl, sym, subst, inl, inr, arith}
+use Rattle.std.proofs.Common.{append_assoc}
+use Rattle.std.specs.Prelude.{drop, flat_map}
+use Rattle.std.proofs.lemmas.List.{append-nil}
+use Rattle.ssh_link.specs.declared.command.Command.TheVariants as command
+use Rattle.ssh_link.specs.declared.frame.InputKind.{InputKind}
+use Rattle.ssh_link.specs.declared.frame.InputKind.TheVariants as input
+use Rattle.ssh_link.specs.declared.link.TraceEntry.{TraceEntry}
+use Rattle.ssh_link.specs.declared.link.TraceEntry.TheVariants.{Took, Sent}
+use Rattle.ssh_auth.specs.declared.question.Question.{Question}
+use Rattle.ssh_auth.proofs.Back.{asked_so}
+use Rattle.ssh_auth.specs.Plan.{Plan, Finish, Ask, Tell, Answer, Answered, Event, Called, Stepped}
+use Rattle.ssh_auth.specs.Plan.{Told, Follows, after, told_in}
+use Rattle.ssh_auth.specs.Publickey.{Acceptance, Circumstances}
+use Rattle.ssh_channels.specs.Sent.{IsQuiet}
+use Rattle.ssh_channels.proofs.Booked.{hands_on_kept, quiet_kept}
+use Rattle.ssh_session.specs.declared.gate.Gate.{Gate}
+use Rattle.ssh_session.specs.declared.gate.Gate.TheVariants as gate
+use Rattle.ssh_session.specs.Acts.{tell_all}
+use Rattle.ssh_session.specs.Gate.{gate_of}
+use Rattle.ssh_session.specs.Ledger.{Ledgered_after}
+use Rattle.ssh_session.specs.Outcome.{Outcome, Goes, Ends, Fails}
+use Rattle.ssh_session.specs.Reading.{Said, Open, Unbuilt, Without_packets, Unfit, Says, SaysOpen}
+use Rattle.ssh_session.specs.Reading.{Spells, data_on, extended_on, request_on}
+use Rattle.ssh_session.specs.Run.{Turn, Turns, Run, OwesKind, handed_on, finish_input}
+use Rattle.ssh_session.specs.Run.{entries, is_there}
+use Rattle.ssh_session.specs.World.{Settings, World, circumstances, opening_world}
+use Rattle.ssh_session.proofs.Acting.{PlanComes}
+use Rattle.ssh_session.proofs.Ledger.{Kept, ComesKept, IsFairSaid, row_kept}
+use Rattle.ssh_session.proofs.Ledger.{command_kept}
+use Rattle.ssh_session.proofs.Settled.{Anything}
+use Rattle.ssh_session.proofs.Telling.{IsUnsent, SendsNone, kind_silent}
+
+-- with what is told meanwhile, the channels have sent what they have to
+abbrev pub Books : (past : List TraceEntry) → Plan Outcome → Type 0
+Books past (Finish (Goes w)) = Kept past w
+Books past (Finish _) = Unit {0}
+Books past (Ask question next) = (answer : Answer question) → Books past (next answer)
+Books past (Tell entry next) = Books (past ++ entry ∷ []) next
+
+quiet_entry : (entry : TraceEntry) → IsUnsent entry → IsQuiet (entry ∷ [])
+quiet_entry (Sent frame) h = absurd h
+quiet_entry _ h = tt
+
+kept_quiet : (past : List TraceEntry) (entry : TraceEntry) (w : World) → IsUnsent entry
+    → Kept past w → Kept (past ++ entry ∷ []) w
+kept_quiet past entry w q k = record {
+  ledger = quiet_kept w.channels.lines past (entry ∷ []) (quiet_entry entry q) k.ledger;
+  due = k.due;
+  waiting = k.waiting;
+}
+
+outcome_quiet : (past : List TraceEntry) (entry : TraceEntry) (outcome : Outcome) → IsUnsent entry
+    → ComesKept past outcome →
+    ComesKept (past ++ entry ∷ []) outcome
+outcome_quiet past entry (Goes w) q k = kept_quiet past entry w q k
+outcome_quiet past entry (Ends w) q k = kept_quiet past entry w q k
+outcome_quiet past entry (Fails fault) q k = tt
+
+plan_quiet : (past : List TraceEntry) (entry : TraceEntry) (plan : Plan Outcome) → IsUnsent entry →
+    PlanComes Anything (ComesKept past) plan → PlanComes Anything (ComesKept (past ++ entry ∷ []))
+    plan
+plan_quiet past entry (Finish outcome) q k = outcome_quiet past entry outcome q k
+plan_quiet past entry (Ask question next) q k = λ answer s. plan_quiet past entry (next answer) q
+    (k answer s)
+plan_quiet past entry (Tell other next) q k = plan_quiet past entry next q k
+
+books_told : (past more : List TraceEntry) (next : Plan Outcome) → Books (past ++ more) next
+    → Books past (tell_all more next)
+books_told past [] next h = subst (λ t. Books t next) (append-nil past) h
+books_told past (entry ∷ more) next h =
+    books_told (past ++ entry ∷ []) more next
+    (subst (λ t. Books t next) (sym (append_assoc past (entry ∷ []) more)) h)
+
+-- the frames are handed on
+finished_books : (past : List TraceEntry) (outcome : Outcome) → ComesKept past outcome
+    → Books past (finish_input outcome)
+finished_books past (Goes w) k =
+    books_told past (map Sent w.channels.lines.written) (Finish (Goes (handed_on w))) (record {
+      ledger = hands_on_kept false w.channels.lines past k.ledger;
+      due = k.due;
+      waiting = k.waiting;
+    })
+finished_books past (Ends w) k = books_told past (map Sent w.channels.lines.written)
+    (Finish (Ends (handed_on w))) tt
+finished_books past (Fails fault) k = tt
+
+row_books : (past : List TraceEntry) (plan : Plan Outcome) → SendsNone plan
+    → PlanComes Anything (ComesKept past) plan →
+    Books past (after plan finish_input)
+row_books past (Finish outcome) s k = finished_books past outcome k
+row_books past (Ask question next) s k = λ answer. row_books past (next answer) (s answer)
+    (k answer tt)
+row_books past (Tell entry next) s k = row_books (past ++ entry ∷ []) next s.1
+    (plan_quiet past entry next s.0 k)
+
+-- an answered question is no notice
+never_told : {E : Type 0} (question : Question) (answer : Answer question) (entry : TraceEntry) →
+    Answered {E = E} {F = ⊥} question answer (Told entry) → ⊥
+never_told question answer entry h = let e = asked_so question answer (Told entry) h in cc
+
+follows_books : {E : Type 0} (past : List TraceEntry) (plan : Plan Outcome)
+    (events : List (Event E ⊥)) (w : World) →
+    Books past plan → Follows plan events (Goes w) → Kept (past ++ told_in events) w
+follows_books past plan [] w k h = subst (λ t. Kept t w) (sym (append-nil past))
+    (subst (Books past) h k)
+follows_books past (Finish other) (event ∷ events) w k h = absurd h
+follows_books {E} past (Ask question next) (Called call ∷ events) w k h = follows_books past
+    (next h.0) events w (k h.0) h.2
+follows_books {E} past (Ask question next) (Stepped step ∷ events) w k h = follows_books past
+    (next h.0) events w (k h.0) h.2
+follows_books {E} past (Ask question next) (Told entry ∷ events) w k h =
+    absurd (never_told question h.0 entry h.1)
+follows_books past (Tell entry next) (Called call ∷ events) w k h = absurd (let e = h.0 in cc)
+follows_books past (Tell entry next) (Stepped step ∷ events) w k h = absurd (let e = h.0 in cc)
+follows_books {E} past (Tell entry next) (Told told ∷ events) w k h =
+    let same : told ≡ entry = let e = h.0 in cc in
+    subst (λ t. Kept t w) (append_assoc past (told ∷ []) (told_in events))
+    (follows_books (past ++ told ∷ []) next events w (subst (λ t. Books (past ++ t ∷ []) next)
+    (sym same) k) h.1)
+
+-- ---- what was read
+
+data_fair : (b : Bool) (channel : ℕ) (fields : List ℕ) (said : Said) → Spells (data_on b channel)
+    fields said → IsFairSaid said
+data_fair false channel fields said h = rw h tt
+data_fair true channel fields said (inl h) = rw h.2 tt
+data_fair true channel fields said (inr h) = rw h.2 tt
+
+extended_fair : (b : Bool) (channel : ℕ) (fields : List ℕ) (said : Said)
+    → Spells (extended_on b channel) fields said → IsFairSaid said
+extended_fair false channel fields said h = rw h tt
+extended_fair true channel fields said (inl h) = rw h.2 tt
+extended_fair true channel fields said (inr h) = rw h.2 tt
+
+request_fair : (b wanted : Bool) (channel : ℕ) (fields : List ℕ) (said : Said)
+    → Spells (request_on b wanted channel) fields said → IsFairSaid said
+request_fair false wanted channel fields said h = rw h tt
+request_fair true wanted channel fields said h = rw h tt
+
+some_packet : (n : ℕ) → n ≢ 0 → 0 < n
+some_packet n h = omega (arith, h)
+
+open_fair : (fields : List ℕ) (said : Said) → SaysOpen fields said → IsFairSaid said
+open_fair fields (Open opening) h =
+    let leads = h.0 in
+    let window = leads.4.4.2 in
+    (some_packet opening.packet h.1, window.0)
+open_fair fields Unbuilt h = tt
+open_fair fields Without_packets h = tt
+open_fair fields (Unfit why) h = tt
+open_fair fields _ h = absurd h
+
+fair_at : (given : Circumstances) (there : ℕ → Bool) (at : Gate) (fields : List ℕ) (said : Said)
+    → Says given there at fields said →
+    IsFairSaid said
+fair_at given there gate.Nothing fields said h = rw h tt
+fair_at given there gate.Ends fields said h = rw h tt
+fair_at given there gate.OverCap fields said h = rw h tt
+fair_at given there gate.NotBuilt fields said h = rw h tt
+fair_at given there gate.ServiceRequest fields said (inl h) = rw h.2 tt
+fair_at given there gate.ServiceRequest fields said (inr h) = rw h.2 tt
+fair_at given there gate.UserauthRequest fields said h = rw h.2 tt
+fair_at given there gate.InfoResponse fields said h = rw h.2 tt
+fair_at given there gate.ChannelOpen fields said h = open_fair fields said h
+fair_at given there gate.WindowAdjust fields said (inl h) = rw h.2 tt
+fair_at given there gate.WindowAdjust fields said (inr h) = rw h.2 tt
+fair_at given there gate.ChannelEof fields said (inl h) = rw h.2 tt
+fair_at given there gate.ChannelEof fields said (inr h) = rw h.2 tt
+fair_at given there gate.ChannelClose fields said (inl h) = rw h.2 tt
+fair_at given there gate.ChannelClose fields said (inr h) = rw h.2 tt
+fair_at given there gate.ChannelData fields said (inl h) = data_fair (there h.0.0) h.0.0 h.1 said
+    h.3
+fair_at given there gate.ChannelData fields said (inr h) = rw h.2 tt
+fair_at given there gate.ChannelExtendedData fields said (inl h) = extended_fair (there h.0.0) h.0.0
+    h.1 said h.3
+fair_at given there gate.ChannelExtendedData fields said (inr h) = rw h.2 tt
+fair_at given there gate.ChannelRequest fields said (inl h) =
+    request_fair (there h.0.0) h.0.1.1.0 h.0.0 h.1 said h.3
+fair_at given there gate.ChannelRequest fields said (inr h) = rw h.2 tt
+
+-- ---- inputs and runs
+
+kind_kept : (accepts : Acceptance) (past : List TraceEntry) (w : World) (moment : ℕ)
+    (kind : InputKind) (plan : Plan Outcome) →
+    OwesKind accepts w moment kind plan → Kept past w → PlanComes Anything (ComesKept past) plan
+kind_kept accepts past w moment input.End plan o k = rw o k
+kind_kept accepts past w moment (input.Payload payload) plan o k =
+    rw o.2 (row_kept past w moment o.0
+    (fair_at (circumstances accepts w.settings moment) (is_there w) (gate_of w payload)
+    (drop 1 payload) o.0 o.1) k)
+kind_kept accepts past w moment (input.Command ticket commanded) plan o k =
+    rw o (command_kept past w ticket commanded k)
+kind_kept accepts past w moment (input.OpenReply ticket answer) plan o k =
+    rw o (command_kept past w ticket (command.Answer answer) k)
+kind_kept accepts past w moment kind plan o k = rw o tt
+
+turn_kept : {E : Type 0} (accepts : Acceptance) (past : List TraceEntry) (w : World) (turn : Turn E)
+    (world : World) →
+    Turns accepts w turn world → Kept past w → Kept (past ++ entries turn) world
+turn_kept accepts past w turn world t k =
+    let took = Took turn.commands true turn.input in
+    let owes = t.1 in
+    let begun = kept_quiet past took w tt k in
+    let books = row_books (past ++ took ∷ []) owes.0
+    (kind_silent accepts w turn.input.moment turn.input.kind owes.0 owes.1)
+    (kind_kept accepts (past ++ took ∷ []) w turn.input.moment turn.input.kind owes.0 owes.1
+    begun) in
+    subst (λ l. Kept l world) (append_assoc past (took ∷ []) (told_in turn.events))
+    (follows_books (past ++ took ∷ []) t.0 turn.events world (subst (Books (past ++ took ∷ []))
+    (sym owes.2) books) t.2)
+
+run_kept : {E : Type 0} (accepts : Acceptance) (past : List TraceEntry) (w : World)
+    (turns : List (Turn E)) (world : World) →
+    Run accepts w turns world → Kept past w → Kept (past ++ flat_map entries turns) world
+run_kept accepts past w [] world run k =
+    subst (λ t. Kept t world) (sym (append-nil past)) (subst (Kept past) (sym run) k)
+run_kept accepts past w (turn ∷ turns) world run k =
+    subst (λ t. Kept t world) (append_assoc past (entries turn) (flat_map entries turns))
+    (run_kept accepts (past ++ entries turn) run.0 turns world run.2
+    (turn_kept accepts past w turn run.0 run.1 k))
+
+-- the first inputs of a run are a run
+run_front : {E : Type 0} (accepts : Acceptance) (w : World) (earlier later : List (Turn E))
+    (world : World) →
+    Run accepts w (earlier ++ later) world → (mid : World) × Run accepts w earlier mid
+run_front accepts w [] later world run = (w, refl)
+run_front accepts w (turn ∷ earlier) later world run =
+    let front = run_front accepts run.0 earlier later world run.2 in
+    (front.0, (run.0, run.1, front.1))
+
+nothing_kept : (settings : Settings) → Kept [] (opening_world settings)
+nothing_kept settings = record { ledger = λ n. tt; due = λ n. tt; waiting = tt }
+
+-- after each of its inputs
+pub ledgered : {E : Type 0} (accepts : Acceptance) (settings : Settings) (turns : List (Turn E))
+    (world : World) →
+    Run accepts (opening_world settings) turns world → (earlier later : List (Turn E)) → turns
+    ≡ earlier ++ later →
+    Ledgered_after accepts settings earlier
+ledgered accepts settings turns world run earlier later is =
+    let front = run_front accepts (opening_world settings) earlier later world
+    (subst (λ ts. Run accepts (opening_world settings) ts world) is run) in
+    let kept = run_kept accepts [] (opening_world settings) earlier front.0 front.1
+    (nothing_kept settings) in
+    record { world = front.0; run = front.1; kept = kept.ledger; due = kept.due }

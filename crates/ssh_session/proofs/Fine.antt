@@ -1,0 +1,415 @@
+-- A valid input comes to no fault where each answer is fine.
+use Rattle.std.proofs.Common.{◌≡◌, ◌⊎◌, ℕ, List, [], ◌∷◌, Option, Some, None, Bool}
+use Rattle.std.proofs.Common.{true, false, refl, sym, ap, subst, inl, inr}
+use Rattle.std.specs.Prelude.{◌^◌, drop, length, bytes_eq, codes, IsSome, if◌then◌else◌}
+use Rattle.std.proofs.lemmas.Bool.{lt-ltb}
+use Rattle.ssh_wire.specs.Messages.{channel_request}
+use Rattle.ssh_wire.specs.declared.channel_id.ChannelId.{ChannelId}
+use Rattle.ssh_wire.specs.declared.open_failure.ChannelOpenFailure.{ChannelOpenFailure}
+use Rattle.ssh_wire.specs.Field.{Text, Values}
+use Rattle.ssh_wire.specs.Open.{leading_fields}
+use Rattle.ssh_wire.proofs.Fields.{spells_all_once, misfits_all_not_spells}
+use Rattle.ssh_wire.proofs.Fields.{misfits_whole_not_spells}
+use Rattle.ssh_link.specs.declared.command.Command.{Command as Commanded}
+use Rattle.ssh_link.specs.declared.command.Command.TheVariants as command
+use Rattle.ssh_link.specs.declared.frame.InputKind.{InputKind}
+use Rattle.ssh_link.specs.declared.frame.InputKind.TheVariants.{Payload, Command, OpenReply, End}
+use Rattle.ssh_link.specs.declared.link.TraceEntry.TheVariants.{Answered}
+use Rattle.ssh_link.specs.declared.open_answer.OpenAnswer.{OpenAnswer}
+use Rattle.ssh_link.specs.declared.outcome.Refusal.{Refusal}
+use Rattle.ssh_auth.specs.declared.auth_request.AuthRequest.{AuthRequest}
+use Rattle.ssh_auth.specs.declared.auth_step.AuthVerdict.TheVariants as verdict
+use Rattle.ssh_auth.specs.declared.question.Question.TheVariants.{Banner}
+use Rattle.ssh_auth.specs.Plan.{Plan, Finish, Ask, Tell, after}
+use Rattle.ssh_auth.specs.Publickey.{Acceptance, Circumstances}
+use Rattle.ssh_auth.specs.Requested.{Requested as Asked, Other_service, named_by, head_fields}
+use Rattle.ssh_auth.specs.Requested.{SaysRequest}
+use Rattle.ssh_auth.specs.Requested as asks
+use Rattle.ssh_auth.specs.Request.{begun, prompt_of}
+use Rattle.ssh_auth.specs.Response.{Responded, SaysResponses}
+use Rattle.ssh_auth.specs.Verdict.{AuthOutcome, Replies, verdict as verdict_on, method_verdict}
+use Rattle.ssh_auth.specs.Verdict.{response_verdict}
+use Rattle.ssh_auth.specs.Verdict as auth
+use Rattle.ssh_channels.specs.declared.adjusted.Adjusted.{Adjusted}
+use Rattle.ssh_channels.specs.declared.adjusted.Adjusted.TheVariants.{Dropped, Kept, Granted}
+use Rattle.ssh_channels.specs.declared.chunk.Chunk.{Chunk}
+use Rattle.ssh_channels.specs.Does.{coming_of}
+use Rattle.ssh_channels.specs.Lines.{find, next_number, takes_in}
+use Rattle.ssh_session.specs.declared.gate.Gate.{Gate}
+use Rattle.ssh_session.specs.declared.gate.Gate.TheVariants as gate
+use Rattle.ssh_session.specs.declared.state.EncryptedState.{EncryptedState}
+use Rattle.ssh_session.specs.declared.state.EncryptedState.TheVariants.{WaitingAuthRequest}
+use Rattle.ssh_session.specs.Acts.{acts}
+use Rattle.ssh_session.specs.Effect.{Effect, effect, lacks, needs, refused_or, done_by, answers}
+use Rattle.ssh_session.specs.Effect.{decides, fails_open, failure_of, is_too_long}
+use Rattle.ssh_session.specs.Gate.{gate_of}
+use Rattle.ssh_session.specs.Layout.{banner}
+use Rattle.ssh_session.specs.Opening.{Opening}
+use Rattle.ssh_session.specs.Opens.{own, opening_of}
+use Rattle.ssh_session.specs.Outcome.{Outcome, Goes, Fails, Starved}
+use Rattle.ssh_session.specs.Reading.{Said, Nothing, Open, Grant, Data}
+use Rattle.ssh_session.specs.Reading.{Eof, Close, Wants, Says, Spells, Layout, Leaves, Whole}
+use Rattle.ssh_session.specs.Reading.{Fields, request_on}
+use Rattle.ssh_session.specs.Reading.{grant, eof, close, data_on, data_message, extended_on}
+use Rattle.ssh_session.specs.Reading.{extended_message, Unbuilt, Without_packets, Unfit, SaysOpen}
+use Rattle.ssh_session.specs.Rows.{row, owed, greets, is_short, replied, concluded, asked_of}
+use Rattle.ssh_session.specs.Rows.{fault_of, data_told, open_acts}
+use Rattle.ssh_session.specs.Run.{OwesKind, command_row, is_there}
+use Rattle.ssh_session.specs.Valid.{AreValidMethodFields, AreValidFields, FitsLayout, HasNoPrompt}
+use Rattle.ssh_session.specs.Valid.{IsBuiltCommand, AreBuilt, IsFineAnswer, IsFineBanner}
+use Rattle.ssh_session.specs.Valid.{IsValidKind}
+use Rattle.ssh_session.specs.World.{World, circumstances, waits_for, lined}
+use Rattle.ssh_session.proofs.Acting.{PlanComes, EffectComes, AllBuilt, Law, ActsCome, acts_come}
+use Rattle.ssh_session.proofs.Acting.{one_comes}
+use Rattle.ssh_session.proofs.FineVerdicts.{IsFineReply, IsFineVerdict, method_fine, responded_fine}
+use Rattle.ssh_session.proofs.Methods.{served, shortened}
+use Rattle.ssh_session.proofs.Responses.{IsRead, response_read}
+use Rattle.ssh_session.proofs.Settled.{on_come}
+
+-- no fault but want of memory
+abbrev pub IsNoFault : Outcome → Type 0
+IsNoFault (Fails fault) = fault ≡ Starved
+IsNoFault _ = Unit {0}
+
+abbrev Any_world : World → Type 0
+Any_world w = Unit {0}
+
+-- ---- commands
+
+built_all : (commands : List Commanded) → AreBuilt commands → AllBuilt IsBuiltCommand commands
+built_all [] h = tt
+built_all (command ∷ commands) h = (h.0, built_all commands h.1)
+
+failed_built : (number : ℕ) (payload : List ℕ) (w : World) (long : Bool) → is_too_long payload
+    ≡ long →
+    EffectComes IsNoFault Any_world (fails_open number payload w)
+failed_built number payload w true is = rw is tt
+failed_built number payload w false is = rw is tt
+
+decided_built : (number : ℕ) (opening : Opening) (reason : Option ChannelOpenFailure)
+    (texts : Option (List ℕ × List ℕ)) (w : World) →
+    EffectComes IsNoFault Any_world (decides number opening reason texts w)
+decided_built number opening None texts w = tt
+decided_built number opening (Some reason) texts w =
+    failed_built number (failure_of opening reason texts) w
+    (is_too_long (failure_of opening reason texts)) refl
+
+answered_built : (answer : OpenAnswer) (opening : Option Opening) (w : World)
+    → EffectComes IsNoFault Any_world (answers answer opening w)
+answered_built answer None w = tt
+answered_built answer (Some opening) w = decided_built answer.channel.0 opening answer.rejection
+    answer.texts w
+
+done_built : (w : World) (commanded : Commanded) → IsBuiltCommand commanded → EffectComes IsNoFault
+    Any_world (done_by w commanded)
+done_built w (command.Data channel bytes) built = tt
+done_built w (command.ExtendedData channel code bytes) built = tt
+done_built w (command.Eof channel) built = tt
+done_built w (command.Close channel) built = tt
+done_built w (command.Answer answer) built = answered_built answer (opening_of answer.channel.0 w) w
+done_built w _ built = absurd built
+
+refused_built : (why : Option Refusal) (w : World) (does : Effect) → EffectComes IsNoFault Any_world
+    does →
+    EffectComes IsNoFault Any_world (refused_or why w does)
+refused_built None w does h = h
+refused_built (Some why) w does h = tt
+
+pub effect_built : (w : World) (commanded : Commanded) → IsBuiltCommand commanded
+    → EffectComes IsNoFault Any_world (effect w commanded)
+effect_built w commanded built =
+    refused_built (lacks w (needs commanded)) w (done_by w commanded) (done_built w commanded built)
+
+pub fine_lends : (commands : List Commanded) → AreBuilt commands → AllBuilt IsBuiltCommand commands
+fine_lends commands h = built_all commands h
+
+abbrev law : InputKind → Law
+law kind = record {
+  such = IsFineAnswer kind;
+  comes = IsNoFault;
+  holds = Any_world;
+  built = IsBuiltCommand;
+  goes = λ w h. tt;
+  lends = λ lent commands s. fine_lends commands s;
+  keeps = λ w commanded h b. effect_built w commanded b;
+}
+
+-- ---- authentication
+
+concluded_fine : (kind : InputKind) (w : World) (moment : ℕ) (requested : Bool)
+    (outcome : AuthOutcome) → IsFineReply outcome →
+    PlanComes (IsFineAnswer kind) IsNoFault (concluded w moment requested outcome)
+concluded_fine kind w moment requested (Replies reply verdict.Accepted state) h =
+    acts_come (law kind) (replied w moment requested reply verdict.Accepted)
+    (waits_for (WaitingAuthRequest state) w) tt (tt, λ world k. tt)
+concluded_fine kind w moment requested (Replies reply (verdict.Rejected none_method) state) h = tt
+concluded_fine kind w moment requested (Replies reply verdict.Continued state) h = tt
+concluded_fine kind w moment requested (auth.Fails fault) h = ap fault_of h
+
+verdict_comes : (kind : InputKind) (w : World) (moment : ℕ) (requested : Bool)
+    (plan : Plan AuthOutcome) → IsFineVerdict kind plan →
+    PlanComes (IsFineAnswer kind) IsNoFault (after plan (concluded w moment requested))
+verdict_comes kind w moment requested (Finish outcome) h = concluded_fine kind w moment requested
+    outcome h
+verdict_comes kind w moment requested (Ask question next) h =
+    λ answer fine. verdict_comes kind w moment requested (next answer) (h answer fine)
+verdict_comes kind w moment requested (Tell entry next) h = verdict_comes kind w moment requested
+    next h
+
+state_comes : (kind : InputKind) (state : EncryptedState) (next : AuthRequest → Plan AuthOutcome)
+    (w : World) (moment : ℕ)
+    (requested : Bool) → ((auth : AuthRequest) → state ≡ WaitingAuthRequest auth
+    → IsFineVerdict kind (next auth)) →
+    PlanComes (IsFineAnswer kind) IsNoFault
+    (asked_of state (λ auth. after (next auth) (concluded w moment requested)) (acts [] w))
+state_comes kind (WaitingAuthRequest auth) next w moment requested h =
+    verdict_comes kind w moment requested (next auth) (h auth refl)
+state_comes kind _ next w moment requested h = tt
+
+-- a valid request
+request_fine : (given : Circumstances) (w : World) (payload : List ℕ) (auth : AuthRequest)
+    (asked : Asked) →
+    AreValidFields given w gate.UserauthRequest (drop 1 payload)
+    → SaysRequest given (drop 1 payload) asked →
+    IsFineVerdict (Payload payload) (verdict_on auth asked)
+request_fine given w payload auth (asks.Request user method) v s =
+    let once = spells_all_once head_fields (v.0, (codes "ssh-connection", (v.1, tt))) (
+      user,
+      (codes "ssh-connection", (s.0, tt)),
+    )
+    (drop 1 payload) v.2 s.1 v.3 s.2 in
+    let name : v.1 ≡ s.0 = ap (λ x. x.1.1.0) once.0 in
+    let valid : AreValidMethodFields given (named_by s.0) s.1 =
+    subst (λ r. AreValidMethodFields given (named_by s.0) r) once.1
+    (subst (λ n. AreValidMethodFields given (named_by n) v.2) name v.4) in
+    method_fine (Payload payload) (begun auth user (codes "ssh-connection")) user method
+    (served given (drop 1 payload) (named_by s.0) s.1 method valid s.3)
+    (shortened given payload user s.0 s.1 method (named_by s.0) refl s.2 s.3)
+request_fine given w payload auth asks.Unread v s = refl
+request_fine given w payload auth Other_service v s =
+    let once = spells_all_once head_fields (v.0, (codes "ssh-connection", (v.1, tt))) (
+      s.0,
+      (s.1, (s.2, tt)),
+    ) (drop 1 payload) v.2 s.3 v.3 s.4 in
+    absurd (s.5 (sym (ap (λ x. x.1.0) once.0)))
+request_fine given w payload auth (asks.Unfit why) v s =
+    absurd (misfits_all_not_spells head_fields (v.0, (codes "ssh-connection", (v.1, tt)))
+    (drop 1 payload) v.2 why s v.3)
+
+-- a valid response is read, or no prompts wait for it
+valid_response : (given : Circumstances) (w : World) (fields : List ℕ) (auth : AuthRequest)
+    (said : Responded) →
+    w.user.state ≡ WaitingAuthRequest auth → AreValidFields given w gate.InfoResponse fields
+    → SaysResponses fields said →
+    (prompt_of auth ≡ None) ⊎ IsRead said
+valid_response given w fields auth said at (inl none) s = inl (subst HasNoPrompt at none)
+valid_response given w fields auth said at (inr v) s = inr (response_read fields v.0 said v.1 s)
+
+-- ---- the service
+
+greets_fine : (kind : InputKind) (w : World) (message : Option (List ℕ)) → IsFineBanner message →
+    PlanComes (IsFineAnswer kind) IsNoFault (acts (greets message) w)
+greets_fine kind w None fine = tt
+greets_fine kind w (Some message) fine =
+    let short : is_short (Some message) ≡ true = lt-ltb (length (banner message)) (2 ^ 32) fine in
+    rw short tt
+
+service_fine : (kind : InputKind) (w : World) (b : Bool) →
+    PlanComes (IsFineAnswer kind) IsNoFault
+    (if b then Ask Banner (λ message. acts (greets message) w) else acts [] w)
+service_fine kind w true = λ message fine. greets_fine kind w message fine
+service_fine kind w false = tt
+
+-- ---- messages by their layouts
+
+-- what fields that fit say
+abbrev pub SaysSo : Layout → Said → Type 0
+SaysSo (Leaves says) said = said ≡ says
+SaysSo (Whole fields says) said = (values : Values fields) × (said ≡ says values)
+SaysSo (Fields fields next) said = (values : Values fields) × SaysSo (next values) said
+
+fits_says : (layout : Layout) (bytes : List ℕ) (said : Said) → FitsLayout layout bytes
+    → Spells layout bytes said → SaysSo layout said
+fits_says (Leaves says) bytes said v h = h
+fits_says (Whole fields says) bytes said v (inl h) = (h.0, h.2)
+fits_says (Whole fields says) bytes said v (inr h) =
+    absurd (misfits_whole_not_spells fields v.0 bytes h.0 h.1 v.1)
+fits_says (Fields fields next) bytes said v (inl h) =
+    let once = spells_all_once fields v.0 h.0 bytes v.1 h.1 v.2 h.2 in
+    let fits = subst (λ r. FitsLayout (next h.0) r) once.1 (subst (λ x. FitsLayout (next x) v.1)
+    once.0 v.3) in
+    (h.0, fits_says (next h.0) h.1 said fits h.3)
+fits_says (Fields fields next) bytes said v (inr h) =
+    absurd (misfits_all_not_spells fields v.0 bytes v.1 h.0 h.1 v.2)
+
+-- ---- channels
+
+told_fine : (kind : InputKind) (adjusted : Adjusted) (channel : ChannelId) (piece : Chunk)
+    (target : ℕ) (w : World) →
+    ActsCome (law kind) (data_told adjusted channel piece target) w
+told_fine kind Dropped channel piece target w = tt
+told_fine kind Kept channel piece target w = λ world k. tt
+told_fine kind (Granted amount) channel piece target w = λ window. (tt, λ world k. tt)
+
+-- what is said on a channel comes to no fault
+abbrev pub IsOnChannel : Said → Type 0
+IsOnChannel (Grant channel amount) = Unit {0}
+IsOnChannel (Data channel piece) = Unit {0}
+IsOnChannel (Eof channel) = Unit {0}
+IsOnChannel (Close channel) = Unit {0}
+IsOnChannel (Wants channel wanted) = Unit {0}
+IsOnChannel said = said ≡ Nothing
+
+nothing_comes : (kind : InputKind) (w : World) (moment : ℕ) (said : Said) → said ≡ Nothing →
+    PlanComes (IsFineAnswer kind) IsNoFault (row w moment said)
+nothing_comes kind w moment said is = rw is tt
+
+channel_comes : (kind : InputKind) (w : World) (moment : ℕ) (said : Said) → IsOnChannel said →
+    PlanComes (IsFineAnswer kind) IsNoFault (row w moment said)
+channel_comes kind w moment (Grant channel amount) is =
+    acts_come (law kind) (owed w (Grant channel amount)) w tt
+    (on_come (law kind) w (find channel w.channels.lines.entries) _ (λ e. (tt, λ world k. tt)))
+channel_comes kind w moment (Data channel piece) is =
+    acts_come (law kind) (owed w (Data channel piece)) w tt (
+      tt,
+      told_fine kind (coming_of (length piece.bytes) w.channels.target
+          (find channel w.channels.lines.entries)) (own channel) piece
+          w.channels.target (lined (takes_in channel (length piece.bytes) w.channels.target) w),
+    )
+channel_comes kind w moment (Eof channel) is =
+    acts_come (law kind) (owed w (Eof channel)) w tt
+    (on_come (law kind) w (find channel w.channels.lines.entries) _ (λ e. λ world k. tt))
+channel_comes kind w moment (Close channel) is =
+    acts_come (law kind) (owed w (Close channel)) w tt
+    (on_come (law kind) w (find channel w.channels.lines.entries) _ (λ e. (tt, λ world k. tt)))
+channel_comes kind w moment (Wants channel wanted) is =
+    acts_come (law kind) (owed w (Wants channel wanted)) w tt (tt, tt)
+channel_comes kind w moment said is = nothing_comes kind w moment said is
+
+data_said : (is_there : Bool) (channel : ℕ) (said : Said) → SaysSo (data_on is_there channel) said
+    → IsOnChannel said
+data_said false channel said h = rw h refl
+data_said true channel said h = rw h.1 tt
+
+extended_said : (is_there : Bool) (channel : ℕ) (said : Said)
+    → SaysSo (extended_on is_there channel) said → IsOnChannel said
+extended_said false channel said h = rw h refl
+extended_said true channel said h = rw h.1 tt
+
+-- ---- opens
+
+never_some : IsSome {T = ℕ} None → ⊥
+never_some h = let e : false ≡ true = h in cc
+
+open_comes : (kind : InputKind) (w : World) (number : Option ℕ) (opening : Opening) → IsSome number
+    →
+    ActsCome (law kind) (open_acts number opening) w
+open_comes kind w None opening some = absurd (never_some some)
+open_comes kind w (Some number) opening some = (tt, λ world k. tt)
+
+-- the fields of an open of a session are no other open
+open_fine : (kind : InputKind) (given : Circumstances) (w : World) (moment : ℕ) (fields : List ℕ)
+    (said : Said) →
+    AreValidFields given w gate.ChannelOpen fields → SaysOpen fields said →
+    PlanComes (IsFineAnswer kind) IsNoFault (row w moment said)
+open_fine kind given w moment fields (Open opening) v h =
+    acts_come (law kind) (owed w (Open opening)) w tt
+    (open_comes kind w (next_number w.channels.lines) opening v.5)
+open_fine kind given w moment fields Unbuilt v h =
+    let once = spells_all_once leading_fields (codes "session", (v.0, (v.1, (v.2, tt)))) (
+      h.0,
+      (h.1, (h.2, (h.3, tt))),
+    ) fields [] h.4 v.3 h.5 in
+    absurd (h.7 (sym (ap (λ x. x.0) once.0)))
+open_fine kind given w moment fields Without_packets v h =
+    let once = spells_all_once leading_fields (codes "session", (v.0, (v.1, (v.2, tt)))) (
+      h.0,
+      (h.1, (h.2, (0, tt))),
+    ) fields [] h.3 v.3 h.4 in
+    absurd (v.4 (ap (λ x. x.1.1.1.0) once.0))
+open_fine kind given w moment fields (Unfit why) v (inl h) =
+    absurd (misfits_all_not_spells leading_fields (codes "session", (v.0, (v.1, (v.2, tt)))) fields
+    [] why h v.3)
+open_fine kind given w moment fields (Unfit why) v (inr h) =
+    let once = spells_all_once leading_fields (codes "session", (v.0, (v.1, (v.2, tt))))
+    (codes "session", (h.0, (h.1, (h.2, tt)))) fields [] h.3 v.3 h.4 in
+    absurd (h.6.0 (sym once.1))
+open_fine kind given w moment fields _ v h = absurd h
+
+-- ---- a payload that is valid at its gate
+
+fields_fine : (given : Circumstances) (w : World) (moment : ℕ) (at : Gate) (payload : List ℕ)
+    (said : Said) →
+    AreValidFields given w at (drop 1 payload) → Says given (is_there w) at (drop 1 payload) said →
+    PlanComes (IsFineAnswer (Payload payload)) IsNoFault (row w moment said)
+fields_fine given w moment gate.Nothing payload said v h = rw h tt
+fields_fine given w moment gate.Ends payload said v h = rw h tt
+fields_fine given w moment gate.OverCap payload said v h = rw h tt
+fields_fine given w moment gate.ServiceRequest payload said v (inl h) =
+    rw h.2 (service_fine (Payload payload) w (bytes_eq h.0.0 (codes "ssh-userauth")))
+fields_fine given w moment gate.ServiceRequest payload said v (inr h) =
+    absurd (misfits_whole_not_spells (Text ∷ []) (v.0, tt) (drop 1 payload) h.0 h.1 v.1)
+fields_fine given w moment gate.UserauthRequest payload said v h =
+    rw h.2 (state_comes (Payload payload) w.user.state (λ auth. verdict_on auth h.0) w moment true
+    (λ auth at. request_fine given w payload auth h.0 v h.1))
+fields_fine given w moment gate.InfoResponse payload said v h =
+    rw h.2 (state_comes (Payload payload) w.user.state (λ auth. response_verdict auth h.0) w moment
+    w.user.requested
+    (λ auth at. responded_fine (Payload payload) (record auth { partial_success = false })
+    (prompt_of auth) h.0
+    (valid_response given w (drop 1 payload) auth h.0 at v h.1)))
+fields_fine given w moment gate.ChannelOpen payload said v h = open_fine (Payload payload) given w
+    moment (drop 1 payload) said v h
+fields_fine given w moment gate.WindowAdjust payload said v h =
+    let says = fits_says grant (drop 1 payload) said v h in
+    channel_comes (Payload payload) w moment said (rw says.1 tt)
+fields_fine given w moment gate.ChannelData payload said v h =
+    let says = fits_says (data_message (is_there w)) (drop 1 payload) said v h in
+    channel_comes (Payload payload) w moment said (data_said (is_there w says.0.0) says.0.0 said
+    says.1)
+fields_fine given w moment gate.ChannelExtendedData payload said v h =
+    let says = fits_says (extended_message (is_there w)) (drop 1 payload) said v h in
+    channel_comes (Payload payload) w moment said (extended_said (is_there w says.0.0) says.0.0 said
+    says.1)
+fields_fine given w moment gate.ChannelEof payload said v h =
+    let says = fits_says eof (drop 1 payload) said v h in
+    channel_comes (Payload payload) w moment said (rw says.1 tt)
+fields_fine given w moment gate.ChannelClose payload said v h =
+    let says = fits_says close (drop 1 payload) said v h in
+    channel_comes (Payload payload) w moment said (rw says.1 tt)
+fields_fine given w moment gate.ChannelRequest payload said v (inl h) =
+    let once = spells_all_once channel_request.fields (v.0, (v.1, (v.2, tt))) h.0 (drop 1 payload)
+    v.3 h.1 v.4 h.2 in
+    let absent = subst (λ x. is_there w x.0 ≡ false) once.0 v.5 in
+    let wanted = h.0.1.1.0 in
+    let says = subst (λ b. Spells (request_on b wanted h.0.0) h.1 said) absent h.3 in
+    channel_comes (Payload payload) w moment said (rw says tt)
+fields_fine given w moment gate.ChannelRequest payload said v (inr h) =
+    absurd (misfits_all_not_spells channel_request.fields (v.0, (v.1, (v.2, tt))) (drop 1 payload)
+    v.3 h.0 h.1 v.4)
+fields_fine given w moment gate.NotBuilt payload said v h = absurd v
+
+-- ---- inputs
+
+command_fine : (kind : InputKind) (w : World) (ticket : ℕ) (commanded : Commanded)
+    → IsBuiltCommand commanded →
+    PlanComes (IsFineAnswer kind) IsNoFault (command_row w ticket commanded)
+command_fine kind w ticket commanded built =
+    one_comes (law kind) (effect w commanded) (λ outcome world. Tell (Answered ticket outcome)
+    (Finish (Goes world)))
+    (effect_built w commanded built) (λ outcome world k. tt)
+
+pub kind_fine : (accepts : Acceptance) (w : World) (moment : ℕ) (kind : InputKind)
+    (plan : Plan Outcome) →
+    IsValidKind (circumstances accepts w.settings moment) w kind → OwesKind accepts w moment kind
+    plan →
+    PlanComes (IsFineAnswer kind) IsNoFault plan
+kind_fine accepts w moment End plan v o = rw o tt
+kind_fine accepts w moment (Payload payload) plan v o =
+    rw o.2 (fields_fine (circumstances accepts w.settings moment) w moment (gate_of w payload)
+    payload o.0 v o.1)
+kind_fine accepts w moment (Command ticket commanded) plan v o =
+    rw o (command_fine (Command ticket commanded) w ticket commanded v)
+kind_fine accepts w moment (OpenReply ticket answer) plan v o =
+    rw o (command_fine (OpenReply ticket answer) w ticket (command.Answer answer) tt)
+kind_fine accepts w moment _ plan v o = absurd v

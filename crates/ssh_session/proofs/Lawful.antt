@@ -1,0 +1,43 @@
+-- Every account of a run is lawful.
+use Rattle.std.proofs.Common.{ℕ, Option, Some, None, Result, Ok, Err}
+use Rattle.std.proofs.Common.{subst}
+use Rattle.std.specs.Prelude.{length, OnOk, IsSomeAnd}
+use Rattle.ssh_link.specs.Faults.{Rose}
+use Rattle.ssh_auth.specs.Publickey.{Acceptance}
+use Rattle.ssh_session.specs.declared.error.RunError.{RunError}
+use Rattle.ssh_session.specs.Account.{Told, Closes, Ran, Lawful}
+use Rattle.ssh_session.specs.Run.{Turn}
+use Rattle.ssh_session.specs.Valid.{IsEnding}
+use Rattle.ssh_session.specs.World.{Settings, World}
+use Rattle.ssh_session.proofs.Accepting.{authorised}
+use Rattle.ssh_session.proofs.Books.{ledgered}
+use Rattle.ssh_session.proofs.Complete.{complete, link_fault}
+use Rattle.ssh_session.proofs.Ended.{ended}
+
+closed_ended : {E : Type 0} (accepts : Acceptance) (w : World) (count max : ℕ)
+    (last : Option (Turn E)) (rose : Type 0)
+    (result : Result (Unit {0}) (RunError E)) → Closes accepts w count max last rose result →
+    OnOk result (IsSomeAnd last (λ turn. IsEnding w turn.input.kind))
+closed_ended accepts w count max (Some turn) rose (Ok done) c =
+    let o = c.2 in ended accepts w turn.input o.0 turn.events o.2.0 o.1 o.2.1
+closed_ended accepts w count max None rose (Ok done) c = absurd c
+closed_ended accepts w count max last rose (Err e) c = tt
+
+pub lawful : {E : Type 0} (accepts : Acceptance) (settings : Settings) (before after : Told E)
+    (max : ℕ)
+    (result : Result (Unit {0}) (RunError E)) (account : Ran accepts settings before after max
+    result) → Lawful account
+lawful {E} accepts settings before after max result account =
+    let count = length account.turns in
+    let rose = Rose before.faults after.faults in
+    record {
+      ended = closed_ended accepts account.world count max account.last rose result account.closes;
+      authorised = authorised accepts settings account.turns account.world count max account.last
+          rose result account.run account.closes;
+      ledger = λ earlier later is. ledgered accepts settings account.turns account.world account.run
+          earlier later is;
+      complete = λ same valid. complete accepts account.world count max account.last before.faults
+          after.faults result account.closes same valid;
+      link_fault = λ is. link_fault {E = E} accepts account.world count max account.last rose
+          (subst (Closes accepts account.world count max account.last rose) is account.closes);
+    }

@@ -1,0 +1,81 @@
+-- Opens of the peer: their numbers, and the channels that they become.
+use Rattle.std.proofs.Common.{◌≡◌, ◌<◌, ◌∷◌, ◌++◌, ℕ, List, [], Some, sym, ◌∙◌, ap, subst}
+use Rattle.std.specs.Prelude.{◌^◌}
+use Rattle.ssh_link.specs.Frames.{Frame}
+use Rattle.ssh_wire.specs.declared.channel_id.ChannelId.{ChannelId}
+use Rattle.ssh_channels.specs.Calls.{stage}
+use Rattle.ssh_channels.specs.Entry.{opened}
+use Rattle.ssh_channels.specs.Line.{established}
+use Rattle.ssh_channels.specs.Lines.{Lines, drawn, next_number, adds, drops_pending, write}
+use Rattle.ssh_channels.specs.Numbers as numbers
+use Rattle.ssh_channels.specs.Stands.{Stands}
+use Rattle.ssh_channels.specs.Table.{Table}
+use Rattle.ssh_channels.proofs.Opening.{add_stands, draw_stands, drop_stands}
+use Rattle.ssh_session.specs.declared.session.Session.{Session}
+use Rattle.ssh_session.specs.Opening.{Opening}
+use Rattle.ssh_session.specs.Serve.{Refines}
+use Rattle.ssh_session.specs.World.{World}
+
+-- the table and the opens that wait changed alone
+pub changed : (old new : Session) (w : World) (waiting : List (ℕ × Opening)) (lines : Lines)
+    → new.config ≡ old.config →
+    new.session_id ≡ old.session_id → new.remote_sshid ≡ old.remote_sshid → new.state ≡ old.state →
+    new.requested ≡ old.requested → new.target ≡ old.target → new.spent ≡ old.spent
+    → new.opens.entries ≡ waiting →
+    Stands new.table lines → Refines old w →
+    Refines new (record w { channels = record w.channels { lines = lines; opens = waiting } })
+changed old new w waiting lines config id sshid state requested target spent opens stands r =
+    record {
+      config = config ∙ r.config;
+      session_id = id ∙ r.session_id;
+      remote_sshid = sshid ∙ r.remote_sshid;
+      state = state ∙ r.state;
+      requested = requested ∙ r.requested;
+      table = stands;
+      opens = opens;
+      target = target ∙ r.target;
+      live = spent ∙ r.live;
+    }
+
+-- a number was drawn
+pub draws_stands : (table : Table) (old : Session) (w : World) (n : ℕ) → table
+    ≡ numbers.draw old.table →
+    next_number w.channels.lines ≡ Some n → Refines old w
+    → Stands table (drawn (Some n) w.channels.lines)
+draws_stands table old w n e d r =
+    subst (λ o. Stands table (drawn o w.channels.lines)) d
+    (subst (λ t. Stands t (drawn (next_number w.channels.lines) w.channels.lines)) (sym e)
+    (draw_stands old.table w.channels.lines r.table))
+
+-- a channel was added, and its confirmation written
+pub confirms_stands : (table : Table) (old : Session) (w : World) (peer : ℕ) (own : ChannelId)
+    (window room packet own_packet : ℕ)
+    (frame : Frame) → 0 < packet → window < 2 ^ 32 →
+    table ≡ stage frame (numbers.insert (established peer own window room packet own_packet)
+    old.table) → Refines old w →
+    Stands table (write (frame ∷ []) (adds (opened own.0 peer window room packet) w.channels.lines))
+confirms_stands table old w peer own window room packet own_packet frame k small e r =
+    let s = add_stands old.table w.channels.lines r.table peer own window room packet own_packet k
+    small in
+    subst (λ t. Stands t (write (frame ∷ []) (adds (opened own.0 peer window room packet)
+    w.channels.lines))) (sym e)
+    (record {
+      entries = s.entries;
+      pending = s.pending;
+      last = s.last;
+      written = ap (λ fs. fs ++ frame ∷ []) s.written;
+    })
+
+-- a refusal was written, and its number is free
+pub fails_stands : (table : Table) (old : Session) (w : World) (n : ℕ) (frame : Frame) →
+    table ≡ numbers.drop_pending n (stage frame old.table) → Refines old w →
+    Stands table (write (frame ∷ []) (drops_pending n w.channels.lines))
+fails_stands table old w n frame e r =
+    let s = drop_stands old.table w.channels.lines r.table n in
+    subst (λ t. Stands t (write (frame ∷ []) (drops_pending n w.channels.lines))) (sym e)
+    (record {
+      entries = s.entries;
+      pending = s.pending;
+      last = s.last;
+      written = ap (λ fs. fs ++ frame ∷ []) s.written;
+    })

@@ -1,0 +1,214 @@
+-- How a session that changed stands for a world that changed.
+use Rattle.std.proofs.Common.{◌≡◌, ◌<◌, ◌+◌, ◌||◌, ◌&&◌, ℕ, List, [], ◌∷◌, Bool, true, false}
+use Rattle.std.proofs.Common.{not, map, Option, Some, None}
+use Rattle.std.proofs.Common.{Result, Ok, Err, refl, sym, ◌∙◌, ap, subst}
+use Rattle.std.specs.Prelude.{◌^◌, length, OnOk, IfOk}
+use Rattle.std.specs.List.{list_any, list_all}
+use Rattle.std.specs.Map.{values_of}
+use Rattle.ssh_link.specs.Frames.{Frame}
+use Rattle.ssh_link.specs.declared.link.TraceEntry.TheVariants.{Sent}
+use Rattle.ssh_link.specs.declared.outcome.Refusal.{Refusal}
+use Rattle.ssh_link.specs.declared.outcome.Refusal.TheVariants.{UnknownChannel}
+use Rattle.ssh_channels.specs.declared.params.ChannelParams.{ChannelParams}
+use Rattle.ssh_channels.specs.Line.{is_established, data_waits}
+use Rattle.ssh_channels.specs.Table.{Table, line_at, has, is_one, some_wait}
+use Rattle.ssh_channels.specs.Numbers as numbers
+use Rattle.ssh_channels.specs.Calls.{Op, Byte, Flush_line, Grant, Adjust, Draw, op, adjust}
+use Rattle.ssh_channels.specs.Calls.{credit_after, adjusting_at, framed_at, hand_on}
+use Rattle.ssh_channels.specs.Calls as calls
+use Rattle.ssh_channels.specs.Entry.{Entry, all_framed}
+use Rattle.ssh_channels.specs.Lines.{Lines, find, next_number, takes_in, hands_on}
+use Rattle.ssh_channels.specs.Stands.{Stands, AllHold}
+use Rattle.ssh_channels.specs.Does as standard
+use Rattle.ssh_channels.specs.Does.{IsMeant, does}
+use Rattle.ssh_channels.proofs.Keeping.{op_stands, op_answers}
+use Rattle.ssh_auth.specs.Plan.{Plan}
+use Rattle.ssh_channels.proofs.Opening.{hands_on_stands, handed_same}
+use Rattle.ssh_channels.proofs.Holding as holding
+use Rattle.ssh_channels.proofs.Standing.{Found, found}
+use Rattle.ssh_session.specs.declared.error.RunError.{RunError}
+use Rattle.ssh_session.specs.declared.session.Session.{Session}
+use Rattle.ssh_session.specs.Acts.{tell_all}
+use Rattle.ssh_session.specs.Heard.{Heard}
+use Rattle.ssh_session.specs.Outcome.{Outcome}
+use Rattle.ssh_session.specs.Effect.{not_usable, no_sending, no_closing}
+use Rattle.ssh_session.specs.Run.{is_there, nothing_waits, handed_on}
+use Rattle.ssh_session.specs.Serve.{Refines, Serves, SendsEach}
+use Rattle.ssh_session.specs.World.{World, lined}
+use Rattle.ssh_session.proofs.Serving.{settled_by}
+
+-- what follows from a value
+pub on_ok : {T E : Type 0} (A B : Type 0) (result : Result T E) → (A → B) → OnOk result A
+    → OnOk result B
+on_ok A B (Ok value) f h = f h
+on_ok A B (Err e) f h = tt
+
+pub if_ok : {T E : Type 0} (P Q : T → Type 0) (result : Result T E)
+    → ((value : T) → P value → Q value) → IfOk result P →
+    IfOk result Q
+if_ok P Q (Ok value) f h = f value h
+if_ok P Q (Err e) f h = tt
+
+-- ---- the table
+
+-- it changed alone
+pub tabled : (session : Session) (table : Table) (fits : length session.session_id < 2 ^ 32)
+    (w : World) (change : Lines → Lines) →
+    Refines session w → Stands table (change w.channels.lines) →
+    Refines (record session { table = table; session_id_fits = fits }) (lined change w)
+tabled session table fits w change r s = record {
+  config = r.config;
+  session_id = r.session_id;
+  remote_sshid = r.remote_sshid;
+  state = r.state;
+  requested = r.requested;
+  table = s;
+  opens = r.opens;
+  target = r.target;
+  live = r.live;
+}
+
+-- .. by one call
+pub called : (o : Op) (session : Session) (table : Table) (fits : length session.session_id < 2 ^
+    32) (w : World) → IsMeant o →
+    table ≡ op o session.table → Refines session w →
+    Refines (record session { table = table; session_id_fits = fits }) (lined (does o) w)
+called o session table fits w m e r =
+    tabled session table fits w (does o) r
+    (subst (λ t. Stands t (does o w.channels.lines)) (sym e)
+    (op_stands o session.table w.channels.lines m r.table))
+
+-- what a call answers
+pub credit_same : (n amount : ℕ) (session : Session) (w : World) → Refines session w →
+    credit_after n amount session.table ≡ standard.credit_after amount
+    (find n w.channels.lines.entries)
+credit_same n amount session w r = let e = op_answers session.table w.channels.lines r.table
+    (Grant n amount) in cc
+
+pub framed_same : (n : ℕ) (session : Session) (w : World) → Refines session w →
+    framed_at n session.table ≡ standard.goes_out (find n w.channels.lines.entries)
+framed_same n session w r = let e = op_answers session.table w.channels.lines r.table
+    (Flush_line n false) in cc
+
+pub coming_same : (n count target : ℕ) (session : Session) (w : World) → Refines session w →
+    adjusting_at n count target session.table ≡ standard.coming_of count target
+    (find n w.channels.lines.entries)
+coming_same n count target session w r =
+    let e = op_answers session.table w.channels.lines r.table (Adjust n count target) in cc
+
+pub next_same : (session : Session) (w : World) → Refines session w →
+    numbers.next_number session.table ≡ next_number w.channels.lines
+next_same session w r = let e = op_answers session.table w.channels.lines r.table Draw in cc
+
+pub there_same : (n : ℕ) (session : Session) (w : World) → Refines session w → has is_established n
+    session.table ≡ is_there w n
+there_same n session w r = let e = op_answers session.table w.channels.lines r.table (Byte n 0) in
+    cc
+
+pub there : (n : ℕ) (session : Session) (w : World) (line : Option ChannelParams)
+    → Refines session w →
+    line ≡ line_at n session.table → is_one is_established line ≡ is_there w n
+there n session w line r e = ap (is_one is_established) e ∙ there_same n session w r
+
+-- ---- why a channel cannot be used
+
+abbrev refused_by : (ChannelParams → Option Refusal) → Option ChannelParams → Option Refusal
+refused_by why None = Some UnknownChannel
+refused_by why (Some line) = why line
+
+sending_at : (n : ℕ) (line : Option ChannelParams) (e : Option Entry) → Found n line e →
+    refused_by (λ line. not_usable line.confirmed line.ended) line ≡ no_sending e
+sending_at n None None f = refl
+sending_at n None (Some e) f = absurd f
+sending_at n (Some line) None f = absurd f
+sending_at n (Some line) (Some e) f =
+    ap (λ b. not_usable b line.ended) f.0.confirmed ∙ ap (not_usable e.confirmed) f.0.ended
+
+closing_at : (n : ℕ) (line : Option ChannelParams) (e : Option Entry) → Found n line e →
+    refused_by (λ line. not_usable line.confirmed line.pending_close) line ≡ no_closing e
+closing_at n None None f = refl
+closing_at n None (Some e) f = absurd f
+closing_at n (Some line) None f = absurd f
+closing_at n (Some line) (Some e) f =
+    ap (λ b. not_usable b line.pending_close) f.0.confirmed ∙ ap (not_usable e.confirmed)
+    f.0.pending_close
+
+pub sending : (n : ℕ) (session : Session) (w : World) (line : Option ChannelParams)
+    → Refines session w →
+    line ≡ line_at n session.table →
+    refused_by (λ line. not_usable line.confirmed line.ended) line
+    ≡ no_sending (find n w.channels.lines.entries)
+sending n session w line r e =
+    ap (refused_by (λ line. not_usable line.confirmed line.ended)) e
+    ∙ sending_at n _ _ (found 0 n session.table.lines w.channels.lines.entries r.table.entries)
+
+pub closing : (n : ℕ) (session : Session) (w : World) (line : Option ChannelParams)
+    → Refines session w →
+    line ≡ line_at n session.table →
+    refused_by (λ line. not_usable line.confirmed line.pending_close) line
+    ≡ no_closing (find n w.channels.lines.entries)
+closing n session w line r e =
+    ap (refused_by (λ line. not_usable line.confirmed line.pending_close)) e
+    ∙ closing_at n _ _ (found 0 n session.table.lines w.channels.lines.entries r.table.entries)
+
+-- ---- whether data wait
+
+or_not : (a b c : Bool) → c ≡ not b → not a || c ≡ not (a && b)
+or_not true b c h = h
+or_not false b c h = refl
+
+waiting_at : (from : ℕ) (ps : List (ℕ × ChannelParams)) (es : List Entry) → AllHold from ps es →
+    list_any data_waits (values_of ps) ≡ not (list_all all_framed es)
+waiting_at from [] [] h = refl
+waiting_at from [] (e ∷ es) h = absurd h
+waiting_at from (p ∷ ps) [] h = absurd h
+waiting_at from (p ∷ ps) (e ∷ es) h =
+    ap (λ b. not b || list_any data_waits (values_of ps)) (holding.waits_same p.0 p.1 e h.1)
+    ∙ or_not (all_framed e) (list_all all_framed es) (list_any data_waits (values_of ps))
+    (waiting_at (p.0 + 1) ps es h.3)
+
+not_not : (b : Bool) → not (not b) ≡ b
+not_not true = refl
+not_not false = refl
+
+pub asks : (session : Session) (w : World) → Refines session w → not (some_wait session.table)
+    ≡ nothing_waits w
+asks session w r =
+    ap not (waiting_at 0 session.table.lines w.channels.lines.entries r.table.entries)
+    ∙ not_not (nothing_waits w)
+
+-- data came in, up to the session's target
+pub taken_in : (n count : ℕ) (session : Session) (table : Table) (fits : length session.session_id <
+    2 ^ 32) (w : World) →
+    table ≡ adjust n count session.target session.table → Refines session w →
+    Refines (record session { table = table; session_id_fits = fits })
+    (lined (takes_in n count w.channels.target) w)
+taken_in n count session table fits w e r =
+    subst (λ k. Refines (record session { table = table; session_id_fits = fits })
+    (lined (takes_in n count k) w)) r.target
+    (called (Adjust n count session.target) session table fits w tt e r)
+
+-- ---- the end of an input
+
+-- the written frames were handed on
+pub handed : {E : Type 0} (session : Session) (table : Table) (fits : length session.session_id < 2
+    ^ 32) (w : World)
+    (next : World → Plan Outcome) (frames : List Frame) (a b : Heard E)
+    (result : Result (Unit {0}) (RunError E)) →
+    Refines session w → table ≡ hand_on false session.table → frames
+    ≡ calls.handed false session.table →
+    SendsEach frames a b result →
+    Serves (tell_all (map Sent w.channels.lines.written) (next (handed_on w)))
+    (λ (_ : Unit {0}) world. next world) a b
+    (record session { table = table; session_id_fits = fits }) result
+handed session table fits w next frames a b result r e f h =
+    let new = record session { table = table; session_id_fits = fits } in
+    let all = w.channels.lines in
+    let s = subst (λ t. Stands t (hands_on false all)) (sym e) (hands_on_stands false session.table
+    all r.table) in
+    let q = tabled session table fits w (hands_on false) r s in
+    settled_by (tell_all (map Sent all.written) (next (handed_on w))) next a b (handed_on w) new
+    result q
+    (subst (λ l. Serves (tell_all (map Sent l) (next (handed_on w))) (λ (_ : Unit {0}) _.
+    next (handed_on w)) a b new result)
+    (f ∙ handed_same false session.table all r.table) (h (handed_on w) new q (next (handed_on w))))

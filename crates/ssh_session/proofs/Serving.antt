@@ -1,0 +1,488 @@
+-- What is served one after another.
+use Rattle.std.proofs.Common.{◌≡◌, Bool, true, false, List, [], ◌∷◌, ◌++◌, length, map}
+use Rattle.std.proofs.Common.{Option, Result, Ok, Err, refl, sym}
+use Rattle.std.proofs.Common.{◌∙◌, ap, subst, arith}
+use Rattle.std.specs.Result.{IsErrAnd}
+use Rattle.std.proofs.lemmas.List.{append-nil, nil_from_length}
+use Rattle.std.proofs.lemmas.Result.{err_from_is_err_and}
+use Rattle.ssh_wire.specs.declared.error.WireError.{WireError}
+use Rattle.ssh_wire.specs.declared.error.WireError.TheVariants as wire
+use Rattle.ssh_link.specs.Frames.{Frame}
+use Rattle.ssh_link.specs.Faults.{Rose}
+use Rattle.ssh_link.specs.Told.{Adds, ToldBy}
+use Rattle.ssh_link.proofs.Tellings.{adds_both, adds_nil, adds_weak, adds_then, adds_none}
+use Rattle.ssh_link.specs.declared.link.LinkFault.{LinkFault as LinkFailure}
+use Rattle.ssh_link.specs.declared.link.LinkFault.TheVariants as link
+use Rattle.ssh_link.specs.declared.link.TraceEntry.{TraceEntry}
+use Rattle.ssh_link.specs.declared.link.TraceEntry.TheVariants.{Sent}
+use Rattle.ssh_auth.specs.declared.question.Question.{Question}
+use Rattle.ssh_auth.specs.Plan.{Plan, Finish, Ask, Tell, after, Answer, Event, Called, Told}
+use Rattle.ssh_auth.specs.Plan.{Handler_error, calls_in, steps_in, told_in}
+use Rattle.ssh_auth.specs.Plan.{Reaches}
+use Rattle.ssh_auth.proofs.Plans.{reaches_both, reaches_after, reaches_begins, reaches_follows}
+use Rattle.ssh_auth.proofs.Plans.{reaches_breaks, begins_after}
+use Rattle.ssh_auth.proofs.Plans.{breaks_after, breaks_first, calls_in_both, steps_in_both}
+use Rattle.ssh_auth.proofs.Plans.{told_in_both}
+use Rattle.ssh_session.specs.declared.error.Flow.{Flow}
+use Rattle.ssh_session.specs.declared.error.Flow.TheVariants.{Continue, Ended}
+use Rattle.ssh_session.specs.declared.error.RunError.{RunError}
+use Rattle.ssh_session.specs.declared.error.RunError.TheVariants as error
+use Rattle.ssh_session.specs.declared.session.Session.{Session}
+use Rattle.ssh_session.specs.World.{World}
+use Rattle.ssh_session.specs.Failure.{run_error_of, error_of_link}
+use Rattle.ssh_session.specs.Heard.{Heard, Gives}
+use Rattle.ssh_session.specs.Outcome.{Outcome, Goes, Fails, Encoding, Not_built}
+use Rattle.ssh_session.specs.Acts.{Act, acts, tell_all}
+use Rattle.ssh_session.specs.Run.{finish_input, handed_on}
+use Rattle.ssh_session.specs.Serve.{Refines, Cause, Wants_memory, Link_failed, Limit_reached}
+use Rattle.ssh_session.specs.Serve.{Faulty, Refused_by, cause_of}
+use Rattle.ssh_session.specs.Serve.{IsCaused, Answers, may_stop, Hears, Serves, Does, Turned, Puts}
+use Rattle.ssh_session.specs.Serve.{Completes, SendsEach, comes}
+
+-- ---- parts of plans
+
+-- a cause after the events by which a plan came to a rest
+caused_reached : {E : Type 0} (cause : Cause E) (plan mid : Plan Outcome) (rose : Type 0)
+    (xs ys : List (Event E ⊥)) →
+    Reaches plan xs mid → IsCaused cause mid rose ys → IsCaused cause plan rose (xs ++ ys)
+caused_reached Wants_memory plan mid rose xs ys r h = reaches_begins plan mid xs ys r h
+caused_reached Link_failed plan mid rose xs ys r h = (h.0, reaches_begins plan mid xs ys r h.1)
+caused_reached Limit_reached plan mid rose xs ys r h = absurd h
+caused_reached (Faulty fault) plan mid rose xs ys r h = reaches_follows plan mid xs ys (Fails fault)
+    r h
+caused_reached (Refused_by e) plan mid rose xs ys r h = reaches_breaks plan mid xs ys
+    (Handler_error e) r h
+
+answers_reached : {T E : Type 0} (plan mid : Plan Outcome) (next : T → World → Plan Outcome)
+    (rose : Type 0)
+    (xs ys : List (Event E ⊥)) (session : Session) (result : Result T (RunError E)) →
+    Reaches plan xs mid → Answers mid next rose ys session result → Answers plan next rose
+    (xs ++ ys) session result
+answers_reached plan mid next rose xs ys session (Ok value) r h =
+    (h.0, reaches_both plan mid (next value h.0) xs ys r h.1, h.2)
+answers_reached plan mid next rose xs ys session (Err e) r h = caused_reached (cause_of e) plan mid
+    rose xs ys r h
+
+-- a rise that began earlier
+pub caused_rose : {E : Type 0} (cause : Cause E) (plan : Plan Outcome) (rose rose' : Type 0)
+    (events : List (Event E ⊥)) →
+    (rose → rose') → IsCaused cause plan rose events → IsCaused cause plan rose' events
+caused_rose Wants_memory plan rose rose' events f h = h
+caused_rose Link_failed plan rose rose' events f h = (f h.0, h.1)
+caused_rose Limit_reached plan rose rose' events f h = h
+caused_rose (Faulty fault) plan rose rose' events f h = h
+caused_rose (Refused_by e) plan rose rose' events f h = h
+
+answers_rose : {T E : Type 0} (plan : Plan Outcome) (next : T → World → Plan Outcome)
+    (rose rose' : Type 0)
+    (events : List (Event E ⊥)) (session : Session) (result : Result T (RunError E)) →
+    (rose → rose') → Answers plan next rose events session result → Answers plan next rose' events
+    session result
+answers_rose plan next rose rose' events session (Ok value) f h = h
+answers_rose plan next rose rose' events session (Err e) f h = caused_rose (cause_of e) plan rose
+    rose' events f h
+
+-- ---- what is told meanwhile
+
+pub told_then : {A : Type 0} (stops : Bool) (a b c : Option (List A)) (xs ys : List A) → Adds a b xs
+    → ToldBy stops b c ys →
+    ToldBy stops a c (xs ++ ys)
+told_then true a b c xs ys h k = adds_then a b c xs ys (adds_weak a b xs h) k
+told_then false a b c xs ys h k = adds_both a b c xs ys h k
+
+pub told_none : {A : Type 0} (stops : Bool) (a : Option (List A)) → ToldBy stops a a []
+told_none true a = adds_none a
+told_none false a = adds_nil a
+
+pub hears_then : {E : Type 0} (stops : Bool) (a b c : Heard E) (xs ys : List (Event E ⊥)) →
+    Hears false a b xs → Hears stops b c ys → Hears stops a c (xs ++ ys)
+hears_then stops a b c xs ys h k = record {
+  called = subst (ToldBy stops a.calls c.calls) (sym (calls_in_both xs ys))
+      (told_then stops a.calls b.calls c.calls (calls_in xs) (calls_in ys) h.called k.called);
+  told = subst (Adds a.trace c.trace) (sym (told_in_both xs ys))
+      (adds_both a.trace b.trace c.trace (told_in xs) (told_in ys) h.told k.told);
+  later = let x = h.later in let y = k.later in omega (arith, x, y);
+  unstepped = steps_in_both xs ys ∙ ap (λ l. l ++ steps_in ys) h.unstepped ∙ k.unstepped;
+  same = (k.same.0 ∙ h.same.0, k.same.1 ∙ h.same.1);
+}
+
+pub hears_nothing : {E : Type 0} (stops : Bool) (a : Heard E) → Hears stops a a []
+hears_nothing stops a = record {
+  called = told_none stops a.calls;
+  told = adds_nil a.trace;
+  later = omega arith;
+  unstepped = refl;
+  same = (refl, refl);
+}
+
+-- ---- one part, and then the next
+
+-- a plan has come to a rest, and from there on it was served
+pub reached : {T E : Type 0} (plan mid : Plan Outcome) (next : T → World → Plan Outcome)
+    (a b c : Heard E)
+    (xs : List (Event E ⊥)) (session : Session) (result : Result T (RunError E)) →
+    Hears false a b xs → Reaches plan xs mid → Serves mid next b c session result
+    → Serves plan next a c session result
+reached plan mid next a b c xs session result h r k = (
+  xs ++ k.0,
+  hears_then (may_stop result) a b c xs k.0 h k.1,
+  answers_reached plan mid next (Rose a.faults c.faults) xs k.0 session result r
+      (answers_rose mid next (Rose b.faults c.faults) (Rose a.faults c.faults) k.0 session result
+      (λ l. let x = h.later in omega (arith, x, l)) k.2),
+)
+
+-- one part was served, and then the next
+pub served_both : {T U E : Type 0} (value : U) (plan : Plan Outcome) (mid : U → World
+    → Plan Outcome)
+    (next : T → World → Plan Outcome) (a b c : Heard E) (session session' : Session)
+    (result : Result T (RunError E)) →
+    Serves plan mid a b session (Ok value) →
+    ((w : World) → Refines session w → Serves (mid value w) next b c session' result) →
+    Serves plan next a c session' result
+served_both value plan mid next a b c session session' result h k =
+    reached plan (mid value h.2.0) next a b c h.0 session' result h.1 h.2.1 (k h.2.0 h.2.2)
+
+-- an error says nothing of what would have followed
+pub served_error : {T U E : Type 0} (plan : Plan Outcome) (mid : U → World → Plan Outcome)
+    (next : T → World → Plan Outcome)
+    (a b : Heard E) (session session' : Session) (e : RunError E) →
+    Serves {T = U} plan mid a b session (Err e) → Serves {T = T} plan next a b session' (Err e)
+served_error plan mid next a b session session' e h = h
+
+pub served_then_error : {T U V E : Type 0} (value : U) (plan : Plan Outcome) (mid : U → World
+    → Plan Outcome)
+    (next : T → World → Plan Outcome) (a b c : Heard E) (session session' : Session)
+    (e : RunError E) →
+    Serves plan mid a b session (Ok value) → (after : World → V → World → Plan Outcome) →
+    ((w : World) → Refines session w → Serves {T = V} (mid value w) (after w) b c session' (Err e))
+    →
+    Serves plan next a c session' (Err e)
+served_then_error value plan mid next a b c session session' e h after k =
+    served_both value plan mid next a b c session session' (Err e) h
+    (λ w r. served_error (mid value w) (after w) next b c session' session' e (k w r))
+
+-- nothing was told, and nothing is owed before what follows
+pub serves_nothing : {T E : Type 0} (value : T) (next : T → World → Plan Outcome) (a : Heard E)
+    (w : World) (session : Session) →
+    Refines session w → Serves (next value w) next a a session (Ok value)
+serves_nothing value next a w session r = ([], hears_nothing false a, (w, refl, r))
+
+-- memory was wanting before anything was told
+pub starves : {T E : Type 0} (plan : Plan Outcome) (next : T → World → Plan Outcome) (a : Heard E)
+    (session : Session) →
+    Serves {T = T} plan next a a session (Err error.NoMemory)
+starves plan next a session = ([], hears_nothing false a, (plan, refl))
+
+-- what nobody was told or asked of
+pub quiet : {T E : Type 0} (plan : Plan Outcome) (next : T → World → Plan Outcome) (a : Heard E)
+    (session : Session)
+    (result : Result T (RunError E)) → Answers plan next ⊥ [] session result → Serves plan next a a
+    session result
+quiet plan next a session result h = (
+  [],
+  hears_nothing (may_stop result) a,
+  answers_rose plan next ⊥ (Rose a.faults a.faults) [] session result (λ x. absurd x) h,
+)
+
+-- acts that nothing follows are the whole row
+pub completes : {E : Type 0} (now : List Act) (w : World) (a b : Heard E) (session : Session)
+    (result : Result (Unit {0}) (RunError E)) → Does now w a b session result →
+    Serves (acts now w) (λ (_ : Unit {0}) world. Finish (Goes world)) a b session result
+completes now w a b session result h =
+    subst (λ l. Serves (acts l w) (λ (_ : Unit {0}) world. Finish (Goes world)) a b session result)
+    (append-nil now) (h [])
+
+-- ---- the link
+
+-- the link was given what the plan owes
+pub given : {E : Type 0} (entry : TraceEntry) (next : Plan Outcome) (a b : Heard E) (w : World)
+    (session : Session) →
+    Refines session w → Gives {T = Unit {0}} a b entry (Ok tt) →
+    Serves (Tell entry next) (λ (_ : Unit {0}) _. next) a b session (Ok tt)
+given entry next a b w session r h = (
+  Told entry ∷ [],
+  record {
+    called = subst (λ c. Adds a.calls c []) (sym h.1) (adds_nil a.calls);
+    told = h.2;
+    later = h.3;
+    unstepped = refl;
+    same = h.0;
+  },
+  (w, (refl, refl), r),
+)
+
+-- .. or failed
+pub not_given : {T E : Type 0} (entry : TraceEntry) (plan : Plan Outcome) (next : T → World
+    → Plan Outcome) (a b : Heard E)
+    (session : Session) (fault : LinkFailure) → Gives {T = Unit {0}} a b entry (Err fault) →
+    Serves {T = T} plan next a b session (Err (error_of_link fault))
+not_given entry plan next a b session link.Failed h = (
+  [],
+  record {
+    called = subst (λ c. Adds a.calls c []) (sym h.1) (adds_nil a.calls);
+    told = h.2;
+    later = let x = h.3 in omega (arith, x);
+    unstepped = refl;
+    same = h.0;
+  },
+  (h.3, (plan, refl)),
+)
+not_given entry plan next a b session link.NoMemory h = (
+  [],
+  record {
+    called = subst (λ c. Adds a.calls c []) (sym h.1) (adds_nil a.calls);
+    told = h.2;
+    later = h.3;
+    unstepped = refl;
+    same = h.0;
+  },
+  (plan, refl),
+)
+
+-- ---- the handler
+
+-- it was asked what the plan asks
+pub asked : {E : Type 0} (question : Question) (answer : Answer question) (next : Answer question
+    → Plan Outcome) (a b : Heard E)
+    (w : World) (session : Session) → Refines session w → Puts question a b (Ok answer) →
+    Serves (Ask question next) (λ given _. next given) a b session (Ok answer)
+asked question answer next a b w session r h = (
+  Called h.0 ∷ [],
+  record {
+    called = h.2.1;
+    told = subst (λ t. Adds a.trace t []) (sym h.2.2) (adds_nil a.trace);
+    later = let x = h.2.3 in omega (arith, x);
+    unstepped = refl;
+    same = h.2.0;
+  },
+  (w, (answer, h.1, refl), r),
+)
+
+-- .. and answered an error
+pub asked_in_vain : {T E : Type 0} (question : Question) (next : Answer question → Plan Outcome)
+    (later : T → World → Plan Outcome)
+    (a b : Heard E) (session : Session) (e : E) → Puts question a b (Err e) →
+    Serves {T = T} (Ask question next) later a b session (Err (error.Handler e))
+asked_in_vain question next later a b session e h = (
+  Called h.0 ∷ [],
+  record {
+    called = h.2.1;
+    told = subst (λ t. Adds a.trace t []) (sym h.2.2) (adds_nil a.trace);
+    later = let x = h.2.3 in omega (arith, x);
+    unstepped = refl;
+    same = h.2.0;
+  },
+  breaks_first question next (Called h.0) (Handler_error e) h.1,
+)
+
+-- ---- rows
+
+-- acts that nothing follows are the whole row, and the run goes on
+pub goes_on : {E : Type 0} (now : List Act) (w : World) (a b : Heard E) (session : Session)
+    → Does now w a b session (Ok tt) →
+    Completes (acts now w) a b session (Ok Continue)
+goes_on now w a b session h = completes now w a b session (Ok tt) h
+
+-- .. or they fail
+pub stops_short : {E : Type 0} (now : List Act) (w : World) (a b : Heard E)
+    (session session' : Session) (e : RunError E) →
+    Does now w a b session (Err e) → Completes (acts now w) a b session' (Err e)
+stops_short now w a b session session' e h = completes now w a b session (Err e) h
+
+-- the same of a plan
+pub goes_on_plan : {E : Type 0} (plan : Plan Outcome) (a b : Heard E) (session : Session) →
+    Serves plan (λ (_ : Unit {0}) world. Finish (Goes world)) a b session (Ok tt)
+    → Completes plan a b session (Ok Continue)
+goes_on_plan plan a b session h = h
+
+-- fields that do not fit fail the input
+pub unfit : {T E : Type 0} (why : WireError) (next : T → World → Plan Outcome) (a : Heard E)
+    (session : Session) →
+    Serves {T = T} {E = E} (Finish (Fails (Encoding why))) next a a session (Err (run_error_of why))
+unfit wire.NoMemory next a session = starves (Finish (Fails (Encoding wire.NoMemory))) next a
+    session
+unfit wire.Short next a session = ([], hears_nothing false a, refl)
+unfit wire.NotUtf8 next a session = ([], hears_nothing false a, refl)
+unfit (wire.Trailing left) next a session = ([], hears_nothing false a, refl)
+unfit wire.TooLong next a session = ([], hears_nothing false a, refl)
+
+-- .. and nobody was told or asked anything
+unfit_at : {T : Type 0} (E : Type 0) (why : WireError) (next : T → World → Plan Outcome)
+    (session : Session) →
+    Answers {T = T} {E = E} (Finish (Fails (Encoding why))) next ⊥ [] session
+    (Err (run_error_of why))
+unfit_at E wire.NoMemory next session = (Finish (Fails (Encoding wire.NoMemory)), refl)
+unfit_at E wire.Short next session = refl
+unfit_at E wire.NotUtf8 next session = refl
+unfit_at E (wire.Trailing left) next session = refl
+unfit_at E wire.TooLong next session = refl
+
+pub unfit_quietly : {T E : Type 0} (why : WireError) (next : T → World → Plan Outcome)
+    (session : Session) (e : RunError E) (result : Result T (RunError E)) →
+    IsErrAnd result (λ x. x ≡ e) → e ≡ run_error_of why →
+    Answers {T = T} (Finish (Fails (Encoding why))) next ⊥ [] session result
+unfit_quietly {T} {E} why next session e result h is =
+    let p = err_from_is_err_and result h in
+    subst (λ r. Answers {T = T} (Finish (Fails (Encoding why))) next ⊥ [] session r)
+    (sym (p.1 ∙ ap Err (p.2 ∙ is))) (unfit_at E why next session)
+
+-- nobody was told or asked anything
+pub turned : {E : Type 0} (now : List Act) (w : World) (a : Heard E) (session : Session)
+    (result : Result (Unit {0}) (RunError E)) →
+    Turned now w session result → Does now w a a session result
+turned now w a session result h =
+    λ later. quiet (acts (now ++ later) w) (λ (_ : Unit {0}). acts later) a session result (h later)
+
+-- ---- what follows does not matter, or it does
+
+pub settled : {T E : Type 0} (value : T) (plan : Plan Outcome) (rest : T → World → Plan Outcome)
+    (a b : Heard E) (world : World)
+    (session : Session) → Refines session world → Serves plan (λ (_ : Unit {0}) _. rest value world)
+    a b session (Ok tt) →
+    Serves plan rest a b session (Ok value)
+settled value plan rest a b world session r h = (h.0, h.1, (world, h.2.1, r))
+
+pub settled_by : {E : Type 0} (plan : Plan Outcome) (rest : World → Plan Outcome) (a b : Heard E)
+    (world : World) (session : Session)
+    (result : Result (Unit {0}) (RunError E)) → Refines session world →
+    Serves plan (λ (_ : Unit {0}) _. rest world) a b session result
+    → Serves plan (λ (_ : Unit {0}) v. rest v) a b session result
+settled_by plan rest a b world session (Ok tt) r h = settled tt plan (λ _ v. rest v) a b world
+    session r h
+settled_by plan rest a b world session (Err e) r h = h
+
+-- ---- the end of an input
+
+-- what was owed is not finished, and no frame is handed on
+caused_after : {E : Type 0} (cause : Cause E) (plan : Plan Outcome) (rose : Type 0)
+    (events : List (Event E ⊥)) →
+    IsCaused cause plan rose events → IsCaused cause (after plan finish_input) rose events
+caused_after Wants_memory plan rose events h = begins_after plan finish_input events h
+caused_after Link_failed plan rose events h = (h.0, begins_after plan finish_input events h.1)
+caused_after Limit_reached plan rose events h = h
+caused_after (Faulty fault) plan rose events h = reaches_after plan (Finish (Fails fault))
+    finish_input events h
+caused_after (Refused_by e) plan rose events h = breaks_after plan finish_input events
+    (Handler_error e) h
+
+pub unfinished : {E : Type 0} (first : Plan Outcome) (a b : Heard E) (session session' : Session)
+    (e : RunError E) →
+    Completes first a b session (Err e) → Completes (after first finish_input) a b session' (Err e)
+unfinished first a b session session' e h =
+    (h.0, h.1, caused_after (cause_of e) first (Rose a.faults b.faults) h.0 h.2)
+
+-- the frames of an input that was finished are handed on
+hands_on : (flow : Flow) (w : World) →
+    finish_input (comes flow w) ≡ tell_all (map Sent w.channels.lines.written)
+    (Finish (comes flow (handed_on w)))
+hands_on Continue w = refl
+hands_on Ended w = refl
+
+pub finished : {E : Type 0} (flow : Flow) (first : Plan Outcome) (a b c : Heard E)
+    (session session' : Session)
+    (result : Result Flow (RunError E)) → Completes first a b session (Ok flow) →
+    ((w : World) → Refines session w
+    → Serves (tell_all (map Sent w.channels.lines.written) (Finish (comes flow (handed_on w))))
+    (λ flow world. Finish (comes flow world)) b c session' result) →
+    Completes (after first finish_input) a c session' result
+finished flow first a b c session session' result h k =
+    reached (after first finish_input) (finish_input (comes flow h.2.0))
+    (λ flow world. Finish (comes flow world)) a b c h.0
+    session' result h.1 (reaches_after first (Finish (comes flow h.2.0)) finish_input h.0 h.2.1)
+    (subst (λ p. Serves p (λ flow world. Finish (comes flow world)) b c session' result)
+    (sym (hands_on flow h.2.0))
+    (k h.2.0 h.2.2))
+
+pub none_left : {A : Type 0} (items : List A) → length items ≡ 0 → items ≡ []
+none_left items h = nil_from_length items h
+
+-- ---- an error of a part is passed on
+
+pub passed : {T U E : Type 0} (plan : Plan Outcome) (mid : U → World → Plan Outcome)
+    (next : T → World → Plan Outcome) (a b : Heard E)
+    (session session' : Session) (e : RunError E) (result : Result T (RunError E))
+    → IsErrAnd result (λ x. x ≡ e) →
+    Serves {T = U} plan mid a b session (Err e) → Serves {T = T} plan next a b session' result
+passed {T} plan mid next a b session session' e result h k =
+    let p = err_from_is_err_and result h in
+    subst (λ r. Serves {T = T} plan next a b session' r) (sym (p.1 ∙ ap Err p.2)) k
+
+-- .. after a part that was served
+pub passed_later : {T U V E : Type 0} (value : U) (plan : Plan Outcome) (mid : U → World
+    → Plan Outcome) (next : T → World → Plan Outcome)
+    (later : World → V → World → Plan Outcome) (a b c : Heard E)
+    (session session' session'' : Session) (e : RunError E)
+    (result : Result T (RunError E)) → IsErrAnd result (λ x. x ≡ e) → Serves plan mid a b session
+    (Ok value) →
+    ((w : World) → Refines session w → Serves {T = V} (mid value w) (later w) b c session' (Err e))
+    →
+    Serves {T = T} plan next a c session'' result
+passed_later {T} value plan mid next later a b c session session' session'' e result h k l =
+    let p = err_from_is_err_and result h in
+    subst (λ r. Serves {T = T} plan next a c session'' r) (sym (p.1 ∙ ap Err p.2))
+    (served_both value plan mid next a b c session session'' (Err e) k (λ w r. l w r))
+
+-- memory was wanting
+pub starved : {T E : Type 0} (plan : Plan Outcome) (next : T → World → Plan Outcome) (a : Heard E)
+    (session : Session)
+    (e : RunError E) (result : Result T (RunError E)) → IsErrAnd result (λ x. x ≡ e) → e
+    ≡ error.NoMemory →
+    Serves {T = T} plan next a a session result
+starved {T} plan next a session e result h is =
+    let p = err_from_is_err_and result h in
+    subst (λ r. Serves {T = T} plan next a a session r) (sym (p.1 ∙ ap Err (p.2 ∙ is)))
+    (starves plan next a session)
+
+-- what is not built
+pub unbuilt_input : {T E : Type 0} (next : T → World → Plan Outcome) (a : Heard E)
+    (session : Session) →
+    Serves {T = T} {E = E} (Finish (Fails Not_built)) next a a session (Err error.NotBuilt)
+unbuilt_input next a session = ([], hears_nothing false a, refl)
+
+-- .. and nobody was told or asked anything
+pub starved_quietly : {T E : Type 0} (plan : Plan Outcome) (next : T → World → Plan Outcome)
+    (session : Session) (e : RunError E)
+    (result : Result T (RunError E)) → IsErrAnd result (λ x. x ≡ e) → e ≡ error.NoMemory →
+    Answers {T = T} plan next ⊥ [] session result
+starved_quietly {T} plan next session e result h is =
+    let p = err_from_is_err_and result h in
+    subst (λ r. Answers {T = T} plan next ⊥ [] session r) (sym (p.1 ∙ ap Err (p.2 ∙ is))) (
+      plan,
+      refl,
+    )
+
+-- ---- frames
+
+told_both : (xs ys : List Frame) (next : Plan Outcome) →
+    tell_all (map Sent (xs ++ ys)) next ≡ tell_all (map Sent xs) (tell_all (map Sent ys) next)
+told_both [] ys next = refl
+told_both (x ∷ xs) ys next = ap (Tell (Sent x)) (told_both xs ys next)
+
+-- one more frame was handed on
+pub sent_more : {E : Type 0} (frames : List Frame) (frame : Frame) (a b c : Heard E) →
+    SendsEach frames a b (Ok tt) → Gives {T = Unit {0}} b c (Sent frame) (Ok tt)
+    → SendsEach (frames ++ frame ∷ []) a c (Ok tt)
+sent_more frames frame a b c h g = λ w session r next.
+    let rest = Tell (Sent frame) next in
+    subst (λ p. Serves p (λ (_ : Unit {0}) _. next) a c session (Ok tt))
+    (sym (told_both frames (frame ∷ []) next))
+    (served_both tt (tell_all (map Sent frames) rest) (λ (_ : Unit {0}) _. rest)
+    (λ (_ : Unit {0}) _. next) a b c session session
+    (Ok tt) (h w session r rest) (λ v q. given (Sent frame) next b c v session q g))
+
+-- .. or was not
+pub not_sent : {E : Type 0} (frames rest : List Frame) (frame : Frame) (a b c : Heard E)
+    (fault : LinkFailure) →
+    SendsEach frames a b (Ok tt) → Gives {T = Unit {0}} b c (Sent frame) (Err fault) →
+    SendsEach (frames ++ rest) a c (Err (error_of_link fault))
+not_sent frames rest frame a b c fault h g = λ w session r next.
+    let more = tell_all (map Sent rest) next in
+    subst (λ p. Serves p (λ (_ : Unit {0}) _. next) a c session (Err (error_of_link fault)))
+    (sym (told_both frames rest next))
+    (served_both tt (tell_all (map Sent frames) more) (λ (_ : Unit {0}) _. more)
+    (λ (_ : Unit {0}) _. next) a b c session session
+    (Err (error_of_link fault)) (h w session r more)
+    (λ v q. not_given (Sent frame) more (λ (_ : Unit {0}) _. next) b c session fault g))
+
+pub none_sent : {E : Type 0} (a : Heard E) → SendsEach [] a a (Ok tt)
+none_sent a = λ w session r next. serves_nothing tt (λ (_ : Unit {0}) _. next) a w session r

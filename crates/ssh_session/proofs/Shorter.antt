@@ -1,0 +1,113 @@
+-- What a plan comes to that is short of another, the other comes to.
+use Rattle.std.proofs.Common.{◌≡◌, ◌≢◌, ℕ, List, [], ◌∷◌, refl, sym, ap, subst}
+use Rattle.ssh_auth.specs.Plan.{Plan, Finish, Ask, Tell, Answer, Event, Handler_error, after}
+use Rattle.ssh_auth.specs.Plan.{Reaches, Follows, Breaks}
+use Rattle.ssh_session.specs.Outcome.{Fault, Encoding, Inconsistent, Key, Unsupported, Starved}
+use Rattle.ssh_session.specs.Outcome.{Channels_full, Not_built, Outcome, Goes, Ends, Fails}
+use Rattle.ssh_session.specs.Run.{finish_input}
+use Rattle.ssh_session.specs.Short.{IsShortOf}
+
+-- a plan is not short of itself
+end_whole : (outcome : Outcome) → IsShortOf (Finish outcome) (Finish outcome)
+end_whole (Goes w) = refl
+end_whole (Ends w) = refl
+end_whole (Fails (Encoding why)) = refl
+end_whole (Fails Inconsistent) = refl
+end_whole (Fails (Key why)) = refl
+end_whole (Fails Unsupported) = refl
+end_whole (Fails Starved) = tt
+end_whole (Fails Channels_full) = refl
+end_whole (Fails Not_built) = refl
+
+pub whole : (plan : Plan Outcome) → IsShortOf plan plan
+whole (Finish outcome) = end_whole outcome
+whole (Ask question next) = (next, refl, λ answer. whole (next answer))
+whole (Tell entry next) = (next, refl, whole next)
+
+pub whole_as : (plan other : Plan Outcome) → plan ≡ other → IsShortOf plan other
+whole_as plan other e = subst (IsShortOf plan) e (whole plan)
+
+-- nothing is short of an end that is not want of memory
+pub ends_as : (outcome : Outcome) (other : Plan Outcome) → (outcome ≢ Fails Starved)
+    → IsShortOf (Finish outcome) other → other ≡ Finish outcome
+ends_as (Goes w) other fed h = h
+ends_as (Ends w) other fed h = h
+ends_as (Fails (Encoding why)) other fed h = h
+ends_as (Fails Inconsistent) other fed h = h
+ends_as (Fails (Key why)) other fed h = h
+ends_as (Fails Unsupported) other fed h = h
+ends_as (Fails Starved) other fed h = absurd (fed refl)
+ends_as (Fails Channels_full) other fed h = h
+ends_as (Fails Not_built) other fed h = h
+
+-- the same at the end of an input
+finished_as : (outcome : Outcome) (other : Plan Outcome) → other ≡ Finish outcome
+    → IsShortOf (finish_input outcome) (after other finish_input)
+finished_as outcome other e =
+    whole_as (finish_input outcome) (after other finish_input)
+    (sym (ap (λ x. after x finish_input) e))
+
+end_finished : (outcome : Outcome) (other : Plan Outcome) → IsShortOf (Finish outcome) other
+    → IsShortOf (finish_input outcome) (after other finish_input)
+end_finished (Goes w) other h = finished_as (Goes w) other h
+end_finished (Ends w) other h = finished_as (Ends w) other h
+end_finished (Fails (Encoding why)) other h = finished_as (Fails (Encoding why)) other h
+end_finished (Fails Inconsistent) other h = finished_as (Fails Inconsistent) other h
+end_finished (Fails (Key why)) other h = finished_as (Fails (Key why)) other h
+end_finished (Fails Unsupported) other h = finished_as (Fails Unsupported) other h
+end_finished (Fails Starved) other h = tt
+end_finished (Fails Channels_full) other h = finished_as (Fails Channels_full) other h
+end_finished (Fails Not_built) other h = finished_as (Fails Not_built) other h
+
+pub finished_short : (plan other : Plan Outcome) → IsShortOf plan other
+    → IsShortOf (after plan finish_input) (after other finish_input)
+finished_short (Finish outcome) other h = end_finished outcome other h
+finished_short (Ask question next) other h = (
+  λ answer. after (h.0 answer) finish_input,
+  ap (λ x. after x finish_input) h.1,
+  λ answer. finished_short (next answer) (h.0 answer) (h.2 answer),
+)
+finished_short (Tell entry next) other h =
+    (after h.0 finish_input, ap (λ x. after x finish_input) h.1, finished_short next h.0 h.2)
+
+-- where the one comes, the other does
+abbrev ComesNear : {E : Type 0} → Plan Outcome → List (Event E ⊥) → Plan Outcome → Type 0
+ComesNear other events rest = (more : Plan Outcome) × Reaches other events more
+    × IsShortOf rest more
+
+reaches_near : {E : Type 0} (plan other : Plan Outcome) (events : List (Event E ⊥))
+    (rest : Plan Outcome) → IsShortOf plan other → Reaches plan events rest
+    → ComesNear other events rest
+reaches_near plan other [] rest s r = (other, refl, subst (λ x. IsShortOf x other) r s)
+reaches_near (Finish outcome) other (event ∷ events) rest s r = absurd r
+reaches_near {E} (Ask question next) other (event ∷ events) rest s r =
+    let near : ComesNear (s.0 r.0) events rest =
+    reaches_near (next r.0) (s.0 r.0) events rest (s.2 r.0) r.2 in
+    subst (λ x. ComesNear {E = E} x (event ∷ events) rest) (sym s.1)
+    (near.0, (r.0, r.1, near.1), near.2)
+reaches_near {E} (Tell entry next) other (event ∷ events) rest s r =
+    let near : ComesNear s.0 events rest = reaches_near next s.0 events rest s.2 r.1 in
+    subst (λ x. ComesNear {E = E} x (event ∷ events) rest) (sym s.1)
+    (near.0, (r.0, near.1), near.2)
+
+pub follows_longer : {E : Type 0} (plan other : Plan Outcome) (events : List (Event E ⊥))
+    (outcome : Outcome) → (outcome ≢ Fails Starved) → IsShortOf plan other
+    → Follows plan events outcome → Follows other events outcome
+follows_longer plan other events outcome fed s h =
+    let near = reaches_near plan other events (Finish outcome) s h in
+    subst (Reaches other events) (ends_as outcome near.0 fed near.2) near.1
+
+pub breaks_longer : {E : Type 0} (plan other : Plan Outcome) (events : List (Event E ⊥))
+    (error : E) → IsShortOf plan other → Breaks plan events (Handler_error error)
+    → Breaks other events (Handler_error error)
+breaks_longer plan other events error s h =
+    let near = reaches_near plan other h.before (Ask h.question h.next) s h.reaches in
+    record {
+      question = h.question;
+      next = near.2.0;
+      before = h.before;
+      last = h.last;
+      is = h.is;
+      reaches = subst (Reaches other h.before) near.2.1 near.1;
+      refused = h.refused;
+    }

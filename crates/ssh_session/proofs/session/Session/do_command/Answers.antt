@@ -1,0 +1,80 @@
+use Rattle.std.proofs.Common.{false, ap, subst, sym}
+use Rattle.ssh_channels.specs.declared.chunk.DataKind.TheVariants.{Plain, Extended}
+use Rattle.ssh_channels.specs.Calls.{Send, Eof, Close}
+use Rattle.ssh_channels.specs.Layout.{chunk}
+use Rattle.ssh_channels.specs.Lines.{takes_data, takes_eof, takes_close}
+use Rattle.ssh_session.specs.Effect.{done_by}
+use Rattle.ssh_session.specs.Failure.{error_of_table}
+use Rattle.ssh_session.specs.Serve.{HasEffect}
+use Rattle.ssh_session.specs.World.{lined}
+use Rattle.ssh_session.proofs.Effects.{accepted, starved_effect, unbuilt}
+use Rattle.ssh_session.proofs.Refining.{called}
+use Rattle.ssh_session.proofs.session.Session.do_command.Goals as goal
+
+pub returns-in_err-data-in-Data-clause-does : goal.returns-in_err-data-in-Data-clause-does
+returns-in_err-data-in-Data-clause-does g c = λ w r.
+    starved_effect (done_by w c.args.command) _ _ _ c.from_residual.ensures.1
+    (ap error_of_table c.in_err-data-in-Data.ensures.memory)
+
+pub returns-in_ok-data-in-Data-clause-does : goal.returns-in_ok-data-in-Data-clause-does
+returns-in_ok-data-in-Data-clause-does g c = λ w r.
+    let n = c.in-Data.channel.0 in
+    let piece = chunk Plain c.in-Data.bytes in
+    accepted g.row.E.Denot (done_by w c.args.command) (lined (takes_data n piece false) w) _
+    c.accepted.result (ap (done_by w) c.in-Data.is)
+    c.accepted.ensures (called (Send n piece false) c.args.self.now c.data.new.self _ w tt
+    c.in_ok-data-in-Data.ensures.table r)
+
+pub returns-in_err-extended_data-in-ExtendedData-clause-does :
+    goal.returns-in_err-extended_data-in-ExtendedData-clause-does
+returns-in_err-extended_data-in-ExtendedData-clause-does g c = λ w r.
+    starved_effect (done_by w c.args.command) _ _ _
+    c.from_residual-in_err-extended_data-in-ExtendedData.ensures.1
+    (ap error_of_table c.in_err-extended_data-in-ExtendedData.ensures.memory)
+
+pub returns-in_ok-extended_data-in-ExtendedData-clause-does :
+    goal.returns-in_ok-extended_data-in-ExtendedData-clause-does
+returns-in_ok-extended_data-in-ExtendedData-clause-does g c = λ w r.
+    let n = c.in-ExtendedData.channel.0 in
+    let piece = chunk (Extended c.in-ExtendedData.ext) c.in-ExtendedData.bytes in
+    accepted g.row.E.Denot (done_by w c.args.command) (lined (takes_data n piece false) w) _
+    c.accepted-in-ExtendedData.result
+    (ap (done_by w) c.in-ExtendedData.is) c.accepted-in-ExtendedData.ensures
+    (called (Send n piece false) c.args.self.now c.extended_data.new.self _ w tt
+    c.in_ok-extended_data-in-ExtendedData.ensures.table r)
+
+pub returns-in_err-eof-in-Eof-clause-does : goal.returns-in_err-eof-in-Eof-clause-does
+returns-in_err-eof-in-Eof-clause-does g c = λ w r.
+    starved_effect (done_by w c.args.command) _ _ _ c.from_residual-in_err-eof-in-Eof.ensures.1
+    (ap error_of_table c.in_err-eof-in-Eof.ensures.memory)
+
+pub returns-in_ok-eof-in-Eof-clause-does : goal.returns-in_ok-eof-in-Eof-clause-does
+returns-in_ok-eof-in-Eof-clause-does g c = λ w r.
+    let n = c.in-Eof.channel.0 in
+    accepted g.row.E.Denot (done_by w c.args.command) (lined (takes_eof n) w) _
+    c.accepted-in-Eof.result (ap (done_by w) c.in-Eof.is)
+    c.accepted-in-Eof.ensures (called (Eof n) c.args.self.now c.eof.new.self _ w tt
+    c.in_ok-eof-in-Eof.ensures.table r)
+
+pub returns-in_err-close-in-Close-clause-does : goal.returns-in_err-close-in-Close-clause-does
+returns-in_err-close-in-Close-clause-does g c = λ w r.
+    starved_effect (done_by w c.args.command) _ _ _ c.from_residual-in_err-close-in-Close.ensures.1
+    (ap error_of_table c.in_err-close-in-Close.ensures.memory)
+
+pub returns-in_ok-close-in-Close-clause-does : goal.returns-in_ok-close-in-Close-clause-does
+returns-in_ok-close-in-Close-clause-does g c = λ w r.
+    let n = c.in-Close.channel.0 in
+    accepted g.row.E.Denot (done_by w c.args.command) (lined (takes_close n) w) _
+    c.accepted-in-Close.result (ap (done_by w) c.in-Close.is)
+    c.accepted-in-Close.ensures (called (Close n) c.args.self.now c.close.new.self _ w tt
+    c.in_ok-close-in-Close.ensures.table r)
+
+pub returns-in-Answer-clause-does : goal.returns-in-Answer-clause-does
+returns-in-Answer-clause-does g c = λ w r.
+    subst (λ d. HasEffect d c.answer_open.new.self c.answer_open.result)
+    (sym (ap (done_by w) c.in-Answer.is)) (c.answer_open.ensures.does w r)
+
+pub returns-in_default-clause-does : goal.returns-in_default-clause-does
+returns-in_default-clause-does g c = λ w r.
+    unbuilt w c.args.command c.in_default.not-Data c.in_default.not-ExtendedData
+    c.in_default.not-Eof c.in_default.not-Close c.in_default.not-Answer

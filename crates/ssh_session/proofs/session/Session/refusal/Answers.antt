@@ -1,0 +1,24 @@
+use Rattle.std.proofs.Common.{sym}
+use Rattle.ssh_session.proofs.Effects.{needs_nothing}
+use Rattle.ssh_session.proofs.session.Session.refusal.Goals as goal
+
+pub returns-in-Data : goal.returns-in-Data
+returns-in-Data c = λ w r. rw c.in-Data.is (c.no_sending.ensures w r)
+
+pub returns-in-ExtendedData : goal.returns-in-ExtendedData
+returns-in-ExtendedData c = λ w r. rw c.in-ExtendedData.is (c.no_sending-in-ExtendedData.ensures w
+    r)
+
+pub returns-in-Eof : goal.returns-in-Eof
+returns-in-Eof c = λ w r. rw c.in-Eof.is (c.no_sending-in-Eof.ensures w r)
+
+pub returns-in-Close : goal.returns-in-Close
+returns-in-Close c = λ w r. rw c.in-Close.is (c.no_closing.ensures w r)
+
+pub returns-in-Answer : goal.returns-in-Answer
+returns-in-Answer c = λ w r. rw c.in-Answer.is (c.no_open.ensures w r)
+
+pub returns-in_default : goal.returns-in_default
+returns-in_default c = λ w r.
+    sym (needs_nothing w c.args.command.now c.in_default.not-Data c.in_default.not-ExtendedData
+    c.in_default.not-Eof c.in_default.not-Close c.in_default.not-Answer)

@@ -1,0 +1,35 @@
+use Rattle.std.proofs.Common.{◌∷◌, [], None, ap, refl, subst}
+use Rattle.ssh_link.specs.Frames.{Frame}
+use Rattle.ssh_session.specs.Acts.{acts, Turns}
+use Rattle.ssh_session.specs.Failure.{error_of_table}
+use Rattle.ssh_session.specs.Rows.{finishes}
+use Rattle.ssh_session.specs.Serve.{Refines}
+use Rattle.ssh_session.specs.World.{writes}
+use Rattle.ssh_session.proofs.Requests.{noted_as}
+use Rattle.ssh_session.proofs.Serving.{starved_quietly}
+use Rattle.ssh_session.proofs.session.Session.reply.Goals as goal
+
+pub returns-in_err-write : goal.returns-in_err-write
+returns-in_err-write g c = λ w r later.
+    let frame : Frame = record {
+      payload = c.args.payload;
+      hold_until = c.args.hold_until;
+      channel = None;
+    } in
+    starved_quietly (acts (Turns (λ v. writes (frame ∷ []) (finishes c.args.requested v)) ∷ later)
+    w) (λ (_ : Unit {0}). acts later)
+    _ _ _ c.from_residual.ensures.1 (ap error_of_table c.in_err-write.ensures.memory)
+
+pub returns : goal.returns
+returns g c = λ w r later.
+    let frame : Frame = record {
+      payload = c.args.payload;
+      hold_until = c.args.hold_until;
+      channel = None;
+    } in (
+      writes (frame ∷ []) (finishes c.args.requested w),
+      refl,
+      noted_as c.args.requested c.write.new.self _ (writes (frame ∷ []) w)
+          (subst (λ f. Refines c.write.new.self (writes (f ∷ []) w)) c.new.ensures
+          (c.in_ok-write.ensures.world w r)),
+    )

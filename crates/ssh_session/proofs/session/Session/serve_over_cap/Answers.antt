@@ -1,0 +1,30 @@
+use Rattle.std.proofs.Common.{◌∷◌, [], ap, subst, refl}
+use Rattle.ssh_auth.specs.Plan.{Finish}
+use Rattle.ssh_session.specs.declared.error.Flow.{Flow}
+use Rattle.ssh_session.specs.Failure.{error_of_table, run_error_of}
+use Rattle.ssh_session.specs.Layout.{at_once, too_many_attempts}
+use Rattle.ssh_session.specs.Reading.{Over_cap}
+use Rattle.ssh_session.specs.Rows.{row}
+use Rattle.ssh_session.specs.Serve.{Refines, comes}
+use Rattle.ssh_session.specs.World.{writes}
+use Rattle.ssh_session.proofs.Serving.{starved_quietly}
+use Rattle.ssh_session.proofs.session.Session.serve_over_cap.Goals as goal
+
+pub returns-in_err-disconnect : goal.returns-in_err-disconnect
+returns-in_err-disconnect g c = λ w moment r.
+    starved_quietly (row w moment Over_cap) (λ (flow : Flow) world. Finish (comes flow world)) _ _ _
+    c.from_residual.ensures.1
+    (ap run_error_of c.in_err-disconnect.ensures.memory)
+
+pub returns-in_err-write : goal.returns-in_err-write
+returns-in_err-write g c = λ w moment r.
+    starved_quietly (row w moment Over_cap) (λ (flow : Flow) world. Finish (comes flow world)) _ _ _
+    c.from_residual-in_err-write.ensures.1 (ap error_of_table c.in_err-write.ensures.memory)
+
+pub returns : goal.returns
+returns g c = λ w moment r. (
+  writes (at_once too_many_attempts ∷ []) w,
+  refl,
+  subst (λ f. Refines c.write.new.self (writes (f ∷ []) w)) c.in_ok-disconnect.ensures.ok
+      (c.in_ok-write.ensures.world w r),
+)

@@ -1,0 +1,130 @@
+// What a session tells and asks, each in one place.
+ghost use Rattle.std.specs.Prelude.{◌≡◌, ◌∷◌, []};
+ghost use Rattle.ssh_link.specs.declared.link.TraceEntry.TheVariants.{Noticed};
+ghost use Rattle.ssh_auth.specs.declared.question.Question.TheVariants.{Lends};
+ghost use Rattle.ssh_auth.specs.Plan.{Plan, Tell};
+ghost use Rattle.ssh_session.specs.World.{World};
+ghost use Rattle.ssh_session.specs.Outcome.{Outcome};
+ghost use Rattle.ssh_session.specs.Acts.{Calls, Adjusts_by};
+ghost use Rattle.ssh_session.specs.Rows.{told, aims};
+ghost use Rattle.ssh_session.specs.Heard.{AreSame};
+ghost use Rattle.ssh_session.specs.Serve.{Refines, Does, Serves, Puts, IsSuited, IsSamePeer, lends};
+
+use crate::outside::Outside;
+use crate::{RunError, Session};
+use ssh_auth::{Happening, Lent};
+use ssh_handler::Commands;
+use ssh_link::{ChannelMsg, CommandList, Notice};
+use ssh_wire::ChannelId;
+
+impl Session {
+    /// What a callback is lent. Nothing is recorded yet.
+    fn lend(&self) -> Commands<'_>
+        ensures { result ≡ lends self.now }
+    {
+        Commands::new(
+            self.alloc,
+            &self.table,
+            &self.config,
+            self.remote_sshid.as_slice(),
+            self.commands_wanted(),
+            self.replies_wanted(),
+        )
+    }
+
+    /// Makes a callback, and answers the commands that it recorded.
+    fn put<O: Outside>(&self, outside: &mut O, lent: Lent) -> Result<CommandList, O::Error>
+        requires suits { IsSuited O.suits self.now }
+        ensures { Puts (Lends lent) (O.heard outside.old) (O.heard outside.new) result }
+    {
+        let mut commands = self.lend();
+        match outside.ask(lent, &mut commands) {
+            Ok(()) => Ok(commands.into_list()),
+            Err(e) => Err(e),
+        }
+    }
+
+    /// Tells the users of the channels.
+    pub(crate) fn note<O: Outside>(
+        &self,
+        outside: &mut O,
+        notice: Notice,
+    ) -> Result<(), RunError<O::Error>>
+        ensures does { (w : World) → Refines self.now w → (next : Plan Outcome) →
+            Serves (Tell (Noticed notice) next) (λ _ _. next) (O.heard outside.old)
+            (O.heard outside.new) self.now result }
+        ensures same { AreSame (O.heard outside.old) (O.heard outside.new) }
+    {
+        outside.notice(notice)?;
+        Ok(())
+    }
+
+    /// Makes a callback, and does the commands that it recorded.
+    pub(crate) fn call<O: Outside>(
+        &mut self,
+        outside: &mut O,
+        lent: Lent,
+    ) -> Result<(), RunError<O::Error>>
+        requires suits { IsSuited O.suits self.old }
+        ensures does { (w : World) → Refines self.old w →
+            Does (Calls lent ∷ []) w (O.heard outside.old) (O.heard outside.new) self.new result }
+        ensures peer { IsSamePeer self.old self.new }
+        ensures same { AreSame (O.heard outside.old) (O.heard outside.new) }
+    {
+        match self.put(outside, lent) {
+            Ok(commands) => self.finish_commands(outside, commands),
+            Err(e) => Err(RunError::Handler(e)),
+        }
+    }
+
+    /// Tells a message of a channel: its user by a notice, and the handler by a callback.
+    pub(crate) fn tell<O: Outside>(
+        &mut self,
+        outside: &mut O,
+        channel: ChannelId,
+        message: ChannelMsg,
+        happening: Happening,
+    ) -> Result<(), RunError<O::Error>>
+        requires suits { IsSuited O.suits self.old }
+        ensures does { (w : World) → Refines self.old w →
+            Does (told channel message happening) w (O.heard outside.old) (O.heard outside.new)
+            self.new result }
+        ensures peer { IsSamePeer self.old self.new }
+        ensures same { AreSame (O.heard outside.old) (O.heard outside.new) }
+    {
+        self.note(outside, Notice::Channel(channel, message))?;
+        self.call(outside, Lent::Happened(channel, happening))
+    }
+
+    /// Asks how large windows are from now on.
+    pub(crate) fn aim<O: Outside>(
+        &mut self,
+        outside: &mut O,
+        channel: ChannelId,
+        current: u32,
+    ) -> Result<(), RunError<O::Error>>
+        ensures does { (w : World) → Refines self.old w →
+            Does (Adjusts_by channel current aims ∷ []) w (O.heard outside.old)
+            (O.heard outside.new) self.new result }
+        ensures peer { IsSamePeer self.old self.new }
+        ensures same { AreSame (O.heard outside.old) (O.heard outside.new) }
+    {
+        match outside.adjust_window(channel, current) {
+            Ok(window) => {
+                self.aim_at(window);
+                Ok(())
+            }
+            Err(e) => Err(RunError::Handler(e)),
+        }
+    }
+
+    /// Windows are filled up to so many bytes from now on; 0 leaves them as they are.
+    fn aim_at(&mut self, window: u32)
+        ensures world { (w : World) → Refines self.old w → Refines self.new (aims window w) }
+        ensures peer { IsSamePeer self.old self.new }
+    {
+        if window != 0 {
+            self.target = window;
+        }
+    }
+}

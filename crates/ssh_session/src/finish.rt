@@ -1,0 +1,41 @@
+// The end of an input.
+ghost use Rattle.std.specs.Prelude.{◌≡◌, ◌++◌, map};
+ghost use Rattle.ssh_link.specs.declared.link.TraceEntry.TheVariants.{Sent};
+ghost use Rattle.ssh_auth.specs.Plan.{Plan};
+ghost use Rattle.ssh_session.specs.Outcome.{Outcome};
+ghost use Rattle.ssh_session.specs.World.{World};
+ghost use Rattle.ssh_session.specs.Acts.{tell_all};
+ghost use Rattle.ssh_session.specs.Run.{handed_on};
+ghost use Rattle.ssh_session.specs.Heard.{AreSame};
+ghost use Rattle.ssh_session.specs.Serve.{Refines, Serves, SendsEach};
+
+use crate::outside::Outside;
+use crate::{RunError, Session};
+use ssh_channels::FrameSink;
+use ssh_link::Frame;
+
+/// Hands frames on, in order.
+fn send_each<O: Outside>(outside: &mut O, frames: Vec<Frame>) -> Result<(), RunError<O::Error>>
+    ensures does { SendsEach frames.items (O.heard outside.old) (O.heard outside.new) result }
+    ensures same { AreSame (O.heard outside.old) (O.heard outside.new) }
+{
+    for frame in frames {
+        outside.send(frame)?;
+    }
+    Ok(())
+}
+
+impl Session {
+    /// The written frames are handed on.
+    pub(crate) fn hand_on<O: Outside>(&mut self, outside: &mut O) -> Result<(), RunError<O::Error>>
+        ensures does { (w : World) → Refines self.old w → (next : World → Plan Outcome) →
+            Serves (tell_all (map Sent w.channels.lines.written) (next (handed_on w)))
+            (λ _ world. next world)
+            (O.heard outside.old) (O.heard outside.new) self.new result }
+        ensures same { AreSame (O.heard outside.old) (O.heard outside.new) }
+    {
+        let mut frames = FrameSink::new(self.alloc);
+        self.table.flush(&mut frames, false)?;
+        send_each(outside, frames.into_vec())
+    }
+}

@@ -1,0 +1,178 @@
+// Whom a session tells and asks: one outside, of a handler and a link.
+ghost use Rattle.std.specs.Prelude.{◌≡◌, ◌<◌, ◌^◌, [], List, ℕ, length, drop};
+ghost use Rattle.ssh_link.specs.declared.link.TraceEntry.TheVariants.{Noticed, Answered, Sent};
+ghost use Rattle.ssh_handler.specs.declared.config.Config.{Config as ConfigOf};
+ghost use Rattle.ssh_auth.specs.Calls.{lent_call};
+ghost use Rattle.ssh_auth.specs.Serve.{IsNumbered};
+ghost use Rattle.ssh_auth.specs.declared.call.Call.TheVariants.{AuthenticationBanner, AdjustWindow};
+ghost use Rattle.ssh_auth.specs.declared.call.Call.TheVariants.{CommandDone};
+ghost use Rattle.ssh_session.specs.Heard.{Heard, Gives, Calls, AnswersRequest, AnswersResponse};
+
+use ssh_auth::{AuthError, AuthRequest, AuthStep, Lent, serve_request, serve_response};
+use ssh_handler::{Commands, Handler, ask};
+use ssh_keys::Verifier;
+use ssh_link::{CommandOutcome, Frame, Link, LinkFault, Notice};
+use ssh_wire::{ChannelId, Text};
+use std::alloc::Global;
+
+/// Whom a session tells and asks.
+pub(crate) trait Outside {
+    /// Why a callback cannot go on.
+    type Error: Drop;
+
+    /// What was told and asked so far.
+    ghost heard: { Self → Heard Self.Error };
+
+    /// The servers and the peers whose callbacks may be made.
+    ghost suits: { ConfigOf → List ℕ → Type 0 };
+
+    /// Tells the users of the channels what happened.
+    fn notice(&mut self, notice: Notice) -> Result<(), LinkFault>
+        ensures { Gives (heard self.old) (heard self.new) (Noticed notice) result };
+
+    /// Answers what came of the command or the reply with this ticket.
+    fn answer(&mut self, ticket: u64, outcome: CommandOutcome) -> Result<(), LinkFault>
+        ensures { Gives (heard self.old) (heard self.new) (Answered ticket outcome) result };
+
+    /// Hands a frame on to the peer.
+    fn send(&mut self, frame: Frame) -> Result<(), LinkFault>
+        ensures { Gives (heard self.old) (heard self.new) (Sent frame) result };
+
+    /// Asks for the banner (RFC 4252 section 5.4).
+    fn banner(&mut self) -> Result<Option<Text>, Self::Error>
+        ensures { Calls (heard self.old) (heard self.new) result (AuthenticationBanner result) };
+
+    /// Serves a request of authentication (RFC 4252 section 5).
+    fn request<V: Verifier>(
+        &mut self,
+        alloc: Global,
+        auth: &mut AuthRequest,
+        verifier: &V,
+        session_id: &[u8],
+        moment: u64,
+        payload: &[u8],
+    ) -> Result<AuthStep, AuthError<Self::Error>>
+        requires session_id { length session_id.now < 2 ^ 32 }
+        requires number { IsNumbered 50 payload.now }
+        ensures { AnswersRequest (record
+            { accepts = V.accepts verifier.now; session_id = session_id.now; moment = moment })
+            (drop 1 payload.now) (heard self.old) (heard self.new) auth.old auth.new result };
+
+    /// Serves a response to prompts (RFC 4256 section 3.4).
+    fn response(
+        &mut self,
+        alloc: Global,
+        auth: &mut AuthRequest,
+        payload: &[u8],
+    ) -> Result<AuthStep, AuthError<Self::Error>>
+        requires number { IsNumbered 61 payload.now }
+        ensures { AnswersResponse (drop 1 payload.now) (heard self.old) (heard self.new) auth.old
+            auth.new result };
+
+    /// Makes a callback that is lent commands.
+    fn ask(&mut self, lent: Lent, session: &mut Commands<'_>) -> Result<(), Self::Error>
+        requires fresh { session.old.recorded ≡ [] }
+        requires suits { suits session.old.config session.old.remote_sshid }
+        ensures { Calls (heard self.old) (heard self.new) result
+            (lent_call lent result session.new.recorded) };
+
+    /// Asks how large the window of a channel is from now on.
+    fn adjust_window(&mut self, channel: ChannelId, current: u32) -> Result<u32, Self::Error>
+        ensures { Calls (heard self.old) (heard self.new) result
+            (AdjustWindow channel current result) };
+
+    /// Tells what came of a command that a callback recorded.
+    fn command_done(&mut self, place: usize, outcome: CommandOutcome) -> Result<(), Self::Error>
+        ensures { Calls (heard self.old) (heard self.new) result
+            (CommandDone place outcome result) };
+}
+
+/// A handler and a link.
+#[derive(Drop)]
+pub(crate) struct Both<'a, H, L> {
+    pub(crate) handler: &'a mut H,
+    pub(crate) link: &'a mut L,
+}
+
+impl<'a, H: Handler, L: Link> Both<'a, H, L> {
+    /// These two.
+    pub(crate) fn new(handler: &'a mut H, link: &'a mut L) -> Both<'a, H, L>
+        ensures same_handler { result.handler.ghost_name ≡ handler.entry.ghost_name }
+        ensures same_link { result.link.ghost_name ≡ link.entry.ghost_name }
+        ensures handler { result.handler.now ≡ handler.old }
+        ensures link { result.link.now ≡ link.old }
+    {
+        Both { handler, link }
+    }
+}
+
+impl<'a, H: Handler, L: Link> Outside for Both<'a, H, L> {
+    type Error = H::Error;
+
+    ghost heard = { λ both. record {
+      calls = H.AuthHandler.told both.handler.now;
+      trace = L.trace both.link.now;
+      faults = L.faults both.link.now;
+      handler = both.handler.ghost_name;
+      link = both.link.ghost_name;
+    } };
+
+    ghost suits = { H.suits };
+
+    fn notice(&mut self, notice: Notice) -> Result<(), LinkFault> {
+        self.link.notice(notice)
+    }
+
+    fn answer(&mut self, ticket: u64, outcome: CommandOutcome) -> Result<(), LinkFault> {
+        self.link.answer(ticket, outcome)
+    }
+
+    fn send(&mut self, frame: Frame) -> Result<(), LinkFault> {
+        self.link.send(frame)
+    }
+
+    fn banner(&mut self) -> Result<Option<Text>, H::Error> {
+        self.handler.authentication_banner()
+    }
+
+    fn request<V: Verifier>(
+        &mut self,
+        alloc: Global,
+        auth: &mut AuthRequest,
+        verifier: &V,
+        session_id: &[u8],
+        moment: u64,
+        payload: &[u8],
+    ) -> Result<AuthStep, AuthError<H::Error>> {
+        serve_request(
+            alloc,
+            auth,
+            self.handler,
+            verifier,
+            session_id,
+            moment,
+            payload,
+        )
+    }
+
+    fn response(
+        &mut self,
+        alloc: Global,
+        auth: &mut AuthRequest,
+        payload: &[u8],
+    ) -> Result<AuthStep, AuthError<H::Error>> {
+        serve_response(alloc, auth, self.handler, payload)
+    }
+
+    fn ask(&mut self, lent: Lent, session: &mut Commands<'_>) -> Result<(), H::Error> {
+        ask(self.handler, lent, session)
+    }
+
+    fn adjust_window(&mut self, channel: ChannelId, current: u32) -> Result<u32, H::Error> {
+        self.handler.adjust_window(channel, current)
+    }
+
+    fn command_done(&mut self, place: usize, outcome: CommandOutcome) -> Result<(), H::Error> {
+        self.handler.command_done(place, outcome)
+    }
+}

@@ -1,0 +1,93 @@
+// What a session says of itself: what it also lends to a callback.
+ghost use Rattle.std.specs.Prelude.{◌≡◌};
+ghost use Rattle.ssh_channels.specs.Line as line;
+ghost use Rattle.ssh_channels.specs.Table as table_of;
+ghost use Rattle.ssh_channels.specs.Calls as calls;
+ghost use Rattle.ssh_handler.specs.Receiving as receiving;
+ghost use Rattle.ssh_session.specs.World.{World};
+ghost use Rattle.ssh_session.specs.Run.{nothing_waits};
+ghost use Rattle.ssh_session.specs.Serve.{Refines, lends};
+
+use crate::Session;
+use ssh_handler::{Config, max_packet_size, window_size, writable_packet_size};
+use ssh_wire::ChannelId;
+
+/// What a session says of itself, and lends to each callback. Channels go by this side's numbers,
+/// sizes are in bytes.
+impl Session {
+    /// How the server is set up.
+    pub fn config(&self) -> &Config
+        ensures { result.now ≡ (lends self.now).config }
+    {
+        &self.config
+    }
+
+    /// The line by which the peer's software named itself, without its line end (RFC 4253 section
+    /// 4.2).
+    pub fn remote_sshid(&self) -> &[u8]
+        ensures { result.now ≡ (lends self.now).remote_sshid }
+    {
+        self.remote_sshid.as_slice()
+    }
+
+    /// Whether commands are taken from outside: on no channel data wait.
+    pub fn commands_wanted(&self) -> bool
+        ensures world { (w : World) → Refines self.now w → result ≡ nothing_waits w }
+        ensures lent { result ≡ (lends self.now).commands_wanted }
+    {
+        !self.table.has_any_pending_data()
+    }
+
+    /// Whether answers to opens are taken from outside: they always are.
+    pub fn replies_wanted(&self) -> bool
+        ensures { result ≡ (lends self.now).replies_wanted }
+    {
+        true
+    }
+
+    /// The most bytes of data that the peer may send on the channel in one message now, and 0 where
+    /// there is no such channel (RFC 4254 section 5.2).
+    pub fn writable_packet_size(&self, channel: &ChannelId) -> u32
+        ensures { result ≡ receiving.takes_at channel.now.0 (lends self.now).table }
+    {
+        writable_packet_size(&self.table, *channel)
+    }
+
+    /// How many bytes of data the peer may still send on the channel, and 0 where there is no such
+    /// channel (RFC 4254 section 5.2).
+    pub fn window_size(&self, channel: &ChannelId) -> u32
+        ensures { result ≡ calls.room_at channel.now.0 (lends self.now).table }
+    {
+        window_size(&self.table, *channel)
+    }
+
+    /// The most bytes of data that this side takes on the channel in one message, and 0 where there
+    /// is no such channel (RFC 4254 section 5.1).
+    pub fn max_packet_size(&self, channel: &ChannelId) -> u32
+        ensures { result ≡ receiving.packet_at channel.now.0 (lends self.now).table }
+    {
+        max_packet_size(&self.table, *channel)
+    }
+
+    /// `window_size`, as a count.
+    pub fn sender_window_size(&self, channel: ChannelId) -> usize
+        ensures { result ≡ calls.room_at channel.0 (lends self.now).table }
+    {
+        self.table.sender_window_size(channel)
+    }
+
+    /// Whether data wait on the channel to be sent.
+    pub fn has_pending_data(&self, channel: ChannelId) -> bool
+        ensures { result ≡ table_of.has line.data_waits channel.0 (lends self.now).table }
+    {
+        self.table.has_pending_data(channel)
+    }
+
+    /// Whether data would be accepted on the channel: it is established, and neither an EOF nor a
+    /// CLOSE was accepted on it.
+    pub fn can_send(&self, channel: ChannelId) -> bool
+        ensures { result ≡ table_of.has line.may_send channel.0 (lends self.now).table }
+    {
+        self.table.can_send(channel)
+    }
+}

@@ -1,0 +1,212 @@
+// What each side grants, and the data that come in (RFC 4254 section 5.2).
+ghost use Rattle.std.specs.Prelude.{◌≡◌, ℕ, ◌∷◌, []};
+ghost use Rattle.ssh_link.specs.declared.link.TraceEntry.TheVariants.{Noticed};
+ghost use Rattle.ssh_link.specs.declared.notice.Notice.TheVariants.{Channel};
+ghost use Rattle.ssh_auth.specs.Plan.{Plan, Tell};
+ghost use Rattle.ssh_session.specs.Outcome.{Outcome};
+ghost use Rattle.ssh_session.specs.World.{World};
+ghost use Rattle.ssh_session.specs.Run.{is_there};
+ghost use Rattle.ssh_session.specs.Reading.{Said, Spells, grant, data_message, extended_message};
+ghost use Rattle.ssh_session.specs.Reading.{Grant, Data};
+ghost use Rattle.ssh_session.specs.Rows.{row, owed, data_notice, data_happening, noted, called};
+ghost use Rattle.ssh_session.specs.Heard.{AreSame};
+ghost use Rattle.ssh_session.specs.Serve.{Refines, Does, Serves, Completes, IsSuited};
+
+use crate::message::{read_data, read_extended_data, read_grant, read_recipient};
+use crate::outside::Outside;
+use crate::{Flow, RunError, Session};
+use bytes::Bytes;
+use ssh_auth::{Happening, Lent};
+use ssh_channels::{Adjusted, Chunk, DataKind};
+use ssh_link::{ChannelMsg, Notice};
+use ssh_wire::ChannelId;
+
+/// Data, as the user of their channel is told of them.
+fn message_of(kind: DataKind, bytes: Bytes) -> ChannelMsg
+    ensures { result ≡ data_notice kind bytes }
+{
+    match kind {
+        DataKind::Plain => ChannelMsg::Data { bytes },
+        DataKind::Extended(ext) => ChannelMsg::ExtendedData { bytes, ext },
+    }
+}
+
+/// Data, as the handler is told of them.
+fn happening_of(kind: DataKind, bytes: Bytes) -> Happening
+    ensures { result ≡ data_happening kind bytes }
+{
+    match kind {
+        DataKind::Plain => Happening::Data { bytes },
+        DataKind::Extended(code) => Happening::ExtendedData { code, bytes },
+    }
+}
+
+impl Session {
+    /// CHANNEL_WINDOW_ADJUST.
+    pub(crate) fn serve_window_adjust<O: Outside>(
+        &mut self,
+        outside: &mut O,
+        fields: &[u8],
+    ) -> Result<Flow, RunError<O::Error>>
+        requires suits { IsSuited O.suits self.old }
+        ensures does { (w : World) (moment : ℕ) → Refines self.old w →
+            (said : Said) × Spells grant fields.now said
+            × Completes (row w moment said) (O.heard outside.old) (O.heard outside.new) self.new
+            result }
+        ensures same { AreSame (O.heard outside.old) (O.heard outside.new) }
+    {
+        let (channel, amount) = read_grant(fields)?;
+        self.grant(outside, channel, amount)?;
+        Ok(Flow::Continue)
+    }
+
+    /// The peer grants more: what waits goes out, as far as the credit goes.
+    fn grant<O: Outside>(
+        &mut self,
+        outside: &mut O,
+        channel: ChannelId,
+        amount: u32,
+    ) -> Result<(), RunError<O::Error>>
+        requires suits { IsSuited O.suits self.old }
+        ensures does { (w : World) → Refines self.old w →
+            Does (owed w (Grant channel.0 amount)) w (O.heard outside.old) (O.heard outside.new)
+            self.new result }
+        ensures same { AreSame (O.heard outside.old) (O.heard outside.new) }
+    {
+        let Some(new_size) = self.take_grant(channel, amount)? else {
+            return Ok(());
+        };
+        self.note(outside, Notice::Granted { channel, amount })?;
+        let message = ChannelMsg::WindowAdjusted { new_size };
+        self.tell(
+            outside,
+            channel,
+            message,
+            Happening::WindowAdjusted { new_size },
+        )
+    }
+
+    /// CHANNEL_DATA. On no channel nothing after its number is read.
+    pub(crate) fn serve_channel_data<O: Outside>(
+        &mut self,
+        outside: &mut O,
+        fields: &[u8],
+    ) -> Result<Flow, RunError<O::Error>>
+        requires suits { IsSuited O.suits self.old }
+        ensures does { (w : World) (moment : ℕ) → Refines self.old w →
+            (said : Said) × Spells (data_message (is_there w)) fields.now said
+            × Completes (row w moment said) (O.heard outside.old) (O.heard outside.new) self.new
+            result }
+        ensures same { AreSame (O.heard outside.old) (O.heard outside.new) }
+    {
+        let (channel, rest) = read_recipient(fields)?;
+        if !self.is_there(channel) {
+            return Ok(Flow::Continue);
+        }
+        let sent = read_data(rest)?;
+        let bytes = Bytes::copy_from_slice(self.alloc, sent)?;
+        let kind = DataKind::Plain;
+        self.data(outside, channel, Chunk { kind, bytes })?;
+        Ok(Flow::Continue)
+    }
+
+    /// CHANNEL_EXTENDED_DATA. On no channel nothing after its number is read.
+    pub(crate) fn serve_channel_extended_data<O: Outside>(
+        &mut self,
+        outside: &mut O,
+        fields: &[u8],
+    ) -> Result<Flow, RunError<O::Error>>
+        requires suits { IsSuited O.suits self.old }
+        ensures does { (w : World) (moment : ℕ) → Refines self.old w →
+            (said : Said) × Spells (extended_message (is_there w)) fields.now said
+            × Completes (row w moment said) (O.heard outside.old) (O.heard outside.new) self.new
+            result }
+        ensures same { AreSame (O.heard outside.old) (O.heard outside.new) }
+    {
+        let (channel, rest) = read_recipient(fields)?;
+        if !self.is_there(channel) {
+            return Ok(Flow::Continue);
+        }
+        let (code, sent) = read_extended_data(rest)?;
+        let bytes = Bytes::copy_from_slice(self.alloc, sent)?;
+        let kind = DataKind::Extended(code);
+        self.data(outside, channel, Chunk { kind, bytes })?;
+        Ok(Flow::Continue)
+    }
+
+    /// Data come in: those that are larger than the room are dropped.
+    fn data<O: Outside>(
+        &mut self,
+        outside: &mut O,
+        channel: ChannelId,
+        piece: Chunk,
+    ) -> Result<(), RunError<O::Error>>
+        requires suits { IsSuited O.suits self.old }
+        ensures does { (w : World) → Refines self.old w →
+            Does (owed w (Data channel.0 piece)) w (O.heard outside.old) (O.heard outside.new)
+            self.new result }
+        ensures same { AreSame (O.heard outside.old) (O.heard outside.new) }
+    {
+        let target = self.target;
+        match self.take_in(channel, &piece.bytes)? {
+            Adjusted::Dropped => Ok(()),
+            Adjusted::Kept => self.tell_data(outside, channel, piece),
+            Adjusted::Granted(_) => {
+                self.note_data(outside, channel, &piece)?;
+                self.aim(outside, channel, target)?;
+                self.call_data(outside, channel, piece)
+            }
+        }
+    }
+
+    /// The user of the channel is told of data.
+    fn note_data<O: Outside>(
+        &self,
+        outside: &mut O,
+        channel: ChannelId,
+        piece: &Chunk,
+    ) -> Result<(), RunError<O::Error>>
+        ensures does { (w : World) → Refines self.now w → (next : Plan Outcome) →
+            Serves (Tell (Noticed (Channel channel (data_notice piece.now.kind piece.now.bytes)))
+            next) (λ _ _. next)
+            (O.heard outside.old) (O.heard outside.new) self.now result }
+        ensures same { AreSame (O.heard outside.old) (O.heard outside.new) }
+    {
+        let message = message_of(piece.kind, piece.bytes.clone()?);
+        self.note(outside, Notice::Channel(channel, message))
+    }
+
+    /// The handler is told of data.
+    fn call_data<O: Outside>(
+        &mut self,
+        outside: &mut O,
+        channel: ChannelId,
+        piece: Chunk,
+    ) -> Result<(), RunError<O::Error>>
+        requires suits { IsSuited O.suits self.old }
+        ensures does { (w : World) → Refines self.old w →
+            Does (called channel piece ∷ []) w
+            (O.heard outside.old) (O.heard outside.new) self.new result }
+        ensures same { AreSame (O.heard outside.old) (O.heard outside.new) }
+    {
+        let happening = happening_of(piece.kind, piece.bytes);
+        self.call(outside, Lent::Happened(channel, happening))
+    }
+
+    /// Both are told of data.
+    fn tell_data<O: Outside>(
+        &mut self,
+        outside: &mut O,
+        channel: ChannelId,
+        piece: Chunk,
+    ) -> Result<(), RunError<O::Error>>
+        requires suits { IsSuited O.suits self.old }
+        ensures does { (w : World) → Refines self.old w →
+            Does (noted channel piece ∷ called channel piece ∷ []) w
+            (O.heard outside.old) (O.heard outside.new) self.new result }
+        ensures same { AreSame (O.heard outside.old) (O.heard outside.new) }
+    {
+        self.note_data(outside, channel, &piece)?;
+        self.call_data(outside, channel, piece)
+    }
+}
