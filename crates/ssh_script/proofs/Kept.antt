@@ -1,5 +1,7 @@
 -- What was kept in a run is what is owed.
-use Rattle.std.proofs.Common.{◌≡◌, ◌<◌, ◌⊎◌, ℕ, List, [], ◌∷◌, ◌++◌, length, Option, Some, None, Result, Ok, Err, Bool, true, false, arith, refl, sym, ◌∙◌, ap, subst, inl, inr}
+use Rattle.std.proofs.Common.{◌≡◌, ◌<◌, ◌⊎◌, ℕ, List, [], ◌∷◌, ◌++◌, length, Option, Some, None}
+use Rattle.std.proofs.Common.{Result, Ok, Err, Bool, true, false, arith, refl, sym, ◌∙◌, ap, subst}
+use Rattle.std.proofs.Common.{inl, inr}
 use Rattle.std.specs.Prelude.{flat_map, option_to_list}
 use Rattle.std.proofs.lemmas.List.{append-nil}
 use Rattle.std.proofs.lemmas.List.Concat.{flat_map-append}
@@ -15,15 +17,29 @@ use Rattle.ssh_auth.specs.declared.question.Question.TheVariants as ask
 use Rattle.ssh_auth.specs.Calls.{admission_call, lent_call, judged_call}
 use Rattle.ssh_auth.specs.Was.{question_of, asked_of}
 use Rattle.ssh_auth.proofs.Back.{admitted_back, lent_back, judged_back}
+use Rattle.ssh_auth.specs.Plan.{Plan, Event}
 use Rattle.ssh_auth.specs.Publickey.{Acceptance}
 use Rattle.ssh_session.specs.declared.error.RunError.{RunError}
 use Rattle.ssh_session.specs.declared.error.RunError.TheVariants as error
-use Rattle.ssh_session.specs.World.{Settings, settings_of, World}
-use Rattle.ssh_session.specs.Serve.{may_stop}
+use Rattle.ssh_session.specs.World.{settings_of, World}
+use Rattle.ssh_session.specs.Outcome.{Outcome}
+use Rattle.ssh_session.specs.Serve.{
+  Cause,
+  Wants_memory,
+  Link_failed,
+  Limit_reached,
+  Faulty,
+  Refused_by,
+  cause_of,
+  IsCaused,
+  may_stop,
+}
 use Rattle.ssh_session.specs.Run.{Turn, calls_of, entries}
-use Rattle.ssh_session.specs.Step.{Closes, Ran}
+use Rattle.ssh_session.specs.Account.{Told, Concludes, Closes, Ran}
 use Rattle.ssh_script.specs.Scene.{Scene}
-use Rattle.ssh_script.specs.Played.{Failure, Queues, banner_answer, interactive_answer, verdict_on, records, grants, answered, after, played, IsAnswered, heading, told_of}
+use Rattle.ssh_script.specs.Played.{Failure, Queues, banner_answer, interactive_answer, verdict_on}
+use Rattle.ssh_script.specs.Played.{records, grants, answered, after, played, IsAnswered, heading}
+use Rattle.ssh_script.specs.Played.{told_of}
 use Rattle.ssh_script.specs.Given.{IsGiven, as_given, trace_of}
 use Rattle.ssh_script.specs.Given.{heading as input_heading}
 use Rattle.ssh_script.specs.CallLines.{question_line, call_line}
@@ -41,37 +57,73 @@ IsHeard queues one =
     ⊎ ((answered queues one ≡ []) × (after queues one ≡ queues) × (question_line one ≡ []))
 
 heard : (queues : Queues) (one : Question) → IsHeard queues one
-heard queues ask.Banner = inl (call.AuthenticationBanner (banner_answer queues.banners queues.banner), refl, refl)
+heard queues ask.Banner = inl (
+  call.AuthenticationBanner
+      (banner_answer queues.banners queues.banner),
+  refl,
+  refl,
+)
 heard queues (ask.Admits admission) =
     let answer = interactive_answer (verdict_on queues admission) in
-    inl (admission_call admission answer, refl, ap question_of (admitted_back Failure admission answer))
+    inl (
+      admission_call admission answer,
+      refl,
+      ap question_of (admitted_back Failure admission answer),
+    )
 heard queues (ask.Lends lent) =
-    inl (lent_call lent (Ok done) (records queues.opens lent), refl, ap question_of (lent_back Failure lent (Ok done) (records queues.opens lent)))
+    inl (
+      lent_call lent (Ok done) (records queues.opens queues.incoming lent),
+      refl,
+      ap question_of (lent_back Failure lent (Ok done)
+          (records queues.opens queues.incoming lent)),
+    )
 heard queues (ask.Judges judged) =
-    inl (judged_call judged (Ok (grants judged)) [], refl, ap question_of (judged_back Failure judged (Ok (grants judged)) []))
-heard queues (ask.Listens address port) = inl (call.TcpipForward address port port (Ok false) [], refl, refl)
-heard queues (ask.Adjusts channel current) = inl (call.AdjustWindow channel current (Ok current), refl, refl)
+    inl (
+      judged_call judged (Ok (grants judged)) [],
+      refl,
+      ap question_of (judged_back Failure judged (Ok (grants judged)) []),
+    )
+heard queues (ask.Listens address port) = inl (
+  call.TcpipForward address port port (Ok false) [],
+  refl,
+  refl,
+)
+heard queues (ask.Adjusts channel current) = inl (
+  call.AdjustWindow channel current (Ok current),
+  refl,
+  refl,
+)
 heard queues (ask.Done place outcome) = inl (call.CommandDone place outcome (Ok done), refl, refl)
 heard queues ask.Begins = inr (refl, refl, refl)
 heard queues (ask.Steps payload) = inr (refl, refl, refl)
 
 -- what was played was answered by the script
-first_answered : (queues : Queues) (one : Question) (rest : List (Call Failure)) → IsHeard queues one → IsAnswered (after queues one) rest → IsAnswered queues (answered queues one ++ rest)
+first_answered : (queues : Queues) (one : Question) (rest : List (Call Failure))
+    → IsHeard queues one → IsAnswered (after queues one) rest
+    → IsAnswered queues (answered queues one ++ rest)
 first_answered queues one rest (inl h) k =
-    subst (λ l. IsAnswered queues (l ++ rest)) (sym h.1)
-    (sym h.1 ∙ ap (answered queues) (sym h.2), subst (λ q. IsAnswered (after queues q) rest) (sym h.2) k)
-first_answered queues one rest (inr h) k = subst (λ l. IsAnswered queues (l ++ rest)) (sym h.0) (subst (λ q. IsAnswered q rest) h.1 k)
+    subst (λ l. IsAnswered queues (l ++ rest)) (sym h.1) (
+      sym h.1 ∙ ap (answered queues) (sym h.2),
+      subst (λ q. IsAnswered (after queues q) rest)
+          (sym h.2) k,
+    )
+first_answered queues one rest (inr h) k = subst (λ l. IsAnswered queues (l ++ rest)) (sym h.0)
+    (subst (λ q. IsAnswered q rest) h.1 k)
 
 is_answered : (queues : Queues) (all : List Question) → IsAnswered queues (played queues all)
 is_answered queues [] = tt
-is_answered queues (one ∷ more) = first_answered queues one (played (after queues one) more) (heard queues one) (is_answered (after queues one) more)
+is_answered queues (one ∷ more) = first_answered queues one (played (after queues one) more)
+    (heard queues one) (is_answered (after queues one) more)
 
 -- it prints as it was kept
-first_prints : (queues : Queues) (one : Question) → IsHeard queues one → question_line one ≡ flat_map call_line (answered queues one)
-first_prints queues one (inl h) = sym (ap (flat_map call_line) h.1 ∙ append-nil (call_line h.0) ∙ ap question_line h.2)
+first_prints : (queues : Queues) (one : Question) → IsHeard queues one → question_line one
+    ≡ flat_map call_line (answered queues one)
+first_prints queues one (inl h) = sym (ap (flat_map call_line) h.1 ∙ append-nil (call_line h.0)
+    ∙ ap question_line h.2)
 first_prints queues one (inr h) = h.2 ∙ sym (ap (flat_map (call_line {E = Failure})) h.0)
 
-calls_print : (queues : Queues) (all : List Question) → flat_map question_line all ≡ flat_map call_line (played queues all)
+calls_print : (queues : Queues) (all : List Question) → flat_map question_line all
+    ≡ flat_map call_line (played queues all)
 calls_print queues [] = refl
 calls_print queues (one ∷ more) =
     ap (λ t. t ++ flat_map question_line more) (first_prints queues one (heard queues one))
@@ -81,83 +133,123 @@ calls_print queues (one ∷ more) =
 -- what a supply gives is given by it
 is_given : (supply : Supply) (all : List TraceEntry) → IsGiven supply (as_given supply all)
 is_given supply [] = tt
-is_given supply (entry.Took commands replies input ∷ all) = (refl, is_given (after_next commands replies supply) all)
+is_given supply (entry.Took commands replies input ∷ all) =
+    (refl, is_given (after_next commands replies supply) all)
 is_given supply (entry.Sent frame ∷ all) = is_given supply all
 is_given supply (entry.Noticed notice ∷ all) = is_given supply all
 is_given supply (entry.Answered ticket outcome ∷ all) = is_given supply all
 
 -- a handler that goes on telling told these calls
-told_some : (may_stop : Bool) (old new calls : List (Call Failure)) → ToldBy may_stop (Some old) (Some new) calls → new ≡ old ++ calls
+told_some : (may_stop : Bool) (old new calls : List (Call Failure)) → ToldBy may_stop (Some old)
+    (Some new) calls → new ≡ old ++ calls
 told_some true old new calls h = h
 told_some false old new calls h = let z : Some new ≡ Some (old ++ calls) = h in cc
 
-told_is : (result : Result (Unit {0}) (RunError Failure)) (lost lost' : Bool) (queues queues' : Queues) (old all : List Question) (calls : List (Call Failure)) →
-    lost ≡ false → lost' ≡ false → old ≡ [] → ToldBy (may_stop result) (told_of lost queues old) (told_of lost' queues' all) calls → (queues' ≡ queues) × (played queues' all ≡ calls)
-told_is result true lost' queues queues' old all calls l m o h = absurd (let z : true ≡ false = l in cc)
-told_is result false true queues queues' old all calls l m o h = absurd (let z : true ≡ false = m in cc)
+told_is : (result : Result (Unit {0}) (RunError Failure)) (lost lost' : Bool)
+    (queues queues' : Queues) (old all : List Question) (calls : List (Call Failure)) →
+    lost ≡ false → lost' ≡ false → old ≡ [] → ToldBy (may_stop result) (told_of lost queues old)
+    (told_of lost' queues' all) calls → (queues' ≡ queues) × (played queues' all ≡ calls)
+told_is result true lost' queues queues' old all calls l m o h = absurd (let z : true ≡ false = l in
+    cc)
+told_is result false true queues queues' old all calls l m o h = absurd (let z : true ≡ false = m in
+    cc)
 told_is result false false queues queues' old all calls l m o h =
     let e : heading queues' ++ played queues' all ≡ (heading queues ++ played queues old) ++ calls =
-    told_some (may_stop result) (heading queues ++ played queues old) (heading queues' ++ played queues' all) calls h in
-    let f : heading queues ++ played queues old ≡ heading queues = ap (λ x. heading queues ++ played queues x) o ∙ append-nil (heading queues) in
+    told_some (may_stop result) (heading queues ++ played queues old) (heading queues'
+    ++ played queues' all) calls h in
+    let f : heading queues ++ played queues old ≡ heading queues =
+    ap (λ x. heading queues ++ played queues x) o ∙ append-nil (heading queues) in
     heads queues' queues (played queues' all) calls (e ∙ ap (λ x. x ++ calls) f)
 
-traced_is : (inputs inputs' : List Input) (moment moment' : ℕ) (old all entries : List TraceEntry) → old ≡ [] →
-    trace_of inputs' moment' all ≡ Some ((input_heading inputs moment ++ old) ++ entries) → (inputs' ≡ inputs) × (moment' ≡ moment) × (all ≡ entries)
+traced_is : (inputs inputs' : List Input) (moment moment' : ℕ) (old all entries : List TraceEntry)
+    → old ≡ [] →
+    trace_of inputs' moment' all ≡ Some ((input_heading inputs moment ++ old) ++ entries)
+    → (inputs' ≡ inputs) × (moment' ≡ moment) × (all ≡ entries)
 traced_is inputs inputs' moment moment' old all entries o h =
-    let z : Some (input_heading inputs' moment' ++ all) ≡ Some ((input_heading inputs moment ++ old) ++ entries) = h in
-    let e : input_heading inputs' moment' ++ all ≡ (input_heading inputs moment ++ old) ++ entries = cc in
-    let f : input_heading inputs moment ++ old ≡ input_heading inputs moment = ap (λ x. input_heading inputs moment ++ x) o ∙ append-nil (input_heading inputs moment) in
+    let z : Some (input_heading inputs' moment' ++ all) ≡ Some ((input_heading inputs moment ++ old)
+    ++ entries) = h in
+    let e : input_heading inputs' moment' ++ all ≡ (input_heading inputs moment ++ old) ++ entries =
+    cc in
+    let f : input_heading inputs moment ++ old ≡ input_heading inputs moment =
+    ap (λ x. input_heading inputs moment ++ x) o ∙ append-nil (input_heading inputs moment) in
     input_heads inputs' inputs moment' moment all entries (e ∙ ap (λ x. x ++ entries) f)
 
 -- the trace of a link that gives these inputs is given by the script that has them
-given_same : (inputs inputs' : List Input) (moment moment' : ℕ) (all entries : List TraceEntry) → inputs' ≡ inputs → moment' ≡ moment → all ≡ entries →
+given_same : (inputs inputs' : List Input) (moment moment' : ℕ) (all entries : List TraceEntry)
+    → inputs' ≡ inputs → moment' ≡ moment → all ≡ entries →
     as_given (left_until moment' inputs') all ≡ all → IsGiven (left_until moment inputs) entries
 given_same inputs inputs' moment moment' all entries e f g h =
-    let supply : left_until moment' inputs' ≡ left_until moment inputs = ap (λ m. left_until m inputs') f ∙ ap (left_until moment) e in
-    subst (λ s. IsGiven s entries) supply (subst (IsGiven (left_until moment' inputs')) (h ∙ g) (is_given (left_until moment' inputs') all))
+    let supply : left_until moment' inputs' ≡ left_until moment inputs =
+    ap (λ m. left_until m inputs') f ∙ ap (left_until moment) e in
+    subst (λ s. IsGiven s entries) supply (subst (IsGiven (left_until moment' inputs')) (h ∙ g)
+    (is_given (left_until moment' inputs') all))
 
 -- where no fault rose, a run ends as one of a link without faults
-without_faults : {E : Type 0} (accepts : Acceptance) (settings : Settings) (w : World) (count max : ℕ) (last : Option (Turn E)) (rose : Type 0) (result : Result (Unit {0}) (RunError E)) →
-    (rose → ⊥) → Closes accepts settings w count max last rose result → Closes accepts settings w count max last ⊥ result
-without_faults accepts settings w count max (Some turn) rose (Ok _) n c = c
-without_faults accepts settings w count max None rose (Ok _) n c = c
-without_faults accepts settings w count max (Some turn) rose (Err error.NoMemory) n c = c
-without_faults accepts settings w count max (Some turn) rose (Err error.LinkFault) n c = absurd (n c.2.0)
-without_faults accepts settings w count max (Some turn) rose (Err error.InputLimit) n c = c
-without_faults accepts settings w count max (Some turn) rose (Err (error.Encoding why)) n c = c
-without_faults accepts settings w count max (Some turn) rose (Err error.Inconsistent) n c = c
-without_faults accepts settings w count max (Some turn) rose (Err (error.Key why)) n c = c
-without_faults accepts settings w count max (Some turn) rose (Err error.UnsupportedAuthMethod) n c = c
-without_faults accepts settings w count max (Some turn) rose (Err (error.Handler e)) n c = c
-without_faults accepts settings w count max (Some turn) rose (Err error.NotBuilt) n c = c
-without_faults accepts settings w count max None rose (Err error.NoMemory) n c = c
-without_faults accepts settings w count max None rose (Err error.LinkFault) n c = absurd (n c.0)
-without_faults accepts settings w count max None rose (Err error.InputLimit) n c = c
-without_faults accepts settings w count max None rose (Err (error.Encoding why)) n c = c
-without_faults accepts settings w count max None rose (Err error.Inconsistent) n c = c
-without_faults accepts settings w count max None rose (Err (error.Key why)) n c = c
-without_faults accepts settings w count max None rose (Err error.UnsupportedAuthMethod) n c = c
-without_faults accepts settings w count max None rose (Err (error.Handler e)) n c = c
-without_faults accepts settings w count max None rose (Err error.NotBuilt) n c = c
+uncaused : {E : Type 0} (cause : Cause E) (plan : Plan Outcome) (rose : Type 0)
+    (events : List (Event E ⊥)) → (rose → ⊥) → IsCaused cause plan rose events
+    → IsCaused cause plan ⊥ events
+uncaused Wants_memory plan rose events n c = c
+uncaused Link_failed plan rose events n c = absurd (n c.0)
+uncaused Limit_reached plan rose events n c = c
+uncaused (Faulty fault) plan rose events n c = c
+uncaused (Refused_by e) plan rose events n c = c
+
+concludes : {E : Type 0} (plan : Plan Outcome) (rose : Type 0) (events : List (Event E ⊥))
+    (result : Result (Unit {0}) (RunError E)) → (rose → ⊥) → Concludes plan events rose result
+    → Concludes plan events ⊥ result
+concludes plan rose events (Ok _) n c = c
+concludes plan rose events (Err e) n c = uncaused (cause_of e) plan rose events n c
+
+without_faults : {E : Type 0} (accepts : Acceptance) (w : World) (count max : ℕ)
+    (last : Option (Turn E)) (rose : Type 0) (result : Result (Unit {0}) (RunError E))
+    → (rose → ⊥) → Closes accepts w count max last rose result
+    → Closes accepts w count max last ⊥ result
+without_faults accepts w count max (Some turn) rose result n c =
+    (c.0, c.1, (c.2.0, c.2.1, concludes c.2.0 rose turn.events result n c.2.2))
+without_faults accepts w count max None rose (Err error.InputLimit) n c = c
+without_faults accepts w count max None rose (Err error.LinkFault) n c = absurd (n c.0)
+without_faults accepts w count max None rose (Err error.NoMemory) n c = c
+without_faults accepts w count max None rose _ n c = absurd c
 
 not_below : 0 < 0 → ⊥
 not_below h = absurd (omega (arith, h))
 
-pub kept : (scene : Scene) (status : ℕ) (result : Result (Unit {0}) (RunError Failure)) (lost lost' : Bool) (queues queues' : Queues) (old all : List Question)
-    (inputs inputs' : List Input) (moment moment' : ℕ) (trace trace' : List TraceEntry) (id text : List ℕ) → lost ≡ false → lost' ≡ false → queues ≡ scene.queues → old ≡ [] →
-    inputs ≡ scene.inputs → moment ≡ scene.moment → trace ≡ [] → as_given (left_until moment' inputs') trace' ≡ trace' → status_of result ≡ Some status → id ≡ scene.session_id →
-    Ran (scene_accepts scene) (settings_of scene.config id []) (told_of lost queues old) (told_of lost' queues' all) (trace_of inputs moment trace) (trace_of inputs' moment' trace') 0 0 scene.max_inputs result →
-    text ≡ flat_map question_line all ++ entry_lines 0 trace' ++ last_line result → IsRun scene status text
-kept scene status result lost lost' queues queues' old all inputs inputs' moment moment' trace trace' id text l m qe oe ie me te given h de given_ran texts =
-    let ran : Ran (scene_accepts scene) (scene_settings scene) (told_of lost queues old) (told_of lost' queues' all) (trace_of inputs moment trace) (trace_of inputs' moment' trace') 0 0 scene.max_inputs result =
-    subst (λ x. Ran (scene_accepts scene) (settings_of scene.config x []) (told_of lost queues old) (told_of lost' queues' all) (trace_of inputs moment trace) (trace_of inputs' moment' trace') 0 0 scene.max_inputs result)
-    de given_ran in
+-- what a handler that was asked so and a link with these entries have told
+abbrev told : (lost : Bool) → Queues → List Question → List Input → (moment : ℕ)
+    → List TraceEntry → Told Failure
+told lost queues all inputs moment trace = record {
+  calls = told_of lost queues all;
+  trace = trace_of inputs moment trace;
+  faults = 0;
+}
+
+pub kept : (scene : Scene) (status : ℕ) (result : Result (Unit {0}) (RunError Failure))
+    (lost lost' : Bool) (queues queues' : Queues) (old all : List Question)
+    (inputs inputs' : List Input) (moment moment' : ℕ) (trace trace' : List TraceEntry)
+    (id text : List ℕ) → lost ≡ false → lost' ≡ false → queues ≡ scene.queues → old ≡ [] →
+    inputs ≡ scene.inputs → moment ≡ scene.moment → trace ≡ [] →
+    as_given (left_until moment' inputs') trace' ≡ trace' → status_of result ≡ Some status →
+    id ≡ scene.session_id →
+    Ran (scene_accepts scene) (settings_of scene.config id [])
+    (told lost queues old inputs moment trace) (told lost' queues' all inputs' moment' trace')
+    scene.max_inputs result →
+    text ≡ flat_map question_line all ++ entry_lines 0 trace' ++ last_line result →
+    IsRun scene status text
+kept scene status result lost lost' queues queues' old all inputs inputs' moment moment' trace
+    trace' id text l m qe oe ie me te given h de given_ran texts =
+    let before : Told Failure = told lost queues old inputs moment trace in
+    let after : Told Failure = told lost' queues' all inputs' moment' trace' in
+    let ran : Ran (scene_accepts scene) (scene_settings scene) before after scene.max_inputs
+    result =
+    subst (λ x. Ran (scene_accepts scene) (settings_of scene.config x []) before after
+    scene.max_inputs result) de given_ran in
     let calls = flat_map (calls_of {E = Failure}) (ran.turns ++ option_to_list ran.last) in
     let told = flat_map (entries {E = Failure}) (ran.turns ++ option_to_list ran.last) in
-    let t = told_is result lost lost' queues queues' old all calls l m oe ran.told in
-    let u = traced_is inputs inputs' moment moment' trace trace' told te ran.traced in
+    let t = told_is result lost lost' queues queues' old all calls l m oe ran.called in
+    let u = traced_is inputs inputs' moment moment' trace trace' told te ran.told in
     let c : played scene.queues all ≡ calls = ap (λ q. played q all) (sym (t.0 ∙ qe)) ∙ t.1 in
-    let f : flat_map question_line all ≡ flat_map call_line calls = calls_print scene.queues all ∙ ap (λ x. flat_map call_line x) c in
+    let f : flat_map question_line all ≡ flat_map call_line calls =
+    calls_print scene.queues all ∙ ap (λ x. flat_map call_line x) c in
     let g : entry_lines 0 trace' ≡ entry_lines 0 told = ap (entry_lines 0) u.2 in
     record {
       turns = ran.turns;
@@ -165,13 +257,17 @@ kept scene status result lost lost' queues queues' old all inputs inputs' moment
       run = ran.run;
       last = ran.last;
       result = result;
-      closes = without_faults (scene_accepts scene) (scene_settings scene) ran.world (length ran.turns) scene.max_inputs ran.last (0 < 0) result not_below ran.closes;
-      room = ran.room;
+      closes = without_faults (scene_accepts scene) ran.world (length ran.turns)
+          scene.max_inputs ran.last (0 < 0) result not_below ran.closes;
       answered = subst (IsAnswered scene.queues) c (is_answered scene.queues all);
-      given = given_same scene.inputs inputs' scene.moment moment' trace' told (u.0 ∙ ie) (u.1 ∙ me) u.2 given;
+      given = given_same scene.inputs inputs' scene.moment moment' trace' told (u.0 ∙ ie)
+          (u.1 ∙ me) u.2 given;
       status_is = h;
-      text_is = texts ∙ (ap (λ x. x ++ entry_lines 0 trace' ++ last_line result) f ∙ ap (λ x. flat_map call_line calls ++ x ++ last_line result) g);
+      text_is = texts ∙ (ap (λ x. x ++ entry_lines 0 trace' ++ last_line result) f
+          ∙ ap (λ x. flat_map call_line calls ++ x ++ last_line result) g);
     }
 
-pub text_of : (t0 t1 t2 t3 a b c : List ℕ) → t0 ≡ [] → t1 ≡ t0 ++ a → t2 ≡ t1 ++ b → t3 ≡ t2 ++ c → t3 ≡ a ++ b ++ c
-text_of t0 t1 t2 t3 a b c e f g h = h ∙ ap (λ x. x ++ c) (g ∙ ap (λ x. x ++ b) (f ∙ ap (λ x. x ++ a) e))
+pub text_of : (t0 t1 t2 t3 a b c : List ℕ) → t0 ≡ [] → t1 ≡ t0 ++ a → t2 ≡ t1 ++ b → t3 ≡ t2 ++ c
+    → t3 ≡ a ++ b ++ c
+text_of t0 t1 t2 t3 a b c e f g h = h
+    ∙ ap (λ x. x ++ c) (g ∙ ap (λ x. x ++ b) (f ∙ ap (λ x. x ++ a) e))

@@ -13,10 +13,6 @@ pub mod Texts
 pub mod Heads
 pub mod Kept
 pub mod Endings
-pub mod ChannelsOnce
-pub mod ResponsesOnce
-pub mod SaysOnce
 pub mod PlansOnce
-pub mod Unasked
 pub mod RunsOnce
 pub mod TranscriptsOnce

@@ -1,5 +1,6 @@
 -- Lists that are used up from their front.
-use Rattle.std.proofs.Common.{◌≡◌, ◌≤◌, ◌+◌, ℕ, List, [], ◌∷◌, length, drop, arith, refl, sym, ◌∙◌, ap, add-one}
+use Rattle.std.proofs.Common.{◌≡◌, ◌≤◌, ◌+◌, ℕ, List, [], ◌∷◌, length, drop, arith, refl, sym, ◌∙◌}
+use Rattle.std.proofs.Common.{ap, add-one}
 use Prim.Native.Nat.{zero, suc}
 use Rattle.std.proofs.Math.Seq.{drop-nil}
 use Rattle.std.proofs.lemmas.Grind.{common_steps}

@@ -1,31 +1,68 @@
 -- A scene has one run.
-use Rattle.std.proofs.Common.{◌≡◌, ◌<◌, ◌≤◌, ◌+◌, ℕ, List, [], ◌∷◌, ◌++◌, length, Option, Some, None, Result, Ok, Err, true, arith, refl, sym, ◌∙◌, ap, subst}
-use Rattle.std.specs.Prelude.{flat_map, option_to_list, IfSome}
-use Rattle.ssh_link.specs.Frames.{Frame}
-use Rattle.ssh_link.specs.declared.frame.InputKind.{InputKind}
-use Rattle.ssh_link.specs.declared.frame.InputKind.TheVariants.{Payload}
+use Rattle.std.proofs.Common.{
+  ◌≡◌,
+  ◌≢◌,
+  ◌<◌,
+  ◌≤◌,
+  ◌+◌,
+  ◌⊎◌,
+  ℕ,
+  List,
+  [],
+  ◌∷◌,
+  ◌++◌,
+  length,
+  Option,
+  Some,
+  None,
+  Result,
+  Ok,
+  Err,
+  true,
+  arith,
+  refl,
+  sym,
+  ◌∙◌,
+  ap,
+  subst,
+  inl,
+  inr,
+}
+use Rattle.std.specs.Prelude.{flat_map, option_to_list}
 use Rattle.ssh_link.specs.declared.link.TraceEntry.{TraceEntry}
 use Rattle.ssh_link.specs.declared.link.TraceEntry.TheVariants as entry
 use Rattle.ssh_link.specs.Supply.{Supply, next_input, after_next}
-use Rattle.ssh_keys.specs.declared.error.KeyError.TheVariants.{Blob}
 use Rattle.ssh_auth.specs.declared.call.Call.{Call}
 use Rattle.ssh_auth.specs.Publickey.{Acceptance}
 use Rattle.ssh_auth.specs.Plan.{Plan, Event}
 use Rattle.ssh_session.specs.declared.error.RunError.{RunError}
 use Rattle.ssh_session.specs.declared.error.RunError.TheVariants as error
-use Rattle.ssh_session.specs.World.{Settings, World, circumstances}
-use Rattle.ssh_session.specs.Gate.{gate_of}
-use Rattle.ssh_session.specs.Outcome.{Outcome, Goes, Ends, Fails, Encoding, Inconsistent, Key, Unsupported, Starved, Not_built}
-use Rattle.ssh_session.specs.Run.{OwesKind, Owes, Turn, IsTaken, Turns, Run, calls_of, entries}
-use Rattle.ssh_session.specs.Step.{Closes}
+use Rattle.ssh_session.specs.Account.{Concludes, Closes}
+use Rattle.ssh_session.specs.Outcome.{
+  Outcome,
+  Goes,
+  Ends,
+  Fails,
+  Encoding,
+  Inconsistent,
+  Key,
+  Unsupported,
+  Starved,
+  Channels_full,
+  Not_built,
+}
+use Rattle.ssh_session.specs.Run.{Owes, Turn, IsTaken, Turns, Run, calls_of, entries}
+use Rattle.ssh_session.specs.Short.{IsShortOf}
+use Rattle.ssh_session.specs.World.{World}
+use Rattle.ssh_session.proofs.PlansOnce.{input_one}
+use Rattle.ssh_session.proofs.Shorter.{follows_longer, breaks_longer}
 use Rattle.ssh_script.specs.Played.{Failure, Queues, IsAnswered}
 use Rattle.ssh_script.specs.Given.{IsGiven, left_after}
 use Rattle.ssh_script.specs.Transcript.{status_of}
-use Rattle.ssh_script.proofs.SaysOnce.{said_once}
-use Rattle.ssh_script.proofs.Unasked.{IsFed, Meet, said_meet}
 use Rattle.ssh_script.proofs.PlansOnce.{Comes, plan_once, left, answered_both}
 
-given_both : (supply : Supply) (xs ys : List TraceEntry) → IsGiven supply (xs ++ ys) → IsGiven supply xs × IsGiven (left_after supply xs) ys
+given_both : (supply : Supply) (xs ys : List TraceEntry) → IsGiven supply (xs ++ ys)
+    → IsGiven supply xs × IsGiven (left_after supply xs) ys
 given_both supply [] ys h = (tt, h)
 given_both supply (entry.Took commands replies input ∷ xs) ys h =
     let t = given_both (after_next commands replies supply) xs ys h.1 in ((h.0, t.0), t.1)
@@ -37,213 +74,331 @@ given_both supply (entry.Answered ticket outcome ∷ xs) ys h = given_both suppl
 abbrev less : Supply → Turn Failure → Supply
 less supply turn = left_after supply (entries turn)
 
-kind_meet : (accepts : Acceptance) (settings : Settings) (w : World) (moment : ℕ) (kind : InputKind) (p q : Plan Outcome) (xs ys : List (Event Failure ⊥)) (o o' : Result Outcome Failure) →
-    OwesKind accepts settings w moment kind p → OwesKind accepts settings w moment kind q → IsFed o → IsFed o' → Comes p xs o → Comes q ys o' → Meet xs ys o o'
-kind_meet accepts settings w moment (Payload payload) p q xs ys o o' h k f g c d =
-    said_meet settings moment w h.0 k.0 xs ys o o' (said_once (circumstances accepts settings moment) (gate_of settings w payload) payload h.0 k.0 h.1 k.1) f g
-    (subst (λ x. Comes x xs o) h.2 c) (subst (λ x. Comes x ys o') k.2 d)
-kind_meet accepts settings w moment _ p q xs ys o o' h k f g c d = (p, c, subst (λ x. Comes x ys o') (k ∙ sym h) d)
+-- ---- two plans that one input owes
 
--- how a turn ends a run, by what its plan comes to
-abbrev Matches : Result Outcome Failure → List Frame → Result (Unit {0}) (RunError Failure) → Type 0
-Matches (Ok (Goes fs w)) frames result = ⊥
-Matches (Ok (Ends fs)) frames result = (frames ≡ fs) × (result ≡ Ok tt)
-Matches (Ok (Fails (Encoding why))) frames result = (frames ≡ []) × (result ≡ Err (error.Encoding why))
-Matches (Ok (Fails Inconsistent)) frames result = (frames ≡ []) × (result ≡ Err error.Inconsistent)
-Matches (Ok (Fails Key)) frames result = (frames ≡ []) × (result ≡ Err (error.Key Blob))
-Matches (Ok (Fails Unsupported)) frames result = (frames ≡ []) × (result ≡ Err error.UnsupportedAuthMethod)
-Matches (Ok (Fails Starved)) frames result = ⊥
-Matches (Ok (Fails Not_built)) frames result = (frames ≡ []) × (result ≡ Err error.NotBuilt)
-Matches (Err e) frames result = (frames ≡ []) × (result ≡ Err (error.Handler e))
+-- memory was not wanting
+abbrev IsFed : Result Outcome Failure → Type 0
+IsFed (Ok (Fails Starved)) = ⊥
+IsFed _ = Unit {0}
 
-matches_once : (o : Result Outcome Failure) (f g : List Frame) (r s : Result (Unit {0}) (RunError Failure)) → Matches o f r → Matches o g s → (f ≡ g) × (r ≡ s)
-matches_once (Ok (Goes fs w)) f g r s h k = absurd h
-matches_once (Ok (Ends fs)) f g r s h k = (h.0 ∙ sym k.0, h.1 ∙ sym k.1)
-matches_once (Ok (Fails (Encoding why))) f g r s h k = (h.0 ∙ sym k.0, h.1 ∙ sym k.1)
-matches_once (Ok (Fails Inconsistent)) f g r s h k = (h.0 ∙ sym k.0, h.1 ∙ sym k.1)
-matches_once (Ok (Fails Key)) f g r s h k = (h.0 ∙ sym k.0, h.1 ∙ sym k.1)
-matches_once (Ok (Fails Unsupported)) f g r s h k = (h.0 ∙ sym k.0, h.1 ∙ sym k.1)
-matches_once (Ok (Fails Starved)) f g r s h k = absurd h
-matches_once (Ok (Fails Not_built)) f g r s h k = (h.0 ∙ sym k.0, h.1 ∙ sym k.1)
-matches_once (Err e) f g r s h k = (h.0 ∙ sym k.0, h.1 ∙ sym k.1)
+not_starved : (outcome : Outcome) → IsFed (Ok outcome) → outcome ≢ Fails Starved
+not_starved outcome fed e = subst (λ o. IsFed (Ok o)) e fed
 
-matches_fed : (o : Result Outcome Failure) (frames : List Frame) (r : Result (Unit {0}) (RunError Failure)) → Matches o frames r → IsFed o
-matches_fed (Ok (Goes fs w)) frames r h = tt
-matches_fed (Ok (Ends fs)) frames r h = tt
-matches_fed (Ok (Fails (Encoding why))) frames r h = tt
-matches_fed (Ok (Fails Inconsistent)) frames r h = tt
-matches_fed (Ok (Fails Key)) frames r h = tt
-matches_fed (Ok (Fails Unsupported)) frames r h = tt
-matches_fed (Ok (Fails Starved)) frames r h = h
-matches_fed (Ok (Fails Not_built)) frames r h = tt
-matches_fed (Err e) frames r h = tt
+comes_longer : (plan other : Plan Outcome) (events : List (Event Failure ⊥))
+    (o : Result Outcome Failure) → IsFed o → IsShortOf plan other → Comes plan events o
+    → Comes other events o
+comes_longer plan other events (Ok outcome) fed s h =
+    follows_longer plan other events outcome (not_starved outcome fed) s h
+comes_longer plan other events (Err e) fed s h = breaks_longer plan other events e s h
 
-abbrev Ended : Acceptance → Settings → World → Turn Failure → Result (Unit {0}) (RunError Failure) → Type 0
-Ended accepts settings w turn result =
-    (plan : Plan Outcome) × Owes accepts settings w turn.input plan × (o : Result Outcome Failure) × Comes plan turn.events o × Matches o turn.frames result × IsTaken w turn
+-- one plan comes to both ends
+abbrev Meet : (xs ys : List (Event Failure ⊥)) → (o p : Result Outcome Failure) → Type 0
+Meet xs ys o p = (plan : Plan Outcome) × Comes plan xs o × Comes plan ys p
+
+meets : (plan other : Plan Outcome) (xs ys : List (Event Failure ⊥))
+    (o p : Result Outcome Failure) → IsShortOf plan other ⊎ IsShortOf other plan → IsFed o
+    → IsFed p → Comes plan xs o → Comes other ys p → Meet xs ys o p
+meets plan other xs ys o p (inl s) f g h k = (other, comes_longer plan other xs o f s h, k)
+meets plan other xs ys o p (inr s) f g h k = (plan, h, comes_longer other plan ys p g s k)
+
+-- ---- how a turn ends a run
+
+-- by what its plan comes to
+abbrev Matches : Result Outcome Failure → Result (Unit {0}) (RunError Failure) → Type 0
+Matches (Ok (Goes w)) result = ⊥
+Matches (Ok (Ends w)) result = result ≡ Ok tt
+Matches (Ok (Fails (Encoding why))) result = result ≡ Err (error.Encoding why)
+Matches (Ok (Fails Inconsistent)) result = result ≡ Err error.Inconsistent
+Matches (Ok (Fails (Key why))) result = result ≡ Err (error.Key why)
+Matches (Ok (Fails Unsupported)) result = result ≡ Err error.UnsupportedAuthMethod
+Matches (Ok (Fails Starved)) result = ⊥
+Matches (Ok (Fails Channels_full)) result = result ≡ Err error.ChannelsFull
+Matches (Ok (Fails Not_built)) result = result ≡ Err error.NotBuilt
+Matches (Err e) result = result ≡ Err (error.Handler e)
+
+matches_once : (o : Result Outcome Failure) (r s : Result (Unit {0}) (RunError Failure))
+    → Matches o r → Matches o s → r ≡ s
+matches_once (Ok (Goes w)) r s h k = absurd h
+matches_once (Ok (Ends w)) r s h k = h ∙ sym k
+matches_once (Ok (Fails (Encoding why))) r s h k = h ∙ sym k
+matches_once (Ok (Fails Inconsistent)) r s h k = h ∙ sym k
+matches_once (Ok (Fails (Key why))) r s h k = h ∙ sym k
+matches_once (Ok (Fails Unsupported)) r s h k = h ∙ sym k
+matches_once (Ok (Fails Starved)) r s h k = absurd h
+matches_once (Ok (Fails Channels_full)) r s h k = h ∙ sym k
+matches_once (Ok (Fails Not_built)) r s h k = h ∙ sym k
+matches_once (Err e) r s h k = h ∙ sym k
+
+matches_fed : (o : Result Outcome Failure) (r : Result (Unit {0}) (RunError Failure))
+    → Matches o r → IsFed o
+matches_fed (Ok (Goes w)) r h = tt
+matches_fed (Ok (Ends w)) r h = tt
+matches_fed (Ok (Fails (Encoding why))) r h = tt
+matches_fed (Ok (Fails Inconsistent)) r h = tt
+matches_fed (Ok (Fails (Key why))) r h = tt
+matches_fed (Ok (Fails Unsupported)) r h = tt
+matches_fed (Ok (Fails Starved)) r h = h
+matches_fed (Ok (Fails Channels_full)) r h = tt
+matches_fed (Ok (Fails Not_built)) r h = tt
+matches_fed (Err e) r h = tt
+
+abbrev Ended : Acceptance → World → Turn Failure → Result (Unit {0}) (RunError Failure) → Type 0
+Ended accepts w turn result =
+    (plan : Plan Outcome) × Owes accepts w turn.input plan × (o : Result Outcome Failure)
+    × Comes plan turn.events o × Matches o result × IsTaken w turn
 
 no_status : (status : ℕ) → None ≡ Some status → ⊥
 no_status status e = cc
 
-closes_some : (accepts : Acceptance) (settings : Settings) (w : World) (n max : ℕ) (turn : Turn Failure) (result : Result (Unit {0}) (RunError Failure)) (status : ℕ) →
-    Closes accepts settings w n max (Some turn) ⊥ result → status_of result ≡ Some status → Ended accepts settings w turn result
-closes_some accepts settings w n max turn (Ok done) status c h = (c.0, c.1, Ok (Ends turn.frames), c.2, (refl, refl), c.3)
-closes_some accepts settings w n max turn (Err error.NoMemory) status c h = absurd (no_status status h)
-closes_some accepts settings w n max turn (Err error.LinkFault) status c h = absurd c.2.0
-closes_some accepts settings w n max turn (Err error.InputLimit) status c h = absurd c.2
-closes_some accepts settings w n max turn (Err (error.Encoding why)) status c h = (c.0, c.1, Ok (Fails (Encoding why)), c.2.1, (c.2.0, refl), c.3)
-closes_some accepts settings w n max turn (Err error.Inconsistent) status c h = (c.0, c.1, Ok (Fails Inconsistent), c.2.1, (c.2.0, refl), c.3)
-closes_some accepts settings w n max turn (Err (error.Key why)) status c h = (c.0, c.1, Ok (Fails Key), c.2.2, (c.2.0, ap (λ x. Err (error.Key x)) c.2.1), c.3)
-closes_some accepts settings w n max turn (Err error.UnsupportedAuthMethod) status c h = (c.0, c.1, Ok (Fails Unsupported), c.2.1, (c.2.0, refl), c.3)
-closes_some accepts settings w n max turn (Err (error.Handler e)) status c h = (c.0, c.1, Err e, c.2.1, (c.2.0, refl), c.3)
-closes_some accepts settings w n max turn (Err error.NotBuilt) status c h = (c.0, c.1, Ok (Fails Not_built), c.2.1, (c.2.0, refl), c.3)
+abbrev Came : Plan Outcome → List (Event Failure ⊥) → Result (Unit {0}) (RunError Failure)
+    → Type 0
+Came plan events result = (o : Result Outcome Failure) × Comes plan events o × Matches o result
 
-closes_none : (accepts : Acceptance) (settings : Settings) (w : World) (n max : ℕ) (result : Result (Unit {0}) (RunError Failure)) (status : ℕ) →
-    Closes accepts settings w n max None ⊥ result → status_of result ≡ Some status → (n ≡ max) × (result ≡ Err error.InputLimit)
-closes_none accepts settings w n max (Ok done) status c h = absurd c
-closes_none accepts settings w n max (Err error.NoMemory) status c h = absurd (no_status status h)
-closes_none accepts settings w n max (Err error.LinkFault) status c h = absurd c.0
-closes_none accepts settings w n max (Err error.InputLimit) status c h = (c, refl)
-closes_none accepts settings w n max (Err (error.Encoding why)) status c h = absurd c
-closes_none accepts settings w n max (Err error.Inconsistent) status c h = absurd c
-closes_none accepts settings w n max (Err (error.Key why)) status c h = absurd c
-closes_none accepts settings w n max (Err error.UnsupportedAuthMethod) status c h = absurd c
-closes_none accepts settings w n max (Err (error.Handler e)) status c h = absurd c
-closes_none accepts settings w n max (Err error.NotBuilt) status c h = absurd c
+came : (plan : Plan Outcome) (events : List (Event Failure ⊥))
+    (result : Result (Unit {0}) (RunError Failure)) (status : ℕ) → Concludes plan events ⊥ result
+    → status_of result ≡ Some status → Came plan events result
+came plan events (Ok done) status c h = (Ok (Ends c.0), c.1, refl)
+came plan events (Err error.NoMemory) status c h = absurd (no_status status h)
+came plan events (Err error.LinkFault) status c h = absurd c.0
+came plan events (Err error.InputLimit) status c h = absurd c
+came plan events (Err (error.Encoding why)) status c h = (Ok (Fails (Encoding why)), c, refl)
+came plan events (Err error.Inconsistent) status c h = (Ok (Fails Inconsistent), c, refl)
+came plan events (Err (error.Key why)) status c h = (Ok (Fails (Key why)), c, refl)
+came plan events (Err error.UnsupportedAuthMethod) status c h = (Ok (Fails Unsupported), c, refl)
+came plan events (Err (error.Handler e)) status c h = (Err e, c, refl)
+came plan events (Err error.ChannelsFull) status c h = (Ok (Fails Channels_full), c, refl)
+came plan events (Err error.NotBuilt) status c h = (Ok (Fails Not_built), c, refl)
 
-turn_same : {E : Type 0} (t u : Turn E) → t.input ≡ u.input → t.commands ≡ u.commands → t.events ≡ u.events → t.frames ≡ u.frames → t ≡ u
-turn_same t u e c f g =
-    ap (λ i. record { input = i; commands = t.commands; events = t.events; frames = t.frames }) e
-    ∙ (ap (λ b. record { input = u.input; commands = b; events = t.events; frames = t.frames }) c
-    ∙ (ap (λ l. record { input = u.input; commands = u.commands; events = l; frames = t.frames }) f
-    ∙ ap (λ s. record { input = u.input; commands = u.commands; events = u.events; frames = s }) g))
+closes_some : (accepts : Acceptance) (w : World) (n max : ℕ) (turn : Turn Failure)
+    (result : Result (Unit {0}) (RunError Failure)) (status : ℕ) →
+    Closes accepts w n max (Some turn) ⊥ result → status_of result ≡ Some status →
+    Ended accepts w turn result
+closes_some accepts w n max turn result status c h =
+    let m = came c.2.0 turn.events result status c.2.2 h in
+    (c.2.0, c.2.1, m.0, m.1, m.2, c.1)
+
+closes_none : (accepts : Acceptance) (w : World) (n max : ℕ)
+    (result : Result (Unit {0}) (RunError Failure)) (status : ℕ) →
+    Closes accepts w n max None ⊥ result → status_of result ≡ Some status →
+    (n ≡ max) × (result ≡ Err error.InputLimit)
+closes_none accepts w n max (Err error.NoMemory) status c h = absurd (no_status status h)
+closes_none accepts w n max (Err error.LinkFault) status c h = absurd c.0
+closes_none accepts w n max (Err error.InputLimit) status c h = (c, refl)
+closes_none accepts w n max _ status c h = absurd c
+
+turn_same : (t u : Turn Failure) → t.input ≡ u.input → t.commands ≡ u.commands
+    → t.events ≡ u.events → t ≡ u
+turn_same t u e c f = λ i. record { input = e i; commands = c i; events = f i }
 
 -- the rest of a run, from this world on, after so many inputs
-pub record Tail (accepts : Acceptance) (settings : Settings) (w : World) (queues : Queues) (supply : Supply) (n max : ℕ) (turns : List (Turn Failure)) (last : Option (Turn Failure))
+pub record Tail (accepts : Acceptance) (w : World) (queues : Queues) (supply : Supply) (n max : ℕ)
+    (turns : List (Turn Failure)) (last : Option (Turn Failure))
     (result : Result (Unit {0}) (RunError Failure)) : Type 0 where
   pub world : World
-  pub run : Run accepts settings w turns world
-  pub closes : Closes accepts settings world (n + length turns) max last ⊥ result
-  pub room : IfSome last (λ turn. n + length turns < max)
+  pub run : Run accepts w turns world
+  pub closes : Closes accepts world (n + length turns) max last ⊥ result
   pub status : ℕ
   pub status_is : status_of result ≡ Some status
   pub answered : IsAnswered queues (flat_map calls_of (turns ++ option_to_list last))
   pub given : IsGiven supply (flat_map entries (turns ++ option_to_list last))
 
-within : (accepts : Acceptance) (settings : Settings) (w : World) (queues : Queues) (supply : Supply) (n max : ℕ) (turns : List (Turn Failure)) (last : Option (Turn Failure))
-    (result : Result (Unit {0}) (RunError Failure)) → Tail accepts settings w queues supply n max turns last result → n + length turns ≤ max
-within accepts settings w queues supply n max turns (Some turn) result t = let r = t.room in omega arith
-within accepts settings w queues supply n max turns None result t =
-    let r = (closes_none accepts settings t.world (n + length turns) max result t.status t.closes t.status_is).0 in omega arith
+within : (accepts : Acceptance) (w : World) (queues : Queues) (supply : Supply) (n max : ℕ)
+    (turns : List (Turn Failure)) (last : Option (Turn Failure))
+    (result : Result (Unit {0}) (RunError Failure)) →
+    Tail accepts w queues supply n max turns last result → n + length turns ≤ max
+within accepts w queues supply n max turns (Some turn) result t =
+    let r : n + length turns < max = t.closes.0 in omega arith
+within accepts w queues supply n max turns None result t =
+    let r = (closes_none accepts t.world (n + length turns) max result t.status t.closes
+    t.status_is).0 in
+    omega arith
 
 -- the turn takes what it asks for of what the supply gives
 abbrev Takes : World → Supply → Turn Failure → Type 0
 Takes w supply turn = IsTaken w turn × (turn.input ≡ next_input turn.commands true supply)
 
-same_commands : (w : World) (t u : Turn Failure) → IsTaken w t → IsTaken w u → t.commands ≡ u.commands
+same_commands : (w : World) (t u : Turn Failure) → IsTaken w t → IsTaken w u
+    → t.commands ≡ u.commands
 same_commands w t u i j = i.0 ∙ sym j.0
 
-same_input : (w : World) (supply : Supply) (t u : Turn Failure) → Takes w supply t → Takes w supply u → t.input ≡ u.input
-same_input w supply t u i j = i.1 ∙ (ap (λ asked. next_input asked true supply) (same_commands w t u i.0 j.0) ∙ sym j.1)
+same_input : (w : World) (supply : Supply) (t u : Turn Failure) → Takes w supply t
+    → Takes w supply u → t.input ≡ u.input
+same_input w supply t u i j =
+    i.1 ∙ (ap (λ asked. next_input asked true supply) (same_commands w t u i.0 j.0) ∙ sym j.1)
 
 -- two turns at one place, whatever they come to
-same_turn : (accepts : Acceptance) (settings : Settings) (w : World) (queues : Queues) (supply : Supply) (t u : Turn Failure) (plan plan' : Plan Outcome) (o o' : Result Outcome Failure) →
-    Takes w supply t → Takes w supply u → Owes accepts settings w t.input plan → Owes accepts settings w u.input plan' → IsFed o → IsFed o' → Comes plan t.events o → Comes plan' u.events o' →
-    IsAnswered queues (calls_of t) → IsAnswered queues (calls_of u) → (t.events ≡ u.events) × (o ≡ o')
-same_turn accepts settings w queues supply t u plan plan' o o' i j a b fed fed' f g x y =
-    let m = kind_meet accepts settings w t.input.moment t.input.kind plan plan' t.events u.events o o' a
-    (subst (λ i. Owes accepts settings w i plan') (same_input w supply u t j i) b) fed fed' f g in
-    plan_once m.0 queues t.events u.events o o' m.1 m.2 i.0.2 j.0.2 x y
+same_turn : (accepts : Acceptance) (w : World) (queues : Queues) (supply : Supply)
+    (t u : Turn Failure) (plan other : Plan Outcome) (o p : Result Outcome Failure) →
+    Takes w supply t → Takes w supply u → Owes accepts w t.input plan →
+    Owes accepts w u.input other → IsFed o → IsFed p → Comes plan t.events o →
+    Comes other u.events p → IsAnswered queues (calls_of t) → IsAnswered queues (calls_of u) →
+    (t.events ≡ u.events) × (o ≡ p)
+same_turn accepts w queues supply t u plan other o p i j a b fed fed' f g x y =
+    let owed : Owes accepts w t.input other =
+    subst (λ input. Owes accepts w input other) (sym (same_input w supply t u i j)) b in
+    let m = meets plan other t.events u.events o p
+    (input_one accepts w t.input plan other a owed) fed fed' f g in
+    plan_once m.0 queues t.events u.events o p m.1 m.2 i.0.2 j.0.2 x y
 
-tail_next : (accepts : Acceptance) (settings : Settings) (w : World) (queues : Queues) (supply : Supply) (n max : ℕ) (t : Turn Failure) (turns : List (Turn Failure)) (last : Option (Turn Failure))
-    (result : Result (Unit {0}) (RunError Failure)) → (h : Tail accepts settings w queues supply n max (t ∷ turns) last result) →
-    Tail accepts settings h.run.0 (left queues (calls_of t)) (less supply t) (n + 1) max turns last result
-tail_next accepts settings w queues supply n max t turns last result h =
+tail_next : (accepts : Acceptance) (w : World) (queues : Queues) (supply : Supply) (n max : ℕ)
+    (t : Turn Failure) (turns : List (Turn Failure)) (last : Option (Turn Failure))
+    (result : Result (Unit {0}) (RunError Failure)) →
+    (h : Tail accepts w queues supply n max (t ∷ turns) last result) →
+    Tail accepts h.run.0 (left queues (calls_of t)) (less supply t) (n + 1) max turns last result
+tail_next accepts w queues supply n max t turns last result h =
     let e : n + length (t ∷ turns) ≡ (n + 1) + length turns = omega arith in
-    let a = answered_both queues (calls_of t) (flat_map (calls_of {E = Failure}) (turns ++ option_to_list last)) h.answered in
-    let g = given_both supply (entries t) (flat_map (entries {E = Failure}) (turns ++ option_to_list last)) h.given in
+    let a = answered_both queues (calls_of t)
+    (flat_map (calls_of {E = Failure}) (turns ++ option_to_list last)) h.answered in
+    let g = given_both supply (entries t)
+    (flat_map (entries {E = Failure}) (turns ++ option_to_list last)) h.given in
     record {
       world = h.world;
       run = h.run.2;
-      closes = subst (λ m. Closes accepts settings h.world m max last ⊥ result) e h.closes;
-      room = subst (λ m. IfSome last (λ turn. m < max)) e h.room;
+      closes = subst (λ m. Closes accepts h.world m max last ⊥ result) e h.closes;
       status = h.status;
       status_is = h.status_is;
       answered = a.1;
       given = g.1;
     }
 
-abbrev goes : List Frame → World → Result Outcome Failure
-goes frames w = Ok (Goes frames w)
+abbrev goes : World → Result Outcome Failure
+goes w = Ok (Goes w)
 
-goes_once : (f g : List Frame) (w v : World) → goes f w ≡ goes g v → (f ≡ g) × (w ≡ v)
-goes_once f g w v e = (cc, cc)
+goes_once : (w v : World) → goes w ≡ goes v → w ≡ v
+goes_once w v e = cc
 
-abbrev Same : List (Turn Failure) → List (Turn Failure) → Result (Unit {0}) (RunError Failure) → Result (Unit {0}) (RunError Failure) → Type 0
+abbrev Same : List (Turn Failure) → List (Turn Failure) → Result (Unit {0}) (RunError Failure)
+    → Result (Unit {0}) (RunError Failure) → Type 0
 Same xs ys r s = (xs ≡ ys) × (r ≡ s)
 
 same_cons : {A : Type 0} (x y : A) (xs ys : List A) → x ≡ y → xs ≡ ys → x ∷ xs ≡ y ∷ ys
 same_cons x y xs ys e f = cc
 
-both_last : (accepts : Acceptance) (settings : Settings) (w : World) (queues : Queues) (supply : Supply) (t u : Turn Failure) (r s : Result (Unit {0}) (RunError Failure)) →
-    Ended accepts settings w t r → Ended accepts settings w u s → t.input ≡ next_input t.commands true supply → u.input ≡ next_input u.commands true supply →
-    IsAnswered queues (calls_of t) → IsAnswered queues (calls_of u) → Same (t ∷ []) (u ∷ []) r s
-both_last accepts settings w queues supply t u r s a b i j x y =
-    let m = same_turn accepts settings w queues supply t u a.0 b.0 a.2 b.2 (a.5, i) (b.5, j) a.1 b.1 (matches_fed a.2 t.frames r a.4) (matches_fed b.2 u.frames s b.4) a.3 b.3 x y in
-    let k = matches_once a.2 t.frames u.frames r s a.4 (subst (λ o. Matches o u.frames s) (sym m.1) b.4) in
-    (same_cons t u [] [] (turn_same t u (same_input w supply t u (a.5, i) (b.5, j)) (same_commands w t u a.5 b.5) m.0 k.0) refl, k.1)
+both_last : (accepts : Acceptance) (w : World) (queues : Queues) (supply : Supply)
+    (t u : Turn Failure) (r s : Result (Unit {0}) (RunError Failure)) →
+    Ended accepts w t r → Ended accepts w u s → t.input ≡ next_input t.commands true supply →
+    u.input ≡ next_input u.commands true supply → IsAnswered queues (calls_of t) →
+    IsAnswered queues (calls_of u) → Same (t ∷ []) (u ∷ []) r s
+both_last accepts w queues supply t u r s a b i j x y =
+    let p : Takes w supply t = (a.5, i) in
+    let q : Takes w supply u = (b.5, j) in
+    let m = same_turn accepts w queues supply t u a.0 b.0 a.2 b.2 p q a.1 b.1
+    (matches_fed a.2 r a.4) (matches_fed b.2 s b.4) a.3 b.3 x y in (
+      same_cons t u [] [] (turn_same t u (same_input w supply t u p q)
+          (same_commands w t u a.5 b.5) m.0) refl,
+      matches_once a.2 r s a.4 (subst (λ o. Matches o s) (sym m.1) b.4),
+    )
 
-gone_not_last : (accepts : Acceptance) (settings : Settings) (w mid : World) (queues : Queues) (supply : Supply) (t u : Turn Failure) (s : Result (Unit {0}) (RunError Failure)) →
-    Turns accepts settings w t mid → Ended accepts settings w u s → t.input ≡ next_input t.commands true supply → u.input ≡ next_input u.commands true supply →
-    IsAnswered queues (calls_of t) → IsAnswered queues (calls_of u) → ⊥
-gone_not_last accepts settings w mid queues supply t u s a b i j x y =
-    let m = same_turn accepts settings w queues supply t u a.0 b.0 (Ok (Goes t.frames mid)) b.2 (a.3, i) (b.5, j) a.1 b.1 tt (matches_fed b.2 u.frames s b.4) a.2 b.3 x y in
-    subst (λ o. Matches o u.frames s) (sym m.1) b.4
+gone_not_last : (accepts : Acceptance) (w mid : World) (queues : Queues) (supply : Supply)
+    (t u : Turn Failure) (s : Result (Unit {0}) (RunError Failure)) →
+    Turns accepts w t mid → Ended accepts w u s → t.input ≡ next_input t.commands true supply →
+    u.input ≡ next_input u.commands true supply → IsAnswered queues (calls_of t) →
+    IsAnswered queues (calls_of u) → ⊥
+gone_not_last accepts w mid queues supply t u s a b i j x y =
+    let m = same_turn accepts w queues supply t u a.0 b.0 (Ok (Goes mid)) b.2 (a.3, i) (b.5, j)
+    a.1 b.1 tt (matches_fed b.2 s b.4) a.2 b.3 x y in
+    subst (λ o. Matches o s) (sym m.1) b.4
 
-ended_at : (accepts : Acceptance) (settings : Settings) (w v : World) (n max : ℕ) (t : Turn Failure) (r : Result (Unit {0}) (RunError Failure)) (status : ℕ) → v ≡ w →
-    Closes accepts settings v n max (Some t) ⊥ r → status_of r ≡ Some status → Ended accepts settings w t r
-ended_at accepts settings w v n max t r status e c h = subst (λ x. Ended accepts settings x t r) e (closes_some accepts settings v n max t r status c h)
+ended_at : (accepts : Acceptance) (w v : World) (n max : ℕ) (t : Turn Failure)
+    (r : Result (Unit {0}) (RunError Failure)) (status : ℕ) → v ≡ w →
+    Closes accepts v n max (Some t) ⊥ r → status_of r ≡ Some status → Ended accepts w t r
+ended_at accepts w v n max t r status e c h =
+    subst (λ x. Ended accepts x t r) e (closes_some accepts v n max t r status c h)
 
 abbrev later : List (Turn Failure) → Option (Turn Failure) → List (Call Failure)
 later turns last = flat_map (calls_of {E = Failure}) (turns ++ option_to_list last)
 
+-- the turn that ends this rest
+tail_ended : (accepts : Acceptance) (w : World) (queues : Queues) (supply : Supply) (n max : ℕ)
+    (t : Turn Failure) (r : Result (Unit {0}) (RunError Failure)) →
+    Tail accepts w queues supply n max [] (Some t) r → Ended accepts w t r
+tail_ended accepts w queues supply n max t r h =
+    ended_at accepts w h.world (n + 0) max t r h.status h.run h.closes h.status_is
+
+-- this rest is over at the limit
+tail_full : (accepts : Acceptance) (w : World) (queues : Queues) (supply : Supply) (n max : ℕ)
+    (r : Result (Unit {0}) (RunError Failure)) →
+    Tail accepts w queues supply n max [] None r → (n + 0 ≡ max) × (r ≡ Err error.InputLimit)
+tail_full accepts w queues supply n max r h =
+    closes_none accepts h.world (n + 0) max r h.status h.closes h.status_is
+
+-- one more turn does not fit into a rest that is over at the limit
+too_many : (accepts : Acceptance) (w : World) (queues : Queues) (supply : Supply) (n max : ℕ)
+    (r s : Result (Unit {0}) (RunError Failure)) (u : Turn Failure) (us : List (Turn Failure))
+    (last : Option (Turn Failure)) → Tail accepts w queues supply n max [] None r →
+    Tail accepts w queues supply n max (u ∷ us) last s → ⊥
+too_many accepts w queues supply n max r s u us last h k =
+    let a = (tail_full accepts w queues supply n max r h).0 in
+    let b : n + length (u ∷ us) ≤ max = within accepts w queues supply n max (u ∷ us) last s k in
+    absurd (omega arith)
+
+one_too_many : (accepts : Acceptance) (w : World) (queues : Queues) (supply : Supply)
+    (n max : ℕ) (r s : Result (Unit {0}) (RunError Failure)) (u : Turn Failure) →
+    Tail accepts w queues supply n max [] None r →
+    Tail accepts w queues supply n max [] (Some u) s → ⊥
+one_too_many accepts w queues supply n max r s u h k =
+    let a = (tail_full accepts w queues supply n max r h).0 in
+    let b : n + 0 < max = k.closes.0 in
+    absurd (omega arith)
+
+-- a rest that goes on does not end here
+not_both : (accepts : Acceptance) (w : World) (queues : Queues) (supply : Supply) (n max : ℕ)
+    (t u : Turn Failure) (ts : List (Turn Failure)) (last : Option (Turn Failure))
+    (r s : Result (Unit {0}) (RunError Failure)) →
+    Tail accepts w queues supply n max (t ∷ ts) last r →
+    Tail accepts w queues supply n max [] (Some u) s → ⊥
+not_both accepts w queues supply n max t u ts last r s h k =
+    gone_not_last accepts w h.run.0 queues supply t u s h.run.1
+    (tail_ended accepts w queues supply n max u s k) h.given.0 k.given.0
+    (answered_both queues (calls_of t) (later ts last) h.answered).0
+    (answered_both queues (calls_of u) [] k.answered).0
+
 -- the rest of a run is one
-pub once : (accepts : Acceptance) (settings : Settings) (w : World) (queues : Queues) (supply : Supply) (n max : ℕ) (ts us : List (Turn Failure)) (last mast : Option (Turn Failure))
-    (r s : Result (Unit {0}) (RunError Failure)) → Tail accepts settings w queues supply n max ts last r → Tail accepts settings w queues supply n max us mast s →
+pub once : (accepts : Acceptance) (w : World) (queues : Queues) (supply : Supply) (n max : ℕ)
+    (ts us : List (Turn Failure)) (last mast : Option (Turn Failure))
+    (r s : Result (Unit {0}) (RunError Failure)) →
+    Tail accepts w queues supply n max ts last r → Tail accepts w queues supply n max us mast s →
     Same (ts ++ option_to_list last) (us ++ option_to_list mast) r s
-once accepts settings w queues supply n max [] [] None None r s h k =
-    (refl, (closes_none accepts settings h.world (n + 0) max r h.status h.closes h.status_is).1 ∙ sym (closes_none accepts settings k.world (n + 0) max s k.status k.closes k.status_is).1)
-once accepts settings w queues supply n max [] [] None (Some u) r s h k =
-    let a = (closes_none accepts settings h.world (n + 0) max r h.status h.closes h.status_is).0 in let b = k.room in absurd (omega arith)
-once accepts settings w queues supply n max [] [] (Some t) None r s h k =
-    let a = (closes_none accepts settings k.world (n + 0) max s k.status k.closes k.status_is).0 in let b = h.room in absurd (omega arith)
-once accepts settings w queues supply n max [] [] (Some t) (Some u) r s h k =
-    both_last accepts settings w queues supply t u r s (ended_at accepts settings w h.world (n + 0) max t r h.status h.run h.closes h.status_is)
-    (ended_at accepts settings w k.world (n + 0) max u s k.status k.run k.closes k.status_is)
-    h.given.0 k.given.0 (answered_both queues (calls_of t) [] h.answered).0 (answered_both queues (calls_of u) [] k.answered).0
-once accepts settings w queues supply n max (t ∷ ts) [] last None r s h k =
-    let a = (closes_none accepts settings k.world (n + 0) max s k.status k.closes k.status_is).0 in
-    let b : n + length (t ∷ ts) ≤ max = within accepts settings w queues supply n max (t ∷ ts) last r h in absurd (omega arith)
-once accepts settings w queues supply n max (t ∷ ts) [] last (Some u) r s h k =
-    absurd (gone_not_last accepts settings w h.run.0 queues supply t u s h.run.1 (ended_at accepts settings w k.world (n + 0) max u s k.status k.run k.closes k.status_is) h.given.0 k.given.0
-    (answered_both queues (calls_of t) (later ts last) h.answered).0 (answered_both queues (calls_of u) [] k.answered).0)
-once accepts settings w queues supply n max [] (u ∷ us) None mast r s h k =
-    let a = (closes_none accepts settings h.world (n + 0) max r h.status h.closes h.status_is).0 in
-    let b : n + length (u ∷ us) ≤ max = within accepts settings w queues supply n max (u ∷ us) mast s k in absurd (omega arith)
-once accepts settings w queues supply n max [] (u ∷ us) (Some t) mast r s h k =
-    absurd (gone_not_last accepts settings w k.run.0 queues supply u t r k.run.1 (ended_at accepts settings w h.world (n + 0) max t r h.status h.run h.closes h.status_is) k.given.0 h.given.0
-    (answered_both queues (calls_of u) (later us mast) k.answered).0 (answered_both queues (calls_of t) [] h.answered).0)
-once accepts settings w queues supply n max (t ∷ ts) (u ∷ us) last mast r s h k =
+once accepts w queues supply n max [] [] None None r s h k = (
+  refl,
+  (tail_full accepts w queues supply n max r h).1
+      ∙ sym (tail_full accepts w queues supply n max s k).1,
+)
+once accepts w queues supply n max [] [] None (Some u) r s h k =
+    absurd (one_too_many accepts w queues supply n max r s u h k)
+once accepts w queues supply n max [] [] (Some t) None r s h k =
+    absurd (one_too_many accepts w queues supply n max s r t k h)
+once accepts w queues supply n max [] [] (Some t) (Some u) r s h k =
+    both_last accepts w queues supply t u r s (tail_ended accepts w queues supply n max t r h)
+    (tail_ended accepts w queues supply n max u s k) h.given.0 k.given.0
+    (answered_both queues (calls_of t) [] h.answered).0
+    (answered_both queues (calls_of u) [] k.answered).0
+once accepts w queues supply n max (t ∷ ts) [] last None r s h k =
+    absurd (too_many accepts w queues supply n max s r t ts last k h)
+once accepts w queues supply n max (t ∷ ts) [] last (Some u) r s h k =
+    absurd (not_both accepts w queues supply n max t u ts last r s h k)
+once accepts w queues supply n max [] (u ∷ us) None mast r s h k =
+    absurd (too_many accepts w queues supply n max r s u us mast h k)
+once accepts w queues supply n max [] (u ∷ us) (Some t) mast r s h k =
+    absurd (not_both accepts w queues supply n max u t us mast s r k h)
+once accepts w queues supply n max (t ∷ ts) (u ∷ us) last mast r s h k =
     let i : Takes w supply t = (h.run.1.3, h.given.0) in
     let j : Takes w supply u = (k.run.1.3, k.given.0) in
-    let m = same_turn accepts settings w queues supply t u h.run.1.0 k.run.1.0 (Ok (Goes t.frames h.run.0)) (Ok (Goes u.frames k.run.0)) i j h.run.1.1 k.run.1.1 tt tt
-    h.run.1.2 k.run.1.2 (answered_both queues (calls_of t) (later ts last) h.answered).0 (answered_both queues (calls_of u) (later us mast) k.answered).0 in
-    let g = goes_once t.frames u.frames h.run.0 k.run.0 m.1 in
-    let e : t ≡ u = turn_same t u (same_input w supply t u i j) (same_commands w t u i.0 j.0) m.0 g.0 in
-    let k1 : Tail accepts settings k.run.0 (left queues (calls_of u)) (less supply u) (n + 1) max us mast s = tail_next accepts settings w queues supply n max u us mast s k in
-    let k2 : Tail accepts settings h.run.0 (left queues (calls_of u)) (less supply u) (n + 1) max us mast s =
-    subst (λ v. Tail accepts settings v (left queues (calls_of u)) (less supply u) (n + 1) max us mast s) (sym g.1) k1 in
-    let k3 : Tail accepts settings h.run.0 (left queues (calls_of t)) (less supply t) (n + 1) max us mast s =
-    subst (λ z. Tail accepts settings h.run.0 (left queues (calls_of z)) (less supply z) (n + 1) max us mast s) (sym e) k2 in
-    let later = once accepts settings h.run.0 (left queues (calls_of t)) (less supply t) (n + 1) max ts us last mast r s (tail_next accepts settings w queues supply n max t ts last r h) k3 in
+    let m = same_turn accepts w queues supply t u h.run.1.0 k.run.1.0 (Ok (Goes h.run.0))
+    (Ok (Goes k.run.0)) i j h.run.1.1 k.run.1.1 tt tt h.run.1.2 k.run.1.2
+    (answered_both queues (calls_of t) (later ts last) h.answered).0
+    (answered_both queues (calls_of u) (later us mast) k.answered).0 in
+    let g = goes_once h.run.0 k.run.0 m.1 in
+    let e : t ≡ u = turn_same t u (same_input w supply t u i j) (same_commands w t u i.0 j.0)
+    m.0 in
+    let k1 : Tail accepts k.run.0 (left queues (calls_of u)) (less supply u) (n + 1) max us mast s
+    = tail_next accepts w queues supply n max u us mast s k in
+    let k2 : Tail accepts h.run.0 (left queues (calls_of u)) (less supply u) (n + 1) max us mast s
+    = subst (λ v. Tail accepts v (left queues (calls_of u)) (less supply u) (n + 1) max us
+    mast s) (sym g) k1 in
+    let k3 : Tail accepts h.run.0 (left queues (calls_of t)) (less supply t) (n + 1) max us mast s
+    = subst (λ z. Tail accepts h.run.0 (left queues (calls_of z)) (less supply z) (n + 1) max
+    us mast s) (sym e) k2 in
+    let later = once accepts h.run.0 (left queues (calls_of t)) (less supply t) (n + 1) max ts us
+    last mast r s (tail_next accepts w queues supply n max t ts last r h) k3 in
     (same_cons t u _ _ e later.0, later.1)

@@ -1,16 +1,19 @@
 -- Words and a script owe one status and one text.
-use Rattle.std.proofs.Common.{◌≡◌, ◌≢◌, ◌<◌, ◌+◌, ◌⊎◌, ℕ, List, [], ◌∷◌, ◌++◌, length, Some, None, Result, Ok, Err, arith, sym, ◌∙◌, ap, subst, inl, inr}
-use Rattle.std.specs.Prelude.{flat_map, option_to_list, IfSome, ◌↔◌}
+use Rattle.std.proofs.Common.{◌≡◌, ◌≢◌, ◌<◌, ◌+◌, ◌⊎◌, ℕ, List, [], ◌∷◌, ◌++◌, length, Some, None}
+use Rattle.std.proofs.Common.{Result, Ok, Err, arith, sym, ◌∙◌, ap, subst, inl, inr}
+use Rattle.std.specs.Prelude.{flat_map, option_to_list, ◌↔◌}
 use Rattle.ssh_handler.specs.declared.recorded.RecordError.TheVariants as record_error
 use Rattle.ssh_session.specs.declared.error.RunError.{RunError}
 use Rattle.ssh_session.specs.declared.error.RunError.TheVariants as error
 use Rattle.ssh_session.specs.World.{opening_world}
 use Rattle.ssh_session.specs.Run.{Turn, calls_of, entries}
-use Rattle.ssh_session.specs.Step.{Closes}
+use Rattle.ssh_session.specs.Account.{Closes}
 use Rattle.ssh_script.specs.Scene.{Scene, opening_scene, lines_of, Gives}
 use Rattle.ssh_script.specs.Played.{Failure}
 use Rattle.ssh_script.specs.Print.{printed}
-use Rattle.ssh_script.specs.Transcript.{status_of, scene_settings, scene_accepts, scene_supply, IsRun, Shows, Scripted, Transcript, IsBadScript, IsUnknown, run_words, help_words, version_words}
+use Rattle.ssh_script.specs.Transcript.{status_of, scene_settings, scene_accepts, scene_supply}
+use Rattle.ssh_script.specs.Transcript.{IsRun, Shows, Scripted, Transcript, IsBadScript, IsUnknown}
+use Rattle.ssh_script.specs.Transcript.{run_words, help_words, version_words}
 use Rattle.ssh_script.proofs.LinesOnce.{gives_once}
 use Rattle.ssh_script.proofs.RunsOnce.{Tail, once}
 
@@ -18,32 +21,41 @@ some_once : (m n : ℕ) → Some m ≡ Some n → m ≡ n
 some_once m n e = cc
 
 tail_of : (scene : Scene) (status : ℕ) (text : List ℕ) → (h : IsRun scene status text) →
-    Tail (scene_accepts scene) (scene_settings scene) (opening_world (scene_settings scene)) scene.queues (scene_supply scene) 0 scene.max_inputs h.turns h.last h.result
-tail_of scene status text h = record {
-  world = h.world;
-  run = h.run;
-  closes = subst (λ n. Closes (scene_accepts scene) (scene_settings scene) h.world n scene.max_inputs h.last ⊥ h.result) (let z : length h.turns ≡ 0 + length h.turns = omega arith in z) h.closes;
-  room = subst (λ n. IfSome h.last (λ turn. n < scene.max_inputs)) (let z : length h.turns ≡ 0 + length h.turns = omega arith in z) h.room;
-  status = status;
-  status_is = h.status_is;
-  answered = h.answered;
-  given = h.given;
-}
+    Tail (scene_accepts scene) (opening_world (scene_settings scene)) scene.queues
+    (scene_supply scene) 0 scene.max_inputs h.turns h.last h.result
+tail_of scene status text h =
+    let counted : length h.turns ≡ 0 + length h.turns = omega arith in
+    record {
+      world = h.world;
+      run = h.run;
+      closes = subst (λ n. Closes (scene_accepts scene) h.world n scene.max_inputs h.last ⊥
+          h.result) counted h.closes;
+      status = status;
+      status_is = h.status_is;
+      answered = h.answered;
+      given = h.given;
+    }
 
-run_once : (scene : Scene) (m n : ℕ) (s t : List ℕ) → IsRun scene m s → IsRun scene n t → (m ≡ n) × (s ≡ t)
+run_once : (scene : Scene) (m n : ℕ) (s t : List ℕ) → IsRun scene m s → IsRun scene n t → (m ≡ n)
+    × (s ≡ t)
 run_once scene m n s t h k =
-    let o = once (scene_accepts scene) (scene_settings scene) (opening_world (scene_settings scene)) scene.queues (scene_supply scene) 0 scene.max_inputs h.turns k.turns h.last k.last
+    let o = once (scene_accepts scene) (opening_world (scene_settings scene)) scene.queues
+    (scene_supply scene) 0 scene.max_inputs h.turns k.turns h.last k.last
     h.result k.result (tail_of scene m s h) (tail_of scene n t k) in
-    let P = λ (l : List (Turn Failure)) (r : Result (Unit {0}) (RunError Failure)). printed (flat_map (calls_of {E = Failure}) l) (flat_map (entries {E = Failure}) l) r in (
+    let P = λ (l : List (Turn Failure)) (r : Result (Unit {0}) (RunError Failure)).
+    printed (flat_map (calls_of {E = Failure}) l) (flat_map (entries {E = Failure}) l) r in (
       some_once m n (sym h.status_is ∙ (ap status_of o.1 ∙ k.status_is)),
-      h.text_is ∙ (ap (λ l. P l h.result) o.0 ∙ (ap (λ r. P (k.turns ++ option_to_list k.last) r) o.1 ∙ sym k.text_is)),
+      h.text_is ∙ (ap (λ l. P l h.result) o.0
+          ∙ (ap (λ r. P (k.turns ++ option_to_list k.last) r) o.1 ∙ sym k.text_is)),
     )
 
-shows_once : (read : Result Scene ℕ) (m n : ℕ) (s t : List ℕ) → Shows read m s → Shows read n t → (m ≡ n) × (s ≡ t)
+shows_once : (read : Result Scene ℕ) (m n : ℕ) (s t : List ℕ) → Shows read m s → Shows read n t
+    → (m ≡ n) × (s ≡ t)
 shows_once (Ok scene) m n s t h k = run_once scene m n s t h k
 shows_once (Err number) m n s t h k = (h.0 ∙ sym k.0, h.1 ∙ sym k.1)
 
-scripted_once : (bytes : List ℕ) (m n : ℕ) (s t : List ℕ) → Scripted bytes m s → Scripted bytes n t → (m ≡ n) × (s ≡ t)
+scripted_once : (bytes : List ℕ) (m n : ℕ) (s t : List ℕ) → Scripted bytes m s → Scripted bytes n t
+    → (m ≡ n) × (s ≡ t)
 scripted_once bytes m n s t (inl h) (inl k) = (h.1 ∙ sym k.1, h.2 ∙ sym k.2)
 scripted_once bytes m n s t (inl h) (inr k) = let a = h.0 in let b = k.0 in absurd (omega arith)
 scripted_once bytes m n s t (inr h) (inl k) = let a = h.0 in let b = k.0 in absurd (omega arith)
@@ -68,23 +80,30 @@ not_both : help_words ≢ version_words
 unfolding first_length
 not_both = λ e. let z : 6 ≡ 9 = ap first_length e in omega (arith, z)
 
-pub transcript_once : (words : List (List ℕ)) (script : List ℕ) (m n : ℕ) (s t : List ℕ) → Transcript words script m s → Transcript words script n t → (m ≡ n) × (s ≡ t)
+pub transcript_once : (words : List (List ℕ)) (script : List ℕ) (m n : ℕ) (s t : List ℕ)
+    → Transcript words script m s → Transcript words script n t → (m ≡ n) × (s ≡ t)
 transcript_once words script m n s t (inl h) (inl k) = scripted_once script m n s t h.1 k.1
 transcript_once words script m n s t (inl h) (inr (inl k)) = absurd (not_help (sym h.0 ∙ k.0))
-transcript_once words script m n s t (inl h) (inr (inr (inl k))) = absurd (not_version (sym h.0 ∙ k.0))
+transcript_once words script m n s t (inl h) (inr (inr (inl k))) =
+    absurd (not_version (sym h.0 ∙ k.0))
 transcript_once words script m n s t (inl h) (inr (inr (inr k))) = absurd (k.0.0 h.0)
 transcript_once words script m n s t (inr (inl h)) (inl k) = absurd (not_help (sym k.0 ∙ h.0))
 transcript_once words script m n s t (inr (inl h)) (inr (inl k)) = (h.1 ∙ sym k.1, h.2 ∙ sym k.2)
-transcript_once words script m n s t (inr (inl h)) (inr (inr (inl k))) = absurd (not_both (sym h.0 ∙ k.0))
+transcript_once words script m n s t (inr (inl h)) (inr (inr (inl k))) =
+    absurd (not_both (sym h.0 ∙ k.0))
 transcript_once words script m n s t (inr (inl h)) (inr (inr (inr k))) = absurd (k.0.1 h.0)
-transcript_once words script m n s t (inr (inr (inl h))) (inl k) = absurd (not_version (sym k.0 ∙ h.0))
-transcript_once words script m n s t (inr (inr (inl h))) (inr (inl k)) = absurd (not_both (sym k.0 ∙ h.0))
-transcript_once words script m n s t (inr (inr (inl h))) (inr (inr (inl k))) = (h.1 ∙ sym k.1, h.2 ∙ sym k.2)
+transcript_once words script m n s t (inr (inr (inl h))) (inl k) =
+    absurd (not_version (sym k.0 ∙ h.0))
+transcript_once words script m n s t (inr (inr (inl h))) (inr (inl k)) =
+    absurd (not_both (sym k.0 ∙ h.0))
+transcript_once words script m n s t (inr (inr (inl h))) (inr (inr (inl k))) =
+    (h.1 ∙ sym k.1, h.2 ∙ sym k.2)
 transcript_once words script m n s t (inr (inr (inl h))) (inr (inr (inr k))) = absurd (k.0.2 h.0)
 transcript_once words script m n s t (inr (inr (inr h))) (inl k) = absurd (h.0.0 k.0)
 transcript_once words script m n s t (inr (inr (inr h))) (inr (inl k)) = absurd (h.0.1 k.0)
 transcript_once words script m n s t (inr (inr (inr h))) (inr (inr (inl k))) = absurd (h.0.2 k.0)
-transcript_once words script m n s t (inr (inr (inr h))) (inr (inr (inr k))) = (h.1 ∙ sym k.1, h.2 ∙ sym k.2)
+transcript_once words script m n s t (inr (inr (inr h))) (inr (inr (inr k))) =
+    (h.1 ∙ sym k.1, h.2 ∙ sym k.2)
 
 not_two : (n : ℕ) → n < 2 → Some n ≡ Some 2 → ⊥
 not_two n l e = let z : n ≡ 2 = cc in absurd (omega arith)
@@ -103,31 +122,39 @@ run_not_two (Err (error.Key why)) h = not_two 1 (omega arith) h
 run_not_two (Err error.UnsupportedAuthMethod) h = not_two 1 (omega arith) h
 run_not_two (Err (error.Handler record_error.NoMemory)) h = absurd (none_is_some 2 h)
 run_not_two (Err (error.Handler (record_error.Inner e))) h = not_two 1 (omega arith) h
+run_not_two (Err error.ChannelsFull) h = not_two 1 (omega arith) h
 run_not_two (Err error.NotBuilt) h = not_two 1 (omega arith) h
 
-two_shown : (read : Result Scene ℕ) (m : ℕ) (text : List ℕ) (lines : List (List ℕ)) → Gives 0 opening_scene lines read → Shows read m text → m ≡ 2 →
+two_shown : (read : Result Scene ℕ) (m : ℕ) (text : List ℕ) (lines : List (List ℕ))
+    → Gives 0 opening_scene lines read → Shows read m text → m ≡ 2 →
     (number : ℕ) × Gives 0 opening_scene lines (Err number)
 two_shown (Ok scene) m text lines g h e = absurd (run_not_two h.result (h.status_is ∙ ap Some e))
 two_shown (Err number) m text lines g h e = (number, g)
 
-bad_is_two : (bytes : List ℕ) (m : ℕ) (text : List ℕ) → Scripted bytes m text → IsBadScript bytes → m ≡ 2
+bad_is_two : (bytes : List ℕ) (m : ℕ) (text : List ℕ) → Scripted bytes m text → IsBadScript bytes
+    → m ≡ 2
 bad_is_two bytes m text (inl h) k = h.1
 bad_is_two bytes m text (inr h) (inl k) = let a = h.0 in absurd (omega arith)
 bad_is_two bytes m text (inr h) (inr k) =
     let e : h.1 ≡ Err k.0 = gives_once 0 opening_scene (lines_of bytes) h.1 (Err k.0) h.2 k.1 in
     (subst (λ read. Shows read m text) e h.3).0
 
-two_is_bad : (bytes : List ℕ) (m : ℕ) (text : List ℕ) → Scripted bytes m text → m ≡ 2 → IsBadScript bytes
+two_is_bad : (bytes : List ℕ) (m : ℕ) (text : List ℕ) → Scripted bytes m text → m ≡ 2
+    → IsBadScript bytes
 two_is_bad bytes m text (inl h) e = inl h.0
 two_is_bad bytes m text (inr h) e = inr (two_shown h.1 m text (lines_of bytes) h.2 h.3 e)
 
-two_wrong : (words : List (List ℕ)) (script : List ℕ) (m : ℕ) (text : List ℕ) → Transcript words script m text → m ≡ 2 → IsUnknown words ⊎ ((words ≡ run_words) × IsBadScript script)
+two_wrong : (words : List (List ℕ)) (script : List ℕ) (m : ℕ) (text : List ℕ)
+    → Transcript words script m text → m ≡ 2 → IsUnknown words
+    ⊎ ((words ≡ run_words) × IsBadScript script)
 two_wrong words script m text (inl h) e = inr (h.0, two_is_bad script m text h.1 e)
 two_wrong words script m text (inr (inl h)) e = absurd (omega (arith, h.1))
 two_wrong words script m text (inr (inr (inl h))) e = absurd (omega (arith, h.1))
 two_wrong words script m text (inr (inr (inr h))) e = inl h.0
 
-wrong_two : (words : List (List ℕ)) (script : List ℕ) (m : ℕ) (text : List ℕ) → Transcript words script m text → IsUnknown words ⊎ ((words ≡ run_words) × IsBadScript script) → m ≡ 2
+wrong_two : (words : List (List ℕ)) (script : List ℕ) (m : ℕ) (text : List ℕ)
+    → Transcript words script m text → IsUnknown words ⊎ ((words ≡ run_words) × IsBadScript script)
+    → m ≡ 2
 wrong_two words script m text (inl h) (inl k) = absurd (k.0 h.0)
 wrong_two words script m text (inl h) (inr k) = bad_is_two script m text h.1 k.1
 wrong_two words script m text (inr (inl h)) (inl k) = absurd (k.1 h.0)
@@ -136,7 +163,13 @@ wrong_two words script m text (inr (inr (inl h))) (inl k) = absurd (k.2 h.0)
 wrong_two words script m text (inr (inr (inl h))) (inr k) = absurd (not_version (sym k.0 ∙ h.0))
 wrong_two words script m text (inr (inr (inr h))) k = h.1
 
--- status 2 comes exactly with words that ask for nothing, and with a run of a script that is too long or has a bad line
-pub two_exactly : (words : List (List ℕ)) (script : List ℕ) (m : ℕ) (text : List ℕ) → Transcript words script m text →
+-- status 2 comes exactly with words that ask for nothing, and with a run of a script that is too
+-- long or has a bad line
+pub two_exactly : (words : List (List ℕ)) (script : List ℕ) (m : ℕ) (text : List ℕ)
+    → Transcript words script m text →
     (m ≡ 2) ↔ (IsUnknown words ⊎ ((words ≡ run_words) × IsBadScript script))
-two_exactly words script m text h = (two_wrong words script m text h, wrong_two words script m text h)
+two_exactly words script m text h = (
+  two_wrong words script m text h,
+  wrong_two words script m text
+      h,
+)

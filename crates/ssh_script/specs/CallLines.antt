@@ -1,5 +1,6 @@
 -- How the callbacks of a run are printed: a name and words, one line a callback.
-use Rattle.std.specs.Prelude.{ℕ, List, [], ◌∷◌, ◌++◌, codes, flat_map, Bool, true, false, Option, Some, None}
+use Rattle.std.specs.Prelude.{ℕ, List, [], ◌∷◌, ◌++◌, codes, flat_map, Bool, true, false, Option}
+use Rattle.std.specs.Prelude.{Some, None}
 use Rattle.std.specs.Fmt.{decimal}
 use Rattle.hex.specs.Hex.{encode_lower}
 use Rattle.ssh_wire.specs.declared.channel_id.ChannelId.{ChannelId}
@@ -41,7 +42,8 @@ pub data Word : Type 0 where
   Name : (name : List ℕ) → Word
   -- terminal modes, each its code and its value, joined by commas, and - for none
   Modes : (modes : List (Pty × ℕ)) → Word
-  -- responses to prompts, each a word of its own in hex, and none where nothing was prompted for yet
+  -- responses to prompts, each a word of its own in hex, and none where nothing was prompted for
+  -- yet
   Responses : (response : Option (List (List ℕ))) → Word
   -- what came of a command
   Came : (result : CommandOutcome) → Word
@@ -119,18 +121,23 @@ word_of (argument.Modes modes) = Modes modes.now
 word_of (argument.Responses response) = Responses response.now
 word_of (argument.Came result) = Came result
 
--- a user asks to be let in; a key is its blob and the name of the algorithm by which it signs, a certificate its key id
+-- a user asks to be let in; a key is its blob and the name of the algorithm by which it signs, a
+-- certificate its key id
 abbrev pub admission_line : Admission → List ℕ
 admission_line (by.None user) = line_text (codes "auth_none") (Hex user ∷ [])
-admission_line (by.Password user password) = line_text (codes "auth_password") (Hex user ∷ Hex password ∷ [])
+admission_line (by.Password user password) = line_text (codes "auth_password")
+    (Hex user ∷ Hex password ∷ [])
 admission_line (by.PublickeyOffered user key algorithm) =
-    line_text (codes "auth_publickey_offered") (Hex user ∷ Hex (key_blob key) ∷ Name (algorithm_name algorithm) ∷ [])
+    line_text (codes "auth_publickey_offered") (Hex user ∷ Hex (key_blob key)
+    ∷ Name (algorithm_name algorithm) ∷ [])
 admission_line (by.Publickey user key algorithm) =
-    line_text (codes "auth_publickey") (Hex user ∷ Hex (key_blob key) ∷ Name (algorithm_name algorithm) ∷ [])
+    line_text (codes "auth_publickey") (Hex user ∷ Hex (key_blob key)
+    ∷ Name (algorithm_name algorithm) ∷ [])
 admission_line (by.OpensshCertificate user certificate) =
     line_text (codes "auth_openssh_certificate") (Hex user ∷ Hex certificate.key_id ∷ [])
 admission_line (by.KeyboardInteractive user submethods response) =
-    line_text (codes "auth_keyboard_interactive") (Hex user ∷ Hex submethods ∷ Responses response ∷ [])
+    line_text (codes "auth_keyboard_interactive") (Hex user ∷ Hex submethods ∷ Responses response
+    ∷ [])
 
 -- the peer opens a channel
 abbrev pub opened_line : ChannelId → OpenType → List ℕ
@@ -149,8 +156,10 @@ opened_line channel (type.DirectStreamlocal path) =
 -- something happens on a channel
 abbrev pub happened_line : ChannelId → Happening → List ℕ
 happened_line channel (what.Confirmed packet window) =
-    line_text (codes "channel_open_confirmation") (Number channel.0 ∷ Number packet ∷ Number window ∷ [])
-happened_line channel (what.Data bytes) = line_text (codes "data") (Number channel.0 ∷ Hex bytes ∷ [])
+    line_text (codes "channel_open_confirmation") (Number channel.0 ∷ Number packet ∷ Number window
+    ∷ [])
+happened_line channel (what.Data bytes) = line_text (codes "data") (Number channel.0 ∷ Hex bytes
+    ∷ [])
 happened_line channel (what.ExtendedData code bytes) =
     line_text (codes "extended_data") (Number channel.0 ∷ Number code ∷ Hex bytes ∷ [])
 happened_line channel what.Eof = line_text (codes "channel_eof") (Number channel.0 ∷ [])
@@ -159,13 +168,16 @@ happened_line channel (what.WindowAdjusted new_size) =
     line_text (codes "window_adjusted") (Number channel.0 ∷ Number new_size ∷ [])
 happened_line channel (what.PtyRequest term columns rows width height modes) =
     line_text (codes "pty_request")
-    (Number channel.0 ∷ Hex term ∷ Number columns ∷ Number rows ∷ Number width ∷ Number height ∷ Modes modes ∷ [])
+    (Number channel.0 ∷ Hex term ∷ Number columns ∷ Number rows ∷ Number width ∷ Number height
+    ∷ Modes modes ∷ [])
 happened_line channel (what.X11Request single protocol cookie screen) =
-    line_text (codes "x11_request") (Number channel.0 ∷ Flag single ∷ Hex protocol ∷ Hex cookie ∷ Number screen ∷ [])
+    line_text (codes "x11_request") (Number channel.0 ∷ Flag single ∷ Hex protocol ∷ Hex cookie
+    ∷ Number screen ∷ [])
 happened_line channel (what.EnvRequest name value) =
     line_text (codes "env_request") (Number channel.0 ∷ Hex name ∷ Hex value ∷ [])
 happened_line channel what.ShellRequest = line_text (codes "shell_request") (Number channel.0 ∷ [])
-happened_line channel (what.ExecRequest bytes) = line_text (codes "exec_request") (Number channel.0 ∷ Hex bytes ∷ [])
+happened_line channel (what.ExecRequest bytes) = line_text (codes "exec_request") (Number channel.0
+    ∷ Hex bytes ∷ [])
 happened_line channel (what.SubsystemRequest name) =
     line_text (codes "subsystem_request") (Number channel.0 ∷ Hex name ∷ [])
 happened_line channel (what.WindowChangeRequest columns rows width height) =
@@ -180,11 +192,14 @@ lent_line (Opens channel opening) = opened_line channel opening
 lent_line (Happened channel happening) = happened_line channel happening
 
 abbrev pub judged_line : Judged → List ℕ
-judged_line (whether.AgentRequest channel) = line_text (codes "agent_request") (Number channel.0 ∷ [])
+judged_line (whether.AgentRequest channel) = line_text (codes "agent_request") (Number channel.0
+    ∷ [])
 judged_line (whether.CancelTcpipForward address port) =
     line_text (codes "cancel_tcpip_forward") (Hex address ∷ Number port ∷ [])
-judged_line (whether.StreamlocalForward path) = line_text (codes "streamlocal_forward") (Hex path ∷ [])
-judged_line (whether.CancelStreamlocalForward path) = line_text (codes "cancel_streamlocal_forward") (Hex path ∷ [])
+judged_line (whether.StreamlocalForward path) = line_text (codes "streamlocal_forward")
+    (Hex path ∷ [])
+judged_line (whether.CancelStreamlocalForward path) = line_text (codes "cancel_streamlocal_forward")
+    (Hex path ∷ [])
 
 -- a callback and its arguments; no callback is made for an exchange
 abbrev pub question_line : Question → List ℕ
@@ -193,10 +208,12 @@ question_line (question.Admits admission) = admission_line admission
 question_line (question.Lends lent) = lent_line lent
 question_line (question.Judges judged) = judged_line judged
 -- the port before the call
-question_line (question.Listens address port) = line_text (codes "tcpip_forward") (Hex address ∷ Number port ∷ [])
+question_line (question.Listens address port) = line_text (codes "tcpip_forward") (Hex address
+    ∷ Number port ∷ [])
 question_line (question.Adjusts channel current) =
     line_text (codes "adjust_window") (Number channel.0 ∷ Number current ∷ [])
-question_line (question.Done place result) = line_text (codes "command_done") (Number place ∷ Came result ∷ [])
+question_line (question.Done place result) = line_text (codes "command_done") (Number place
+    ∷ Came result ∷ [])
 question_line question.Begins = []
 question_line (question.Steps payload) = []
 

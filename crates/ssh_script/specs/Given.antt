@@ -1,4 +1,5 @@
--- What the link of a script gives: an answer to an open that was set aside and is asked for, else a command that was
+-- What the link of a script gives: an answer to an open that was set aside and is asked for, else a
+-- command that was
 -- set aside and is asked for, else the next input, else the end.
 use Rattle.std.specs.Prelude.{◌≡◌, ℕ, List, [], ◌∷◌, ◌++◌, map, Option, Some, None, false}
 use Rattle.ssh_link.specs.declared.frame.Input.{Input}
@@ -10,14 +11,16 @@ use Rattle.ssh_link.specs.Supply.{Supply, next_input, after_next}
 abbrev pub IsGiven : Supply → List TraceEntry → Type 0
 IsGiven supply [] = Unit {0}
 IsGiven supply (entry.Took commands replies input ∷ entries) =
-    (input ≡ next_input commands replies supply) × IsGiven (after_next commands replies supply) entries
+    (input ≡ next_input commands replies supply) × IsGiven (after_next commands replies supply)
+    entries
 IsGiven supply (entry.Sent frame ∷ entries) = IsGiven supply entries
 IsGiven supply (entry.Noticed notice ∷ entries) = IsGiven supply entries
 IsGiven supply (entry.Answered ticket outcome ∷ entries) = IsGiven supply entries
 
 -- the entry as this supply gives its input
 abbrev pub given_as : Supply → TraceEntry → TraceEntry
-given_as supply (entry.Took commands replies input) = entry.Took commands replies (next_input commands replies supply)
+given_as supply (entry.Took commands replies input) = entry.Took commands replies
+    (next_input commands replies supply)
 given_as supply (entry.Sent frame) = entry.Sent frame
 given_as supply (entry.Noticed notice) = entry.Noticed notice
 given_as supply (entry.Answered ticket outcome) = entry.Answered ticket outcome
@@ -38,7 +41,8 @@ abbrev pub left_after : Supply → List TraceEntry → Supply
 left_after supply [] = supply
 left_after supply (one ∷ more) = left_after (after supply one) more
 
--- the inputs as a link tells them before its calls: an entry for each, and one for the moment of the end
+-- the inputs as a link tells them before its calls: an entry for each, and one for the moment of
+-- the end
 abbrev pub told_input : Input → TraceEntry
 told_input input = entry.Took false false input
 

@@ -1,6 +1,8 @@
 -- How the lines of a script are written: words with one space between each two.
-use Rattle.std.specs.Prelude.{◌≡◌, ◌≢◌, ◌<◌, ◌^◌, ◌⊎◌, ◌==◌, ℕ, List, [], ◌∷◌, length, codes, bytes_eq, Bool, true}
-use Rattle.std.specs.Prelude.{false, nat_lt, if◌then◌else◌, Option, Some, None, option_map, Ok, IsUtf8}
+use Rattle.std.specs.Prelude.{◌≡◌, ◌≢◌, ◌<◌, ◌^◌, ◌⊎◌, ◌==◌, ℕ, List, [], ◌∷◌, length, codes}
+use Rattle.std.specs.Prelude.{bytes_eq, Bool, true}
+use Rattle.std.specs.Prelude.{false, nat_lt, if◌then◌else◌, Option, Some, None, option_map, Ok}
+use Rattle.std.specs.Prelude.{IsUtf8}
 use Rattle.std.specs.List.{position_or_len, before_first, after_first}
 use Rattle.std.specs.Fmt.{decimal}
 use Rattle.hex.specs.Hex.{decode_of}
@@ -19,6 +21,8 @@ use Rattle.ssh_script.specs.declared.answers.InteractiveVerdict.{InteractiveVerd
 use Rattle.ssh_script.specs.declared.answers.InteractiveVerdict.TheVariants as interactive
 use Rattle.ssh_script.specs.declared.answers.OpenVerdict.{OpenVerdict}
 use Rattle.ssh_script.specs.declared.answers.OpenVerdict.TheVariants as open_verdict
+use Rattle.ssh_script.specs.declared.answers.DataVerdict.{DataVerdict}
+use Rattle.ssh_script.specs.declared.answers.DataVerdict.TheVariants as data_verdict
 use Rattle.ssh_script.specs.declared.answers.Verdict.{Verdict}
 use Rattle.ssh_script.specs.declared.answers.Verdict.TheVariants as verdict
 use Rattle.ssh_script.specs.declared.lines.Setting.{Setting}
@@ -50,7 +54,8 @@ IsNumberIn digits None = (n : ℕ) → IsNumber digits n → ⊥
 
 -- bytes are written in hex, with either case of letters, and as - where there are none
 abbrev pub IsHex : List ℕ → List ℕ → Type 0
-IsHex digits bytes = ((digits ≡ codes "-") × (bytes ≡ [])) ⊎ ((digits ≢ []) × (decode_of digits ≡ Ok bytes))
+IsHex digits bytes = ((digits ≡ codes "-") × (bytes ≡ []))
+    ⊎ ((digits ≢ []) × (decode_of digits ≡ Ok bytes))
 
 abbrev pub IsHexIn : List ℕ → Option (List ℕ) → Type 0
 IsHexIn digits (Some bytes) = IsHex digits bytes
@@ -72,7 +77,8 @@ abbrev pub IsKeyIn : List ℕ → Option PublicKey → Type 0
 IsKeyIn digits (Some public) = IsKeyHex digits public
 IsKeyIn digits None = (public : PublicKey) → IsKeyHex digits public → ⊥
 
--- a signature that is accepted is written in four words: the key, the name of an algorithm of keys, the message and the
+-- a signature that is accepted is written in four words: the key, the name of an algorithm of keys,
+-- the message and the
 -- signature
 abbrev pub IsSignature : (key algorithm message signature : List ℕ) → AcceptedSignature → Type 0
 IsSignature key algorithm message signature accepted =
@@ -81,8 +87,10 @@ IsSignature key algorithm message signature accepted =
     × IsHex message accepted.message
     × IsHex signature accepted.signature
 
-abbrev pub IsSignatureIn : (key algorithm message signature : List ℕ) → Option AcceptedSignature → Type 0
-IsSignatureIn key algorithm message signature (Some accepted) = IsSignature key algorithm message signature accepted
+abbrev pub IsSignatureIn : (key algorithm message signature : List ℕ) → Option AcceptedSignature
+    → Type 0
+IsSignatureIn key algorithm message signature (Some accepted) = IsSignature key algorithm message
+    signature accepted
 IsSignatureIn key algorithm message signature None =
     (accepted : AcceptedSignature) → IsSignature key algorithm message signature accepted → ⊥
 
@@ -142,7 +150,8 @@ verdict_form name (Some one) = setting_form (answer_to name one)
 
 -- answer banner fail
 abbrev pub banner_form : List ℕ → Form
-banner_form word = if bytes_eq word (codes "fail") then Whole (line.Setting setting.FailBanner) else No_form
+banner_form word = if bytes_eq word (codes "fail") then Whole (line.Setting setting.FailBanner) else
+    No_form
 
 -- accept, reject, fail, unsupported or ask
 abbrev pub interactive_verdict_of : List ℕ → Option InteractiveVerdict
@@ -175,6 +184,21 @@ open_verdict_form (Some one) = Whole (line.Setting (setting.AnswerOpen one))
 abbrev pub open_form : List ℕ → Form
 open_form word = open_verdict_form (open_verdict_of word)
 
+-- echo or silent
+abbrev pub data_verdict_of : List ℕ → Option DataVerdict
+data_verdict_of word =
+    if bytes_eq word (codes "echo") then Some data_verdict.Echo
+    else if bytes_eq word (codes "silent") then Some data_verdict.Silent
+    else None
+
+abbrev pub data_verdict_form : Option DataVerdict → Form
+data_verdict_form None = No_form
+data_verdict_form (Some one) = Whole (line.Setting (setting.AnswerData one))
+
+-- answer data, and one of these
+abbrev pub data_answer_form : List ℕ → Form
+data_answer_form word = data_verdict_form (data_verdict_of word)
+
 -- answer, a name and a word
 abbrev pub answer_words : Option (List ℕ × List ℕ) → Form
 answer_words None = No_form
@@ -182,20 +206,37 @@ answer_words (Some parts) =
     if bytes_eq parts.0 (codes "banner") then banner_form parts.1
     else if bytes_eq parts.0 (codes "interactive") then interactive_form parts.1
     else if bytes_eq parts.0 (codes "open") then open_form parts.1
+    else if bytes_eq parts.0 (codes "data") then data_answer_form parts.1
     else verdict_form parts.0 (verdict_of parts.1)
 
 abbrev pub answer_form : List ℕ → Form
 answer_form rest = answer_words (cut rest)
 
+-- config window, and config packet: a number below 2^32
+abbrev pub window_form : List ℕ → Form
+window_form digits = Of_small (λ size. Whole (line.Setting (setting.Window size))) digits
+
+abbrev pub packet_form : List ℕ → Form
+packet_form digits = Of_small (λ size. Whole (line.Setting (setting.Packet size))) digits
+
+-- config, another name and a number
+abbrev pub number_form : (name digits : List ℕ) → Form
+number_form name digits =
+    if bytes_eq name (codes "attempts")
+    then Of_number (λ count. line.Setting (setting.Attempts count)) digits
+    else if bytes_eq name (codes "reject")
+    then Of_number (λ time. line.Setting (setting.Reject time)) digits
+    else if bytes_eq name (codes "reject-initial")
+    then Of_number (λ time. line.Setting (setting.RejectInitial time)) digits
+    else No_form
+
 -- config, a name and a number
 abbrev pub config_words : Option (List ℕ × List ℕ) → Form
 config_words None = No_form
 config_words (Some parts) =
-    if bytes_eq parts.0 (codes "attempts") then Of_number (λ count. line.Setting (setting.Attempts count)) parts.1
-    else if bytes_eq parts.0 (codes "reject") then Of_number (λ time. line.Setting (setting.Reject time)) parts.1
-    else if bytes_eq parts.0 (codes "reject-initial")
-    then Of_number (λ time. line.Setting (setting.RejectInitial time)) parts.1
-    else No_form
+    if bytes_eq parts.0 (codes "window") then window_form parts.1
+    else if bytes_eq parts.0 (codes "packet") then packet_form parts.1
+    else number_form parts.0 parts.1
 
 abbrev pub config_form : List ℕ → Form
 config_form rest = config_words (cut rest)
@@ -226,10 +267,25 @@ replies answer = line.Input (input.Reply answer)
 abbrev pub data_words : Option (List ℕ × List ℕ) → Form
 data_words None = No_form
 data_words (Some parts) =
-    Of_small (λ channel. Of_bytes (λ bytes. commands (command.Data (own channel) bytes)) parts.1) parts.0
+    Of_small (λ channel. Of_bytes (λ bytes. commands (command.Data (own channel) bytes)) parts.1)
+    parts.0
 
 abbrev pub data_form : List ℕ → Form
 data_form rest = data_words (cut rest)
+
+-- ext, a channel, a data type code and bytes
+abbrev pub ext_data : (number : List ℕ) → Option (List ℕ × List ℕ) → Form
+ext_data number None = No_form
+ext_data number (Some parts) =
+    Of_small (λ channel. Of_small (λ code. Of_bytes (λ bytes.
+    commands (command.ExtendedData (own channel) code bytes)) parts.1) parts.0) number
+
+abbrev pub ext_words : Option (List ℕ × List ℕ) → Form
+ext_words None = No_form
+ext_words (Some parts) = ext_data parts.0 (cut parts.1)
+
+abbrev pub ext_form : List ℕ → Form
+ext_form rest = ext_words (cut rest)
 
 -- eof, and a channel; and close, and a channel
 abbrev pub eof_form : List ℕ → Form
@@ -268,14 +324,17 @@ reject_form rest = reject_words (cut rest)
 abbrev pub word_form : List ℕ → List ℕ → Form
 word_form word rest =
     if bytes_eq word (codes "session") then Of_bytes (λ id. line.Setting (setting.Session id)) rest
-    else if bytes_eq word (codes "inputs") then Of_number (λ n. line.Setting (setting.Inputs n)) rest
-    else if bytes_eq word (codes "banner") then Of_text (λ text. line.Setting (setting.Banner text)) rest
+    else if bytes_eq word (codes "inputs") then Of_number (λ n. line.Setting (setting.Inputs n))
+    rest
+    else if bytes_eq word (codes "banner") then Of_text (λ text. line.Setting (setting.Banner text))
+    rest
     else if bytes_eq word (codes "config") then config_form rest
     else if bytes_eq word (codes "answer") then answer_form rest
     else if bytes_eq word (codes "sign") then sign_form rest
     else if bytes_eq word (codes "at") then Of_number (λ moment. line.Input (input.At moment)) rest
     else if bytes_eq word (codes "recv") then Of_bytes (λ bytes. line.Input (input.Recv bytes)) rest
     else if bytes_eq word (codes "data") then data_form rest
+    else if bytes_eq word (codes "ext") then ext_form rest
     else if bytes_eq word (codes "eof") then eof_form rest
     else if bytes_eq word (codes "close") then close_form rest
     else if bytes_eq word (codes "accept") then accept_form rest
@@ -299,9 +358,11 @@ Fits No_form said = said ≡ None
 Fits (Whole says) said = said ≡ Some says
 Fits (Of_number says digits) (Some said) = (n : ℕ) × IsNumber digits n × (said ≡ says n)
 Fits (Of_number says digits) None = (n : ℕ) → IsNumber digits n → ⊥
-Fits (Of_bytes says digits) (Some said) = (bytes : List ℕ) × IsHex digits bytes × (said ≡ says bytes)
+Fits (Of_bytes says digits) (Some said) = (bytes : List ℕ) × IsHex digits bytes
+    × (said ≡ says bytes)
 Fits (Of_bytes says digits) None = (bytes : List ℕ) → IsHex digits bytes → ⊥
-Fits (Of_text says digits) (Some said) = (text : List ℕ) × IsTextHex digits text × (said ≡ says text)
+Fits (Of_text says digits) (Some said) = (text : List ℕ) × IsTextHex digits text
+    × (said ≡ says text)
 Fits (Of_text says digits) None = (text : List ℕ) → IsTextHex digits text → ⊥
 Fits (Of_signature key algorithm message signature) (Some said) =
     (accepted : AcceptedSignature) × IsSignature key algorithm message signature accepted
@@ -309,7 +370,8 @@ Fits (Of_signature key algorithm message signature) (Some said) =
 Fits (Of_signature key algorithm message signature) None =
     (accepted : AcceptedSignature) → IsSignature key algorithm message signature accepted → ⊥
 Fits (Of_small next digits) said =
-    ((n : ℕ) × IsSmall digits n × Fits (next n) said) ⊎ (((n : ℕ) → IsSmall digits n → ⊥) × (said ≡ None))
+    ((n : ℕ) × IsSmall digits n × Fits (next n) said) ⊎ (((n : ℕ) → IsSmall digits n → ⊥)
+    × (said ≡ None))
 
 -- an empty line, or a comment, which begins with #
 abbrev pub is_passed : List ℕ → Bool
@@ -319,7 +381,8 @@ is_passed (byte ∷ more) = byte == 35
 -- a line that is neither empty nor a comment says this; one that is no text in UTF-8 is bad
 abbrev pub ReadsWords : Bool → List ℕ → Option Line → Type 0
 ReadsWords true text said = said ≡ Some line.Passed
-ReadsWords false text said = (IsUtf8 text × Fits (form_of text) said) ⊎ ((IsUtf8 text → ⊥) × (said ≡ None))
+ReadsWords false text said = (IsUtf8 text × Fits (form_of text) said)
+    ⊎ ((IsUtf8 text → ⊥) × (said ≡ None))
 
 -- the line says this; None says that it is bad
 abbrev pub Reads : List ℕ → Option Line → Type 0

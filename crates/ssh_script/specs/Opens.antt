@@ -2,7 +2,7 @@
 use Rattle.std.specs.Prelude.{ℕ, List, [], ◌∷◌, Option, Some, None}
 use Rattle.ssh_wire.specs.declared.channel_id.ChannelId.{ChannelId}
 use Rattle.ssh_wire.specs.declared.open_failure.ChannelOpenFailure.{ChannelOpenFailure}
-use Rattle.ssh_wire.specs.declared.open_failure.ChannelOpenFailure.TheVariants.{AdministrativelyProhibited}
+use Rattle.ssh_wire.specs.declared.open_failure.ChannelOpenFailure.TheVariants as failure
 use Rattle.ssh_link.specs.declared.command.Command.{Command}
 use Rattle.ssh_link.specs.declared.command.Command.TheVariants.{Answer}
 use Rattle.ssh_link.specs.declared.open_answer.OpenAnswer.{OpenAnswer}
@@ -24,7 +24,7 @@ rejecting channel reason = record { channel = channel; rejection = Some reason; 
 -- what a script answers to an open; none where a later line does
 abbrev pub open_answer : OpenVerdict → ChannelId → Option OpenAnswer
 open_answer Accept channel = Some (accepting channel)
-open_answer Reject channel = Some (rejecting channel AdministrativelyProhibited)
+open_answer Reject channel = Some (rejecting channel failure.AdministrativelyProhibited)
 open_answer Hold channel = None
 
 -- the command that records it

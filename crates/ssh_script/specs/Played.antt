@@ -1,11 +1,13 @@
 -- What the handler of a script answers.
-use Rattle.std.specs.Prelude.{◌≡◌, ℕ, ◌-◌, ◌==◌, List, [], ◌∷◌, ◌++◌, codes, map, drop, Bool, true, false, Option, Some}
+use Rattle.std.specs.Prelude.{◌≡◌, ℕ, ◌-◌, ◌==◌, List, [], ◌∷◌, ◌++◌, codes, map, drop, Bool, true}
+use Rattle.std.specs.Prelude.{false, Option, Some}
 use Rattle.std.specs.Prelude.{None, Result, Ok, Err, if◌then◌else◌}
 use Rattle.ssh_wire.specs.declared.channel_id.ChannelId.{ChannelId}
 use Rattle.ssh_link.specs.declared.command.Command.{Command}
 use Rattle.ssh_link.specs.declared.command.Command.TheVariants as command
 use Rattle.ssh_auth.specs.declared.auth.Auth.{Auth}
-use Rattle.ssh_auth.specs.declared.auth.Auth.TheVariants.{Reject, Accept, UnsupportedMethod, Partial}
+use Rattle.ssh_auth.specs.declared.auth.Auth.TheVariants.{Reject, Accept, UnsupportedMethod}
+use Rattle.ssh_auth.specs.declared.auth.Auth.TheVariants.{Partial}
 use Rattle.ssh_auth.specs.declared.call.Call.{Call}
 use Rattle.ssh_auth.specs.declared.call.Call.TheVariants as call
 use Rattle.ssh_auth.specs.declared.question.Admission.{Admission}
@@ -30,6 +32,8 @@ use Rattle.ssh_script.specs.declared.answers.Places.{Places}
 use Rattle.ssh_script.specs.declared.answers.InteractiveVerdict.{InteractiveVerdict}
 use Rattle.ssh_script.specs.declared.answers.InteractiveVerdict.TheVariants as interactive
 use Rattle.ssh_script.specs.declared.answers.OpenVerdict.{OpenVerdict}
+use Rattle.ssh_script.specs.declared.answers.DataVerdict.{DataVerdict}
+use Rattle.ssh_script.specs.declared.answers.DataVerdict.TheVariants.{Silent, Echo}
 use Rattle.ssh_script.specs.declared.answers.Verdict.{Verdict}
 use Rattle.ssh_script.specs.declared.answers.Verdict.TheVariants as verdict
 use Rattle.ssh_script.specs.declared.script_handler.ScriptError.{ScriptError}
@@ -61,6 +65,8 @@ pub record Queues : Type 0 where
   pub banner : Option (List ℕ)
   -- to all channels that the peer opens
   pub opens : OpenVerdict
+  -- to data that come in on a channel
+  pub incoming : DataVerdict
 
 -- as the code holds them
 abbrev pub queues_in : Answers → Queues
@@ -74,6 +80,7 @@ queues_in answers = record {
   banners = answers.failing_banners;
   banner = answers.banner;
   opens = answers.opens;
+  incoming = answers.incoming;
 }
 
 -- those after as many as were given
@@ -88,6 +95,7 @@ queues_from answers next banners = record {
   banners = banners;
   banner = answers.banner;
   opens = answers.opens;
+  incoming = answers.incoming;
 }
 
 -- the next verdict, and this one where there is none
@@ -113,57 +121,77 @@ interactive_answer interactive.Ask = Ok (Partial [] [] (code_prompt ∷ []))
 abbrev pub banner_answer : ℕ → Option (List ℕ) → Result (Option (List ℕ)) Failure
 banner_answer left banner = if left == 0 then Ok banner else fails
 
--- what a user who asks to be let in is answered by: without a verdict an offer of a key is accepted, and all else is refused
+-- what a user who asks to be let in is answered by: without a verdict an offer of a key is
+-- accepted, and all else is refused
 abbrev pub verdict_on : Queues → Admission → InteractiveVerdict
 verdict_on queues (by.None user) = interactive.Plain (first_verdict verdict.Reject queues.none)
-verdict_on queues (by.Password user password) = interactive.Plain (first_verdict verdict.Reject queues.password)
-verdict_on queues (by.PublickeyOffered user key algorithm) = interactive.Plain (first_verdict verdict.Accept queues.offered)
-verdict_on queues (by.Publickey user key algorithm) = interactive.Plain (first_verdict verdict.Reject queues.publickey)
-verdict_on queues (by.OpensshCertificate user certificate) = interactive.Plain (first_verdict verdict.Reject queues.certificate)
+verdict_on queues (by.Password user password) = interactive.Plain
+    (first_verdict verdict.Reject queues.password)
+verdict_on queues (by.PublickeyOffered user key algorithm) = interactive.Plain
+    (first_verdict verdict.Accept queues.offered)
+verdict_on queues (by.Publickey user key algorithm) = interactive.Plain
+    (first_verdict verdict.Reject queues.publickey)
+verdict_on queues (by.OpensshCertificate user certificate) = interactive.Plain
+    (first_verdict verdict.Reject queues.certificate)
 verdict_on queues (by.KeyboardInteractive user submethods response) =
     first_verdict (interactive.Plain verdict.Reject) queues.interactive
 
 -- the verdicts that are left after it
 abbrev pub after_admission : Queues → Admission → Queues
 after_admission queues (by.None user) = record queues { none = rest queues.none }
-after_admission queues (by.Password user password) = record queues { password = rest queues.password }
-after_admission queues (by.PublickeyOffered user key algorithm) = record queues { offered = rest queues.offered }
-after_admission queues (by.Publickey user key algorithm) = record queues { publickey = rest queues.publickey }
-after_admission queues (by.OpensshCertificate user certificate) = record queues { certificate = rest queues.certificate }
+after_admission queues (by.Password user password) =
+    record queues { password = rest queues.password }
+after_admission queues (by.PublickeyOffered user key algorithm) =
+    record queues { offered = rest queues.offered }
+after_admission queues (by.Publickey user key algorithm) =
+    record queues { publickey = rest queues.publickey }
+after_admission queues (by.OpensshCertificate user certificate) =
+    record queues { certificate = rest queues.certificate }
 after_admission queues (by.KeyboardInteractive user submethods response) =
     record queues { interactive = rest queues.interactive }
 
+-- data are sent back, or not
+abbrev pub echoes : DataVerdict → ChannelId → List ℕ → List Command
+echoes Silent channel bytes = []
+echoes Echo channel bytes = command.Data channel bytes ∷ []
+
 -- what a callback records of what happens on a channel: a request is answered by success
-abbrev pub replies : ChannelId → Happening → List Command
-replies channel (what.Confirmed packet window) = []
-replies channel (what.Data bytes) = []
-replies channel (what.ExtendedData code bytes) = []
-replies channel what.Eof = []
-replies channel what.Close = []
-replies channel (what.WindowAdjusted new_size) = []
-replies channel _ = command.ChannelSuccess channel ∷ []
+abbrev pub replies : DataVerdict → ChannelId → Happening → List Command
+replies how channel (what.Confirmed packet window) = []
+replies how channel (what.Data bytes) = echoes how channel bytes
+replies how channel (what.ExtendedData code bytes) = []
+replies how channel what.Eof = []
+replies how channel what.Close = []
+replies how channel (what.WindowAdjusted new_size) = []
+replies how channel _ = command.ChannelSuccess channel ∷ []
 
 -- what a callback records that answers nothing: of a channel that the peer opens, the answer
-abbrev pub records : OpenVerdict → Lent → List Command
-records opens Succeeded = []
-records opens (Opens channel type) = recorded (open_answer opens channel)
-records opens (Happened channel happening) = replies channel happening
+abbrev pub records : OpenVerdict → DataVerdict → Lent → List Command
+records opens how Succeeded = []
+records opens how (Opens channel type) = recorded (open_answer opens channel)
+records opens how (Happened channel happening) = replies how channel happening
 
--- whether it is granted: the agent is reached, as for every request on a channel, and nothing is forwarded
+-- whether it is granted: the agent is reached, as for every request on a channel, and nothing is
+-- forwarded
 abbrev pub grants : Judged → Bool
 grants (whether.AgentRequest channel) = true
 grants _ = false
 
 -- the call of a question, which is answered so; those of an exchange are put to no handler
 abbrev pub answered : Queues → Question → List (Call Failure)
-answered queues question.Banner = call.AuthenticationBanner (banner_answer queues.banners queues.banner) ∷ []
-answered queues (question.Admits admission) = admission_call admission (interactive_answer (verdict_on queues admission)) ∷ []
-answered queues (question.Lends lent) = lent_call lent (Ok tt) (records queues.opens lent) ∷ []
+answered queues question.Banner = call.AuthenticationBanner
+    (banner_answer queues.banners queues.banner) ∷ []
+answered queues (question.Admits admission) = admission_call admission
+    (interactive_answer (verdict_on queues admission)) ∷ []
+answered queues (question.Lends lent) =
+    lent_call lent (Ok tt) (records queues.opens queues.incoming lent) ∷ []
 answered queues (question.Judges judged) = judged_call judged (Ok (grants judged)) [] ∷ []
 -- nobody listens, and the port is as it was
-answered queues (question.Listens address port) = call.TcpipForward address port port (Ok false) [] ∷ []
+answered queues (question.Listens address port) = call.TcpipForward address port port (Ok false) []
+    ∷ []
 -- a window stays as large as it is
-answered queues (question.Adjusts channel current) = call.AdjustWindow channel current (Ok current) ∷ []
+answered queues (question.Adjusts channel current) = call.AdjustWindow channel current (Ok current)
+    ∷ []
 answered queues (question.Done place outcome) = call.CommandDone place outcome (Ok tt) ∷ []
 answered queues question.Begins = []
 answered queues (question.Steps payload) = []
@@ -189,8 +217,9 @@ IsAnswered queues [] = Unit {0}
 IsAnswered queues (call ∷ calls) =
     (call ∷ [] ≡ answered queues (asked_of call)) × IsAnswered (after queues (asked_of call)) calls
 
--- the answers as a handler tells them before its calls: a call for each queue, which names its verdicts by their
--- numbers, one for the number of banners that fail, one for the banner, and one for the opens
+-- the answers as a handler tells them before its calls: a call for each queue, which names its
+-- verdicts by their numbers, one for the number of banners that fail, one for the banner, one for
+-- the opens, and one for data
 abbrev pub verdict_number : Verdict → ℕ
 verdict_number verdict.Accept = 0
 verdict_number verdict.Reject = 1
@@ -216,6 +245,9 @@ told_banner banner = call.AuthenticationBanner (Ok banner)
 abbrev pub told_opens : OpenVerdict → Call Failure
 told_opens opens = call.ChannelOpenSession (own 0) (Ok tt) (recorded (open_answer opens (own 0)))
 
+abbrev pub told_data : DataVerdict → Call Failure
+told_data how = lent_call (Happened (own 0) (what.Data [])) (Ok tt) (echoes how (own 0) [])
+
 abbrev pub heading : Queues → List (Call Failure)
 heading queues =
     told_queue queues.none
@@ -227,9 +259,11 @@ heading queues =
     ∷ told_banners queues.banners
     ∷ told_banner queues.banner
     ∷ told_opens queues.opens
+    ∷ told_data queues.incoming
     ∷ []
 
--- what a handler tells that has these answers and was asked so; one that lost a question tells nothing
+-- what a handler tells that has these answers and was asked so; one that lost a question tells
+-- nothing
 abbrev pub told_of : Bool → Queues → List Question → Option (List (Call Failure))
 told_of true queues all = None
 told_of false queues all = Some (heading queues ++ played queues all)

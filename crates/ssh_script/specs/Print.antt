@@ -1,5 +1,6 @@
 -- How a run is printed.
-use Rattle.std.specs.Prelude.{ℕ, ◌+◌, List, [], ◌∷◌, ◌++◌, codes, flat_map, Option, Some, None, Result, Ok, Err}
+use Rattle.std.specs.Prelude.{ℕ, ◌+◌, List, [], ◌∷◌, ◌++◌, codes, flat_map, Option, Some, None}
+use Rattle.std.specs.Prelude.{Result, Ok, Err}
 use Rattle.std.specs.Fmt.{decimal}
 use Rattle.ssh_wire.specs.declared.channel_id.ChannelId.{ChannelId}
 use Rattle.ssh_link.specs.declared.notice.ChannelMsg.{ChannelMsg}
@@ -27,11 +28,15 @@ hold_text (Some moment) = codes " hold " ++ decimal moment
 
 abbrev pub frame_line : Frame → List ℕ
 frame_line frame =
-    codes "send " ++ channel_text frame.channel ++ codes " " ++ hex_text frame.payload ++ hold_text frame.hold_until
+    codes "send " ++ channel_text frame.channel ++ codes " " ++ hex_text frame.payload
+    ++ hold_text frame.hold_until
     ++ codes "\n"
 
--- what happened on a channel; no row tells of the other messages
+-- what happened on a channel; no row tells of other messages
 abbrev pub msg_text : ChannelMsg → List ℕ
+msg_text (msg.Data bytes) = codes " Data " ++ hex_text bytes
+msg_text (msg.ExtendedData bytes code) =
+    codes " ExtendedData " ++ hex_text bytes ++ codes " " ++ decimal code
 msg_text (msg.WindowAdjusted new_size) = codes " WindowAdjusted " ++ decimal new_size
 msg_text msg.Eof = codes " Eof"
 msg_text msg.Close = codes " Close"
@@ -45,11 +50,13 @@ port_text (Some port) = codes " " ++ decimal port
 -- a notice: its channel, or - where it is of none, its variant, and its fields
 abbrev pub notice_text : Notice → List ℕ
 notice_text (notice.Channel channel happened) = decimal channel.0 ++ msg_text happened
-notice_text (notice.Granted channel amount) = decimal channel.0 ++ codes " Granted " ++ decimal amount
+notice_text (notice.Granted channel amount) = decimal channel.0 ++ codes " Granted "
+    ++ decimal amount
 notice_text (notice.Ready channel window packet) =
     decimal channel.0 ++ codes " Ready " ++ decimal window ++ codes " " ++ decimal packet
 notice_text (notice.Forwarded slot port) = codes "- Forwarded " ++ decimal slot ++ port_text port
-notice_text (notice.Cancelled slot is_done) = codes "- Cancelled " ++ decimal slot ++ codes " " ++ flag_text is_done
+notice_text (notice.Cancelled slot is_done) = codes "- Cancelled " ++ decimal slot ++ codes " "
+    ++ flag_text is_done
 notice_text (notice.Pong slot) = codes "- Pong " ++ decimal slot
 
 abbrev pub notice_line : Notice → List ℕ
@@ -57,7 +64,8 @@ notice_line one = codes "notice " ++ notice_text one ++ codes "\n"
 
 -- what came of the command or the answer to an open with this ticket
 abbrev pub answer_line : ℕ → CommandOutcome → List ℕ
-answer_line ticket result = codes "done " ++ decimal ticket ++ codes " " ++ outcome_text result ++ codes "\n"
+answer_line ticket result = codes "done " ++ decimal ticket ++ codes " " ++ outcome_text result
+    ++ codes "\n"
 
 abbrev pub input_line : ℕ → List ℕ
 input_line number = codes "input " ++ decimal number ++ codes "\n"
@@ -69,7 +77,8 @@ entry_lines taken (entry.Took commands replies input ∷ entries) =
     input_line (taken + 1) ++ entry_lines (taken + 1) entries
 entry_lines taken (entry.Sent frame ∷ entries) = frame_line frame ++ entry_lines taken entries
 entry_lines taken (entry.Noticed one ∷ entries) = notice_line one ++ entry_lines taken entries
-entry_lines taken (entry.Answered ticket result ∷ entries) = answer_line ticket result ++ entry_lines taken entries
+entry_lines taken (entry.Answered ticket result ∷ entries) = answer_line ticket result
+    ++ entry_lines taken entries
 
 -- how the error of a run is named
 abbrev pub variant_name : {E : Type 0} → RunError E → List ℕ
@@ -81,6 +90,7 @@ variant_name error.Inconsistent = codes "Inconsistent"
 variant_name (error.Key why) = codes "Key"
 variant_name error.UnsupportedAuthMethod = codes "UnsupportedAuthMethod"
 variant_name (error.Handler e) = codes "Handler"
+variant_name error.ChannelsFull = codes "ChannelsFull"
 variant_name error.NotBuilt = codes "NotBuilt"
 
 -- how a run ended
@@ -89,5 +99,6 @@ last_line (Ok done) = codes "ok\n"
 last_line (Err e) = codes "error " ++ variant_name e ++ codes "\n"
 
 -- a run: its callbacks, its trace, and how it ended
-abbrev pub printed : {E : Type 0} → List (Call E) → List TraceEntry → Result (Unit {0}) (RunError E) → List ℕ
+abbrev pub printed : {E : Type 0} → List (Call E) → List TraceEntry → Result (Unit {0}) (RunError E)
+    → List ℕ
 printed calls trace result = flat_map call_line calls ++ entry_lines 0 trace ++ last_line result

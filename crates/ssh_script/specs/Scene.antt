@@ -1,5 +1,6 @@
 -- What the lines of a script say together.
-use Rattle.std.specs.Prelude.{◌≡◌, ◌+◌, ◌^◌, ◌==◌, ℕ, List, [], ◌∷◌, ◌++◌, length, nat_lt, false, if◌then◌else◌, Option}
+use Rattle.std.specs.Prelude.{◌≡◌, ◌+◌, ◌^◌, ◌==◌, ℕ, List, [], ◌∷◌, ◌++◌, length, nat_lt, false}
+use Rattle.std.specs.Prelude.{if◌then◌else◌, Option}
 use Rattle.std.specs.Prelude.{Some, None, Result, Ok, Err, MatchOption}
 use Rattle.ssh_link.specs.declared.frame.Input.{Input}
 use Rattle.ssh_link.specs.declared.frame.InputKind.{InputKind}
@@ -8,6 +9,7 @@ use Rattle.ssh_handler.specs.declared.config.Config.{Config}
 use Rattle.ssh_handler.specs.Settings.{standard_config}
 use Rattle.ssh_keys.specs.declared.table_verifier.AcceptedSignature.{AcceptedSignature}
 use Rattle.ssh_script.specs.declared.answers.OpenVerdict.TheVariants.{Accept}
+use Rattle.ssh_script.specs.declared.answers.DataVerdict.TheVariants.{Silent}
 use Rattle.ssh_script.specs.declared.lines.Setting.{Setting}
 use Rattle.ssh_script.specs.declared.lines.Setting.TheVariants as setting
 use Rattle.ssh_script.specs.declared.lines.InputLine.{InputLine}
@@ -55,6 +57,7 @@ opening_scene = record {
     banners = 0;
     banner = None;
     opens = Accept;
+    incoming = Silent;
   };
   tickets = 0;
   inputs = [];
@@ -64,12 +67,18 @@ opening_scene = record {
 
 -- after a setting; None where it is out of range
 abbrev pub set : Setting → Scene → Option Scene
-set (setting.Session id) s = if nat_lt (length id) (2 ^ 32) then Some (record s { session_id = id }) else None
+set (setting.Session id) s = if nat_lt (length id) (2 ^ 32) then Some (record s { session_id = id })
+    else None
 set (setting.Inputs count) s = Some (record s { max_inputs = count })
-set (setting.Reject time) s = Some (record s { config = record s.config { auth_rejection_time = time } })
+set (setting.Window size) s = Some (record s { config = record s.config { window_size = size } })
+set (setting.Packet size) s =
+    Some (record s { config = record s.config { maximum_packet_size = size } })
+set (setting.Reject time) s = Some
+    (record s { config = record s.config { auth_rejection_time = time } })
 set (setting.RejectInitial time) s =
     Some (record s { config = record s.config { auth_rejection_time_initial = Some time } })
-set (setting.Attempts count) s = Some (record s { config = record s.config { max_auth_attempts = count } })
+set (setting.Attempts count) s = Some
+    (record s { config = record s.config { max_auth_attempts = count } })
 set (setting.Sign signature) s = Some (record s { accepted = s.accepted ++ signature ∷ [] })
 set (setting.AnswerNone verdict) s =
     Some (record s { queues = record s.queues { none = s.queues.none ++ verdict ∷ [] } })
@@ -80,12 +89,20 @@ set (setting.AnswerOffered verdict) s =
 set (setting.AnswerPublickey verdict) s =
     Some (record s { queues = record s.queues { publickey = s.queues.publickey ++ verdict ∷ [] } })
 set (setting.AnswerCertificate verdict) s =
-    Some (record s { queues = record s.queues { certificate = s.queues.certificate ++ verdict ∷ [] } })
+    Some (record s {
+      queues = record s.queues { certificate = s.queues.certificate ++ verdict ∷ [] };
+    })
 set (setting.AnswerInteractive verdict) s =
-    Some (record s { queues = record s.queues { interactive = s.queues.interactive ++ verdict ∷ [] } })
-set setting.FailBanner s = Some (record s { queues = record s.queues { banners = s.queues.banners + 1 } })
+    Some (record s {
+      queues = record s.queues { interactive = s.queues.interactive ++ verdict ∷ [] };
+    })
+set setting.FailBanner s = Some (record s
+    { queues = record s.queues { banners = s.queues.banners + 1 } })
 set (setting.Banner text) s = Some (record s { queues = record s.queues { banner = Some text } })
-set (setting.AnswerOpen verdict) s = Some (record s { queues = record s.queues { opens = verdict } })
+set (setting.AnswerOpen verdict) s =
+    Some (record s { queues = record s.queues { opens = verdict } })
+set (setting.AnswerData verdict) s =
+    Some (record s { queues = record s.queues { incoming = verdict } })
 
 -- settings come before the first input line
 abbrev pub set_in : Stage → Setting → Scene → Option Scene
@@ -95,7 +112,10 @@ set_in stage.Ended one s = None
 
 -- an input of this kind comes at the moment in force
 abbrev pub with_input : InputKind → Scene → Scene
-with_input kind s = record s { inputs = s.inputs ++ (record { moment = s.moment; kind = kind }) ∷ [] }
+with_input kind s = record s {
+  inputs = s.inputs ++ (record { moment = s.moment; kind = kind })
+      ∷ [];
+}
 
 -- one more ticket is given
 abbrev pub with_ticket : Scene → Scene
@@ -109,8 +129,10 @@ begun s = record s { stage = stage.Inputs }
 abbrev pub after_input : InputLine → Scene → Scene
 after_input (input.At moment) s = record (begun s) { moment = moment }
 after_input (input.Recv bytes) s = with_input (Payload bytes) (begun s)
-after_input (input.Command command) s = with_input (Command (s.tickets + 1) command) (with_ticket (begun s))
-after_input (input.Reply answer) s = with_input (OpenReply (s.tickets + 1) answer) (with_ticket (begun s))
+after_input (input.Command command) s = with_input (Command (s.tickets + 1) command)
+    (with_ticket (begun s))
+after_input (input.Reply answer) s = with_input (OpenReply (s.tickets + 1) answer)
+    (with_ticket (begun s))
 after_input input.End s = record s { stage = stage.Ended }
 
 -- once the peer is gone, input lines are not taken
@@ -133,13 +155,15 @@ onto_first byte (line ∷ lines) = (byte ∷ line) ∷ lines
 
 abbrev pub lines_of : List ℕ → List (List ℕ)
 lines_of [] = []
-lines_of (byte ∷ bytes) = if byte == 10 then [] ∷ lines_of bytes else onto_first byte (lines_of bytes)
+lines_of (byte ∷ bytes) = if byte == 10 then [] ∷ lines_of bytes else onto_first byte
+    (lines_of bytes)
 
 -- after so many lines, these give this scene, or this is the number of the first bad one
 abbrev pub Gives : ℕ → Scene → List (List ℕ) → Result Scene ℕ → Type 0
 Gives done scene [] read = read ≡ Ok scene
 Gives done scene (text ∷ lines) read = (said : Option Line) × Reads text said ×
-    MatchOption (with_line scene said) (read ≡ Err (done + 1)) (λ next. Gives (done + 1) next lines read)
+    MatchOption (with_line scene said) (read ≡ Err (done + 1)) (λ next. Gives (done + 1) next lines
+    read)
 
 -- no newline is among them
 abbrev pub IsOneLine : List ℕ → Type 0

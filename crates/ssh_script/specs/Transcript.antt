@@ -1,6 +1,7 @@
 -- What the program owes: its status, and the text that it writes.
-use Rattle.std.specs.Prelude.{◌≡◌, ◌≢◌, ◌<◌, ◌≤◌, ◌⊎◌, ℕ, List, [], ◌∷◌, ◌++◌, codes, flat_map, length, Option, Some}
-use Rattle.std.specs.Prelude.{None, option_to_list, IfSome, Result, Ok, Err}
+use Rattle.std.specs.Prelude.{◌≡◌, ◌≢◌, ◌<◌, ◌≤◌, ◌⊎◌, ℕ, List, [], ◌∷◌, ◌++◌, codes, flat_map}
+use Rattle.std.specs.Prelude.{length, Option, Some}
+use Rattle.std.specs.Prelude.{None, option_to_list, Result, Ok, Err}
 use Rattle.std.specs.Fmt.{decimal}
 use Rattle.ssh_link.specs.Told.{Adds}
 use Rattle.ssh_link.specs.Faults.{RoseOrFull}
@@ -12,7 +13,7 @@ use Rattle.ssh_session.specs.declared.error.RunError.{RunError}
 use Rattle.ssh_session.specs.declared.error.RunError.TheVariants as error
 use Rattle.ssh_session.specs.World.{Settings, settings_of, World, opening_world}
 use Rattle.ssh_session.specs.Run.{Turn, Run, calls_of, entries}
-use Rattle.ssh_session.specs.Step.{Closes}
+use Rattle.ssh_session.specs.Account.{Closes}
 use Rattle.ssh_script.specs.declared.task.Task.{Task}
 use Rattle.ssh_script.specs.declared.task.Task.TheVariants as task
 use Rattle.ssh_script.specs.Transfer.{IsAll, AddsPart}
@@ -40,17 +41,17 @@ scene_accepts scene = IsListed scene.accepted
 abbrev pub scene_supply : Scene → Supply
 scene_supply scene = left_until scene.moment scene.inputs
 
--- this is the status and the text of a run of the scene, in which each callback is answered by the scene and each input
+-- this is the status and the text of a run of the scene, in which each callback is answered by the
+-- scene and each input
 -- is the scene's
 pub record IsRun (scene : Scene) (status : ℕ) (text : List ℕ) : Type 0 where
   pub turns : List (Turn Failure)
   pub world : World
-  pub run : Run (scene_accepts scene) (scene_settings scene) (opening_world (scene_settings scene)) turns world
+  pub run : Run (scene_accepts scene) (opening_world (scene_settings scene)) turns world
   pub last : Option (Turn Failure)
   pub result : Result (Unit {0}) (RunError Failure)
   -- a script's link has no faults
-  pub closes : Closes (scene_accepts scene) (scene_settings scene) world (length turns) scene.max_inputs last ⊥ result
-  pub room : IfSome last (λ turn. length turns < scene.max_inputs)
+  pub closes : Closes (scene_accepts scene) world (length turns) scene.max_inputs last ⊥ result
   pub answered : IsAnswered scene.queues (flat_map calls_of (turns ++ option_to_list last))
   pub given : IsGiven (scene_supply scene) (flat_map entries (turns ++ option_to_list last))
   pub status_is : status_of result ≡ Some status
@@ -60,7 +61,8 @@ pub record IsRun (scene : Scene) (status : ℕ) (text : List ℕ) : Type 0 where
 -- the status and the text of a script with this scene, or with this first bad line
 abbrev pub Shows : Result Scene ℕ → ℕ → List ℕ → Type 0
 Shows (Ok scene) status text = IsRun scene status text
-Shows (Err number) status text = (status ≡ 2) × (text ≡ codes "bad line " ++ decimal number ++ codes "\n")
+Shows (Err number) status text = (status ≡ 2) × (text ≡ codes "bad line " ++ decimal number
+    ++ codes "\n")
 
 -- the longest script
 abbrev pub longest : ℕ
@@ -74,7 +76,8 @@ abbrev pub Scripted : List ℕ → ℕ → List ℕ → Type 0
 Scripted bytes status text =
     (IsTooLong bytes × (status ≡ 2) × (text ≡ codes "script too long\n"))
     ⊎ ((length bytes ≤ longest)
-    × (read : Result Scene ℕ) × Gives 0 opening_scene (lines_of bytes) read × Shows read status text)
+    × (read : Result Scene ℕ) × Gives 0 opening_scene (lines_of bytes) read
+    × Shows read status text)
 
 -- the words that ask for a run, for the usage line, and for the version
 abbrev pub run_words : List (List ℕ)
@@ -113,11 +116,13 @@ Transcript words bytes status text =
 
 -- a script that is not run: it is too long, or has a bad line
 abbrev pub IsBadScript : List ℕ → Type 0
-IsBadScript bytes = IsTooLong bytes ⊎ ((number : ℕ) × Gives 0 opening_scene (lines_of bytes) (Err number))
+IsBadScript bytes = IsTooLong bytes
+    ⊎ ((number : ℕ) × Gives 0 opening_scene (lines_of bytes) (Err number))
 
 -- the same of the bytes that are left in a source, where it tells them
 abbrev pub Owed : List (List ℕ) → Option (List ℕ) → ℕ → List ℕ → Type 0
-Owed words left status text = (bytes : List ℕ) × IsAll left bytes × Transcript words bytes status text
+Owed words left status text = (bytes : List ℕ) × IsAll left bytes × Transcript words bytes status
+    text
 
 -- a script was asked for, and its source failed
 abbrev pub IsUnread : List (List ℕ) → ℕ → ℕ → Type 0
@@ -130,9 +135,11 @@ read_fault = codes "read fault\n"
 abbrev pub IsCutShort : ℕ → ℕ → ℕ → Type 0
 IsCutShort faults faults' status = ((2 < status) × RoseOrFull faults faults') ⊎ (status ≡ 5)
 
--- how the program ends, by its status: what is owed, that the source failed and that the sink did, and what the sink
+-- how the program ends, by its status: what is owed, that the source failed and that the sink did,
+-- and what the sink
 -- held before and after
-pub data Ends (owed : ℕ → List ℕ → Type 0) (source_failed sink_failed : Type 0) (held held' : Option (List ℕ))
+pub data Ends (owed : ℕ → List ℕ → Type 0) (source_failed sink_failed : Type 0)
+    (held held' : Option (List ℕ))
     (status : ℕ) : Type 0 where
   -- the whole text was written
   Shown : (text : List ℕ) → status < 3 → owed status text → Adds held held' text →

@@ -32,7 +32,8 @@ IsRead (Some bytes) left' read = (rest : List ℕ) × (left' ≡ Some rest) × (
 
 -- what was read more stands behind the text
 abbrev pub IsReadOn : Option (List ℕ) → Option (List ℕ) → List ℕ → List ℕ → Type 0
-IsReadOn left left' text text' = (piece : List ℕ) × (text' ≡ text ++ piece) × IsRead left left' piece
+IsReadOn left left' text text' = (piece : List ℕ) × (text' ≡ text ++ piece)
+    × IsRead left left' piece
 
 -- a front of the text was written
 abbrev pub AddsPart : Option (List ℕ) → Option (List ℕ) → List ℕ → Type 0

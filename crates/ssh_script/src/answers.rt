@@ -35,6 +35,15 @@ pub(crate) enum OpenVerdict {
     Hold,
 }
 
+/// What a script answers to data.
+#[derive(Clone, Copy, Debug, PartialEq, Eq)]
+pub(crate) enum DataVerdict {
+    /// Nothing.
+    Silent,
+    /// The same data.
+    Echo,
+}
+
 /// The answers of a script, each list in order.
 #[derive(Drop)]
 pub(crate) struct Answers {
@@ -56,6 +65,8 @@ pub(crate) struct Answers {
     pub(crate) banner: Option<Text>,
     /// To all channels that the peer opens.
     pub(crate) opens: OpenVerdict,
+    /// To data on a channel.
+    pub(crate) incoming: DataVerdict,
 }
 
 /// How many answers of each list were given.

@@ -2,7 +2,9 @@
 ghost use Rattle.std.specs.Prelude.{◌≡◌, ◌++◌, ◌∷◌, codes, map, flat_map, IfOk, OnOk};
 ghost use Rattle.std.specs.String.{string_bytes};
 ghost use Rattle.ssh_keys.specs.Keys.{key_blob};
-ghost use Rattle.ssh_script.specs.CallLines.{Number, hex_word, flag_text, mode_text, later_mode, modes_text, response_text, outcome_text, word_text, word_of, line_text};
+ghost use Rattle.ssh_script.specs.CallLines.{Number, hex_word, flag_text, mode_text, later_mode};
+ghost use Rattle.ssh_script.specs.CallLines.{modes_text, response_text, outcome_text, word_text};
+ghost use Rattle.ssh_script.specs.CallLines.{word_of, line_text};
 
 use crate::print::{print_field, print_hex};
 use crate::print_notice::print_outcome;
@@ -56,7 +58,8 @@ fn print_word(alloc: Global, out: &mut String, bytes: &[u8]) -> Result<(), Alloc
 }
 
 fn print_key(alloc: Global, out: &mut String, key: &PublicKey) -> Result<(), AllocError>
-    ensures { OnOk result (string_bytes out.new ≡ string_bytes out.old ++ hex_word (key_blob key.now)) }
+    ensures { OnOk result (string_bytes out.new ≡ string_bytes out.old
+        ++ hex_word (key_blob key.now)) }
 {
     let blob = blob_of(alloc, key)?;
     print_word(alloc, out, blob.as_slice())
@@ -72,7 +75,8 @@ fn print_name(out: &mut String, name: &str) -> Result<(), AllocError>
 
 /// A flag behind a space.
 pub(crate) fn print_flag(out: &mut String, flag: bool) -> Result<(), AllocError>
-    ensures { OnOk result (string_bytes out.new ≡ string_bytes out.old ++ (codes " " ++ flag_text flag)) }
+    ensures { OnOk result (string_bytes out.new ≡ string_bytes out.old
+        ++ (codes " " ++ flag_text flag)) }
 {
     if flag {
         out.push_str(" 1")
@@ -96,7 +100,8 @@ fn print_later_modes(
     out: &mut String,
     modes: &[(Pty, u32)],
 ) -> Result<(), AllocError>
-    ensures { OnOk result (string_bytes out.new ≡ string_bytes out.old ++ flat_map later_mode modes.now) }
+    ensures { OnOk result (string_bytes out.new ≡ string_bytes out.old ++ flat_map later_mode
+        modes.now) }
 {
     for mode in modes {
         out.push_str(",")?;
@@ -107,7 +112,8 @@ fn print_later_modes(
 
 /// Modes behind a space, and `-` for none.
 fn print_modes(alloc: Global, out: &mut String, modes: &[(Pty, u32)]) -> Result<(), AllocError>
-    ensures { OnOk result (string_bytes out.new ≡ string_bytes out.old ++ (codes " " ++ modes_text modes.now)) }
+    ensures { OnOk result (string_bytes out.new ≡ string_bytes out.old
+        ++ (codes " " ++ modes_text modes.now)) }
 {
     out.push_str(" ")?;
     match modes {
@@ -121,7 +127,8 @@ fn print_modes(alloc: Global, out: &mut String, modes: &[(Pty, u32)]) -> Result<
 
 /// Responses, each in hex behind a space.
 fn print_responses(alloc: Global, out: &mut String, responses: &[Bytes]) -> Result<(), AllocError>
-    ensures { OnOk result (string_bytes out.new ≡ string_bytes out.old ++ flat_map hex_word responses.now) }
+    ensures { OnOk result (string_bytes out.new ≡ string_bytes out.old
+        ++ flat_map hex_word responses.now) }
 {
     for text in responses {
         print_word(alloc, out, text.as_slice())?;
@@ -135,7 +142,8 @@ fn print_response(
     out: &mut String,
     response: &Option<Blobs>,
 ) -> Result<(), AllocError>
-    ensures { OnOk result (string_bytes out.new ≡ string_bytes out.old ++ response_text response.now) }
+    ensures { OnOk result (string_bytes out.new ≡ string_bytes out.old
+        ++ response_text response.now) }
 {
     match response {
         Some(responses) => print_responses(alloc, out, responses.as_slice()),
@@ -145,7 +153,8 @@ fn print_response(
 
 /// What came of a command, behind a space.
 fn print_came(alloc: Global, out: &mut String, outcome: CommandOutcome) -> Result<(), AllocError>
-    ensures { OnOk result (string_bytes out.new ≡ string_bytes out.old ++ (codes " " ++ outcome_text outcome)) }
+    ensures { OnOk result (string_bytes out.new ≡ string_bytes out.old
+        ++ (codes " " ++ outcome_text outcome)) }
 {
     out.push_str(" ")?;
     print_outcome(alloc, out, outcome)
@@ -157,7 +166,8 @@ fn print_argument(
     out: &mut String,
     argument: &Argument<'_>,
 ) -> Result<(), AllocError>
-    ensures { OnOk result (string_bytes out.new ≡ string_bytes out.old ++ word_text (word_of argument.now)) }
+    ensures { OnOk result (string_bytes out.new ≡ string_bytes out.old
+        ++ word_text (word_of argument.now)) }
 {
     match argument {
         Argument::Number(number) => print_field(alloc, out, " ", *number),
@@ -179,7 +189,8 @@ fn print_arguments(
     out: &mut String,
     arguments: &[Argument<'_>],
 ) -> Result<(), AllocError>
-    ensures { OnOk result (string_bytes out.new ≡ string_bytes out.old ++ flat_map word_text (map word_of arguments.now)) }
+    ensures { OnOk result (string_bytes out.new ≡ string_bytes out.old
+        ++ flat_map word_text (map word_of arguments.now)) }
 {
     match arguments {
         [] => Ok(()),
@@ -197,7 +208,8 @@ pub(crate) fn print_line(
     name: &str,
     arguments: &[Argument<'_>],
 ) -> Result<(), AllocError>
-    ensures { OnOk result (string_bytes out.new ≡ string_bytes out.old ++ line_text name.now (map word_of arguments.now)) }
+    ensures { OnOk result (string_bytes out.new ≡ string_bytes out.old
+        ++ line_text name.now (map word_of arguments.now)) }
 {
     out.push_str("call ")?;
     out.push_str(name)?;
@@ -213,7 +225,8 @@ pub(crate) fn print_on(
     channel: ChannelId,
     arguments: &[Argument<'_>],
 ) -> Result<(), AllocError>
-    ensures { OnOk result (string_bytes out.new ≡ string_bytes out.old ++ line_text name.now (Number channel.0 ∷ map word_of arguments.now)) }
+    ensures { OnOk result (string_bytes out.new ≡ string_bytes out.old
+        ++ line_text name.now (Number channel.0 ∷ map word_of arguments.now)) }
 {
     out.push_str("call ")?;
     out.push_str(name)?;

@@ -1,20 +1,25 @@
 // What a script's handler keeps of what it is asked, and so tells.
 ghost use Rattle.std.specs.Prelude.{◌≡◌, [], ◌∷◌, ◌++◌, Ok, true, OnOk, OnErr, IfOk};
 ghost use Rattle.ssh_link.specs.Told.{Tells};
-ghost use Rattle.ssh_link.specs.declared.command.Command.TheVariants.{ChannelSuccess};
+ghost use Rattle.ssh_link.specs.declared.command.Command.TheVariants.{ChannelSuccess, Data};
 ghost use Rattle.ssh_auth.specs.declared.call.Call.{Call};
+ghost use Rattle.ssh_auth.specs.declared.question.Happening.TheVariants as what;
 ghost use Rattle.ssh_auth.specs.declared.question.Lent.TheVariants.{Happened, Opens};
 ghost use Rattle.ssh_auth.specs.Calls.{admission_call, lent_call, judged_call};
-ghost use Rattle.ssh_script.specs.Played.{Failure, records, replies, grants};
+ghost use Rattle.ssh_script.specs.Played.{Failure, records, replies, echoes, grants};
 ghost use Rattle.ssh_script.specs.Opens.{recorded};
 ghost use Rattle.ssh_script.specs.Telling.{told_by};
 
+use crate::answers::DataVerdict;
 use crate::interactive::interactive_answer_of;
+use crate::made;
 use crate::script_handler::{ScriptError, ScriptHandler, open_answer_of, places_after, verdict_of};
+use bytes::Bytes;
 use ssh_auth::{Admission, Auth, Happening, Judged, Lent, OpenType, Question};
 use ssh_handler::{Commands, RecordError};
 use ssh_link::{ChannelOpenHandle, OpenAnswer};
 use ssh_wire::{ChannelId, WireError};
+use std::alloc::Global;
 
 // The answer to a callback, where there was memory for it.
 pub(crate) fn or_lost<T>(
@@ -95,6 +100,52 @@ fn succeed(
     }
 }
 
+// Records that data are sent back, where they are.
+fn echo(
+    alloc: Global,
+    session: &mut Commands<'_>,
+    lost: &mut bool,
+    verdict: DataVerdict,
+    channel: ChannelId,
+    bytes: &[u8],
+) -> Result<(), RecordError<ScriptError>>
+    requires fresh { session.old.recorded ≡ [] }
+    ensures recorded { OnOk result (session.new.recorded ≡ echoes verdict channel bytes.now) }
+    ensures same { OnOk result (lost.new ≡ lost.old) }
+    ensures lost { OnErr result (lost.new ≡ true) }
+{
+    match verdict {
+        DataVerdict::Silent => Ok(()),
+        DataVerdict::Echo => send_back(alloc, session, lost, channel, bytes),
+    }
+}
+
+// Records that data are sent back.
+fn send_back(
+    alloc: Global,
+    session: &mut Commands<'_>,
+    lost: &mut bool,
+    channel: ChannelId,
+    bytes: &[u8],
+) -> Result<(), RecordError<ScriptError>>
+    requires fresh { session.old.recorded ≡ [] }
+    ensures recorded { OnOk result (session.new.recorded ≡ Data channel bytes.now ∷ []) }
+    ensures same { OnOk result (lost.new ≡ lost.old) }
+    ensures lost { OnErr result (lost.new ≡ true) }
+{
+    let Ok(copy) = Bytes::copy_from_slice(alloc, bytes) else {
+        *lost = true;
+        return Err(RecordError::NoMemory);
+    };
+    match session.data(channel, copy) {
+        Ok(()) => Ok(()),
+        Err(_unrecorded) => {
+            *lost = true;
+            Err(RecordError::NoMemory)
+        }
+    }
+}
+
 impl ScriptHandler {
     /// A question that cannot be kept: from now on nothing is told.
     pub(crate) fn loses<T>(&mut self) -> Result<T, RecordError<ScriptError>>
@@ -117,7 +168,8 @@ impl ScriptHandler {
 
     /// A user asks to be let in.
     pub(crate) fn admits(&mut self, admission: Admission) -> Result<Auth, RecordError<ScriptError>>
-        ensures { Tells (told_by self.old) (told_by self.new) result (admission_call admission result) }
+        ensures { Tells (told_by self.old) (told_by self.new) result
+            (admission_call admission result) }
     {
         let verdict = verdict_of(&self.answers, self.next, &admission);
         let answer = or_lost(&mut self.lost, interactive_answer_of(self.alloc, verdict))?;
@@ -133,8 +185,10 @@ impl ScriptHandler {
         lent: Lent,
         session: &Commands<'_>,
     ) -> Result<(), RecordError<ScriptError>>
-        requires recorded { records self.old.answers.opens lent ≡ session.now.recorded }
-        ensures { Tells (told_by self.old) (told_by self.new) result (lent_call lent result session.now.recorded) }
+        requires recorded { records self.old.answers.opens self.old.answers.incoming lent
+            ≡ session.now.recorded }
+        ensures { Tells (told_by self.old) (told_by self.new) result
+            (lent_call lent result session.now.recorded) }
     {
         keep(&mut self.asked, &mut self.lost, Question::Lends(lent))
     }
@@ -146,11 +200,52 @@ impl ScriptHandler {
         happening: Happening,
         session: &Commands<'_>,
     ) -> Result<(), RecordError<ScriptError>>
-        requires quiet { replies channel happening ≡ [] }
+        requires quiet { replies self.old.answers.incoming channel happening ≡ [] }
         requires fresh { session.now.recorded ≡ [] }
-        ensures { Tells (told_by self.old) (told_by self.new) result (lent_call (Happened channel happening) result session.now.recorded) }
+        ensures { Tells (told_by self.old) (told_by self.new) result
+            (lent_call (Happened channel happening) result session.now.recorded) }
     {
         self.hears(Lent::Happened(channel, happening), session)
+    }
+
+    /// Data come in on a channel, and are answered as the script says.
+    pub(crate) fn hears_data(
+        &mut self,
+        channel: ChannelId,
+        bytes: &[u8],
+        session: &mut Commands<'_>,
+    ) -> Result<(), RecordError<ScriptError>>
+        requires fresh { session.old.recorded ≡ [] }
+        ensures { Tells (told_by self.old) (told_by self.new) result
+            (lent_call (Happened channel (what.Data bytes.now)) result session.new.recorded) }
+    {
+        echo(
+            self.alloc,
+            session,
+            &mut self.lost,
+            self.answers.incoming,
+            channel,
+            bytes,
+        )?;
+        self.keeps_data(channel, bytes, session)
+    }
+
+    /// Data came in on a channel, and what is to be recorded is.
+    fn keeps_data(
+        &mut self,
+        channel: ChannelId,
+        bytes: &[u8],
+        session: &Commands<'_>,
+    ) -> Result<(), RecordError<ScriptError>>
+        requires answered { echoes self.old.answers.incoming channel bytes.now
+            ≡ session.now.recorded }
+        ensures { Tells (told_by self.old) (told_by self.new) result
+            (lent_call (Happened channel (what.Data bytes.now)) result session.now.recorded) }
+    {
+        let Ok(data) = made::data(self.alloc, bytes) else {
+            return self.loses();
+        };
+        self.hears(Lent::Happened(channel, data), session)
     }
 
     /// A request on a channel is answered by success.
@@ -160,9 +255,11 @@ impl ScriptHandler {
         happening: Happening,
         session: &mut Commands<'_>,
     ) -> Result<(), RecordError<ScriptError>>
-        requires request { replies channel happening ≡ ChannelSuccess channel ∷ [] }
+        requires request { replies self.old.answers.incoming channel happening
+            ≡ ChannelSuccess channel ∷ [] }
         requires fresh { session.old.recorded ≡ [] }
-        ensures { Tells (told_by self.old) (told_by self.new) result (lent_call (Happened channel happening) result session.new.recorded) }
+        ensures { Tells (told_by self.old) (told_by self.new) result
+            (lent_call (Happened channel happening) result session.new.recorded) }
     {
         succeed(session, &mut self.lost, channel)?;
         self.hears(Lent::Happened(channel, happening), session)
@@ -178,7 +275,8 @@ impl ScriptHandler {
     ) -> Result<(), RecordError<ScriptError>>
         requires of { reply ≡ channel }
         requires fresh { session.old.recorded ≡ [] }
-        ensures { Tells (told_by self.old) (told_by self.new) result (lent_call (Opens channel opening) result session.new.recorded) }
+        ensures { Tells (told_by self.old) (told_by self.new) result
+            (lent_call (Opens channel opening) result session.new.recorded) }
     {
         let answer = open_answer_of(self.answers.opens, reply);
         answer_open(session, &mut self.lost, answer)?;
@@ -194,7 +292,8 @@ impl ScriptHandler {
     ) -> Result<bool, RecordError<ScriptError>>
         requires granted { grants judged ≡ granted }
         requires fresh { session.now.recorded ≡ [] }
-        ensures { Tells (told_by self.old) (told_by self.new) result (judged_call judged result session.now.recorded) }
+        ensures { Tells (told_by self.old) (told_by self.new) result
+            (judged_call judged result session.now.recorded) }
     {
         keep(&mut self.asked, &mut self.lost, Question::Judges(judged))?;
         Ok(granted)

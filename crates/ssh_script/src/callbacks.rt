@@ -131,10 +131,7 @@ impl Handler for ScriptHandler {
         bytes: &[u8],
         session: &mut Commands<'_>,
     ) -> Result<(), RecordError<ScriptError>> {
-        let Ok(data) = made::data(self.alloc, bytes) else {
-            return self.loses();
-        };
-        self.happens(channel, data, session)
+        self.hears_data(channel, bytes, session)
     }
 
     fn extended_data(

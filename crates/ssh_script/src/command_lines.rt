@@ -1,6 +1,8 @@
 // How the lines of a script are written that bring a command, or the answer to an open of the peer.
 ghost use Rattle.std.specs.Prelude.{◌≡◌, IfOk};
-ghost use Rattle.ssh_script.specs.Grammar.{IsSmallIn, IsChannelIn, Fits, reason_of, data_form, eof_form, close_form, accept_form, reject_form};
+ghost use Rattle.ssh_script.specs.Grammar.{IsSmallIn, IsChannelIn, Fits, reason_of, data_form};
+ghost use Rattle.ssh_script.specs.Grammar.{ext_form, eof_form, close_form, accept_form};
+ghost use Rattle.ssh_script.specs.Grammar.{reject_form};
 
 use crate::grammar::{bytes_in, number_in};
 use crate::lines::{InputLine, Line};
@@ -9,7 +11,7 @@ use ssh_wire::{ChannelId, ChannelOpenFailure};
 use std::alloc::{AllocError, Global};
 
 /// The number that the digits write, below 2^32.
-fn small_in(alloc: Global, digits: &str) -> Result<Option<u32>, AllocError>
+pub(crate) fn small_in(alloc: Global, digits: &str) -> Result<Option<u32>, AllocError>
     ensures { IfOk result (IsSmallIn digits.now) }
 {
     let Some(number) = number_in(alloc, digits)? else {
@@ -49,6 +51,33 @@ pub(crate) fn data_line(alloc: Global, rest: &str) -> Result<Option<Line>, Alloc
         return Ok(None);
     };
     let command = Command::Data { channel, bytes };
+    Ok(Some(Line::Input(InputLine::Command(command))))
+}
+
+/// The rest of a line `ext`: a channel, a data type code, and bytes.
+pub(crate) fn ext_line(alloc: Global, rest: &str) -> Result<Option<Line>, AllocError>
+    ensures { IfOk result (Fits (ext_form rest.now)) }
+{
+    let Some((number, rest)) = rest.split_once(' ') else {
+        return Ok(None);
+    };
+    let Some((code, digits)) = rest.split_once(' ') else {
+        return Ok(None);
+    };
+    let Some(channel) = channel_in(alloc, number)? else {
+        return Ok(None);
+    };
+    let Some(ext) = small_in(alloc, code)? else {
+        return Ok(None);
+    };
+    let Some(bytes) = bytes_in(alloc, digits)? else {
+        return Ok(None);
+    };
+    let command = Command::ExtendedData {
+        channel,
+        ext,
+        bytes,
+    };
     Ok(Some(Line::Input(InputLine::Command(command))))
 }
 

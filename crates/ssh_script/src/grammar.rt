@@ -1,9 +1,17 @@
 // How the lines of a script are written: words with one space between each two.
 ghost use Rattle.std.specs.Prelude.{◌≡◌, IfOk};
-ghost use Rattle.ssh_script.specs.Grammar.{IsNumberIn, IsHexIn, IsTextIn, IsKeyIn, IsSignatureIn, Fits, Reads, word_form, config_form, answer_form, sign_form, lone_form, verdict_of, interactive_verdict_of, open_verdict_of, answer_to, verdict_form, banner_form, interactive_form, open_form};
+ghost use Rattle.ssh_script.specs.Grammar.{IsNumberIn, IsHexIn, IsTextIn, IsKeyIn, IsSignatureIn};
+ghost use Rattle.ssh_script.specs.Grammar.{Fits, Reads, word_form, config_form, number_form};
+ghost use Rattle.ssh_script.specs.Grammar.{window_form, packet_form, answer_form, sign_form};
+ghost use Rattle.ssh_script.specs.Grammar.{lone_form, verdict_of, interactive_verdict_of};
+ghost use Rattle.ssh_script.specs.Grammar.{open_verdict_of, data_verdict_of, answer_to};
+ghost use Rattle.ssh_script.specs.Grammar.{verdict_form, banner_form, interactive_form, open_form};
+ghost use Rattle.ssh_script.specs.Grammar.{data_answer_form};
 
-use crate::answers::{InteractiveVerdict, OpenVerdict, Verdict};
-use crate::command_lines::{accept_line, close_line, data_line, eof_line, reject_line};
+use crate::answers::{DataVerdict, InteractiveVerdict, OpenVerdict, Verdict};
+use crate::command_lines::{
+    accept_line, close_line, data_line, eof_line, ext_line, reject_line, small_in,
+};
 use crate::lines::{InputLine, Line, Setting};
 use bytes::Bytes;
 use hex::FromHexError;
@@ -192,6 +200,23 @@ fn open_line(word: &str) -> Option<Line>
     Some(Line::Setting(Setting::AnswerOpen(verdict)))
 }
 
+fn data_verdict_in(word: &str) -> Option<DataVerdict>
+    ensures { result ≡ data_verdict_of word.now }
+{
+    match word {
+        "echo" => Some(DataVerdict::Echo),
+        "silent" => Some(DataVerdict::Silent),
+        _ => None,
+    }
+}
+
+fn data_answer_line(word: &str) -> Option<Line>
+    ensures { Fits (data_answer_form word.now) result }
+{
+    let verdict = data_verdict_in(word)?;
+    Some(Line::Setting(Setting::AnswerData(verdict)))
+}
+
 /// The rest of a line `answer`.
 fn answer_line(rest: &str) -> Option<Line>
     ensures { Fits (answer_form rest.now) result }
@@ -200,8 +225,42 @@ fn answer_line(rest: &str) -> Option<Line>
         Some(("banner", word)) => banner_line(word),
         Some(("interactive", word)) => interactive_line(word),
         Some(("open", word)) => open_line(word),
+        Some(("data", word)) => data_answer_line(word),
         Some((name, word)) => verdict_line(name, word),
         None => None,
+    }
+}
+
+/// The rest of a line `config window`.
+fn window_line(alloc: Global, digits: &str) -> Result<Option<Line>, AllocError>
+    ensures { IfOk result (Fits (window_form digits.now)) }
+{
+    let Some(size) = small_in(alloc, digits)? else {
+        return Ok(None);
+    };
+    Ok(Some(Line::Setting(Setting::Window(size))))
+}
+
+/// The rest of a line `config packet`.
+fn packet_line(alloc: Global, digits: &str) -> Result<Option<Line>, AllocError>
+    ensures { IfOk result (Fits (packet_form digits.now)) }
+{
+    let Some(size) = small_in(alloc, digits)? else {
+        return Ok(None);
+    };
+    Ok(Some(Line::Setting(Setting::Packet(size))))
+}
+
+/// The rest of a line `config`, by another name.
+fn number_line(alloc: Global, name: &str, digits: &str) -> Result<Option<Line>, AllocError>
+    ensures { IfOk result (Fits (number_form name.now digits.now)) }
+{
+    let number = number_in(alloc, digits)?;
+    match name {
+        "attempts" => Ok(number.map(|count| Line::Setting(Setting::Attempts(count)))),
+        "reject" => Ok(number.map(|time| Line::Setting(Setting::Reject(time)))),
+        "reject-initial" => Ok(number.map(|time| Line::Setting(Setting::RejectInitial(time)))),
+        _ => Ok(None),
     }
 }
 
@@ -212,12 +271,10 @@ fn config_line(alloc: Global, rest: &str) -> Result<Option<Line>, AllocError>
     let Some((name, digits)) = rest.split_once(' ') else {
         return Ok(None);
     };
-    let number = number_in(alloc, digits)?;
     match name {
-        "attempts" => Ok(number.map(|count| Line::Setting(Setting::Attempts(count)))),
-        "reject" => Ok(number.map(|time| Line::Setting(Setting::Reject(time)))),
-        "reject-initial" => Ok(number.map(|time| Line::Setting(Setting::RejectInitial(time)))),
-        _ => Ok(None),
+        "window" => window_line(alloc, digits),
+        "packet" => packet_line(alloc, digits),
+        _ => number_line(alloc, name, digits),
     }
 }
 
@@ -252,6 +309,7 @@ fn word_line(alloc: Global, word: &str, rest: &str) -> Result<Option<Line>, Allo
         "at" => Ok(number_in(alloc, rest)?.map(|ms| Line::Input(InputLine::At(ms)))),
         "recv" => Ok(bytes_in(alloc, rest)?.map(|bytes| Line::Input(InputLine::Recv(bytes)))),
         "data" => data_line(alloc, rest),
+        "ext" => ext_line(alloc, rest),
         "eof" => eof_line(alloc, rest),
         "close" => close_line(alloc, rest),
         "accept" => accept_line(alloc, rest),

@@ -1,6 +1,6 @@
 // The lines of a script.
 
-use crate::answers::{InteractiveVerdict, OpenVerdict, Verdict};
+use crate::answers::{DataVerdict, InteractiveVerdict, OpenVerdict, Verdict};
 use bytes::Bytes;
 use ssh_keys::AcceptedSignature;
 use ssh_link::{Command, OpenAnswer};
@@ -13,6 +13,10 @@ pub(crate) enum Setting {
     Session(Bytes),
     /// After how many inputs the run stops.
     Inputs(u64),
+    /// How many bytes a channel takes at first.
+    Window(u32),
+    /// How many bytes of data it takes at most in one message.
+    Packet(u32),
     /// How long a rejection is held, in milliseconds.
     Reject(u64),
     /// How long the rejection of a first request of method none is held, in milliseconds.
@@ -39,6 +43,8 @@ pub(crate) enum Setting {
     Banner(Text),
     /// The answer to the channels that the peer opens; the last of these counts.
     AnswerOpen(OpenVerdict),
+    /// The answer to data on a channel; the last of these counts.
+    AnswerData(DataVerdict),
 }
 
 /// What comes in.

@@ -39,7 +39,8 @@ pub(crate) fn offered(
     user: &str,
     offer: PublicKeyOffer<'_>,
 ) -> Result<Admission, WireError>
-    ensures { IfOk result (λ made. made ≡ by.PublickeyOffered user.now offer.entry.public_key.now offer.entry.algorithm) }
+    ensures { IfOk result (λ made. made ≡ by.PublickeyOffered user.now offer.entry.public_key.now
+        offer.entry.algorithm) }
 {
     Ok(Admission::PublickeyOffered {
         user: Text::new(alloc, user)?,
@@ -54,7 +55,8 @@ pub(crate) fn publickey(
     user: &str,
     key: VerifiedPublicKey<'_>,
 ) -> Result<Admission, WireError>
-    ensures { IfOk result (λ made. made ≡ by.Publickey user.now key.entry.public_key.now key.entry.algorithm) }
+    ensures { IfOk result (λ made. made ≡ by.Publickey user.now key.entry.public_key.now
+        key.entry.algorithm) }
 {
     Ok(Admission::Publickey {
         user: Text::new(alloc, user)?,
@@ -84,7 +86,8 @@ pub(crate) fn interactive(
     submethods: &str,
     response: Option<Response<'_>>,
 ) -> Result<Admission, WireError>
-    ensures { IfOk result (λ made. made ≡ by.KeyboardInteractive user.now submethods.now response.entry) }
+    ensures { IfOk result (λ made. made ≡ by.KeyboardInteractive user.now submethods.now
+        response.entry) }
 {
     Ok(Admission::KeyboardInteractive {
         user: Text::new(alloc, user)?,
@@ -115,7 +118,8 @@ pub(crate) fn direct_tcpip(
     originator_address: &str,
     originator_port: u32,
 ) -> Result<OpenType, WireError>
-    ensures { IfOk result (λ made. made ≡ type.DirectTcpip host_to_connect.now port_to_connect originator_address.now originator_port) }
+    ensures { IfOk result (λ made. made ≡ type.DirectTcpip host_to_connect.now port_to_connect
+        originator_address.now originator_port) }
 {
     Ok(OpenType::DirectTcpip {
         host_to_connect: Text::new(alloc, host_to_connect)?,
@@ -133,7 +137,8 @@ pub(crate) fn forwarded_tcpip(
     originator_address: &str,
     originator_port: u32,
 ) -> Result<OpenType, WireError>
-    ensures { IfOk result (λ made. made ≡ type.ForwardedTcpip host_to_connect.now port_to_connect originator_address.now originator_port) }
+    ensures { IfOk result (λ made. made ≡ type.ForwardedTcpip host_to_connect.now port_to_connect
+        originator_address.now originator_port) }
 {
     Ok(OpenType::ForwardedTcpip {
         host_to_connect: Text::new(alloc, host_to_connect)?,
@@ -192,7 +197,8 @@ pub(crate) fn pty(
     pix_height: u32,
     modes: &[(Pty, u32)],
 ) -> Result<Happening, WireError>
-    ensures { IfOk result (λ made. made ≡ what.PtyRequest term.now col_width row_height pix_width pix_height modes.now) }
+    ensures { IfOk result (λ made. made ≡ what.PtyRequest term.now col_width row_height pix_width
+        pix_height modes.now) }
 {
     Ok(Happening::PtyRequest {
         term: Text::new(alloc, term)?,
@@ -212,7 +218,8 @@ pub(crate) fn x11(
     x11_auth_cookie: &str,
     x11_screen_number: u32,
 ) -> Result<Happening, WireError>
-    ensures { IfOk result (λ made. made ≡ what.X11Request single_connection x11_auth_protocol.now x11_auth_cookie.now x11_screen_number) }
+    ensures { IfOk result (λ made. made ≡ what.X11Request single_connection x11_auth_protocol.now
+        x11_auth_cookie.now x11_screen_number) }
 {
     Ok(Happening::X11Request {
         single_connection,

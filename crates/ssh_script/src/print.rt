@@ -36,7 +36,8 @@ pub(crate) fn print_field(
     word: &str,
     number: u64,
 ) -> Result<(), AllocError>
-    ensures { OnOk result (string_bytes out.new ≡ string_bytes out.old ++ (word.now ++ decimal number)) }
+    ensures { OnOk result (string_bytes out.new ≡ string_bytes out.old
+        ++ (word.now ++ decimal number)) }
 {
     out.push_str(word)?;
     print_number(alloc, out, number)
@@ -80,7 +81,8 @@ fn print_hold(alloc: Global, out: &mut String, hold_until: Option<u64>) -> Resul
 
 /// A payload in hex, one part of the frame after the other, and `-` for an empty one.
 fn print_payload(alloc: Global, out: &mut String, frame: &Frame) -> Result<(), AllocError>
-    ensures { OnOk result (string_bytes out.new ≡ string_bytes out.old ++ hex_text frame.now.payload) }
+    ensures { OnOk result (string_bytes out.new ≡ string_bytes out.old
+        ++ hex_text frame.now.payload) }
 {
     let (head, body) = frame.parts();
     if body.is_empty() {
@@ -103,7 +105,8 @@ fn print_frame(alloc: Global, out: &mut String, frame: &Frame) -> Result<(), All
 }
 
 fn print_input(alloc: Global, out: &mut String, number: u64) -> Result<(), AllocError>
-    ensures { OnOk result (string_bytes out.new ≡ string_bytes out.old ++ codes "input " ++ decimal number ++ codes "\n") }
+    ensures { OnOk result (string_bytes out.new ≡ string_bytes out.old ++ codes "input "
+        ++ decimal number ++ codes "\n") }
 {
     out.push_str("input ")?;
     print_number(alloc, out, number)?;
@@ -116,7 +119,8 @@ pub(crate) fn print_trace(
     out: &mut String,
     entries: &[TraceEntry],
 ) -> Result<(), AllocError>
-    ensures { OnOk result (string_bytes out.new ≡ string_bytes out.old ++ entry_lines 0 entries.now) }
+    ensures { OnOk result (string_bytes out.new ≡ string_bytes out.old
+        ++ entry_lines 0 entries.now) }
 {
     let mut taken: u64 = 0;
     for entry in entries {

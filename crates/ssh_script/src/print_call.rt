@@ -4,7 +4,9 @@ ghost use Rattle.std.specs.String.{string_bytes};
 ghost use Rattle.ssh_keys.specs.Algorithms.{algorithm_name};
 ghost use Rattle.ssh_keys.specs.Keys.{key_blob};
 ghost use Rattle.ssh_auth.specs.declared.question.Happening.TheVariants as what;
-ghost use Rattle.ssh_script.specs.CallLines.{Number, Hex, Name, line_text, admission_line, opened_line, happened_line, lent_line, judged_line, question_line};
+ghost use Rattle.ssh_script.specs.CallLines.{Number, Hex, Name, line_text, admission_line};
+ghost use Rattle.ssh_script.specs.CallLines.{opened_line, happened_line, lent_line, judged_line};
+ghost use Rattle.ssh_script.specs.CallLines.{question_line};
 
 use crate::argument::{Argument, print_line, print_on};
 use ssh_auth::{Admission, Happening, Judged, Lent, OpenType, Question};
@@ -14,7 +16,8 @@ use std::alloc::{AllocError, Global};
 
 /// A user asks to be let in; of a certificate its key id is printed.
 fn print_admission(alloc: Global, out: &mut String, admission: &Admission) -> Result<(), AllocError>
-    ensures { OnOk result (string_bytes out.new ≡ string_bytes out.old ++ admission_line admission.now) }
+    ensures { OnOk result (string_bytes out.new ≡ string_bytes out.old
+        ++ admission_line admission.now) }
 {
     match admission {
         Admission::None { user } => print_line(alloc, out, "auth_none", &[Argument::Text(user)]),
@@ -73,7 +76,9 @@ fn print_user_key<'a>(
     key: &'a PublicKey,
     algorithm: Algorithm,
 ) -> Result<(), AllocError>
-    ensures { OnOk result (string_bytes out.new ≡ string_bytes out.old ++ line_text name.now (Hex user.now ∷ Hex (key_blob key.now) ∷ Name (algorithm_name algorithm) ∷ [])) }
+    ensures { OnOk result (string_bytes out.new ≡ string_bytes out.old
+        ++ line_text name.now (Hex user.now ∷ Hex (key_blob key.now)
+        ∷ Name (algorithm_name algorithm) ∷ [])) }
 {
     print_line(
         alloc,
@@ -98,7 +103,9 @@ fn print_tcpip<'a>(
     from: &'a Text,
     from_port: u32,
 ) -> Result<(), AllocError>
-    ensures { OnOk result (string_bytes out.new ≡ string_bytes out.old ++ line_text name.now (Number channel.0 ∷ Hex host.now ∷ Number port ∷ Hex from.now ∷ Number from_port ∷ [])) }
+    ensures { OnOk result (string_bytes out.new ≡ string_bytes out.old
+        ++ line_text name.now (Number channel.0 ∷ Hex host.now ∷ Number port ∷ Hex from.now
+        ∷ Number from_port ∷ [])) }
 {
     print_on(
         alloc,
@@ -121,7 +128,8 @@ fn print_opened(
     channel: ChannelId,
     opening: &OpenType,
 ) -> Result<(), AllocError>
-    ensures { OnOk result (string_bytes out.new ≡ string_bytes out.old ++ opened_line channel opening.now) }
+    ensures { OnOk result (string_bytes out.new ≡ string_bytes out.old ++ opened_line channel
+        opening.now) }
 {
     match opening {
         OpenType::Session => print_on(alloc, out, "channel_open_session", channel, &[]),
@@ -166,7 +174,8 @@ fn print_pty_request<'a>(
     sizes: (u32, u32, u32, u32),
     modes: &'a Modes,
 ) -> Result<(), AllocError>
-    ensures { OnOk result (string_bytes out.new ≡ string_bytes out.old ++ happened_line channel (what.PtyRequest term.now sizes.0 sizes.1 sizes.2 sizes.3 modes.now)) }
+    ensures { OnOk result (string_bytes out.new ≡ string_bytes out.old ++ happened_line channel
+        (what.PtyRequest term.now sizes.0 sizes.1 sizes.2 sizes.3 modes.now)) }
 {
     print_on(
         alloc,
@@ -190,7 +199,8 @@ fn print_window_change_request(
     channel: ChannelId,
     sizes: (u32, u32, u32, u32),
 ) -> Result<(), AllocError>
-    ensures { OnOk result (string_bytes out.new ≡ string_bytes out.old ++ happened_line channel (what.WindowChangeRequest sizes.0 sizes.1 sizes.2 sizes.3)) }
+    ensures { OnOk result (string_bytes out.new ≡ string_bytes out.old ++ happened_line channel
+        (what.WindowChangeRequest sizes.0 sizes.1 sizes.2 sizes.3)) }
 {
     print_on(
         alloc,
@@ -215,7 +225,8 @@ fn print_x11_request<'a>(
     cookie: &'a Text,
     screen: u32,
 ) -> Result<(), AllocError>
-    ensures { OnOk result (string_bytes out.new ≡ string_bytes out.old ++ happened_line channel (what.X11Request single protocol.now cookie.now screen)) }
+    ensures { OnOk result (string_bytes out.new ≡ string_bytes out.old ++ happened_line channel
+        (what.X11Request single protocol.now cookie.now screen)) }
 {
     print_on(
         alloc,
@@ -238,7 +249,8 @@ fn print_happened(
     channel: ChannelId,
     happening: &Happening,
 ) -> Result<(), AllocError>
-    ensures { OnOk result (string_bytes out.new ≡ string_bytes out.old ++ happened_line channel happening.now) }
+    ensures { OnOk result (string_bytes out.new ≡ string_bytes out.old ++ happened_line channel
+        happening.now) }
 {
     match happening {
         Happening::Confirmed {
@@ -353,7 +365,8 @@ fn print_judged(alloc: Global, out: &mut String, judged: &Judged) -> Result<(), 
 
 /// A callback and its arguments; none is made for an exchange.
 fn print_question(alloc: Global, out: &mut String, question: &Question) -> Result<(), AllocError>
-    ensures { OnOk result (string_bytes out.new ≡ string_bytes out.old ++ question_line question.now) }
+    ensures { OnOk result (string_bytes out.new ≡ string_bytes out.old
+        ++ question_line question.now) }
 {
     match question {
         Question::Banner => print_line(alloc, out, "authentication_banner", &[]),
@@ -386,7 +399,8 @@ pub(crate) fn print_calls(
     out: &mut String,
     asked: &[Question],
 ) -> Result<(), AllocError>
-    ensures { OnOk result (string_bytes out.new ≡ string_bytes out.old ++ flat_map question_line asked.now) }
+    ensures { OnOk result (string_bytes out.new ≡ string_bytes out.old ++ flat_map question_line
+        asked.now) }
 {
     for one in asked {
         print_question(alloc, out, one)?;

@@ -2,11 +2,12 @@
 ghost use Rattle.std.specs.Prelude.{◌≡◌, ◌++◌, codes, OnOk};
 ghost use Rattle.std.specs.Fmt.{decimal};
 ghost use Rattle.std.specs.String.{string_bytes};
-ghost use Rattle.ssh_script.specs.CallLines.{flag_text, refusal_name, outcome_text};
-ghost use Rattle.ssh_script.specs.Print.{msg_text, port_text, notice_text, notice_line, answer_line};
+ghost use Rattle.ssh_script.specs.CallLines.{hex_text, flag_text, refusal_name, outcome_text};
+ghost use Rattle.ssh_script.specs.Print.{msg_text, port_text, notice_text, notice_line};
+ghost use Rattle.ssh_script.specs.Print.{answer_line};
 
 use crate::argument::print_flag;
-use crate::print::{print_field, print_id};
+use crate::print::{print_field, print_hex, print_id};
 use ssh_link::{ChannelMsg, CommandOutcome, Notice, Refusal};
 use ssh_wire::ChannelId;
 use std::alloc::{AllocError, Global};
@@ -48,10 +49,37 @@ pub(crate) fn print_outcome(
     }
 }
 
+/// Data, behind a word.
+fn print_data(alloc: Global, out: &mut String, word: &str, bytes: &[u8]) -> Result<(), AllocError>
+    ensures { OnOk result (string_bytes out.new
+        ≡ string_bytes out.old ++ (word.now ++ hex_text bytes.now)) }
+{
+    out.push_str(word)?;
+    print_hex(alloc, out, bytes)
+}
+
+/// Data of another type, and their type.
+fn print_extended(
+    alloc: Global,
+    out: &mut String,
+    bytes: &[u8],
+    code: u32,
+) -> Result<(), AllocError>
+    ensures { OnOk result (string_bytes out.new ≡ string_bytes out.old
+        ++ (codes " ExtendedData " ++ hex_text bytes.now ++ codes " " ++ decimal code)) }
+{
+    print_data(alloc, out, " ExtendedData ", bytes)?;
+    print_field(alloc, out, " ", u64::from(code))
+}
+
 fn print_msg(alloc: Global, out: &mut String, msg: &ChannelMsg) -> Result<(), AllocError>
     ensures { OnOk result (string_bytes out.new ≡ string_bytes out.old ++ msg_text msg.now) }
 {
     match msg {
+        ChannelMsg::Data { bytes } => print_data(alloc, out, " Data ", bytes.as_slice()),
+        ChannelMsg::ExtendedData { bytes, ext } => {
+            print_extended(alloc, out, bytes.as_slice(), *ext)
+        }
         ChannelMsg::WindowAdjusted { new_size } => {
             print_field(alloc, out, " WindowAdjusted ", u64::from(*new_size))
         }
@@ -71,14 +99,16 @@ fn print_port(alloc: Global, out: &mut String, port: Option<u32>) -> Result<(), 
 }
 
 fn print_cancelled(alloc: Global, out: &mut String, slot: u64, ok: bool) -> Result<(), AllocError>
-    ensures { OnOk result (string_bytes out.new ≡ string_bytes out.old ++ (codes "- Cancelled " ++ decimal slot ++ codes " " ++ flag_text ok)) }
+    ensures { OnOk result (string_bytes out.new ≡ string_bytes out.old
+        ++ (codes "- Cancelled " ++ decimal slot ++ codes " " ++ flag_text ok)) }
 {
     print_field(alloc, out, "- Cancelled ", slot)?;
     print_flag(out, ok)
 }
 
 fn print_ready(alloc: Global, out: &mut String, window: u32, packet: u32) -> Result<(), AllocError>
-    ensures { OnOk result (string_bytes out.new ≡ string_bytes out.old ++ (codes " Ready " ++ decimal window ++ codes " " ++ decimal packet)) }
+    ensures { OnOk result (string_bytes out.new ≡ string_bytes out.old
+        ++ (codes " Ready " ++ decimal window ++ codes " " ++ decimal packet)) }
 {
     print_field(alloc, out, " Ready ", u64::from(window))?;
     print_field(alloc, out, " ", u64::from(packet))
@@ -133,7 +163,8 @@ pub(crate) fn print_answer(
     ticket: u64,
     outcome: CommandOutcome,
 ) -> Result<(), AllocError>
-    ensures { OnOk result (string_bytes out.new ≡ string_bytes out.old ++ answer_line ticket outcome) }
+    ensures { OnOk result (string_bytes out.new ≡ string_bytes out.old
+        ++ answer_line ticket outcome) }
 {
     print_field(alloc, out, "done ", ticket)?;
     out.push_str(" ")?;

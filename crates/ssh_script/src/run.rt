@@ -1,12 +1,15 @@
 // A script is read and run, and what comes of it is written.
-ghost use Rattle.std.specs.Prelude.{◌≡◌, ◌≢◌, ◌<◌, ◌≤◌, ◌+◌, ◌++◌, ◌↔◌, ◌⊎◌, ℕ, List, map, codes, length, IfOk, OnOk, IsErrOf, true, false};
+ghost use Rattle.std.specs.Prelude.{◌≡◌, ◌≢◌, ◌<◌, ◌≤◌, ◌+◌, ◌++◌, ◌↔◌, ◌⊎◌, ℕ, List, map, codes};
+ghost use Rattle.std.specs.Prelude.{length, IfOk, OnOk, IsErrOf, true, false};
 ghost use Rattle.std.specs.Fmt.{decimal};
 ghost use Rattle.std.specs.String.{string_bytes};
 ghost use Rattle.ssh_link.specs.Faults.{RoseOrFull};
 ghost use Rattle.ssh_script.specs.Print.{variant_name, last_line};
 ghost use Rattle.ssh_script.specs.Scene.{scene_of};
 ghost use Rattle.ssh_script.specs.Transfer.{IsReadTo, IsReadWithin};
-ghost use Rattle.ssh_script.specs.Transcript.{status_of, IsRun, Scripted, IsBadScript, IsUnknown, Transcript, Owed, IsUnread, IsCutShort, Ends, longest, run_words};
+ghost use Rattle.ssh_script.specs.Transcript.{status_of, IsRun, Scripted, IsBadScript, IsUnknown};
+ghost use Rattle.ssh_script.specs.Transcript.{Transcript, Owed, IsUnread, IsCutShort, Ends};
+ghost use Rattle.ssh_script.specs.Transcript.{longest, run_words};
 
 use crate::print::{print_number, print_trace};
 use crate::print_call::print_calls;
@@ -62,6 +65,7 @@ fn variant_name(error: &RunError<RecordError<ScriptError>>) -> &'static str
         RunError::Key(_) => "Key",
         RunError::UnsupportedAuthMethod => "UnsupportedAuthMethod",
         RunError::Handler(_) => "Handler",
+        RunError::ChannelsFull => "ChannelsFull",
         RunError::NotBuilt => "NotBuilt",
     }
 }
@@ -95,7 +99,8 @@ fn status_of(run: &Result<(), RunError<RecordError<ScriptError>>>) -> Option<u8>
 
 /// Runs what a script says.
 fn run_scene(alloc: Global, script: Script) -> Result<Report, AllocError>
-    ensures { IfOk result (λ report. IsRun (scene_of script) report.status (string_bytes report.text)) }
+    ensures { IfOk result (λ report. IsRun (scene_of script) report.status
+        (string_bytes report.text)) }
 {
     let mut handler = ScriptHandler::new(alloc, script.answers);
     let Ok(mut link) = ScriptLink::new(alloc, script.inputs, script.moment) else {
@@ -137,7 +142,8 @@ fn one_line(alloc: Global, status: u8, line: &str) -> Result<Report, AllocError>
 /// The script has a bad line of this number.
 fn bad_line(alloc: Global, number: u64) -> Result<Report, AllocError>
     ensures status { IfOk result (λ report. report.status ≡ 2) }
-    ensures text { IfOk result (λ report. string_bytes report.text ≡ codes "bad line " ++ decimal number ++ codes "\n") }
+    ensures text { IfOk result (λ report. string_bytes report.text ≡ codes "bad line "
+        ++ decimal number ++ codes "\n") }
 {
     let mut text = String::new(alloc);
     text.push_str("bad line ")?;
@@ -172,11 +178,14 @@ fn show_lines(alloc: Global, bytes: &[u8]) -> Result<Report, AllocError>
 
 /// What these words and the source's script come to.
 fn transcript<S: Source>(alloc: Global, words: &[&str], source: &mut S) -> Result<Report, ReadError>
-    ensures owed { IfOk result (λ report. Owed (map (λ word. word.now) words.now) (S.left source.old) report.status (string_bytes report.text)) }
+    ensures owed { IfOk result (λ report. Owed (map (λ word. word.now) words.now)
+        (S.left source.old) report.status (string_bytes report.text)) }
     ensures unread { map (λ word. word.now) words.now ≢ run_words → source.new ≡ source.old }
-    ensures whole { map (λ word. word.now) words.now ≡ run_words → OnOk result (IsReadTo (longest + 1) (S.left source.old) (S.left source.new)) }
+    ensures whole { map (λ word. word.now) words.now ≡ run_words
+        → OnOk result (IsReadTo (longest + 1) (S.left source.old) (S.left source.new)) }
     ensures no_further { IsReadWithin (longest + 1) (S.left source.old) (S.left source.new) }
-    ensures cause { IsErrOf result ReadError.Failed → IsUnread (map (λ word. word.now) words.now) (S.faults source.old) (S.faults source.new) }
+    ensures cause { IsErrOf result ReadError.Failed → IsUnread (map (λ word. word.now) words.now)
+        (S.faults source.old) (S.faults source.new) }
     ensures later { S.faults source.old ≤ S.faults source.new }
 {
     match task_of(words) {
@@ -201,11 +210,14 @@ pub fn run_script<S: Source, W: Sink>(
     source: &mut S,
     sink: &mut W,
 ) -> u8
-    ensures ends { Ends (Owed (map (λ word. word.now) words.now) (S.left source.old)) (IsUnread (map (λ word. word.now) words.now) (S.faults source.old) (S.faults source.new))
-        (RoseOrFull (W.faults sink.old) (W.faults sink.new)) (W.held sink.old) (W.held sink.new) result }
+    ensures ends { Ends (Owed (map (λ word. word.now) words.now) (S.left source.old))
+        (IsUnread (map (λ word. word.now) words.now) (S.faults source.old) (S.faults source.new))
+        (RoseOrFull (W.faults sink.old) (W.faults sink.new)) (W.held sink.old)
+        (W.held sink.new) result }
     ensures unread { map (λ word. word.now) words.now ≢ run_words → source.new ≡ source.old }
     ensures whole { map (λ word. word.now) words.now ≡ run_words →
-        IsReadTo (longest + 1) (S.left source.old) (S.left source.new) ⊎ IsCutShort (S.faults source.old) (S.faults source.new) result }
+        IsReadTo (longest + 1) (S.left source.old) (S.left source.new)
+        ⊎ IsCutShort (S.faults source.old) (S.faults source.new) result }
     ensures no_further { IsReadWithin (longest + 1) (S.left source.old) (S.left source.new) }
 {
     match transcript(alloc, words, source) {
@@ -224,7 +236,9 @@ pub fn run_script<S: Source, W: Sink>(
 /// Words and a script owe one status and one text, and the status is 2 exactly with words that
 /// ask for nothing, and with `run` and a script that is too long or has a bad line.
 pub fn one_transcript()
-    ensures once { (words : List (List ℕ)) (script : List ℕ) (m n : ℕ) (s t : List ℕ) → Transcript words script m s → Transcript words script n t → (m ≡ n) × (s ≡ t) }
-    ensures two { (words : List (List ℕ)) (script : List ℕ) (m : ℕ) (text : List ℕ) → Transcript words script m text →
+    ensures once { (words : List (List ℕ)) (script : List ℕ) (m n : ℕ) (s t : List ℕ)
+        → Transcript words script m s → Transcript words script n t → (m ≡ n) × (s ≡ t) }
+    ensures two { (words : List (List ℕ)) (script : List ℕ) (m : ℕ) (text : List ℕ)
+        → Transcript words script m text →
         (m ≡ 2) ↔ (IsUnknown words ⊎ ((words ≡ run_words) × IsBadScript script)) }
 {}

@@ -1,10 +1,13 @@
 // What the lines of a script say together.
-ghost use Rattle.std.specs.Prelude.{◌≡◌, ◌<◌, ◌+◌, ◌∷◌, [], length, Some, None, if◌then◌else◌, IfOk, OnOk, IfSome, MatchOption};
+ghost use Rattle.std.specs.Prelude.{◌≡◌, ◌<◌, ◌+◌, ◌∷◌, [], length, Some, None, if◌then◌else◌};
+ghost use Rattle.std.specs.Prelude.{IfOk, OnOk, IfSome, MatchOption};
 ghost use Rattle.ssh_script.specs.declared.lines.Setting.TheVariants as setting;
 ghost use Rattle.ssh_link.specs.declared.frame.InputKind.TheVariants as kind;
-ghost use Rattle.ssh_script.specs.Scene.{scene_of, seen, opening_scene, set, with_input, with_ticket, after_input, taken, with_line, lines_of, Gives};
+ghost use Rattle.ssh_script.specs.Scene.{scene_of, seen, opening_scene, set, with_input};
+ghost use Rattle.ssh_script.specs.Scene.{with_ticket, after_input, taken, with_line, lines_of};
+ghost use Rattle.ssh_script.specs.Scene.{Gives};
 
-use crate::answers::{Answers, OpenVerdict};
+use crate::answers::{Answers, DataVerdict, OpenVerdict};
 use crate::grammar::read_line;
 use crate::lines::{InputLine, Line, Setting};
 use crate::script::{Script, Stage};
@@ -37,6 +40,7 @@ impl Script {
                 failing_banners: 0,
                 banner: None,
                 opens: OpenVerdict::Accept,
+                incoming: DataVerdict::Silent,
             },
             tickets: 0,
             inputs: Vec::new(alloc),
@@ -47,7 +51,8 @@ impl Script {
 
     /// Takes in a setting; false where it is out of range.
     fn set(&mut self, setting: Setting) -> Result<bool, AllocError>
-        ensures { IfOk result (λ done. set setting (scene_of self.old) ≡ (if done then Some (scene_of self.new) else None)) }
+        ensures { IfOk result (λ done. set setting (scene_of self.old)
+            ≡ (if done then Some (scene_of self.new) else None)) }
     {
         match setting {
             Setting::Session(id) => {
@@ -57,6 +62,8 @@ impl Script {
                 self.session_id = id;
             }
             Setting::Inputs(count) => self.max_inputs = count,
+            Setting::Window(size) => self.config.window_size = size,
+            Setting::Packet(size) => self.config.maximum_packet_size = size,
             Setting::Reject(time) => self.config.auth_rejection_time = time,
             Setting::RejectInitial(time) => self.config.auth_rejection_time_initial = Some(time),
             Setting::Attempts(count) => self.config.max_auth_attempts = count as usize,
@@ -73,13 +80,15 @@ impl Script {
             }
             Setting::Banner(text) => self.answers.banner = Some(text),
             Setting::AnswerOpen(verdict) => self.answers.opens = verdict,
+            Setting::AnswerData(verdict) => self.answers.incoming = verdict,
         }
         Ok(true)
     }
 
     /// The verifier accepts one more signature.
     fn accept(&mut self, accepted: AcceptedSignature) -> Result<(), AllocError>
-        ensures { OnOk result (set (setting.Sign accepted) (scene_of self.old) ≡ Some (scene_of self.new)) }
+        ensures { OnOk result (set (setting.Sign accepted) (scene_of self.old)
+            ≡ Some (scene_of self.new)) }
     {
         let AcceptedSignature {
             key,
@@ -115,7 +124,8 @@ impl Script {
 
     /// A command from outside comes, with the next ticket.
     fn push_command(&mut self, command: Command) -> Result<(), AllocError>
-        ensures { OnOk result (with_input (kind.Command (self.old.tickets + 1) command) (with_ticket (scene_of self.old)) ≡ scene_of self.new) }
+        ensures { OnOk result (with_input (kind.Command (self.old.tickets + 1) command)
+            (with_ticket (scene_of self.old)) ≡ scene_of self.new) }
     {
         let ticket = self.next_ticket()?;
         self.push(InputKind::Command(ticket, command))
@@ -123,7 +133,8 @@ impl Script {
 
     /// An answer to an open comes from outside, with the next ticket.
     fn push_reply(&mut self, answer: OpenAnswer) -> Result<(), AllocError>
-        ensures { OnOk result (with_input (kind.OpenReply (self.old.tickets + 1) answer) (with_ticket (scene_of self.old)) ≡ scene_of self.new) }
+        ensures { OnOk result (with_input (kind.OpenReply (self.old.tickets + 1) answer)
+            (with_ticket (scene_of self.old)) ≡ scene_of self.new) }
     {
         let ticket = self.next_ticket()?;
         self.push(InputKind::OpenReply(ticket, answer))
@@ -162,7 +173,8 @@ impl Script {
 
     /// Takes in one more line; false where it may not stand here.
     fn add(&mut self, line: Line) -> Result<bool, AllocError>
-        ensures { IfOk result (λ done. with_line (scene_of self.old) (Some line) ≡ (if done then Some (scene_of self.new) else None)) }
+        ensures { IfOk result (λ done. with_line (scene_of self.old) (Some line)
+            ≡ (if done then Some (scene_of self.new) else None)) }
     {
         match line {
             Line::Passed => Ok(true),
@@ -182,7 +194,8 @@ impl Script {
 
 /// The first line, without its newline, and the bytes after it.
 fn first_line(text: &[u8]) -> Option<(&[u8], &[u8])>
-    ensures cut { MatchOption result (text.now ≡ []) (λ pair. lines_of text.now ≡ pair.0.now ∷ lines_of pair.1.now) }
+    ensures cut { MatchOption result (text.now ≡ []) (λ pair. lines_of text.now ≡ pair.0.now
+        ∷ lines_of pair.1.now) }
     ensures less { IfSome result (λ pair. length pair.1.now < length text.now) }
 {
     if text.is_empty() {

@@ -1,6 +1,7 @@
 // A handler that answers by a script.
 ghost use Rattle.std.specs.Prelude.{◌≡◌, ℕ, [], Ok, false, drop, IfOk};
-ghost use Rattle.ssh_script.specs.Played.{queues_in, queues_from, first_verdict, verdict_answer, verdict_on, after_admission, banner_answer, left_after};
+ghost use Rattle.ssh_script.specs.Played.{queues_in, queues_from, first_verdict, verdict_answer};
+ghost use Rattle.ssh_script.specs.Played.{verdict_on, after_admission, banner_answer, left_after};
 ghost use Rattle.ssh_script.specs.declared.answers.InteractiveVerdict.TheVariants.{Plain};
 ghost use Rattle.ssh_script.specs.Opens.{open_answer};
 
@@ -21,7 +22,8 @@ pub struct ScriptError;
 /// Answers the k-th request of a kind by the k-th verdict on that kind. Later offers of keys are
 /// accepted, and all other later requests are refused. The first banner callbacks fail, as many as
 /// the script says, and the later ones give the script's banner, where it has one. Requests on a
-/// channel are answered by success, nothing is forwarded, and windows stay as large as they are.
+/// channel are answered by success, data are sent back where the script says so, nothing is
+/// forwarded, and windows stay as large as they are.
 #[derive(Drop)]
 pub(crate) struct ScriptHandler {
     pub(crate) alloc: Global,
@@ -35,7 +37,8 @@ pub(crate) struct ScriptHandler {
     pub(crate) banners_left: u64,
     /// Whether a question was not kept, or its answer not made, for want of memory.
     pub(crate) lost: bool,
-    ghost left: { left_after (queues_in answers) asked.items ≡ queues_from answers next banners_left },
+    ghost left: { left_after (queues_in answers) asked.items
+        ≡ queues_from answers next banners_left },
 }
 
 impl ScriptHandler {
@@ -135,7 +138,8 @@ pub(crate) fn verdict_of(
     next: Places,
     admission: &Admission,
 ) -> InteractiveVerdict
-    ensures { (banners : ℕ) → result ≡ verdict_on (queues_from answers.now next banners) admission.now }
+    ensures { (banners : ℕ) → result ≡ verdict_on (queues_from answers.now next banners)
+        admission.now }
 {
     let refusal = InteractiveVerdict::Plain(Verdict::Reject);
     match admission {
@@ -158,7 +162,8 @@ pub(crate) fn verdict_of(
 
 // How many answers of each list were given after it.
 pub(crate) fn places_after(answers: &Answers, next: Places, admission: &Admission) -> Places
-    ensures { (banners : ℕ) → queues_from answers.now result banners ≡ after_admission (queues_from answers.now next banners) admission.now }
+    ensures { (banners : ℕ) → queues_from answers.now result banners
+        ≡ after_admission (queues_from answers.now next banners) admission.now }
 {
     match admission {
         Admission::None { .. } => Places {

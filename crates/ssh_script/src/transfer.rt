@@ -42,12 +42,15 @@ fn read_piece<S: Source>(
     most: usize,
 ) -> Result<usize, ReadError>
     requires room { length text.old.items < most }
-    ensures read { OnOk result (IsReadOn (S.left source.old) (S.left source.new) text.old.items text.new.items) }
+    ensures read { OnOk result (IsReadOn (S.left source.old) (S.left source.new) text.old.items
+        text.new.items) }
     ensures count { IfOk result (λ n. length text.new.items ≡ length text.old.items + n) }
     ensures within { OnOk result (length text.new.items ≤ most) }
     ensures end { IfOk result (λ n. n ≡ 0 → AtEnd (S.left source.new)) }
-    ensures no_further { IsReadWithin (most - length text.old.items) (S.left source.old) (S.left source.new) }
-    ensures cause { IsErrOf result ReadError.Failed → RoseOrFull (S.faults source.old) (S.faults source.new) }
+    ensures no_further { IsReadWithin (most - length text.old.items) (S.left source.old)
+        (S.left source.new) }
+    ensures cause { IsErrOf result ReadError.Failed → RoseOrFull (S.faults source.old)
+        (S.faults source.new) }
     ensures later { S.faults source.old ≤ S.faults source.new }
 {
     let mut buf = [0u8; 256];
@@ -66,7 +69,8 @@ pub(crate) fn read_front<S: Source>(
     ensures front { IfOk result (λ text. IsFront most (S.left source.old) text.items) }
     ensures whole { OnOk result (IsReadTo most (S.left source.old) (S.left source.new)) }
     ensures no_further { IsReadWithin most (S.left source.old) (S.left source.new) }
-    ensures cause { IsErrOf result ReadError.Failed → RoseOrFull (S.faults source.old) (S.faults source.new) }
+    ensures cause { IsErrOf result ReadError.Failed → RoseOrFull (S.faults source.old)
+        (S.faults source.new) }
     ensures later { S.faults source.old ≤ S.faults source.new }
 {
     let mut text = Vec::new(alloc);

@@ -5,4 +5,5 @@ use Rattle.ssh_script.specs.CallLines.{later_mode}
 use Rattle.ssh_script.proofs.argument.print_later_modes.Given as goal
 
 abbrev pub invariant-loop-mode : goal.invariant-loop-mode
-invariant-loop-mode l = string_bytes l.out ≡ string_bytes l.fn.out ++ flat_map later_mode (take l.mode-index l.modes)
+invariant-loop-mode l = string_bytes l.out ≡ string_bytes l.fn.out ++ flat_map later_mode
+    (take l.mode-index l.modes)

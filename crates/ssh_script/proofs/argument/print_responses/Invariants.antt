@@ -5,4 +5,5 @@ use Rattle.ssh_script.specs.CallLines.{hex_word}
 use Rattle.ssh_script.proofs.argument.print_responses.Given as goal
 
 abbrev pub invariant-loop-text : goal.invariant-loop-text
-invariant-loop-text l = string_bytes l.out ≡ string_bytes l.fn.out ++ flat_map hex_word (take l.text-index l.responses)
+invariant-loop-text l = string_bytes l.out ≡ string_bytes l.fn.out
+    ++ flat_map hex_word (take l.text-index l.responses)

@@ -4,7 +4,8 @@ use Rattle.ssh_script.proofs.command_lines.data_line.Goals as goal
 
 pub returns-in_default-3 : goal.returns-in_default-3
 returns-in_default-3 c =
-    let parts : cut c.args.rest.now ≡ Some (c.in-Some.number.now, c.in-Some.digits.now) = search rules in
+    let parts : cut c.args.rest.now ≡ Some (c.in-Some.number.now, c.in-Some.digits.now) =
+    search rules in
     let number : IsSmall c.in-Some.number.now c.in-Some-2.channel.0 = search rules in
     let digits : IsHexIn c.in-Some.digits.now None = search rules in
     rw parts (inl (c.in-Some-2.channel.0, number, digits))

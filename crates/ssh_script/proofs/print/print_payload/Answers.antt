@@ -6,5 +6,7 @@ use Rattle.ssh_script.proofs.print.print_payload.Goals as goal
 
 pub returns : goal.returns
 returns c =
-    let head : string_bytes c.push_str.new.self ≡ string_bytes c.args.out.now ++ encode_lower c.parts.result.0.now = search rules in
-    payload_printed_on_ok c.print_hex-2.result _ _ _ c.parts.result.0.now c.parts.result.1.now _ c.parts.ensures.payload (search rules) head c.print_hex-2.ensures
+    let head : string_bytes c.push_str.new.self ≡ string_bytes c.args.out.now
+    ++ encode_lower c.parts.result.0.now = search rules in
+    payload_printed_on_ok c.print_hex-2.result _ _ _ c.parts.result.0.now c.parts.result.1.now _
+    c.parts.ensures.payload (search rules) head c.print_hex-2.ensures

@@ -10,7 +10,9 @@ pub returns-in-Publickey : goal.returns-in-Publickey
 returns-in-Publickey c = rw c.in-Publickey.is c.print_user_key-in-Publickey.ensures
 
 pub returns-in-OpensshCertificate : goal.returns-in-OpensshCertificate
-returns-in-OpensshCertificate c = rw c.in-OpensshCertificate.is c.print_line-in-OpensshCertificate.ensures
+returns-in-OpensshCertificate c = rw c.in-OpensshCertificate.is
+    c.print_line-in-OpensshCertificate.ensures
 
 pub returns-in-KeyboardInteractive : goal.returns-in-KeyboardInteractive
-returns-in-KeyboardInteractive c = rw c.in-KeyboardInteractive.is c.print_line-in-KeyboardInteractive.ensures
+returns-in-KeyboardInteractive c = rw c.in-KeyboardInteractive.is
+    c.print_line-in-KeyboardInteractive.ensures

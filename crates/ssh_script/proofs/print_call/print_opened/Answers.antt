@@ -10,4 +10,5 @@ pub returns-in-ForwardedTcpip : goal.returns-in-ForwardedTcpip
 returns-in-ForwardedTcpip c = rw c.in-ForwardedTcpip.is c.print_tcpip-in-ForwardedTcpip.ensures
 
 pub returns-in-DirectStreamlocal : goal.returns-in-DirectStreamlocal
-returns-in-DirectStreamlocal c = rw c.in-DirectStreamlocal.is c.print_on-in-DirectStreamlocal.ensures
+returns-in-DirectStreamlocal c = rw c.in-DirectStreamlocal.is
+    c.print_on-in-DirectStreamlocal.ensures

@@ -4,7 +4,8 @@ use Rattle.ssh_script.proofs.scene.read_script.Given as goal
 
 abbrev pub invariant-loop-line : goal.invariant-loop-line
 invariant-loop-line l = record {
-  so_far : (read : Result Scene ℕ) → Gives l.done (scene_of l.script) (lines_of l.rest) read → Gives 0 opening_scene (lines_of l.fn.text) read;
+  so_far : (read : Result Scene ℕ) → Gives l.done (scene_of l.script) (lines_of l.rest) read
+      → Gives 0 opening_scene (lines_of l.fn.text) read;
   count : l.done + length l.rest ≤ length l.fn.text;
 }
 

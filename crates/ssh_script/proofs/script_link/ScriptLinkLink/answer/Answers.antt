@@ -5,5 +5,11 @@ use Rattle.ssh_script.proofs.script_link.ScriptLinkLink.answer.Goals as goal
 
 pub invariant_of-self : goal.invariant_of-self
 invariant_of-self c =
-    let s = serves_call c.answer.result _ _ _ (entry.Answered c.args.ticket c.args.outcome) (record { given = c.args.self.now.given; left = c.args.self.now.left; sound = c.args.self.now.sound }) refl refl c.answer.ensures.finished c.answer.ensures.failed in
+    let s = serves_call c.answer.result _ _ _ (entry.Answered c.args.ticket c.args.outcome)
+    (record {
+      given = c.args.self.now.given;
+      left = c.args.self.now.left;
+      sound = c.args.self.now.sound;
+    }) refl refl c.answer.ensures.finished c.answer.ensures.failed
+    in
     record { given = s.given; left = s.left; sound = s.sound }

@@ -5,5 +5,11 @@ use Rattle.ssh_script.proofs.script_link.ScriptLinkLink.notice.Goals as goal
 
 pub invariant_of-self : goal.invariant_of-self
 invariant_of-self c =
-    let s = serves_call c.notice.result _ _ _ (entry.Noticed c.args.notice) (record { given = c.args.self.now.given; left = c.args.self.now.left; sound = c.args.self.now.sound }) refl refl c.notice.ensures.finished c.notice.ensures.failed in
+    let s = serves_call c.notice.result _ _ _ (entry.Noticed c.args.notice)
+    (record {
+      given = c.args.self.now.given;
+      left = c.args.self.now.left;
+      sound = c.args.self.now.sound;
+    }) refl refl c.notice.ensures.finished c.notice.ensures.failed
+    in
     record { given = s.given; left = s.left; sound = s.sound }
