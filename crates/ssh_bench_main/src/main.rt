@@ -1,7 +1,11 @@
 //! A program to be timed: `table <workload> <channels> <count>` makes so many calls on a table of
-//! so many channels, and prints what was done and no time. `bench/run` times it.
+//! so many channels, and `session <workload> <channels> <count>` gives so many inputs to a session
+//! with so many. It prints what was done and no time. `bench/run` times it.
 #![tactic(auto)]
 
+mod served;
+
+use crate::served::{Serving, serve, serving_named};
 use bytes::Bytes;
 use ssh_channels::{Adjusted, ChannelParams, Encrypted, TableError};
 use ssh_wire::ChannelId;
@@ -36,8 +40,18 @@ const WAITING: usize = 1_048_576;
 /// How many grants let out such a chunk.
 const GRANTS: u32 = 1024;
 
-/// The words that name a workload.
+/// The words that name a workload of a table.
 const WORKLOADS: &str = "copy|copy-small|open|out|out-small|in|grant|flush-all";
+
+/// The words that name a workload of a session.
+const SERVINGS: &str = "in|out|out-small|grant";
+
+/// What is done, on a table or on a session.
+#[derive(Clone, Copy, PartialEq, Eq)]
+enum Work {
+    Table(Workload),
+    Session(Serving),
+}
 
 /// What the calls are.
 #[derive(Clone, Copy, PartialEq, Eq)]
@@ -134,6 +148,13 @@ fn send(
     Ok(done)
 }
 
+/// Sends so many bytes in each call, all of which go out.
+fn send_all(alloc: Global, channels: u32, length: usize, count: u32) -> Result<u64, TableError> {
+    let bytes = piece(alloc, length)?;
+    let mut table = opened(alloc, channels, u32::MAX)?;
+    send(&mut table, channels, &bytes, count)
+}
+
 fn receive(
     table: &mut Encrypted,
     channels: u32,
@@ -173,24 +194,8 @@ fn run(alloc: Global, work: Workload, channels: u32, count: u32) -> Result<u64, 
         Workload::Copy => copy(alloc, KIB_64, count),
         Workload::CopySmall => copy(alloc, SMALL, count),
         Workload::Open => open(alloc, &mut opened(alloc, channels, 0)?, count),
-        Workload::Out => {
-            let bytes = piece(alloc, KIB_64)?;
-            send(
-                &mut opened(alloc, channels, u32::MAX)?,
-                channels,
-                &bytes,
-                count,
-            )
-        }
-        Workload::OutSmall => {
-            let bytes = piece(alloc, SMALL)?;
-            send(
-                &mut opened(alloc, channels, u32::MAX)?,
-                channels,
-                &bytes,
-                count,
-            )
-        }
+        Workload::Out => send_all(alloc, channels, KIB_64, count),
+        Workload::OutSmall => send_all(alloc, channels, SMALL, count),
         Workload::In => {
             let bytes = piece(alloc, KIB_32)?;
             receive(
@@ -216,11 +221,28 @@ fn run(alloc: Global, work: Workload, channels: u32, count: u32) -> Result<u64, 
     }
 }
 
+/// How many calls or inputs did what they are for; none where memory was wanting.
+fn done(alloc: Global, work: Work, channels: u32, count: u32) -> Option<u64> {
+    match work {
+        Work::Table(work) => run(alloc, work, channels, count).ok(),
+        Work::Session(work) => serve(alloc, work, channels, count).ok(),
+    }
+}
+
+/// The work that these two words name.
+fn work_named(on: &str, name: &str) -> Option<Work> {
+    match on {
+        "table" => Some(Work::Table(workload_named(name)?)),
+        "session" => Some(Work::Session(serving_named(name)?)),
+        _ => None,
+    }
+}
+
 /// The workload and its two numbers.
-fn asked(words: &[String]) -> Option<(Workload, u32, u32)> {
+fn asked(words: &[String]) -> Option<(Work, u32, u32)> {
     match words {
-        [_, table, name, channels, count] if table.as_str() == "table" => Some((
-            workload_named(name.as_str())?,
+        [_, on, name, channels, count] => Some((
+            work_named(on.as_str(), name.as_str())?,
             channels.as_str().parse().ok()?,
             count.as_str().parse().ok()?,
         )),
@@ -240,9 +262,10 @@ fn main(rt: HostRuntime) -> ExitCode {
     }
     let Some((work, channels, count)) = asked(words.as_slice()) else {
         let _ = eprintln!(rt; "usage: ssh_bench_main table {WORKLOADS} <channels> <count>");
+        let _ = eprintln!(rt; "   or: ssh_bench_main session {SERVINGS} <channels> <count>");
         return ExitCode::from(USAGE);
     };
-    let Ok(done) = run(alloc, work, channels, count) else {
+    let Some(done) = done(alloc, work, channels, count) else {
         return ExitCode::from(NO_MEMORY);
     };
     match println!(rt; "{done} of {count} calls on {channels} channels") {

@@ -17,4 +17,8 @@ mod prompts;
 #[cfg(test)]
 mod runs;
 #[cfg(test)]
+mod sessions;
+#[cfg(test)]
+mod taking;
+#[cfg(test)]
 mod transcripts;

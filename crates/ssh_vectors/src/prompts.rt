@@ -56,8 +56,8 @@ fn prompts(rt: HostRuntime) -> Result<(), Fail> {
                 send - 34\n\
                 input 4\nok\n",
         },
-        // Submethods, and two rounds: no response to the first prompt, and two to the second, the first
-        // of them empty.
+        // Submethods, and two rounds: no response to the first prompt, and two to the second, the
+        // first of them empty.
         Case {
             script: b"\
                 answer interactive ask\n\

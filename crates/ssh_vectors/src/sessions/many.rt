@@ -1,0 +1,209 @@
+// Several channels in one session.
+use super::{Comes, Ends, Row, Sent, Side, are_sent, give, holds, log_in};
+use crate::taking::{Habit, Taking, Told};
+use bytes::Bytes;
+use ssh_handler::Config;
+use ssh_keys::TableVerifier;
+use ssh_link::{Calls, Command, Input, InputKind, Inputs, MemoryLink, TraceEntry};
+use ssh_session::run_stream;
+use ssh_wire::ChannelId;
+use std::alloc::Global;
+use std::test::Fail;
+
+static CHANNELS: [Row; 2] = [
+    Row {
+        shows: "two opens of one peer number are two channels",
+        window: 2_097_152,
+        habit: Habit::Quiet,
+        turns: &[
+            (
+                Comes::Payload(b"\x5a\0\0\0\x07session\0\0\0\x07\0\x10\0\0\0\0\x80\0"),
+                Ends::GoesOn,
+                &[(Some(2), b"\x5b\0\0\0\x07\0\0\0\x02\0\x20\0\0\0\0\x80\0")],
+            ),
+            (
+                Comes::Payload(b"\x5a\0\0\0\x07session\0\0\0\x07\0\x10\0\0\0\0\x80\0"),
+                Ends::GoesOn,
+                &[(Some(3), b"\x5b\0\0\0\x07\0\0\0\x03\0\x20\0\0\0\0\x80\0")],
+            ),
+            (
+                Comes::Data(2, b"a"),
+                Ends::GoesOn,
+                &[(Some(2), b"\x5e\0\0\0\x07\0\0\0\x01a")],
+            ),
+            (
+                Comes::Data(3, b"b"),
+                Ends::GoesOn,
+                &[(Some(3), b"\x5e\0\0\0\x07\0\0\0\x01b")],
+            ),
+        ],
+        told: &[Told::Open(2), Told::Open(3)],
+    },
+    Row {
+        shows: "each channel has its own credit, its own room and its own end",
+        window: 8,
+        habit: Habit::Echo,
+        turns: &[
+            (
+                Comes::Payload(b"\x5a\0\0\0\x07session\0\0\0\x2c\0\0\0\x01\0\0\x80\0"),
+                Ends::GoesOn,
+                &[(Some(2), b"\x5b\0\0\0\x2c\0\0\0\x02\0\0\0\x08\0\0\x80\0")],
+            ),
+            (
+                Comes::Payload(b"\x5a\0\0\0\x07session\0\0\0\x2d\0\0\0\x09\0\0\x80\0"),
+                Ends::GoesOn,
+                &[(Some(3), b"\x5b\0\0\0\x2d\0\0\0\x03\0\0\0\x08\0\0\x80\0")],
+            ),
+            (
+                Comes::Payload(b"\x5e\0\0\0\x02\0\0\0\x02ab"),
+                Ends::GoesOn,
+                &[(Some(2), b"\x5e\0\0\0\x2c\0\0\0\x01a")],
+            ),
+            (
+                Comes::Payload(b"\x5f\0\0\0\x03\0\0\0\x01\0\0\0\x02cd"),
+                Ends::GoesOn,
+                &[(Some(3), b"\x5f\0\0\0\x2d\0\0\0\x01\0\0\0\x02cd")],
+            ),
+            (
+                Comes::Payload(b"\x61\0\0\0\x03"),
+                Ends::GoesOn,
+                &[(Some(3), b"\x61\0\0\0\x2d")],
+            ),
+            (
+                Comes::Payload(b"\x5d\0\0\0\x02\0\0\0\x01"),
+                Ends::GoesOn,
+                &[(Some(2), b"\x5e\0\0\0\x2c\0\0\0\x01b")],
+            ),
+        ],
+        told: &[
+            Told::Open(2),
+            Told::Open(3),
+            Told::Data(2, 2, Some(b'a')),
+            Told::Extended(3, 1, 2, Some(b'c')),
+            Told::Close(3),
+            Told::Granted(2, 0),
+        ],
+    },
+];
+
+#[test]
+fn channels_side_by_side(rt: HostRuntime) -> Result<(), Fail> {
+    for row in &CHANNELS {
+        assert!(rt; holds(rt.alloc(), *row)?, "{}", row.shows);
+    }
+    Ok(())
+}
+
+// A session with a hundred channels, which all have one number of the peer's and a window of 2.
+fn a_hundred(alloc: Global) -> Result<Side, Fail> {
+    let mut side = log_in(alloc, 2_097_152, Habit::Echo)?;
+    for _ in 0..100u32 {
+        let _end = give(
+            &mut side,
+            Comes::Payload(b"\x5a\0\0\0\x07session\0\0\0\x07\0\0\0\x02\0\0\x80\0"),
+        )?;
+    }
+    Ok(side)
+}
+
+// Whether a byte that comes on the channel puts out these frames.
+fn puts_out(side: &mut Side, channel: u32, byte: u8, wanted: &[Sent]) -> Result<bool, Fail> {
+    let skipped = side.link.trace().len();
+    let end = give(side, Comes::Bytes(channel, 1, byte))?;
+    Ok(end == Ends::GoesOn && are_sent(side, skipped, wanted)?)
+}
+
+// Whether bytes that come on the channel come back on it, in order and within its window.
+fn echoes(side: &mut Side, channel: u32) -> Result<bool, Fail> {
+    let first: Sent = (Some(channel), b"\x5e\0\0\0\x07\0\0\0\x01a");
+    let second: Sent = (Some(channel), b"\x5e\0\0\0\x07\0\0\0\x01b");
+    if !puts_out(side, channel, b'a', &[first])? || !puts_out(side, channel, b'b', &[second])? {
+        return Ok(false);
+    }
+    puts_out(side, channel, b'c', &[])
+}
+
+#[test]
+fn a_hundred_echoes(rt: HostRuntime) -> Result<(), Fail> {
+    let mut side = a_hundred(rt.alloc())?;
+    for channel in 2..102u32 {
+        assert!(rt; echoes(&mut side, channel)?, "{channel}");
+    }
+    Ok(())
+}
+
+fn payload(alloc: Global, payload: &[u8]) -> Result<Input, Fail> {
+    Ok(Input {
+        moment: 0,
+        kind: InputKind::Payload(Bytes::copy_from_slice(alloc, payload)?),
+    })
+}
+
+fn data(alloc: Global, ticket: u64, channel: u32, bytes: &[u8]) -> Result<Input, Fail> {
+    let bytes = Bytes::copy_from_slice(alloc, bytes)?;
+    let channel = ChannelId(channel);
+    Ok(Input {
+        moment: 0,
+        kind: InputKind::Command(ticket, Command::Data { channel, bytes }),
+    })
+}
+
+// Channel 2 has a window of 3 and channel 3 one of 9; then come two commands and a grant.
+fn waiting_inputs(alloc: Global) -> Result<Inputs, Fail> {
+    let mut inputs = Inputs::new(alloc);
+    for login in super::LOGIN {
+        inputs.push(payload(alloc, login)?)?;
+    }
+    for open in [
+        b"\x5a\0\0\0\x07session\0\0\0\x2c\0\0\0\x03\0\0\x80\0",
+        b"\x5a\0\0\0\x07session\0\0\0\x2d\0\0\0\x09\0\0\x80\0",
+    ] {
+        inputs.push(payload(alloc, open)?)?;
+    }
+    inputs.push(data(alloc, 1, 2, b"hello")?)?;
+    inputs.push(data(alloc, 2, 3, b"next")?)?;
+    inputs.push(payload(alloc, b"\x5d\0\0\0\x02\0\0\0\x02")?)?;
+    Ok(inputs)
+}
+
+// The payloads of the frames of a channel that go out, one after another.
+fn payloads_sent(alloc: Global, trace: &[TraceEntry]) -> Result<Vec<u8>, Fail> {
+    let mut bytes = Vec::new(alloc);
+    for entry in trace {
+        if let TraceEntry::Sent(frame) = entry {
+            if frame.channel().is_some() {
+                let (head, body) = frame.parts();
+                bytes.extend_from_slice(head)?;
+                bytes.extend_from_slice(body)?;
+            }
+        }
+    }
+    Ok(bytes)
+}
+
+// The command on channel 3 is set aside while data wait on channel 2.
+#[test]
+fn commands_wait_while_data_wait(rt: HostRuntime) -> Result<(), Fail> {
+    let alloc = rt.alloc();
+    let mut link = MemoryLink::new(alloc, waiting_inputs(alloc)?, Calls::new(alloc))?;
+    let mut handler = Taking::new(alloc, Habit::Quiet);
+    let run = run_stream(
+        alloc,
+        &Config::standard(),
+        b"",
+        b"",
+        &mut handler,
+        &TableVerifier::new(alloc),
+        &mut link,
+        20,
+    );
+    assert!(rt; run.is_ok());
+    let wanted: &[u8] = b"\
+        \x5b\0\0\0\x2c\0\0\0\x02\0\x20\0\0\0\0\x80\0\
+        \x5b\0\0\0\x2d\0\0\0\x03\0\x20\0\0\0\0\x80\0\
+        \x5e\0\0\0\x2c\0\0\0\x03hel\
+        \x5e\0\0\0\x2c\0\0\0\x02lo\
+        \x5e\0\0\0\x2d\0\0\0\x04next";
+    assert_eq!(rt; payloads_sent(alloc, link.trace())?.as_slice(), wanted);
+    Ok(())
+}
