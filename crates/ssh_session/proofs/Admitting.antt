@@ -1,7 +1,8 @@
 -- The rows are plans in which nothing of the connection comes before an answer that accepts a user.
 use Rattle.std.proofs.Common.{⊎_elim, ◌≡◌, ◌≤◌, ◌⊎◌, ℕ, List, [], ◌∷◌, ◌++◌, Option, Some, None}
 use Rattle.std.proofs.Common.{Bool, true, false, refl, sym, ap, subst, inl, inr, arith}
-use Rattle.std.specs.Prelude.{bytes_eq, codes, if◌then◌else◌, drop}
+use Rattle.std.specs.Prelude.{bytes_eq, codes, if◌then◌else◌, drop, Result, Ok, Err}
+use Rattle.ssh_wire.specs.declared.error.WireError.{WireError}
 use Rattle.ssh_wire.specs.Field.{number, string}
 use Rattle.ssh_link.specs.Frames.{Frame}
 use Rattle.ssh_link.specs.declared.command.Command.{Command as Commanded}
@@ -41,8 +42,7 @@ use Rattle.ssh_session.specs.Gate.{gate_of, IsRequesting}
 use Rattle.ssh_session.specs.Layout.{at_once, held, service_accept, banner, too_many_attempts}
 use Rattle.ssh_session.specs.Opens.{opening_of}
 use Rattle.ssh_session.specs.Outcome.{Outcome, Goes}
-use Rattle.ssh_session.specs.Reading.{Said}
-use Rattle.ssh_session.specs.Reading.{Says}
+use Rattle.ssh_session.specs.Reading.{Said, Says, Service, said_of}
 use Rattle.ssh_session.specs.Rows.{row, greeting, greets, is_short, concluded}
 use Rattle.ssh_session.specs.Rows.{asked_of, rejection_hold, moment_after}
 use Rattle.ssh_session.specs.Run.{OwesKind, command_row, is_there}
@@ -215,6 +215,15 @@ service_guarded given named a kind w true clear stays = (
 )
 service_guarded given named a kind w false clear stays = inr stays
 
+-- what a service request names, or that it does not fit
+named_guarded : (given : Circumstances) (named : List ℕ → Type 0) (a : Type 0) (kind : InputKind)
+    (w : World) (moment : ℕ) (read : Result (List ℕ) WireError) → IsClear named w
+    → IsClear (NamesLast named kind) w →
+    Guarded given named a kind (row w moment (said_of Service read))
+named_guarded given named a kind w moment (Ok name) clear stays =
+    service_guarded given named a kind w (bytes_eq name (codes "ssh-userauth")) clear stays
+named_guarded given named a kind w moment (Err why) clear stays = tt
+
 -- ---- requests and responses
 
 -- a payload that is read as a request is one of the user that it names
@@ -311,11 +320,9 @@ row_guarded given named a w moment payload said gate.OverCap is h clear =
     ) in
     rw h (inr (low_more w.channels.lines.written (at_once too_many_attempts ∷ []) clear.3
     (low_frame too_many_attempts (at_once too_many_attempts) refl low, tt)))
-row_guarded given named a w moment payload said gate.ServiceRequest is (inl h) clear =
-    rw h.2 (service_guarded given named a (Payload payload) w
-    (bytes_eq h.0.0 (codes "ssh-userauth")) clear
+row_guarded given named a w moment payload said gate.ServiceRequest is h clear =
+    rw h.2 (named_guarded given named a (Payload payload) w moment h.0 clear
     (unread named w payload gate.ServiceRequest is (λ r. r) clear))
-row_guarded given named a w moment payload said gate.ServiceRequest is (inr h) clear = rw h.2 tt
 row_guarded given named a w moment payload said gate.UserauthRequest is h clear =
     let read = is_userauth w payload is in
     rw h.2 (request_guarded given named a w moment payload w.user.state h.0 read.1 read.0 h.1 clear)
@@ -327,18 +334,8 @@ row_guarded given named a w moment payload said gate.InfoResponse is h clear =
 row_guarded given named a w moment payload said gate.NotBuilt is h clear = rw h tt
 row_guarded given named a w moment payload said gate.ChannelOpen is h clear =
     let_in_only given named a w payload gate.ChannelOpen (row w moment said) is tt clear
-row_guarded given named a w moment payload said gate.WindowAdjust is h clear =
-    let_in_only given named a w payload gate.WindowAdjust (row w moment said) is tt clear
-row_guarded given named a w moment payload said gate.ChannelData is h clear =
-    let_in_only given named a w payload gate.ChannelData (row w moment said) is tt clear
-row_guarded given named a w moment payload said gate.ChannelExtendedData is h clear =
-    let_in_only given named a w payload gate.ChannelExtendedData (row w moment said) is tt clear
-row_guarded given named a w moment payload said gate.ChannelEof is h clear =
-    let_in_only given named a w payload gate.ChannelEof (row w moment said) is tt clear
-row_guarded given named a w moment payload said gate.ChannelClose is h clear =
-    let_in_only given named a w payload gate.ChannelClose (row w moment said) is tt clear
-row_guarded given named a w moment payload said gate.ChannelRequest is h clear =
-    let_in_only given named a w payload gate.ChannelRequest (row w moment said) is tt clear
+row_guarded given named a w moment payload said (gate.Channel message) is h clear =
+    let_in_only given named a w payload (gate.Channel message) (row w moment said) is tt clear
 
 -- ---- commands
 

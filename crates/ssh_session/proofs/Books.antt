@@ -1,8 +1,9 @@
 -- After each input of a run each channel has sent what it has to.
 use Rattle.std.proofs.Common.{◌≡◌, ◌≢◌, ◌<◌, ℕ, List, [], ◌∷◌, ◌++◌, map, Bool, true}
-use Rattle.std.proofs.Common.{false, refl, sym, subst, inl, inr, arith}
+use Rattle.std.proofs.Common.{false, refl, sym, subst, arith}
 use Rattle.std.proofs.Common.{append_assoc}
-use Rattle.std.specs.Prelude.{drop, flat_map}
+use Rattle.std.specs.Prelude.{drop, flat_map, Result, Ok, Err}
+use Rattle.ssh_wire.specs.declared.error.WireError.{WireError}
 use Rattle.std.proofs.lemmas.List.{append-nil}
 use Rattle.ssh_link.specs.declared.command.Command.TheVariants as command
 use Rattle.ssh_link.specs.declared.frame.InputKind.{InputKind}
@@ -22,8 +23,8 @@ use Rattle.ssh_session.specs.Acts.{tell_all}
 use Rattle.ssh_session.specs.Gate.{gate_of}
 use Rattle.ssh_session.specs.Ledger.{Ledgered_after}
 use Rattle.ssh_session.specs.Outcome.{Outcome, Goes, Ends, Fails}
-use Rattle.ssh_session.specs.Reading.{Said, Open, Unbuilt, Without_packets, Unfit, Says, SaysOpen}
-use Rattle.ssh_session.specs.Reading.{Spells, data_on, extended_on, request_on}
+use Rattle.ssh_session.specs.Reading.{Said, Service, Open, Channel, Unbuilt, Without_packets}
+use Rattle.ssh_session.specs.Reading.{Unfit, Says, SaysOpen, said_of}
 use Rattle.ssh_session.specs.Run.{Turn, Turns, Run, OwesKind, handed_on, finish_input}
 use Rattle.ssh_session.specs.Run.{entries, is_there}
 use Rattle.ssh_session.specs.World.{Settings, World, circumstances, opening_world}
@@ -123,23 +124,6 @@ follows_books {E} past (Tell entry next) (Told told ∷ events) w k h =
 
 -- ---- what was read
 
-data_fair : (b : Bool) (channel : ℕ) (fields : List ℕ) (said : Said) → Spells (data_on b channel)
-    fields said → IsFairSaid said
-data_fair false channel fields said h = rw h tt
-data_fair true channel fields said (inl h) = rw h.2 tt
-data_fair true channel fields said (inr h) = rw h.2 tt
-
-extended_fair : (b : Bool) (channel : ℕ) (fields : List ℕ) (said : Said)
-    → Spells (extended_on b channel) fields said → IsFairSaid said
-extended_fair false channel fields said h = rw h tt
-extended_fair true channel fields said (inl h) = rw h.2 tt
-extended_fair true channel fields said (inr h) = rw h.2 tt
-
-request_fair : (b wanted : Bool) (channel : ℕ) (fields : List ℕ) (said : Said)
-    → Spells (request_on b wanted channel) fields said → IsFairSaid said
-request_fair false wanted channel fields said h = rw h tt
-request_fair true wanted channel fields said h = rw h tt
-
 some_packet : (n : ℕ) → n ≢ 0 → 0 < n
 some_packet n h = omega (arith, h)
 
@@ -153,6 +137,12 @@ open_fair fields Without_packets h = tt
 open_fair fields (Unfit why) h = tt
 open_fair fields _ h = absurd h
 
+-- what was read by a layout is fair, where it says what is fair
+read_fair : {S : Type 0} (says : S → Said) (read : Result S WireError)
+    → ((value : S) → IsFairSaid (says value)) → IsFairSaid (said_of says read)
+read_fair says (Ok value) h = h value
+read_fair says (Err why) h = tt
+
 fair_at : (given : Circumstances) (there : ℕ → Bool) (at : Gate) (fields : List ℕ) (said : Said)
     → Says given there at fields said →
     IsFairSaid said
@@ -160,26 +150,12 @@ fair_at given there gate.Nothing fields said h = rw h tt
 fair_at given there gate.Ends fields said h = rw h tt
 fair_at given there gate.OverCap fields said h = rw h tt
 fair_at given there gate.NotBuilt fields said h = rw h tt
-fair_at given there gate.ServiceRequest fields said (inl h) = rw h.2 tt
-fair_at given there gate.ServiceRequest fields said (inr h) = rw h.2 tt
+fair_at given there gate.ServiceRequest fields said h = rw h.2 (read_fair Service h.0 (λ name. tt))
 fair_at given there gate.UserauthRequest fields said h = rw h.2 tt
 fair_at given there gate.InfoResponse fields said h = rw h.2 tt
 fair_at given there gate.ChannelOpen fields said h = open_fair fields said h
-fair_at given there gate.WindowAdjust fields said (inl h) = rw h.2 tt
-fair_at given there gate.WindowAdjust fields said (inr h) = rw h.2 tt
-fair_at given there gate.ChannelEof fields said (inl h) = rw h.2 tt
-fair_at given there gate.ChannelEof fields said (inr h) = rw h.2 tt
-fair_at given there gate.ChannelClose fields said (inl h) = rw h.2 tt
-fair_at given there gate.ChannelClose fields said (inr h) = rw h.2 tt
-fair_at given there gate.ChannelData fields said (inl h) = data_fair (there h.0.0) h.0.0 h.1 said
-    h.3
-fair_at given there gate.ChannelData fields said (inr h) = rw h.2 tt
-fair_at given there gate.ChannelExtendedData fields said (inl h) = extended_fair (there h.0.0) h.0.0
-    h.1 said h.3
-fair_at given there gate.ChannelExtendedData fields said (inr h) = rw h.2 tt
-fair_at given there gate.ChannelRequest fields said (inl h) =
-    request_fair (there h.0.0) h.0.1.1.0 h.0.0 h.1 said h.3
-fair_at given there gate.ChannelRequest fields said (inr h) = rw h.2 tt
+fair_at given there (gate.Channel message) fields said h =
+    rw h.2 (read_fair Channel h.0 (λ spoken. tt))
 
 -- ---- inputs and runs
 

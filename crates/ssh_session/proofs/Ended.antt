@@ -1,7 +1,8 @@
 -- A run ends well only by an input that ends it.
 use Rattle.std.proofs.Common.{◌≡◌, ◌⊎◌, ℕ, List, [], ◌∷◌, Option, Some, None, Bool, true, false}
 use Rattle.std.proofs.Common.{refl, ◌∙◌, ap, subst, inl, inr}
-use Rattle.std.specs.Prelude.{drop, length, bytes_eq, codes, if◌then◌else◌}
+use Rattle.std.specs.Prelude.{drop, length, bytes_eq, codes, if◌then◌else◌, Result, Ok, Err}
+use Rattle.ssh_wire.specs.declared.error.WireError.{WireError}
 use Rattle.ssh_link.specs.declared.command.Command.{Command}
 use Rattle.ssh_link.specs.declared.command.Command.TheVariants as command
 use Rattle.ssh_link.specs.declared.frame.Input.{Input}
@@ -29,14 +30,14 @@ use Rattle.ssh_session.specs.Acts.{acts}
 use Rattle.ssh_session.specs.Effect.{Effect, Does, Unbuilt, effect}
 use Rattle.ssh_session.specs.Gate.{gate_of}
 use Rattle.ssh_session.specs.Opening.{Opening}
-use Rattle.ssh_session.specs.Opens.{own}
 use Rattle.ssh_session.specs.Outcome.{Outcome, Goes, Ends, Fails, Not_built}
-use Rattle.ssh_session.specs.Reading.{Said, Nothing, Disconnect, Over_cap, Service, Request}
-use Rattle.ssh_session.specs.Reading.{Response, Open, Grant, Data, Eof, Close, Unfit}
-use Rattle.ssh_session.specs.Reading.{Wants, Without_packets}
+use Rattle.ssh_session.specs.declared.messages.Spoken.{Spoken}
+use Rattle.ssh_session.specs.declared.messages.Spoken.TheVariants as spoken
+use Rattle.ssh_session.specs.Reading.{Said, Disconnect, Over_cap, Service, Request}
+use Rattle.ssh_session.specs.Reading.{Response, Open, Channel, Unfit, Without_packets, Says}
+use Rattle.ssh_session.specs.Reading.{SaysOpen, said_of}
 use Rattle.ssh_session.specs.Reading as read
-use Rattle.ssh_session.specs.Reading.{Says, SaysOpen, Spells, extended_on, request_on}
-use Rattle.ssh_session.specs.Reading.{data_on as data_on_channel}
+use Rattle.ssh_session.specs.Rows.{spoken_acts}
 use Rattle.ssh_session.specs.Rows.{row, owed, greets, is_short, replied, concluded, asked_of}
 use Rattle.ssh_session.specs.Rows.{data_told, open_acts}
 use Rattle.ssh_session.specs.Run.{OwesKind, Owes, command_row, finish_input, is_there}
@@ -90,6 +91,24 @@ open_on : (number : Option ℕ) (opening : Opening) (w : World)
 open_on None opening w = tt
 open_on (Some number) opening w = (tt, λ world k. tt)
 
+spoken_on : (w : World) (said : Spoken) → ActsCome law (spoken_acts w said) w
+spoken_on w spoken.Nothing = tt
+spoken_on w (spoken.Grant channel amount) =
+    on_come law w (find channel.0 w.channels.lines.entries) _ (λ e. (tt, λ world k. tt))
+spoken_on w (spoken.Data channel piece) =
+    let came = coming_of (length piece.bytes) w.channels.target
+    (find channel.0 w.channels.lines.entries) in (
+      tt,
+      told_on came channel piece w.channels.target
+          (lined (takes_in channel.0 (length piece.bytes) w.channels.target) w),
+    )
+spoken_on w (spoken.Tells channel message happening) =
+    on_come law w (find channel.0 w.channels.lines.entries) _ (λ e. λ world k. tt)
+spoken_on w (spoken.Close channel) =
+    on_come law w (find channel.0 w.channels.lines.entries) _ (λ e. (tt, λ world k. tt))
+spoken_on w (spoken.Wants channel wanted) = (tt, tt)
+spoken_on w spoken.Unbuilt = tt
+
 -- no row but those two ends a run
 abbrev pub IsOther : Said → Type 0
 IsOther Disconnect = ⊥
@@ -98,20 +117,7 @@ IsOther _ = Unit {0}
 
 owed_on : (w : World) (said : Said) → IsOther said → ActsCome law (owed w said) w
 owed_on w (Open opening) is = open_on (next_number w.channels.lines) opening w
-owed_on w (Grant channel amount) is =
-    on_come law w (find channel w.channels.lines.entries) _ (λ e. (tt, λ world k. tt))
-owed_on w (Data channel piece) is =
-    let came = coming_of (length piece.bytes) w.channels.target
-    (find channel w.channels.lines.entries) in (
-      tt,
-      told_on came (own channel) piece w.channels.target
-          (lined (takes_in channel (length piece.bytes) w.channels.target) w),
-    )
-owed_on w (Eof channel) is = on_come law w (find channel w.channels.lines.entries) _
-    (λ e. λ world k. tt)
-owed_on w (Close channel) is = on_come law w (find channel w.channels.lines.entries) _
-    (λ e. (tt, λ world k. tt))
-owed_on w (Wants channel wanted) is = (tt, tt)
+owed_on w (Channel said) is = spoken_on w said
 owed_on w Disconnect is = absurd is
 owed_on w Over_cap is = absurd is
 owed_on w (Unfit why) is = tt
@@ -183,22 +189,11 @@ open_said fields Without_packets h = tt
 open_said fields (Unfit why) h = tt
 open_said fields _ h = absurd h
 
-data_said : (is_there : Bool) (channel : ℕ) (fields : List ℕ) (said : Said)
-    → Spells (data_on_channel is_there channel) fields said → IsOther said
-data_said false channel fields said h = rw h tt
-data_said true channel fields said (inl h) = rw h.2 tt
-data_said true channel fields said (inr h) = rw h.2 tt
-
-extended_said : (is_there : Bool) (channel : ℕ) (fields : List ℕ) (said : Said)
-    → Spells (extended_on is_there channel) fields said → IsOther said
-extended_said false channel fields said h = rw h tt
-extended_said true channel fields said (inl h) = rw h.2 tt
-extended_said true channel fields said (inr h) = rw h.2 tt
-
-request_said : (is_there wanted : Bool) (channel : ℕ) (fields : List ℕ) (said : Said)
-    → Spells (request_on is_there wanted channel) fields said → IsOther said
-request_said false wanted channel fields said h = rw h tt
-request_said true wanted channel fields said h = rw h tt
+-- what was read by a layout is no end, where it says none
+read_other : {S : Type 0} (says : S → Said) (read : Result S WireError)
+    → ((value : S) → IsOther (says value)) → IsOther (said_of says read)
+read_other says (Ok value) h = h value
+read_other says (Err why) h = tt
 
 -- what is said at a gate that ends no run ends none
 other_at : (given : Circumstances) (there : ℕ → Bool) (at : Gate) (fields : List ℕ) (said : Said)
@@ -208,26 +203,13 @@ other_at given there gate.Ends fields said h = inl refl
 other_at given there gate.OverCap fields said h = inr (inl refl)
 other_at given there gate.Nothing fields said h = inr (inr (rw h tt))
 other_at given there gate.NotBuilt fields said h = inr (inr (rw h tt))
-other_at given there gate.ServiceRequest fields said (inl h) = inr (inr (rw h.2 tt))
-other_at given there gate.ServiceRequest fields said (inr h) = inr (inr (rw h.2 tt))
+other_at given there gate.ServiceRequest fields said h =
+    inr (inr (rw h.2 (read_other Service h.0 (λ name. tt))))
 other_at given there gate.UserauthRequest fields said h = inr (inr (rw h.2 tt))
 other_at given there gate.InfoResponse fields said h = inr (inr (rw h.2 tt))
 other_at given there gate.ChannelOpen fields said h = inr (inr (open_said fields said h))
-other_at given there gate.WindowAdjust fields said (inl h) = inr (inr (rw h.2 tt))
-other_at given there gate.WindowAdjust fields said (inr h) = inr (inr (rw h.2 tt))
-other_at given there gate.ChannelEof fields said (inl h) = inr (inr (rw h.2 tt))
-other_at given there gate.ChannelEof fields said (inr h) = inr (inr (rw h.2 tt))
-other_at given there gate.ChannelClose fields said (inl h) = inr (inr (rw h.2 tt))
-other_at given there gate.ChannelClose fields said (inr h) = inr (inr (rw h.2 tt))
-other_at given there gate.ChannelData fields said (inl h) =
-    inr (inr (data_said (there h.0.0) h.0.0 h.1 said h.3))
-other_at given there gate.ChannelData fields said (inr h) = inr (inr (rw h.2 tt))
-other_at given there gate.ChannelExtendedData fields said (inl h) =
-    inr (inr (extended_said (there h.0.0) h.0.0 h.1 said h.3))
-other_at given there gate.ChannelExtendedData fields said (inr h) = inr (inr (rw h.2 tt))
-other_at given there gate.ChannelRequest fields said (inl h) =
-    inr (inr (request_said (there h.0.0) h.0.1.1.0 h.0.0 h.1 said h.3))
-other_at given there gate.ChannelRequest fields said (inr h) = inr (inr (rw h.2 tt))
+other_at given there (gate.Channel message) fields said h =
+    inr (inr (rw h.2 (read_other Channel h.0 (λ spoken. tt))))
 
 ending_at : {E : Type 0} (given : Circumstances) (w : World) (moment : ℕ) (payload : List ℕ)
     (said : Said) (events : List (Event E ⊥))

@@ -2,14 +2,15 @@
 use Rattle.std.proofs.Common.{◌≡◌, ◌⊎◌, ℕ, List, [], ◌∷◌, Option, Some, None, Bool}
 use Rattle.std.proofs.Common.{true, false, refl, sym, ap, subst, inl, inr}
 use Rattle.std.specs.Prelude.{◌^◌, drop, length, bytes_eq, codes, IsSome, if◌then◌else◌}
+use Rattle.std.specs.Prelude.{Result, Ok}
 use Rattle.std.proofs.lemmas.Bool.{lt-ltb}
-use Rattle.ssh_wire.specs.Messages.{channel_request}
+use Rattle.ssh_wire.specs.declared.error.WireError.{WireError}
 use Rattle.ssh_wire.specs.declared.channel_id.ChannelId.{ChannelId}
 use Rattle.ssh_wire.specs.declared.open_failure.ChannelOpenFailure.{ChannelOpenFailure}
-use Rattle.ssh_wire.specs.Field.{Text, Values}
+use Rattle.ssh_wire.specs.Field.{Text, SpellsWhole}
 use Rattle.ssh_wire.specs.Open.{leading_fields}
 use Rattle.ssh_wire.proofs.Fields.{spells_all_once, misfits_all_not_spells}
-use Rattle.ssh_wire.proofs.Fields.{misfits_whole_not_spells}
+use Rattle.ssh_wire.proofs.Fields.{misfits_whole_not_spells, spells_whole_once}
 use Rattle.ssh_link.specs.declared.command.Command.{Command as Commanded}
 use Rattle.ssh_link.specs.declared.command.Command.TheVariants as command
 use Rattle.ssh_link.specs.declared.frame.InputKind.{InputKind}
@@ -37,6 +38,8 @@ use Rattle.ssh_channels.specs.Does.{coming_of}
 use Rattle.ssh_channels.specs.Lines.{find, next_number, takes_in}
 use Rattle.ssh_session.specs.declared.gate.Gate.{Gate}
 use Rattle.ssh_session.specs.declared.gate.Gate.TheVariants as gate
+use Rattle.ssh_session.specs.declared.messages.Spoken.{Spoken}
+use Rattle.ssh_session.specs.declared.messages.Spoken.TheVariants as spoken
 use Rattle.ssh_session.specs.declared.state.EncryptedState.{EncryptedState}
 use Rattle.ssh_session.specs.declared.state.EncryptedState.TheVariants.{WaitingAuthRequest}
 use Rattle.ssh_session.specs.Acts.{acts}
@@ -45,19 +48,19 @@ use Rattle.ssh_session.specs.Effect.{decides, fails_open, failure_of, is_too_lon
 use Rattle.ssh_session.specs.Gate.{gate_of}
 use Rattle.ssh_session.specs.Layout.{banner}
 use Rattle.ssh_session.specs.Opening.{Opening}
-use Rattle.ssh_session.specs.Opens.{own, opening_of}
+use Rattle.ssh_session.specs.Opens.{opening_of}
 use Rattle.ssh_session.specs.Outcome.{Outcome, Goes, Fails, Starved}
-use Rattle.ssh_session.specs.Reading.{Said, Nothing, Open, Grant, Data}
-use Rattle.ssh_session.specs.Reading.{Eof, Close, Wants, Says, Spells, Layout, Leaves, Whole}
-use Rattle.ssh_session.specs.Reading.{Fields, request_on}
-use Rattle.ssh_session.specs.Reading.{grant, eof, close, data_on, data_message, extended_on}
-use Rattle.ssh_session.specs.Reading.{extended_message, Unbuilt, Without_packets, Unfit, SaysOpen}
+use Rattle.ssh_session.specs.Messages.{message_layout}
+use Rattle.ssh_session.specs.Reading.{Said, Open, Service, Channel, Unbuilt, Without_packets}
+use Rattle.ssh_session.specs.Reading.{Unfit, Says, SaysOpen, ReadsAs, said_of, service}
+use Rattle.ssh_session.specs.Spelling.{Layout, Leaves, Whole, Fields, Spells}
+use Rattle.ssh_session.specs.Rows.{spoken_acts}
 use Rattle.ssh_session.specs.Rows.{row, owed, greets, is_short, replied, concluded, asked_of}
 use Rattle.ssh_session.specs.Rows.{fault_of, data_told, open_acts}
 use Rattle.ssh_session.specs.Run.{OwesKind, command_row, is_there}
 use Rattle.ssh_session.specs.Valid.{AreValidMethodFields, AreValidFields, FitsLayout, HasNoPrompt}
 use Rattle.ssh_session.specs.Valid.{IsBuiltCommand, AreBuilt, IsFineAnswer, IsFineBanner}
-use Rattle.ssh_session.specs.Valid.{IsValidKind}
+use Rattle.ssh_session.specs.Valid.{IsServed, IsValidKind}
 use Rattle.ssh_session.specs.World.{World, circumstances, waits_for, lined}
 use Rattle.ssh_session.proofs.Acting.{PlanComes, EffectComes, AllBuilt, Law, ActsCome, acts_come}
 use Rattle.ssh_session.proofs.Acting.{one_comes}
@@ -222,24 +225,22 @@ service_fine kind w false = tt
 
 -- ---- messages by their layouts
 
--- what fields that fit say
-abbrev pub SaysSo : Layout → Said → Type 0
-SaysSo (Leaves says) said = said ≡ says
-SaysSo (Whole fields says) said = (values : Values fields) × (said ≡ says values)
-SaysSo (Fields fields next) said = (values : Values fields) × SaysSo (next values) said
-
-fits_says : (layout : Layout) (bytes : List ℕ) (said : Said) → FitsLayout layout bytes
-    → Spells layout bytes said → SaysSo layout said
-fits_says (Leaves says) bytes said v h = h
-fits_says (Whole fields says) bytes said v (inl h) = (h.0, h.2)
-fits_says (Whole fields says) bytes said v (inr h) =
+-- what fits its layout was read, and is served
+fits_read : (layout : Layout Spoken) (bytes : List ℕ) (read : Result Spoken WireError)
+    → FitsLayout layout bytes → Spells layout bytes read
+    → (said : Spoken) × (read ≡ Ok said) × IsServed said
+fits_read (Leaves says) bytes read v h = (says, h, v)
+fits_read (Whole fields says) bytes read v (inl h) =
+    let once = spells_whole_once fields v.0 h.0 bytes v.1 h.1 in
+    (says h.0, h.2, subst (λ x. IsServed (says x)) once v.2)
+fits_read (Whole fields says) bytes read v (inr h) =
     absurd (misfits_whole_not_spells fields v.0 bytes h.0 h.1 v.1)
-fits_says (Fields fields next) bytes said v (inl h) =
+fits_read (Fields fields next) bytes read v (inl h) =
     let once = spells_all_once fields v.0 h.0 bytes v.1 h.1 v.2 h.2 in
     let fits = subst (λ r. FitsLayout (next h.0) r) once.1 (subst (λ x. FitsLayout (next x) v.1)
     once.0 v.3) in
-    (h.0, fits_says (next h.0) h.1 said fits h.3)
-fits_says (Fields fields next) bytes said v (inr h) =
+    fits_read (next h.0) h.1 read fits h.3
+fits_read (Fields fields next) bytes read v (inr h) =
     absurd (misfits_all_not_spells fields v.0 bytes v.1 h.0 h.1 v.2)
 
 -- ---- channels
@@ -251,50 +252,33 @@ told_fine kind Dropped channel piece target w = tt
 told_fine kind Kept channel piece target w = λ world k. tt
 told_fine kind (Granted amount) channel piece target w = λ window. (tt, λ world k. tt)
 
--- what is said on a channel comes to no fault
-abbrev pub IsOnChannel : Said → Type 0
-IsOnChannel (Grant channel amount) = Unit {0}
-IsOnChannel (Data channel piece) = Unit {0}
-IsOnChannel (Eof channel) = Unit {0}
-IsOnChannel (Close channel) = Unit {0}
-IsOnChannel (Wants channel wanted) = Unit {0}
-IsOnChannel said = said ≡ Nothing
+-- what is served of a message of channels comes to no fault
+spoken_fine : (kind : InputKind) (w : World) (said : Spoken) → IsServed said
+    → ActsCome (law kind) (spoken_acts w said) w
+spoken_fine kind w spoken.Nothing is = tt
+spoken_fine kind w (spoken.Grant channel amount) is =
+    on_come (law kind) w (find channel.0 w.channels.lines.entries) _ (λ e. (tt, λ world k. tt))
+spoken_fine kind w (spoken.Data channel piece) is = (
+  tt,
+  told_fine kind (coming_of (length piece.bytes) w.channels.target
+      (find channel.0 w.channels.lines.entries)) channel piece
+      w.channels.target (lined (takes_in channel.0 (length piece.bytes) w.channels.target) w),
+)
+spoken_fine kind w (spoken.Tells channel message happening) is =
+    on_come (law kind) w (find channel.0 w.channels.lines.entries) _ (λ e. λ world k. tt)
+spoken_fine kind w (spoken.Close channel) is =
+    on_come (law kind) w (find channel.0 w.channels.lines.entries) _ (λ e. (tt, λ world k. tt))
+spoken_fine kind w (spoken.Wants channel wanted) is = (tt, tt)
+spoken_fine kind w spoken.Unbuilt is = absurd is
 
-nothing_comes : (kind : InputKind) (w : World) (moment : ℕ) (said : Said) → said ≡ Nothing →
-    PlanComes (IsFineAnswer kind) IsNoFault (row w moment said)
-nothing_comes kind w moment said is = rw is tt
-
-channel_comes : (kind : InputKind) (w : World) (moment : ℕ) (said : Said) → IsOnChannel said →
-    PlanComes (IsFineAnswer kind) IsNoFault (row w moment said)
-channel_comes kind w moment (Grant channel amount) is =
-    acts_come (law kind) (owed w (Grant channel amount)) w tt
-    (on_come (law kind) w (find channel w.channels.lines.entries) _ (λ e. (tt, λ world k. tt)))
-channel_comes kind w moment (Data channel piece) is =
-    acts_come (law kind) (owed w (Data channel piece)) w tt (
-      tt,
-      told_fine kind (coming_of (length piece.bytes) w.channels.target
-          (find channel w.channels.lines.entries)) (own channel) piece
-          w.channels.target (lined (takes_in channel (length piece.bytes) w.channels.target) w),
-    )
-channel_comes kind w moment (Eof channel) is =
-    acts_come (law kind) (owed w (Eof channel)) w tt
-    (on_come (law kind) w (find channel w.channels.lines.entries) _ (λ e. λ world k. tt))
-channel_comes kind w moment (Close channel) is =
-    acts_come (law kind) (owed w (Close channel)) w tt
-    (on_come (law kind) w (find channel w.channels.lines.entries) _ (λ e. (tt, λ world k. tt)))
-channel_comes kind w moment (Wants channel wanted) is =
-    acts_come (law kind) (owed w (Wants channel wanted)) w tt (tt, tt)
-channel_comes kind w moment said is = nothing_comes kind w moment said is
-
-data_said : (is_there : Bool) (channel : ℕ) (said : Said) → SaysSo (data_on is_there channel) said
-    → IsOnChannel said
-data_said false channel said h = rw h refl
-data_said true channel said h = rw h.1 tt
-
-extended_said : (is_there : Bool) (channel : ℕ) (said : Said)
-    → SaysSo (extended_on is_there channel) said → IsOnChannel said
-extended_said false channel said h = rw h refl
-extended_said true channel said h = rw h.1 tt
+channel_fine : (kind : InputKind) (w : World) (moment : ℕ) (layout : Layout Spoken)
+    (fields : List ℕ) (said : Said) → FitsLayout layout fields
+    → ReadsAs Channel layout fields said → PlanComes (IsFineAnswer kind) IsNoFault (row w moment
+    said)
+channel_fine kind w moment layout fields said v h =
+    let fits = fits_read layout fields h.0 v h.1 in
+    rw (h.2, fits.1) (acts_come (law kind) (spoken_acts w fits.0) w tt
+    (spoken_fine kind w fits.0 fits.2))
 
 -- ---- opens
 
@@ -338,6 +322,16 @@ open_fine kind given w moment fields _ v h = absurd h
 
 -- ---- a payload that is valid at its gate
 
+-- the name of a service, which was there
+named_fine : (kind : InputKind) (w : World) (moment : ℕ) (fields : List ℕ)
+    (read : Result (List ℕ) WireError) → ((name : List ℕ) × SpellsWhole (Text ∷ []) (name, tt)
+    fields) → Spells service fields read
+    → PlanComes (IsFineAnswer kind) IsNoFault (row w moment (said_of Service read))
+named_fine kind w moment fields read v (inl h) =
+    rw h.2 (service_fine kind w (bytes_eq h.0.0 (codes "ssh-userauth")))
+named_fine kind w moment fields read v (inr h) =
+    absurd (misfits_whole_not_spells (Text ∷ []) (v.0, tt) fields h.0 h.1 v.1)
+
 fields_fine : (given : Circumstances) (w : World) (moment : ℕ) (at : Gate) (payload : List ℕ)
     (said : Said) →
     AreValidFields given w at (drop 1 payload) → Says given (is_there w) at (drop 1 payload) said →
@@ -345,10 +339,8 @@ fields_fine : (given : Circumstances) (w : World) (moment : ℕ) (at : Gate) (pa
 fields_fine given w moment gate.Nothing payload said v h = rw h tt
 fields_fine given w moment gate.Ends payload said v h = rw h tt
 fields_fine given w moment gate.OverCap payload said v h = rw h tt
-fields_fine given w moment gate.ServiceRequest payload said v (inl h) =
-    rw h.2 (service_fine (Payload payload) w (bytes_eq h.0.0 (codes "ssh-userauth")))
-fields_fine given w moment gate.ServiceRequest payload said v (inr h) =
-    absurd (misfits_whole_not_spells (Text ∷ []) (v.0, tt) (drop 1 payload) h.0 h.1 v.1)
+fields_fine given w moment gate.ServiceRequest payload said v h =
+    rw h.2 (named_fine (Payload payload) w moment (drop 1 payload) h.0 v h.1)
 fields_fine given w moment gate.UserauthRequest payload said v h =
     rw h.2 (state_comes (Payload payload) w.user.state (λ auth. verdict_on auth h.0) w moment true
     (λ auth at. request_fine given w payload auth h.0 v h.1))
@@ -360,33 +352,9 @@ fields_fine given w moment gate.InfoResponse payload said v h =
     (valid_response given w (drop 1 payload) auth h.0 at v h.1)))
 fields_fine given w moment gate.ChannelOpen payload said v h = open_fine (Payload payload) given w
     moment (drop 1 payload) said v h
-fields_fine given w moment gate.WindowAdjust payload said v h =
-    let says = fits_says grant (drop 1 payload) said v h in
-    channel_comes (Payload payload) w moment said (rw says.1 tt)
-fields_fine given w moment gate.ChannelData payload said v h =
-    let says = fits_says (data_message (is_there w)) (drop 1 payload) said v h in
-    channel_comes (Payload payload) w moment said (data_said (is_there w says.0.0) says.0.0 said
-    says.1)
-fields_fine given w moment gate.ChannelExtendedData payload said v h =
-    let says = fits_says (extended_message (is_there w)) (drop 1 payload) said v h in
-    channel_comes (Payload payload) w moment said (extended_said (is_there w says.0.0) says.0.0 said
-    says.1)
-fields_fine given w moment gate.ChannelEof payload said v h =
-    let says = fits_says eof (drop 1 payload) said v h in
-    channel_comes (Payload payload) w moment said (rw says.1 tt)
-fields_fine given w moment gate.ChannelClose payload said v h =
-    let says = fits_says close (drop 1 payload) said v h in
-    channel_comes (Payload payload) w moment said (rw says.1 tt)
-fields_fine given w moment gate.ChannelRequest payload said v (inl h) =
-    let once = spells_all_once channel_request.fields (v.0, (v.1, (v.2, tt))) h.0 (drop 1 payload)
-    v.3 h.1 v.4 h.2 in
-    let absent = subst (λ x. is_there w x.0 ≡ false) once.0 v.5 in
-    let wanted = h.0.1.1.0 in
-    let says = subst (λ b. Spells (request_on b wanted h.0.0) h.1 said) absent h.3 in
-    channel_comes (Payload payload) w moment said (rw says tt)
-fields_fine given w moment gate.ChannelRequest payload said v (inr h) =
-    absurd (misfits_all_not_spells channel_request.fields (v.0, (v.1, (v.2, tt))) (drop 1 payload)
-    v.3 h.0 h.1 v.4)
+fields_fine given w moment (gate.Channel message) payload said v h =
+    channel_fine (Payload payload) w moment (message_layout (is_there w) message) (drop 1 payload)
+    said v h
 fields_fine given w moment gate.NotBuilt payload said v h = absurd v
 
 -- ---- inputs

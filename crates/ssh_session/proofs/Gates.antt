@@ -1,9 +1,10 @@
 -- What a gate says of the payload's number, and of what is waited for.
 use Rattle.std.proofs.Common.{◌≡◌, ℕ, List, [], ◌∷◌, Bool, true, false, refl, sym, subst}
-use Rattle.std.specs.Prelude.{◌==◌, ◌||◌, drop, if◌then◌else◌}
+use Rattle.std.specs.Prelude.{◌==◌, ◌||◌, drop, if◌then◌else◌, Option, Some, None}
 use Rattle.std.proofs.lemmas.Bool.{eqb-true}
 use Rattle.ssh_handler.specs.declared.config.Config.{Config}
 use Rattle.ssh_auth.specs.declared.auth_request.AuthRequest.{AuthRequest}
+use Rattle.ssh_session.specs.declared.messages.ChannelMessage.{ChannelMessage}
 use Rattle.ssh_session.specs.declared.gate.Gate.{Gate}
 use Rattle.ssh_session.specs.declared.gate.Gate.TheVariants as gate
 use Rattle.ssh_session.specs.declared.state.EncryptedState.{EncryptedState}
@@ -13,7 +14,8 @@ use Rattle.ssh_session.specs.declared.state.EncryptedState.TheVariants.{InitComp
 use Rattle.ssh_session.specs.declared.state.EncryptedState.TheVariants.{Authenticated}
 use Rattle.ssh_session.specs.World.{World}
 use Rattle.ssh_session.specs.Gate.{gate_of, state_gate, authentication_gate, connection_gate}
-use Rattle.ssh_session.specs.Gate.{is_over_cap, is_connection_number}
+use Rattle.ssh_session.specs.Gate.{is_over_cap, is_connection_number, of_channels}
+use Rattle.ssh_session.specs.Messages.{channel_message}
 use Rattle.ssh_session.specs.Gate.{IsRequesting}
 
 -- a user was accepted
@@ -58,18 +60,18 @@ authentication_meets config auth n =
     else gate.InfoResponse)
     (λ over. tt) (read_meets auth n (n == 50) refl read)) tt
 
+of_channels_meets : (state : EncryptedState) (n : ℕ) (found : Option ChannelMessage)
+    (other : Gate) → IsLetIn state → Meets state n other → Meets state n (of_channels found other)
+of_channels_meets state n (Some message) other is h = is
+of_channels_meets state n None other is h = h
+
 connection_meets : (state : EncryptedState) (n : ℕ) → IsLetIn state
     → Meets state n (connection_gate n)
 connection_meets state n is =
     let P : Gate → Type 0 = Meets state n in
     chosen (n == 90) P gate.ChannelOpen _ (λ _. is)
-    (chosen (n == 93) P gate.WindowAdjust _ (λ _. is)
-    (chosen (n == 94) P gate.ChannelData _ (λ _. is)
-    (chosen (n == 95) P gate.ChannelExtendedData _ (λ _. is)
-    (chosen (n == 96) P gate.ChannelEof _ (λ _. is)
-    (chosen (n == 97) P gate.ChannelClose _ (λ _. is)
-    (chosen (n == 98) P gate.ChannelRequest _ (λ _. is)
-    (chosen (is_connection_number n) P gate.NotBuilt gate.Nothing (λ _. tt) tt)))))))
+    (of_channels_meets state n (channel_message n) _ is
+    (chosen (is_connection_number n) P gate.NotBuilt gate.Nothing (λ _. tt) tt))
 
 state_meets : (config : Config) (state : EncryptedState) (n : ℕ)
     → Meets state n (state_gate config state n)
@@ -133,23 +135,13 @@ is_for_request w auth fields is =
 -- the gates of the messages of channels
 abbrev pub IsOfChannels : Gate → Type 0
 IsOfChannels gate.ChannelOpen = Unit {0}
-IsOfChannels gate.WindowAdjust = Unit {0}
-IsOfChannels gate.ChannelData = Unit {0}
-IsOfChannels gate.ChannelExtendedData = Unit {0}
-IsOfChannels gate.ChannelEof = Unit {0}
-IsOfChannels gate.ChannelClose = Unit {0}
-IsOfChannels gate.ChannelRequest = Unit {0}
+IsOfChannels (gate.Channel message) = Unit {0}
 IsOfChannels _ = ⊥
 
 meets_let_in : (state : EncryptedState) (n : ℕ) (at : Gate) → Meets state n at → IsOfChannels at
     → IsLetIn state
 meets_let_in state n gate.ChannelOpen h is = h
-meets_let_in state n gate.WindowAdjust h is = h
-meets_let_in state n gate.ChannelData h is = h
-meets_let_in state n gate.ChannelExtendedData h is = h
-meets_let_in state n gate.ChannelEof h is = h
-meets_let_in state n gate.ChannelClose h is = h
-meets_let_in state n gate.ChannelRequest h is = h
+meets_let_in state n (gate.Channel message) h is = h
 meets_let_in state n _ h is = absurd is
 
 -- a payload that is read as a message of channels comes after an accepted authentication

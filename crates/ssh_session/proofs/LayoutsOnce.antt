@@ -1,26 +1,27 @@
 -- A message of the connection says one thing: no case is by a message.
-use Rattle.std.proofs.Common.{◌≡◌, ◌≢◌, ℕ, List, [], refl, sym, ◌∙◌, ap, subst, inl, inr}
-use Rattle.std.specs.Prelude.{codes}
+use Rattle.std.proofs.Common.{◌≡◌, ℕ, List, [], refl, sym, ◌∙◌, ap, subst, inl, inr}
+use Rattle.std.specs.Prelude.{codes, Result, Ok, Err}
 use Rattle.ssh_wire.specs.declared.error.WireError.{WireError}
 use Rattle.ssh_wire.specs.Field.{MisfitsAll, MisfitsWhole}
 use Rattle.ssh_wire.specs.Open.{leading_fields, Leads}
 use Rattle.ssh_wire.proofs.Fields.{spells_all_once, spells_whole_once, misfits_all_not_spells}
 use Rattle.ssh_wire.proofs.Fields.{misfits_all_once, misfits_whole_not_spells, misfits_whole_once}
 use Rattle.ssh_session.specs.Opening.{Opening}
-use Rattle.ssh_session.specs.Reading.{Said, Open, Unbuilt, Without_packets, Unfit, Layout, Leaves}
-use Rattle.ssh_session.specs.Reading.{Whole, Fields, Spells, MisfitsSession, SaysOpen}
+use Rattle.ssh_session.specs.Reading.{Said, Open, Unbuilt, Without_packets, Unfit, MisfitsSession}
+use Rattle.ssh_session.specs.Reading.{SaysOpen, ReadsAs, said_of}
+use Rattle.ssh_session.specs.Spelling.{Layout, Leaves, Whole, Fields, Spells}
 
-pub layout_once : (layout : Layout) (bytes : List ℕ) (a b : Said) → Spells layout bytes a
-    → Spells layout bytes b → a ≡ b
+pub layout_once : {S : Type 0} (layout : Layout S) (bytes : List ℕ) (a b : Result S WireError)
+    → Spells layout bytes a → Spells layout bytes b → a ≡ b
 layout_once (Leaves says) bytes a b h k = h ∙ sym k
 layout_once (Whole fields says) bytes a b (inl h) (inl k) =
-    h.2 ∙ (ap says (spells_whole_once fields h.0 k.0 bytes h.1 k.1) ∙ sym k.2)
+    h.2 ∙ (ap (λ v. Ok (says v)) (spells_whole_once fields h.0 k.0 bytes h.1 k.1) ∙ sym k.2)
 layout_once (Whole fields says) bytes a b (inl h) (inr k) =
     absurd (misfits_whole_not_spells fields h.0 bytes k.0 k.1 h.1)
 layout_once (Whole fields says) bytes a b (inr h) (inl k) =
     absurd (misfits_whole_not_spells fields k.0 bytes h.0 h.1 k.1)
 layout_once (Whole fields says) bytes a b (inr h) (inr k) =
-    h.2 ∙ (ap Unfit (misfits_whole_once fields bytes h.0 k.0 h.1 k.1) ∙ sym k.2)
+    h.2 ∙ (ap Err (misfits_whole_once fields bytes h.0 k.0 h.1 k.1) ∙ sym k.2)
 layout_once (Fields fields next) bytes a b (inl h) (inl k) =
     let once = spells_all_once fields h.0 k.0 bytes h.1 k.1 h.2 k.2 in
     layout_once (next h.0) h.1 a b h.3 (subst (λ r. Spells (next h.0) r b) (sym once.1)
@@ -30,7 +31,13 @@ layout_once (Fields fields next) bytes a b (inl h) (inr k) =
 layout_once (Fields fields next) bytes a b (inr h) (inl k) =
     absurd (misfits_all_not_spells fields k.0 bytes k.1 h.0 h.1 k.2)
 layout_once (Fields fields next) bytes a b (inr h) (inr k) =
-    h.2 ∙ (ap Unfit (misfits_all_once fields bytes h.0 k.0 h.1 k.1) ∙ sym k.2)
+    h.2 ∙ (ap Err (misfits_all_once fields bytes h.0 k.0 h.1 k.1) ∙ sym k.2)
+
+-- what is said of what was read is one thing
+pub said_once : {S : Type 0} (says : S → Said) (layout : Layout S) (bytes : List ℕ) (a b : Said)
+    → ReadsAs says layout bytes a → ReadsAs says layout bytes b → a ≡ b
+said_once says layout bytes a b h k =
+    h.2 ∙ (ap (said_of says) (layout_once layout bytes h.0 k.0 h.1 k.1) ∙ sym k.2)
 
 -- ---- an open (RFC 4254 section 5.1)
 

@@ -44,9 +44,12 @@ use Rattle.ssh_session.specs.Layout.{too_many_attempts, at_once, held}
 use Rattle.ssh_session.specs.Opening.{Opening}
 use Rattle.ssh_session.specs.Opens.{own, opening_of, answered}
 use Rattle.ssh_session.specs.Outcome.{Outcome, Goes, Ends, Fails}
+use Rattle.ssh_session.specs.declared.messages.Spoken.{Spoken}
+use Rattle.ssh_session.specs.declared.messages.Spoken.TheVariants as spoken
 use Rattle.ssh_session.specs.Reading.{Said, Disconnect, Over_cap, Service, Request, Response, Open}
 use Rattle.ssh_session.specs.Reading.{Unfit, Without_packets}
 use Rattle.ssh_session.specs.Reading as read
+use Rattle.ssh_session.specs.Rows.{spoken_acts}
 use Rattle.ssh_session.specs.Rows.{row, owed, greeting, greets, is_short, replied, concluded}
 use Rattle.ssh_session.specs.Rows.{asked_of, rejection_hold, moment_after}
 use Rattle.ssh_session.specs.Rows.{data_told, open_acts, aims, served, lets_in, finishes}
@@ -293,38 +296,44 @@ abbrev pub IsFairSaid : Said → Type 0
 IsFairSaid (Open opening) = IsFairOpen opening
 IsFairSaid _ = Unit {0}
 
+spoken_on : (past : List TraceEntry) (w : World) (said : Spoken) → Kept past w
+    → ActsCome (law past) (spoken_acts w said) w
+spoken_on past w spoken.Nothing k = tt
+spoken_on past w (spoken.Grant channel amount) k =
+    on_come (law past) w (find channel.0 w.channels.lines.entries) _
+    (λ e. (
+      op_on past (Grant channel.0 amount) w tt refl (λ n. grant_absent n channel.0 amount
+          w.channels.lines) k,
+      λ world h. tt,
+    ))
+spoken_on past w (spoken.Data channel piece) k =
+    let came = coming_of (length piece.bytes) w.channels.target
+    (find channel.0 w.channels.lines.entries) in
+    let v = lined (does (Adjust channel.0 (length piece.bytes) w.channels.target)) w in
+    let kept = op_on past (Adjust channel.0 (length piece.bytes) w.channels.target) w tt refl
+    (λ n. adjust_absent n channel.0 (length piece.bytes) w.channels.target w.channels.lines) k in
+    (kept, told_on past came channel piece w.channels.target v kept)
+spoken_on past w (spoken.Tells channel message happening) k =
+    on_come (law past) w (find channel.0 w.channels.lines.entries) _ (λ e. λ world h. tt)
+spoken_on past w (spoken.Close channel) k =
+    on_come (law past) w (find channel.0 w.channels.lines.entries) _
+    (λ e. (
+      op_on past (Peer_close channel.0) w tt refl
+          (λ n. peer_close_absent n channel.0 w.channels.lines) k,
+      λ world h. tt,
+    ))
+spoken_on past w (spoken.Wants channel wanted) k = (
+  op_on past (Set_wants_reply channel.0 wanted) w tt refl
+      (λ n. wants_absent n channel.0 wanted w.channels.lines) k,
+  tt,
+)
+spoken_on past w spoken.Unbuilt k = tt
+
 owed_on : (past : List TraceEntry) (w : World) (said : Said) → IsFairSaid said → Kept past w
     → ActsCome (law past) (owed w said) w
 owed_on past w (Open opening) fair k = open_on past (next_number w.channels.lines) opening w refl
     fair k
-owed_on past w (read.Grant channel amount) fair k =
-    on_come (law past) w (find channel w.channels.lines.entries) _
-    (λ e. (
-      op_on past (Grant channel amount) w tt refl (λ n. grant_absent n channel amount
-          w.channels.lines) k,
-      λ world h. tt,
-    ))
-owed_on past w (read.Data channel piece) fair k =
-    let came = coming_of (length piece.bytes) w.channels.target
-    (find channel w.channels.lines.entries) in
-    let v = lined (does (Adjust channel (length piece.bytes) w.channels.target)) w in
-    let kept = op_on past (Adjust channel (length piece.bytes) w.channels.target) w tt refl
-    (λ n. adjust_absent n channel (length piece.bytes) w.channels.target w.channels.lines) k in
-    (kept, told_on past came (own channel) piece w.channels.target v kept)
-owed_on past w (read.Eof channel) fair k =
-    on_come (law past) w (find channel w.channels.lines.entries) _ (λ e. λ world h. tt)
-owed_on past w (read.Close channel) fair k =
-    on_come (law past) w (find channel w.channels.lines.entries) _
-    (λ e. (
-      op_on past (Peer_close channel) w tt refl
-          (λ n. peer_close_absent n channel w.channels.lines) k,
-      λ world h. tt,
-    ))
-owed_on past w (read.Wants channel wanted) fair k = (
-  op_on past (Set_wants_reply channel wanted) w tt refl
-      (λ n. wants_absent n channel wanted w.channels.lines) k,
-  tt,
-)
+owed_on past w (read.Channel said) fair k = spoken_on past w said k
 owed_on past w Disconnect fair k = k
 owed_on past w Over_cap fair k =
     let kept = plain_kept past (at_once too_many_attempts ∷ []) w (refl, tt) k in (kept, kept)

@@ -2,6 +2,7 @@ pub mod Serving
 pub mod Commanding
 pub mod Refining
 pub mod Effects
+pub mod Reading
 pub mod Rows
 pub mod Opened
 pub mod Greeting

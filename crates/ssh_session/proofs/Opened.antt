@@ -18,19 +18,19 @@ use Rattle.ssh_session.specs.World.{World}
 
 -- the table and the opens that wait changed alone
 pub changed : (old new : Session) (w : World) (waiting : List (ℕ × Opening)) (lines : Lines)
-    → new.config ≡ old.config →
-    new.session_id ≡ old.session_id → new.remote_sshid ≡ old.remote_sshid → new.state ≡ old.state →
+    → new.common ≡ old.common → new.session_id ≡ old.session_id → new.state ≡ old.state →
     new.requested ≡ old.requested → new.target ≡ old.target → new.spent ≡ old.spent
     → new.opens.entries ≡ waiting →
     Stands new.table lines → Refines old w →
     Refines new (record w { channels = record w.channels { lines = lines; opens = waiting } })
-changed old new w waiting lines config id sshid state requested target spent opens stands r =
+changed old new w waiting lines common id state requested target spent opens stands r =
     record {
-      config = config ∙ r.config;
+      config = ap (λ c. c.config) common ∙ r.config;
       session_id = id ∙ r.session_id;
-      remote_sshid = sshid ∙ r.remote_sshid;
+      remote_sshid = ap (λ c. c.remote_sshid) common ∙ r.remote_sshid;
       state = state ∙ r.state;
       requested = requested ∙ r.requested;
+      name = ap (λ c. c.auth_user) common ∙ r.name;
       table = stands;
       opens = opens;
       target = target ∙ r.target;

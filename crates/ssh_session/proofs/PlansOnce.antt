@@ -1,5 +1,5 @@
 -- An input owes one plan, but for want of memory, and for a verifier that was not asked.
-use Rattle.std.proofs.Common.{◌≡◌, ◌⊎◌, ℕ, List, [], ◌∷◌, Bool, true, false, Option, Some, None}
+use Rattle.std.proofs.Common.{◌≡◌, ◌⊎◌, ℕ, List, [], Bool, true, false, Option, Some, None}
 use Rattle.std.proofs.Common.{refl, sym, ◌∙◌, ap, subst, inl, inr}
 use Rattle.std.specs.Prelude.{codes, drop, if◌then◌else◌}
 use Rattle.ssh_link.specs.declared.frame.Input.{Input}
@@ -12,7 +12,7 @@ use Rattle.ssh_auth.specs.declared.auth.Auth.TheVariants.{Partial}
 use Rattle.ssh_auth.specs.declared.auth_request.AuthRequest.{AuthRequest}
 use Rattle.ssh_auth.specs.declared.question.Admission.TheVariants as by
 use Rattle.ssh_auth.specs.declared.question.Question.TheVariants.{Admits}
-use Rattle.ssh_auth.specs.Plan.{Plan, Finish, Ask, after}
+use Rattle.ssh_auth.specs.Plan.{Plan, Ask, after}
 use Rattle.ssh_auth.specs.Publickey.{Acceptance, Circumstances, Offer}
 use Rattle.ssh_auth.specs.Request.{begun, is_probed, prompt_of}
 use Rattle.ssh_auth.specs.Requested.{Requested as Asked, Method, Signed_method}
@@ -29,14 +29,14 @@ use Rattle.ssh_session.specs.declared.state.EncryptedState.TheVariants.{Authenti
 use Rattle.ssh_session.specs.Acts.{acts}
 use Rattle.ssh_session.specs.Gate.{gate_of}
 use Rattle.ssh_session.specs.Outcome.{Outcome}
-use Rattle.ssh_session.specs.Reading.{Said, Request, Response, Says, service, grant, data_message}
-use Rattle.ssh_session.specs.Reading.{extended_message, eof, close, request_message}
+use Rattle.ssh_session.specs.Messages.{message_layout}
+use Rattle.ssh_session.specs.Reading.{Said, Service, Request, Response, Channel, Says, service}
 use Rattle.ssh_session.specs.Rows.{row, concluded, asked_of}
 use Rattle.ssh_session.specs.Run.{OwesKind, Owes, is_there, finish_input}
 use Rattle.ssh_session.specs.Short.{IsShortOf}
 use Rattle.ssh_session.specs.World.{World, circumstances}
 use Rattle.ssh_session.proofs.KeyFields.{AreOneAnswer, AreOneMethod}
-use Rattle.ssh_session.proofs.LayoutsOnce.{layout_once, open_once}
+use Rattle.ssh_session.proofs.LayoutsOnce.{said_once, open_once}
 use Rattle.ssh_session.proofs.RequestsOnce.{AreOneRequest, request_once}
 use Rattle.ssh_session.proofs.ResponsesOnce.{AreOneResponse, responses_once}
 use Rattle.ssh_session.proofs.Shorter.{whole, whole_as, finished_short}
@@ -205,7 +205,7 @@ responses_one w moment a b e =
 
 -- ---- an input
 
--- at a gate a payload owes one plan: a message that has a layout costs a line here
+-- at a gate a payload owes one plan
 said_one : (given : Circumstances) (w : World) (moment : ℕ) (at : Gate) (fields : List ℕ)
     (a b : Said) → Says given (is_there w) at fields a → Says given (is_there w) at fields b
     → AreOne (row w moment a) (row w moment b)
@@ -224,19 +224,9 @@ said_one given w moment gate.InfoResponse fields a b h k =
 said_one given w moment gate.ChannelOpen fields a b h k =
     same_row w moment a b (open_once fields a b h k)
 said_one given w moment gate.ServiceRequest fields a b h k =
-    same_row w moment a b (layout_once service fields a b h k)
-said_one given w moment gate.WindowAdjust fields a b h k =
-    same_row w moment a b (layout_once grant fields a b h k)
-said_one given w moment gate.ChannelData fields a b h k =
-    same_row w moment a b (layout_once (data_message (is_there w)) fields a b h k)
-said_one given w moment gate.ChannelExtendedData fields a b h k =
-    same_row w moment a b (layout_once (extended_message (is_there w)) fields a b h k)
-said_one given w moment gate.ChannelEof fields a b h k =
-    same_row w moment a b (layout_once eof fields a b h k)
-said_one given w moment gate.ChannelClose fields a b h k =
-    same_row w moment a b (layout_once close fields a b h k)
-said_one given w moment gate.ChannelRequest fields a b h k =
-    same_row w moment a b (layout_once (request_message (is_there w)) fields a b h k)
+    same_row w moment a b (said_once Service service fields a b h k)
+said_one given w moment (gate.Channel message) fields a b h k =
+    same_row w moment a b (said_once Channel (message_layout (is_there w) message) fields a b h k)
 
 kind_one : (accepts : Acceptance) (w : World) (moment : ℕ) (kind : InputKind)
     (plan other : Plan Outcome) → OwesKind accepts w moment kind plan

@@ -62,6 +62,7 @@ tabled session table fits w change r s = record {
   remote_sshid = r.remote_sshid;
   state = r.state;
   requested = r.requested;
+  name = r.name;
   table = s;
   opens = r.opens;
   target = r.target;

@@ -22,14 +22,14 @@ use Rattle.ssh_auth.proofs.Plans.{reaches_after, begins_after, breaks_after, cal
 use Rattle.ssh_auth.proofs.Plans.{steps_of_calls, told_of_calls}
 use Rattle.ssh_session.specs.declared.error.RunError.{RunError}
 use Rattle.ssh_session.specs.declared.session.Session.{Session}
-use Rattle.ssh_session.specs.declared.state.EncryptedState.{EncryptedState}
 use Rattle.ssh_session.specs.declared.state.EncryptedState.TheVariants.{WaitingAuthRequest}
+use Rattle.ssh_session.specs.declared.state.EncryptedState.TheVariants.{InitCompression}
 use Rattle.ssh_session.specs.Acts.{acts}
 use Rattle.ssh_session.specs.Failure.{error_of_auth}
 use Rattle.ssh_session.specs.Heard.{Heard, CallsAlone, AnswersRequest, AnswersResponse}
 use Rattle.ssh_session.specs.Outcome.{Outcome, Goes, Fails, Key}
 use Rattle.ssh_session.specs.Rows.{replied, reply_row, concluded, fault_of, asked_of, request_row}
-use Rattle.ssh_session.specs.Rows.{response_row}
+use Rattle.ssh_session.specs.Rows.{response_row, user_of, lets_in, finishes}
 use Rattle.ssh_session.specs.Serve.{Refines, IsCaused, cause_of, may_stop, Hears, Serves, Does}
 use Rattle.ssh_session.specs.World.{World, circumstances, waits_for}
 use Rattle.ssh_session.proofs.Serving.{reached, completes}
@@ -121,18 +121,23 @@ unanswered w moment requested plan a b next calls state e session h f = (
   caused w moment requested plan a b calls state e f,
 )
 
--- a session whose state changed, and that says whether a request was finished
-pub finished_as : (requested : Bool) (state : EncryptedState) (session : Session)
-    (fits : length session.session_id < 2 ^ 32)
-    (w : World) → Refines session w →
-    Refines (record session { state = state; requested = requested; session_id_fits = fits })
-    (record w { user = record { state = state; requested = requested } })
-finished_as requested state session fits w r = record {
+-- a session that let its user in, and that says whether a request was finished
+pub let_in : (requested : Bool) (user : List ℕ) (session : Session)
+    (fits : length session.session_id < 2 ^ 32) (w : World) → Refines session w
+    → user ≡ user_of w.user.state →
+    Refines (record session {
+      common = record session.common { auth_user = user };
+      state = InitCompression;
+      requested = requested;
+      session_id_fits = fits;
+    }) (lets_in (finishes requested w))
+let_in requested user session fits w r is = record {
   config = r.config;
   session_id = r.session_id;
   remote_sshid = r.remote_sshid;
   state = refl;
   requested = refl;
+  name = is;
   table = r.table;
   opens = r.opens;
   target = r.target;
@@ -167,6 +172,7 @@ asked_again auth session fits w r = record {
   remote_sshid = r.remote_sshid;
   state = refl;
   requested = r.requested;
+  name = r.name;
   table = r.table;
   opens = r.opens;
   target = r.target;
@@ -183,6 +189,7 @@ noted_as requested session fits w r = record {
   remote_sshid = r.remote_sshid;
   state = r.state;
   requested = refl;
+  name = r.name;
   table = r.table;
   opens = r.opens;
   target = r.target;

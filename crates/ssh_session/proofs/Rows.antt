@@ -18,12 +18,13 @@ use Rattle.ssh_session.specs.Acts.{Act, acts}
 use Rattle.ssh_session.specs.Failure.{error_of_layout, error_of_table}
 use Rattle.ssh_session.specs.Heard.{Heard}
 use Rattle.ssh_session.specs.Opening.{Opening}
-use Rattle.ssh_session.specs.OpenRead.{IsUnread}
+use Rattle.ssh_session.specs.OpenRead.{IsOpenUnread}
 use Rattle.ssh_session.specs.Opens.{own}
 use Rattle.ssh_session.specs.Outcome.{Outcome}
-use Rattle.ssh_session.specs.Reading.{Said, Data, Unfit, Without_packets, SaysOpen}
+use Rattle.ssh_session.specs.declared.messages.Spoken.TheVariants.{Data}
+use Rattle.ssh_session.specs.Reading.{Said, Unfit, Without_packets, SaysOpen}
 use Rattle.ssh_session.specs.Rows.{on, on_entry, on_confirmed, grant_acts, credit_left, data_acts}
-use Rattle.ssh_session.specs.Rows.{open_acts, owed, row}
+use Rattle.ssh_session.specs.Rows.{open_acts, spoken_acts, row}
 use Rattle.ssh_session.specs.Run.{is_there}
 use Rattle.ssh_session.specs.Serve.{Refines, Serves, Completes, comes}
 use Rattle.ssh_session.specs.World.{World, lined}
@@ -109,7 +110,7 @@ not_closed n w session h r =
 
 pub unread_open : {E : Type 0} (w : World) (moment : ℕ) (fields : List ℕ) (why : LayoutError)
     (a : Heard E) (session : Session) →
-    IsUnread fields why → (said : Said) × SaysOpen fields said
+    IsOpenUnread fields why → (said : Said) × SaysOpen fields said
     × Completes (row w moment said) a a session (Err (error_of_layout why))
 unread_open w moment fields (layout.Wire why) a session h =
     (Unfit why, h, unfit why (λ (flow : Flow) world. Finish (comes flow world)) a session)
@@ -131,7 +132,7 @@ not_drawn w opening table.Full next a session n f = rw (f refl) ([], hears_nothi
 
 pub arrives : (n : ℕ) (w : World) (piece : Chunk) (adjusted : Adjusted) →
     coming_of (length piece.bytes) w.channels.target (find n w.channels.lines.entries) ≡ adjusted →
-    owed w (Data n piece) ≡ data_acts adjusted (own n) piece w.channels.target
+    spoken_acts w (Data (own n) piece) ≡ data_acts adjusted (own n) piece w.channels.target
 arrives n w piece adjusted h = ap (λ a. data_acts a (own n) piece w.channels.target) h
 
 pub not_inconsistent : (e : TableError) → (e ≡ table.NoMemory) ⊎ (e ≡ table.Full) → e

@@ -296,8 +296,9 @@ pub still_suits : {E : Type 0} (suits : Config → List ℕ → Type 0) (accepts
     IsSuited suits session
 still_suits suits accepts settings a b count session going h =
     let r = going.refines in
-    let config : session.config ≡ settings.config = r.config ∙ ap (λ s. s.config) going.set in
-    let line : session.remote_sshid ≡ settings.remote_sshid = r.remote_sshid
+    let config : session.common.config ≡ settings.config = r.config
+    ∙ ap (λ s. s.config) going.set in
+    let line : session.common.remote_sshid ≡ settings.remote_sshid = r.remote_sshid
     ∙ ap (λ s. s.remote_sshid) going.set in
-    subst (λ c. suits c session.remote_sshid) (sym config) (subst (suits settings.config) (sym line)
-    h)
+    subst (λ c. suits c session.common.remote_sshid) (sym config)
+    (subst (suits settings.config) (sym line) h)

@@ -32,11 +32,13 @@ use Rattle.ssh_session.specs.Acts.{Act, acts}
 use Rattle.ssh_session.specs.Effect.{Effect, effect, lacks, needs, refused_or, done_by, answers}
 use Rattle.ssh_session.specs.Effect.{decides, fails_open, failure_of, is_too_long}
 use Rattle.ssh_session.specs.Opening.{Opening}
-use Rattle.ssh_session.specs.Opens.{own, opening_of}
+use Rattle.ssh_session.specs.Opens.{opening_of}
 use Rattle.ssh_session.specs.Outcome.{Outcome, Goes, Ends, Fails}
+use Rattle.ssh_session.specs.declared.messages.Spoken.{Spoken}
+use Rattle.ssh_session.specs.declared.messages.Spoken.TheVariants as spoken
 use Rattle.ssh_session.specs.Reading.{Said, Disconnect, Over_cap, Service, Request}
-use Rattle.ssh_session.specs.Reading.{Response, Open, Grant, Data, Eof, Close, Unfit}
-use Rattle.ssh_session.specs.Reading.{Wants, Without_packets, Unbuilt}
+use Rattle.ssh_session.specs.Reading.{Response, Open, Channel, Unfit, Without_packets, Unbuilt}
+use Rattle.ssh_session.specs.Rows.{spoken_acts}
 use Rattle.ssh_session.specs.Rows.{row, owed, greets, is_short, replied, concluded, asked_of}
 use Rattle.ssh_session.specs.Rows.{on_entry, on_confirmed, data_told, open_acts}
 use Rattle.ssh_session.specs.Run.{OwesKind, Owes, command_row}
@@ -148,23 +150,29 @@ open_set : (settings : Settings) (number : Option ℕ) (opening : Opening) (w : 
 open_set settings None opening w h = tt
 open_set settings (Some number) opening w h = (h, λ world k. tt)
 
+spoken_set : (settings : Settings) (w : World) (said : Spoken) → IsSet settings w
+    → ActsCome (law settings) (spoken_acts w said) w
+spoken_set settings w spoken.Nothing h = tt
+spoken_set settings w (spoken.Grant channel amount) h =
+    on_come (law settings) w (find channel.0 w.channels.lines.entries) _ (λ e. (h, λ world k. tt))
+spoken_set settings w (spoken.Data channel piece) h =
+    let came = coming_of (length piece.bytes) w.channels.target
+    (find channel.0 w.channels.lines.entries) in (
+      h,
+      told_set settings came channel piece w.channels.target
+          (lined (takes_in channel.0 (length piece.bytes) w.channels.target) w) h,
+    )
+spoken_set settings w (spoken.Tells channel message happening) h =
+    on_come (law settings) w (find channel.0 w.channels.lines.entries) _ (λ e. λ world k. tt)
+spoken_set settings w (spoken.Close channel) h =
+    on_come (law settings) w (find channel.0 w.channels.lines.entries) _ (λ e. (h, λ world k. tt))
+spoken_set settings w (spoken.Wants channel wanted) h = (h, tt)
+spoken_set settings w spoken.Unbuilt h = tt
+
 owed_set : (settings : Settings) (w : World) (said : Said) → IsSet settings w
     → ActsCome (law settings) (owed w said) w
 owed_set settings w (Open opening) h = open_set settings (next_number w.channels.lines) opening w h
-owed_set settings w (Grant channel amount) h =
-    on_come (law settings) w (find channel w.channels.lines.entries) _ (λ e. (h, λ world k. tt))
-owed_set settings w (Data channel piece) h =
-    let came = coming_of (length piece.bytes) w.channels.target
-    (find channel w.channels.lines.entries) in (
-      h,
-      told_set settings came (own channel) piece w.channels.target
-          (lined (takes_in channel (length piece.bytes) w.channels.target) w) h,
-    )
-owed_set settings w (Eof channel) h =
-    on_come (law settings) w (find channel w.channels.lines.entries) _ (λ e. λ world k. tt)
-owed_set settings w (Close channel) h =
-    on_come (law settings) w (find channel w.channels.lines.entries) _ (λ e. (h, λ world k. tt))
-owed_set settings w (Wants channel wanted) h = (h, tt)
+owed_set settings w (Channel said) h = spoken_set settings w said h
 owed_set settings w Disconnect h = h
 owed_set settings w Over_cap h = (h, h)
 owed_set settings w (Unfit why) h = tt

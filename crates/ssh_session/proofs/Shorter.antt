@@ -1,8 +1,8 @@
 -- What a plan comes to that is short of another, the other comes to.
-use Rattle.std.proofs.Common.{◌≡◌, ◌≢◌, ℕ, List, [], ◌∷◌, refl, sym, ap, subst}
-use Rattle.ssh_auth.specs.Plan.{Plan, Finish, Ask, Tell, Answer, Event, Handler_error, after}
+use Rattle.std.proofs.Common.{◌≡◌, ◌≢◌, List, [], ◌∷◌, refl, sym, ap, subst}
+use Rattle.ssh_auth.specs.Plan.{Plan, Finish, Ask, Tell, Event, Handler_error, after}
 use Rattle.ssh_auth.specs.Plan.{Reaches, Follows, Breaks}
-use Rattle.ssh_session.specs.Outcome.{Fault, Encoding, Inconsistent, Key, Unsupported, Starved}
+use Rattle.ssh_session.specs.Outcome.{Encoding, Inconsistent, Key, Unsupported, Starved}
 use Rattle.ssh_session.specs.Outcome.{Channels_full, Not_built, Outcome, Goes, Ends, Fails}
 use Rattle.ssh_session.specs.Run.{finish_input}
 use Rattle.ssh_session.specs.Short.{IsShortOf}

@@ -1,6 +1,6 @@
 -- Which payloads a session reads, by their number (RFC 4250 section 4.1.2).
 use Rattle.std.specs.Prelude.{ℕ, ◌==◌, ◌&&◌, ◌||◌, Bool, nat_le, nat_lt, List, [], ◌∷◌}
-use Rattle.std.specs.Prelude.{if◌then◌else◌}
+use Rattle.std.specs.Prelude.{if◌then◌else◌, Option, Some, None}
 use Rattle.ssh_handler.specs.declared.config.Config.{Config}
 use Rattle.ssh_auth.specs.declared.auth_request.AuthRequest.{AuthRequest}
 use Rattle.ssh_session.specs.declared.gate.Gate.{Gate}
@@ -10,6 +10,8 @@ use Rattle.ssh_session.specs.declared.state.EncryptedState.TheVariants.{WaitingA
 use Rattle.ssh_session.specs.declared.state.EncryptedState.TheVariants.{WaitingAuthRequest}
 use Rattle.ssh_session.specs.declared.state.EncryptedState.TheVariants.{InitCompression}
 use Rattle.ssh_session.specs.declared.state.EncryptedState.TheVariants.{Authenticated}
+use Rattle.ssh_session.specs.declared.messages.ChannelMessage.{ChannelMessage}
+use Rattle.ssh_session.specs.Messages.{channel_message}
 use Rattle.ssh_session.specs.World.{World}
 
 -- so many requests were rejected that no more are read
@@ -30,17 +32,16 @@ authentication_gate config auth n =
 abbrev pub is_connection_number : ℕ → Bool
 is_connection_number n = (nat_le 80 n && nat_le n 82) || (nat_le 90 n && nat_le n 98)
 
+abbrev pub of_channels : Option ChannelMessage → Gate → Gate
+of_channels (Some message) other = gate.Channel message
+of_channels None other = other
+
 -- what a number means once a user is accepted
 abbrev pub connection_gate : ℕ → Gate
 connection_gate n =
     if n == 90 then gate.ChannelOpen
-    else (if n == 93 then gate.WindowAdjust
-    else (if n == 94 then gate.ChannelData
-    else (if n == 95 then gate.ChannelExtendedData
-    else (if n == 96 then gate.ChannelEof
-    else (if n == 97 then gate.ChannelClose
-    else (if n == 98 then gate.ChannelRequest
-    else (if is_connection_number n then gate.NotBuilt else gate.Nothing)))))))
+    else of_channels (channel_message n)
+    (if is_connection_number n then gate.NotBuilt else gate.Nothing)
 
 -- what a number means to what is waited for: SERVICE_REQUEST is 5
 abbrev pub state_gate : Config → EncryptedState → ℕ → Gate

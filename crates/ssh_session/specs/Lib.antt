@@ -2,6 +2,8 @@ pub mod Opening
 pub mod World
 pub mod Layout
 pub mod Opens
+pub mod Spelling
+pub mod Messages
 pub mod Outcome
 pub mod Effect
 pub mod Acts

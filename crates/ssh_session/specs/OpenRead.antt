@@ -16,8 +16,8 @@ abbrev pub unread : LayoutError → Said
 unread (layout.Wire why) = Unfit why
 unread layout.Inconsistent = Without_packets
 
-abbrev pub IsRead : OpenRequest → List ℕ → Type 0
-IsRead asked fields = SaysOpen fields (said_by asked)
+abbrev pub IsOpenRead : OpenRequest → List ℕ → Type 0
+IsOpenRead asked fields = SaysOpen fields (said_by asked)
 
-abbrev pub IsUnread : List ℕ → LayoutError → Type 0
-IsUnread fields why = SaysOpen fields (unread why)
+abbrev pub IsOpenUnread : List ℕ → LayoutError → Type 0
+IsOpenUnread fields why = SaysOpen fields (unread why)

@@ -7,7 +7,7 @@ use Rattle.ssh_wire.specs.declared.channel_id.ChannelId.{ChannelId}
 use Rattle.ssh_link.specs.Frames.{Frame}
 use Rattle.ssh_link.specs.declared.notice.ChannelMsg.{ChannelMsg}
 use Rattle.ssh_link.specs.declared.notice.ChannelMsg.TheVariants as msg
-use Rattle.ssh_link.specs.declared.notice.Notice.TheVariants.{Channel, Granted}
+use Rattle.ssh_link.specs.declared.notice.Notice.TheVariants as notice
 use Rattle.ssh_auth.specs.declared.auth_request.AuthRequest.{AuthRequest}
 use Rattle.ssh_auth.specs.declared.auth_step.AuthVerdict.{AuthVerdict}
 use Rattle.ssh_auth.specs.declared.auth_step.AuthVerdict.TheVariants as verdict
@@ -17,7 +17,7 @@ use Rattle.ssh_auth.specs.declared.question.Happening.TheVariants as what
 use Rattle.ssh_auth.specs.declared.question.Lent.TheVariants.{Succeeded, Opens, Happened}
 use Rattle.ssh_auth.specs.declared.question.OpenType.TheVariants.{Session}
 use Rattle.ssh_auth.specs.Plan.{Plan, Ask, after}
-use Rattle.ssh_auth.specs.Request.{server_request}
+use Rattle.ssh_auth.specs.Request.{server_request, principal_of}
 use Rattle.ssh_auth.specs.Requested.{Requested as Asked}
 use Rattle.ssh_auth.specs.Response.{Responded}
 use Rattle.ssh_auth.specs.Verdict.{verdict as verdict_on, response_verdict, AuthOutcome as Reply}
@@ -41,13 +41,14 @@ use Rattle.ssh_session.specs.Opening.{Opening}
 use Rattle.ssh_session.specs.declared.state.EncryptedState.{EncryptedState}
 use Rattle.ssh_session.specs.declared.state.EncryptedState.TheVariants.{WaitingAuthRequest}
 use Rattle.ssh_session.specs.declared.state.EncryptedState.TheVariants.{InitCompression}
+use Rattle.ssh_session.specs.declared.messages.Spoken.{Spoken}
+use Rattle.ssh_session.specs.declared.messages.Spoken.TheVariants as spoken
 use Rattle.ssh_session.specs.Layout.{service_accept, banner, too_many_attempts, at_once, held}
 use Rattle.ssh_session.specs.Opens.{own}
 use Rattle.ssh_session.specs.Outcome.{Fault, Encoding, Inconsistent, Key, Unsupported, Starved}
 use Rattle.ssh_session.specs.Outcome.{Channels_full, Not_built, Outcome}
 use Rattle.ssh_session.specs.Reading.{Said, Disconnect, Over_cap, Service, Request, Response, Open}
-use Rattle.ssh_session.specs.Reading.{Grant, Data, Eof, Close, Wants, Unfit, Without_packets}
-use Rattle.ssh_session.specs.Reading.{Unbuilt}
+use Rattle.ssh_session.specs.Reading.{Channel, Unfit, Without_packets, Unbuilt}
 use Rattle.ssh_session.specs.World.{World, waits_for, lined, writes}
 use Rattle.ssh_session.specs.Acts.{Act, Notes, Calls, Adjusts_by, Turns, Is_over, Stops, acts}
 
@@ -94,8 +95,19 @@ moment_after moment time = min (moment + time) (2 ^ 64 - 1)
 abbrev pub finishes : (requested : Bool) → World → World
 finishes requested w = record w { user = record w.user { requested = requested } }
 
+-- the user whom the last request named
+abbrev pub named_user : Option (List ℕ × List ℕ) → List ℕ
+named_user None = []
+named_user (Some (user, service)) = user
+
+abbrev pub user_of : EncryptedState → List ℕ
+user_of (WaitingAuthRequest auth) = named_user (principal_of auth)
+user_of _ = []
+
 abbrev pub lets_in : World → World
-lets_in = waits_for InitCompression
+lets_in w = record w {
+  user = record w.user { state = InitCompression; name = user_of w.user.state };
+}
 
 -- a reply: a rejection is held, and an accepted user is told to the handler
 abbrev pub replied : World → (moment : ℕ) → (requested : Bool) → List ℕ → AuthVerdict → List Act
@@ -146,7 +158,7 @@ response_row w moment responded =
 
 -- a message of a channel is told twice: to its user as a notice, and to the handler as a callback
 abbrev pub told : ChannelId → ChannelMsg → Happening → List Act
-told channel message happening = Notes (Channel channel message)
+told channel message happening = Notes (notice.Channel channel message)
     ∷ Calls (Happened channel happening) ∷ []
 
 -- on a channel that both sides agreed to, and nothing on another
@@ -169,7 +181,7 @@ credit_left amount e = (flushed (granting amount e)).granted - (flushed (grantin
 abbrev pub grant_acts : (channel amount credit : ℕ) → List Act
 grant_acts channel amount credit =
     Turns (lined (takes_grant channel amount))
-    ∷ Notes (Granted (own channel) amount)
+    ∷ Notes (notice.Granted (own channel) amount)
     ∷ told (own channel) (msg.WindowAdjusted credit) (what.WindowAdjusted credit)
 
 -- data are told by their kind (section 5.2)
@@ -191,7 +203,7 @@ aims window w = record w {
 
 -- both are told of data, and the handler is asked for the next window where the room was filled up
 abbrev pub noted : ChannelId → Chunk → Act
-noted channel piece = Notes (Channel channel (data_notice piece.kind piece.bytes))
+noted channel piece = Notes (notice.Channel channel (data_notice piece.kind piece.bytes))
 
 abbrev pub called : ChannelId → Chunk → Act
 called channel piece = Calls (Happened channel (data_happening piece.kind piece.bytes))
@@ -225,19 +237,28 @@ open_acts None opening = Stops Channels_full ∷ []
 open_acts (Some number) opening = Turns (waits number opening) ∷ Calls (Opens (own number) Session)
     ∷ []
 
+-- ---- messages of channels, by what they say
+
+abbrev pub spoken_acts : World → Spoken → List Act
+spoken_acts w spoken.Nothing = []
+spoken_acts w (spoken.Grant channel amount) =
+    on channel.0 w (λ e. grant_acts channel.0 amount (credit_left amount e))
+spoken_acts w (spoken.Data channel piece) = data_acts
+    (coming_of (length piece.bytes) w.channels.target (find channel.0 w.channels.lines.entries))
+    channel piece w.channels.target
+spoken_acts w (spoken.Tells channel message happening) =
+    on channel.0 w (λ e. told channel message happening)
+spoken_acts w (spoken.Close channel) = on channel.0 w (λ e.
+    Turns (lined (peer_closes channel.0)) ∷ told channel msg.Close what.Close)
+-- a channel that the peer has not agreed to keeps whether its last request wants a reply
+spoken_acts w (spoken.Wants channel wanted) = Turns (lined (wants channel.0 wanted)) ∷ []
+spoken_acts w spoken.Unbuilt = Stops Not_built ∷ []
+
 -- ---- one line a row
 
 abbrev pub owed : World → Said → List Act
 owed w (Open opening) = open_acts (next_number w.channels.lines) opening
-owed w (Grant channel amount) = on channel w (λ e. grant_acts channel amount (credit_left amount e))
-owed w (Data channel piece) = data_acts
-    (coming_of (length piece.bytes) w.channels.target (find channel w.channels.lines.entries))
-    (own channel) piece w.channels.target
-owed w (Eof channel) = on channel w (λ e. told (own channel) msg.Eof what.Eof)
-owed w (Close channel) = on channel w (λ e. Turns (lined (peer_closes channel))
-    ∷ told (own channel) msg.Close what.Close)
--- a channel that the peer has not agreed to keeps whether its last request wants a reply
-owed w (Wants channel wanted) = Turns (lined (wants channel wanted)) ∷ []
+owed w (Channel said) = spoken_acts w said
 owed w Disconnect = Is_over ∷ []
 owed w Over_cap = Turns (writes (at_once too_many_attempts ∷ [])) ∷ Is_over ∷ []
 owed w (Unfit why) = Stops (Encoding why) ∷ []

@@ -38,8 +38,8 @@ abbrev pub lends : Session → Loan
 lends session = record {
   recorded = [];
   table = session.table;
-  config = session.config;
-  remote_sshid = session.remote_sshid;
+  config = session.common.config;
+  remote_sshid = session.common.remote_sshid;
   commands_wanted = not (some_wait session.table);
   replies_wanted = true;
 }
@@ -47,20 +47,21 @@ lends session = record {
 -- a handler that suits these servers and peers suits the session: it may be called with what the
 -- session lends
 abbrev pub IsSuited : (suits : Config → List ℕ → Type 0) → Session → Type 0
-IsSuited suits session = suits session.config session.remote_sshid
+IsSuited suits session = suits session.common.config session.common.remote_sshid
 
 -- the config and the peer are the same
 abbrev pub IsSamePeer : Session → Session → Type 0
-IsSamePeer before after = (after.config ≡ before.config)
-    × (after.remote_sshid ≡ before.remote_sshid)
+IsSamePeer before after = (after.common.config ≡ before.common.config)
+    × (after.common.remote_sshid ≡ before.common.remote_sshid)
 
 -- the session, which is not spent, is in this world
 pub record Refines (session : Session) (w : World) : Type 0 where
-  pub config : session.config ≡ w.settings.config
+  pub config : session.common.config ≡ w.settings.config
   pub session_id : session.session_id ≡ w.settings.session_id
-  pub remote_sshid : session.remote_sshid ≡ w.settings.remote_sshid
+  pub remote_sshid : session.common.remote_sshid ≡ w.settings.remote_sshid
   pub state : session.state ≡ w.user.state
   pub requested : session.requested ≡ w.user.requested
+  pub name : session.common.auth_user ≡ w.user.name
   pub table : Stands session.table w.channels.lines
   pub opens : session.opens.entries ≡ w.channels.opens
   pub target : session.target ≡ w.channels.target

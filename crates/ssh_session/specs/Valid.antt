@@ -38,9 +38,10 @@ use Rattle.ssh_session.specs.declared.state.EncryptedState.TheVariants.{WaitingA
 use Rattle.ssh_session.specs.World.{World, circumstances}
 use Rattle.ssh_session.specs.Gate.{gate_of}
 use Rattle.ssh_session.specs.Layout.{banner}
-use Rattle.ssh_session.specs.Reading.{Layout, Leaves, Whole, Fields, grant, data_message}
-use Rattle.ssh_session.specs.Reading.{extended_message, eof, close}
-use Rattle.ssh_wire.specs.Messages.{channel_request}
+use Rattle.ssh_session.specs.declared.messages.Spoken.{Spoken}
+use Rattle.ssh_session.specs.declared.messages.Spoken.TheVariants as spoken
+use Rattle.ssh_session.specs.Messages.{message_layout}
+use Rattle.ssh_session.specs.Spelling.{Layout, Leaves, Whole, Fields}
 use Rattle.ssh_session.specs.Run.{Turn, calls_of, is_there}
 
 -- boolean signed, string algorithm name, string blob: nothing that can be used is offered, and the
@@ -77,10 +78,16 @@ abbrev pub HasNoPrompt : EncryptedState → Type 0
 HasNoPrompt (WaitingAuthRequest auth) = prompt_of auth ≡ None
 HasNoPrompt _ = Unit {0}
 
--- the bytes fit the layout
-abbrev pub FitsLayout : Layout → List ℕ → Type 0
-FitsLayout (Leaves said) bytes = Unit {0}
+-- what it asks for is built
+abbrev pub IsServed : Spoken → Type 0
+IsServed spoken.Unbuilt = ⊥
+IsServed _ = Unit {0}
+
+-- the bytes fit the layout, and say what is served
+abbrev pub FitsLayout : Layout Spoken → List ℕ → Type 0
+FitsLayout (Leaves said) bytes = IsServed said
 FitsLayout (Whole fields says) bytes = (values : Values fields) × SpellsWhole fields values bytes
+    × IsServed (says values)
 FitsLayout (Fields fields next) bytes = (values : Values fields) × (rest : List ℕ)
     × SpellsAll fields values bytes rest × FitsLayout (next values) rest
 
@@ -107,17 +114,8 @@ AreValidFields given w gate.InfoResponse fields = HasNoPrompt w.user.state
 AreValidFields given w gate.ChannelOpen fields = (peer window packet : ℕ)
     × Leads (codes "session") peer window packet fields [] × (packet ≢ 0)
     × IsSome (next_number w.channels.lines)
-AreValidFields given w gate.WindowAdjust fields = FitsLayout grant fields
-AreValidFields given w gate.ChannelData fields = FitsLayout (data_message (is_there w)) fields
-AreValidFields given w gate.ChannelExtendedData fields = FitsLayout (extended_message (is_there w))
-    fields
-AreValidFields given w gate.ChannelEof fields = FitsLayout eof fields
-AreValidFields given w gate.ChannelClose fields = FitsLayout close fields
--- a request on no channel
-AreValidFields given w gate.ChannelRequest fields = (channel : ℕ) × (name : List ℕ)
-    × (wanted : Bool) × (rest : List ℕ)
-    × SpellsAll channel_request.fields (channel, (name, (wanted, tt))) fields rest
-    × (is_there w channel ≡ false)
+AreValidFields given w (gate.Channel message) fields =
+    FitsLayout (message_layout (is_there w) message) fields
 AreValidFields given w gate.NotBuilt fields = ⊥
 
 -- what the command does is built

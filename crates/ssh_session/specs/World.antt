@@ -29,6 +29,8 @@ pub record User : Type 0 where
   pub state : EncryptedState
   -- a USERAUTH_REQUEST was finished
   pub requested : Bool
+  -- the name of the user who was let in, and nothing before
+  pub name : List ℕ
 
 -- the channels (RFC 4254 section 5)
 pub record Channels : Type 0 where
@@ -48,7 +50,7 @@ pub record World : Type 0 where
 abbrev pub opening_world : Settings → World
 opening_world settings = record {
   settings = settings;
-  user = record { state = WaitingAuthServiceRequest false false; requested = false };
+  user = record { state = WaitingAuthServiceRequest false false; requested = false; name = [] };
   channels = record { lines = no_lines; opens = []; target = settings.config.window_size };
 }
 

@@ -176,8 +176,8 @@ impl Session {
             HasEffect (confirms number.0 said w) self.new result }
         ensures peer { IsSamePeer self.old self.new }
     {
-        let room = self.config.window_size;
-        let own_packet = self.config.maximum_packet_size;
+        let room = self.common.config.window_size;
+        let own_packet = self.common.config.maximum_packet_size;
         let frame = confirmation_frame(self.alloc, number, said.peer, room, own_packet)?;
         let params = ChannelParams::new(
             self.alloc,

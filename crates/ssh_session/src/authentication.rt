@@ -1,5 +1,6 @@
 // Requests of authentication, and responses to prompts (RFC 4252, RFC 4256).
-ghost use Rattle.std.specs.Prelude.{◌≡◌, ℕ, drop, None, [], ◌∷◌};
+ghost use Rattle.std.specs.Prelude.{◌≡◌, ℕ, drop, None, [], ◌∷◌, IfOk, IfErr};
+ghost use Rattle.ssh_wire.specs.declared.error.WireError.TheVariants.{NoMemory};
 ghost use Rattle.ssh_auth.specs.Serve.{IsNumbered};
 ghost use Rattle.ssh_session.specs.declared.gate.Gate.TheVariants as gate;
 ghost use Rattle.ssh_session.specs.World.{World, circumstances, writes};
@@ -8,7 +9,7 @@ ghost use Rattle.ssh_session.specs.Reading.{Said, Says, SaysResponse, Over_cap};
 ghost use Rattle.ssh_auth.specs.declared.auth_step.AuthVerdict.TheVariants as verdict;
 ghost use Rattle.ssh_auth.specs.Plan.{Finish};
 ghost use Rattle.ssh_session.specs.Acts.{Turns};
-ghost use Rattle.ssh_session.specs.Rows.{row, replied, rejection_hold, finishes};
+ghost use Rattle.ssh_session.specs.Rows.{row, replied, rejection_hold, finishes, user_of};
 ghost use Rattle.ssh_session.specs.Gate.{IsRequesting};
 ghost use Rattle.ssh_session.specs.Heard.{AreSame};
 ghost use Rattle.ssh_session.specs.Serve.{Refines, Answers, Does, Completes, Turned, IsSuited};
@@ -22,6 +23,7 @@ use bytes::Bytes;
 use ssh_auth::{AuthStep, AuthVerdict, Lent};
 use ssh_keys::Verifier;
 use ssh_link::Frame;
+use ssh_wire::{Text, WireError};
 
 impl Session {
     /// USERAUTH_REQUEST (RFC 4252 section 5).
@@ -109,11 +111,12 @@ impl Session {
     {
         if none_method && !self.requested {
             return self
+                .common
                 .config
                 .auth_rejection_time_initial
-                .unwrap_or(self.config.auth_rejection_time);
+                .unwrap_or(self.common.config.auth_rejection_time);
         }
-        self.config.auth_rejection_time
+        self.common.config.auth_rejection_time
     }
 
     /// A reply, held until a moment where one is given.
@@ -133,6 +136,21 @@ impl Session {
         Ok(())
     }
 
+    /// The user whom the last request named.
+    fn requested_user(&self) -> Result<Text, WireError>
+        ensures ok { (w : World) → Refines self.now w →
+            IfOk result (λ user. user ≡ user_of w.user.state) }
+        ensures memory { IfErr result (λ e. e ≡ NoMemory) }
+    {
+        let EncryptedState::WaitingAuthRequest(auth) = &self.state else {
+            return Text::new(self.alloc, "");
+        };
+        match auth.principal() {
+            Some((user, _)) => Text::new(self.alloc, user),
+            None => Text::new(self.alloc, ""),
+        }
+    }
+
     /// An accepted user: the handler is told, and the messages of the connection are read from now
     /// on.
     fn accept<O: Outside>(
@@ -147,7 +165,9 @@ impl Session {
             (O.heard outside.old) (O.heard outside.new) self.new result }
         ensures same { AreSame (O.heard outside.old) (O.heard outside.new) }
     {
+        let user = self.requested_user()?;
         self.write(Frame::new(reply, None, None))?;
+        self.common.auth_user = user;
         self.state = EncryptedState::InitCompression;
         self.requested = requested;
         self.call(outside, Lent::Succeeded)

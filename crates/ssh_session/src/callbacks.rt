@@ -25,8 +25,8 @@ impl Session {
         Commands::new(
             self.alloc,
             &self.table,
-            &self.config,
-            self.remote_sshid.as_slice(),
+            &self.common.config,
+            self.common.remote_sshid.as_slice(),
             self.commands_wanted(),
             self.replies_wanted(),
         )

@@ -4,16 +4,15 @@ ghost use Rattle.ssh_auth.specs.Serve.{IsNumbered};
 ghost use Rattle.ssh_session.specs.World.{World};
 ghost use Rattle.ssh_session.specs.Serve.{Refines};
 ghost use Rattle.ssh_session.specs.Gate.{gate_of, state_gate, authentication_gate, is_over_cap};
-ghost use Rattle.ssh_session.specs.Gate.{connection_gate, IsRequesting};
+ghost use Rattle.ssh_session.specs.Gate.{connection_gate, is_connection_number, IsRequesting};
 
 use crate::Session;
+use crate::messages::{ChannelMessage, channel_message};
 use crate::state::EncryptedState;
 use ssh_auth::AuthRequest;
 use ssh_handler::Config;
 use ssh_wire::message::{
-    CHANNEL_CLOSE, CHANNEL_DATA, CHANNEL_EOF, CHANNEL_EXTENDED_DATA, CHANNEL_OPEN, CHANNEL_REQUEST,
-    CHANNEL_WINDOW_ADJUST, DISCONNECT, KEXINIT, SERVICE_REQUEST, USERAUTH_INFO_RESPONSE,
-    USERAUTH_REQUEST,
+    CHANNEL_OPEN, DISCONNECT, KEXINIT, SERVICE_REQUEST, USERAUTH_INFO_RESPONSE, USERAUTH_REQUEST,
 };
 
 /// What a payload is to a session, by its number alone.
@@ -33,18 +32,8 @@ pub enum Gate {
     InfoResponse,
     /// It opens a channel.
     ChannelOpen,
-    /// It grants more on a channel.
-    WindowAdjust,
-    /// It brings data on a channel.
-    ChannelData,
-    /// It brings data of another type on a channel.
-    ChannelExtendedData,
-    /// It ends the peer's data on a channel.
-    ChannelEof,
-    /// It closes a channel.
-    ChannelClose,
-    /// It asks for something on a channel.
-    ChannelRequest,
+    /// It is of a channel.
+    Channel(ChannelMessage),
     /// What it asks for is not built.
     NotBuilt,
 }
@@ -68,7 +57,7 @@ impl Session {
         if number == KEXINIT {
             return Gate::NotBuilt;
         }
-        state_gate(&self.config, &self.state, number)
+        state_gate(&self.common.config, &self.state, number)
     }
 }
 
@@ -123,14 +112,20 @@ fn service_gate(number: u8) -> Gate
 fn connection_gate(number: u8) -> Gate
     ensures { result ≡ connection_gate number }
 {
+    if number == CHANNEL_OPEN {
+        return Gate::ChannelOpen;
+    }
+    match channel_message(number) {
+        Some(message) => Gate::Channel(message),
+        None => unserved_gate(number),
+    }
+}
+
+/// The other numbers of the connection are not built.
+fn unserved_gate(number: u8) -> Gate
+    ensures { result ≡ (if is_connection_number number then Gate.NotBuilt else Gate.Nothing) }
+{
     match number {
-        CHANNEL_OPEN => Gate::ChannelOpen,
-        CHANNEL_WINDOW_ADJUST => Gate::WindowAdjust,
-        CHANNEL_DATA => Gate::ChannelData,
-        CHANNEL_EXTENDED_DATA => Gate::ChannelExtendedData,
-        CHANNEL_EOF => Gate::ChannelEof,
-        CHANNEL_CLOSE => Gate::ChannelClose,
-        CHANNEL_REQUEST => Gate::ChannelRequest,
         80..=82 | 90..=98 => Gate::NotBuilt,
         _ => Gate::Nothing,
     }

@@ -16,6 +16,7 @@ mod finish;
 mod frames;
 mod gate;
 mod message;
+mod messages;
 mod once;
 mod opens;
 mod outside;

@@ -3,7 +3,7 @@ ghost use Rattle.std.specs.Prelude.{ℕ, List, [], ◌∷◌, IfOk, IfErr, Match
 ghost use Rattle.ssh_wire.specs.Field.{Bytes, Flag, Number, Text, SpellsAll, SpellsWhole};
 ghost use Rattle.ssh_wire.specs.Field.{Misfits, MisfitsAll, MisfitsWhole};
 ghost use Rattle.ssh_wire.specs.Reading.{Reads};
-ghost use Rattle.ssh_session.specs.OpenRead.{IsRead, IsUnread};
+ghost use Rattle.ssh_session.specs.OpenRead.{IsOpenRead, IsOpenUnread};
 
 use ssh_wire::{ChannelId, LayoutError, Reader, WireError};
 
@@ -38,8 +38,8 @@ pub(crate) enum OpenRequest {
 /// CHANNEL_OPEN (RFC 4254 section 5.1). `Inconsistent` at a packet size of 0, before what follows
 /// it is looked at.
 pub(crate) fn read_open(fields: &[u8]) -> Result<OpenRequest, LayoutError>
-    ensures { MatchResult result (λ request. IsRead request fields.now)
-        (λ why. IsUnread fields.now why) }
+    ensures { MatchResult result (λ request. IsOpenRead request fields.now)
+        (λ why. IsOpenUnread fields.now why) }
 {
     let mut reader = Reader::new(fields);
     let name = reader.text()?;

@@ -19,7 +19,7 @@ impl Session {
     pub fn config(&self) -> &Config
         ensures { result.now ≡ (lends self.now).config }
     {
-        &self.config
+        &self.common.config
     }
 
     /// The line by which the peer's software named itself, without its line end (RFC 4253 section
@@ -27,7 +27,7 @@ impl Session {
     pub fn remote_sshid(&self) -> &[u8]
         ensures { result.now ≡ (lends self.now).remote_sshid }
     {
-        self.remote_sshid.as_slice()
+        self.common.remote_sshid.as_slice()
     }
 
     /// Whether commands are taken from outside: on no channel data wait.

@@ -1,9 +1,11 @@
 // The service request (RFC 4253 section 10).
-ghost use Rattle.std.specs.Prelude.{ℕ, Some, None};
+ghost use Rattle.std.specs.Prelude.{ℕ, List, Some, None, Result};
+ghost use Rattle.ssh_wire.specs.declared.error.WireError.{WireError as Misfit};
 ghost use Rattle.ssh_session.specs.World.{World};
 ghost use Rattle.ssh_session.specs.Outcome.{Goes};
 ghost use Rattle.ssh_auth.specs.Plan.{Finish};
-ghost use Rattle.ssh_session.specs.Reading.{Said, Spells, service};
+ghost use Rattle.ssh_session.specs.Spelling.{Spells};
+ghost use Rattle.ssh_session.specs.Reading.{said_of, Service, service};
 ghost use Rattle.ssh_session.specs.Rows.{row, service_row, served, greets};
 ghost use Rattle.ssh_session.specs.Heard.{AreSame};
 ghost use Rattle.ssh_session.specs.Serve.{Refines, Serves, Completes, Turned};
@@ -24,9 +26,9 @@ impl Session {
         fields: &[u8],
     ) -> Result<Flow, RunError<O::Error>>
         ensures does { (w : World) (moment : ℕ) → Refines self.old w →
-            (said : Said) × Spells service fields.now said
-            × Completes (row w moment said) (O.heard outside.old) (O.heard outside.new) self.new
-            result }
+            (read : Result (List ℕ) Misfit) × Spells service fields.now read
+            × Completes (row w moment (said_of Service read)) (O.heard outside.old)
+            (O.heard outside.new) self.new result }
         ensures same { AreSame (O.heard outside.old) (O.heard outside.new) }
     {
         let name = read_service(fields)?;
@@ -92,6 +94,8 @@ impl Session {
     fn wait_for_requests(&mut self)
         ensures { (w : World) → Refines self.old w → Refines self.new (served w) }
     {
-        self.state = EncryptedState::WaitingAuthRequest(AuthRequest::server(self.config.methods));
+        self.state = EncryptedState::WaitingAuthRequest(AuthRequest::server(
+            self.common.config.methods,
+        ));
     }
 }

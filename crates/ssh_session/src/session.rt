@@ -2,11 +2,11 @@
 ghost use Rattle.std.specs.Prelude.{◌<◌, ◌^◌, length};
 
 use crate::peer_open::PeerOpen;
-use crate::state::EncryptedState;
+use crate::state::{CommonSession, EncryptedState};
 use bytes::Bytes;
 use ssh_channels::Encrypted;
 use ssh_handler::Config;
-use ssh_wire::WireError;
+use ssh_wire::{Text, WireError};
 use std::alloc::Global;
 use std::collections::BTreeMap;
 
@@ -14,9 +14,8 @@ use std::collections::BTreeMap;
 #[derive(Drop)]
 pub struct Session {
     pub(crate) alloc: Global,
-    pub(crate) config: Config,
+    pub(crate) common: CommonSession<Config>,
     pub(crate) session_id: Bytes,
-    pub(crate) remote_sshid: Bytes,
     pub(crate) state: EncryptedState,
     /// Whether a USERAUTH_REQUEST was finished.
     pub(crate) requested: bool,
@@ -52,9 +51,14 @@ impl Session {
     {
         Ok(Session {
             alloc,
-            config: *config,
+            common: CommonSession {
+                auth_user: Text::new(alloc, "")?,
+                remote_sshid: Bytes::copy_from_slice(alloc, remote_sshid)?,
+                config: *config,
+                wants_reply: false,
+                disconnected: false,
+            },
             session_id: Bytes::copy_from_slice(alloc, session_id)?,
-            remote_sshid: Bytes::copy_from_slice(alloc, remote_sshid)?,
             state: EncryptedState::WaitingAuthServiceRequest {
                 sent: false,
                 accepted: false,

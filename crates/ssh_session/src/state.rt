@@ -1,5 +1,7 @@
-// How far authentication has come.
+// How far authentication has come, and what is kept of both sides.
+use bytes::Bytes;
 use ssh_auth::AuthRequest;
+use ssh_wire::Text;
 
 /// What a session waits for (RFC 4252).
 #[derive(Drop)]
@@ -17,4 +19,19 @@ pub enum EncryptedState {
     InitCompression,
     /// Messages of the connection.
     Authenticated,
+}
+
+/// What a session keeps of both sides as long as it lasts. `C` is how this side is set up.
+#[derive(Drop)]
+pub struct CommonSession<C> {
+    /// The name of the user who was let in, and nothing before.
+    pub auth_user: Text,
+    /// The line by which the peer's software named itself (RFC 4253 section 4.2).
+    pub remote_sshid: Bytes,
+    /// How this side is set up.
+    pub config: C,
+    /// Whether the last global request wants a reply (RFC 4254 section 4).
+    pub wants_reply: bool,
+    /// Whether a DISCONNECT was written, after which nothing goes out (RFC 4253 section 11.1).
+    pub disconnected: bool,
 }

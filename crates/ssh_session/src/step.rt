@@ -158,12 +158,7 @@ impl Session {
             }
             Gate::InfoResponse => self.serve_info_response(outside, moment, payload),
             Gate::ChannelOpen => self.serve_channel_open(outside, fields),
-            Gate::WindowAdjust => self.serve_window_adjust(outside, fields),
-            Gate::ChannelData => self.serve_channel_data(outside, fields),
-            Gate::ChannelExtendedData => self.serve_channel_extended_data(outside, fields),
-            Gate::ChannelEof => self.serve_channel_eof(outside, fields),
-            Gate::ChannelClose => self.serve_channel_close(outside, fields),
-            Gate::ChannelRequest => self.serve_channel_request(fields),
+            Gate::Channel(message) => self.serve_channel_message(outside, message, fields),
             Gate::NotBuilt => Err(RunError::NotBuilt),
         }
     }

@@ -1,25 +1,27 @@
 // What each side grants, and the data that come in (RFC 4254 section 5.2).
-ghost use Rattle.std.specs.Prelude.{◌≡◌, ℕ, ◌∷◌, []};
+ghost use Rattle.std.specs.Prelude.{◌≡◌, ◌∷◌, []};
 ghost use Rattle.ssh_link.specs.declared.link.TraceEntry.TheVariants.{Noticed};
 ghost use Rattle.ssh_link.specs.declared.notice.Notice.TheVariants.{Channel};
 ghost use Rattle.ssh_auth.specs.Plan.{Plan, Tell};
+ghost use Rattle.ssh_session.specs.declared.messages.Spoken.TheVariants.{Grant, Data};
 ghost use Rattle.ssh_session.specs.Outcome.{Outcome};
 ghost use Rattle.ssh_session.specs.World.{World};
 ghost use Rattle.ssh_session.specs.Run.{is_there};
-ghost use Rattle.ssh_session.specs.Reading.{Said, Spells, grant, data_message, extended_message};
-ghost use Rattle.ssh_session.specs.Reading.{Grant, Data};
-ghost use Rattle.ssh_session.specs.Rows.{row, owed, data_notice, data_happening, noted, called};
+ghost use Rattle.ssh_session.specs.Spelling.{IsRead};
+ghost use Rattle.ssh_session.specs.Messages.{grant, plain_data, extended_data};
+ghost use Rattle.ssh_session.specs.Rows.{spoken_acts, data_notice, data_happening, noted, called};
 ghost use Rattle.ssh_session.specs.Heard.{AreSame};
-ghost use Rattle.ssh_session.specs.Serve.{Refines, Does, Serves, Completes, IsSuited};
+ghost use Rattle.ssh_session.specs.Serve.{Refines, Does, Serves, IsSuited};
 
 use crate::message::{read_data, read_extended_data, read_grant, read_recipient};
+use crate::messages::Spoken;
 use crate::outside::Outside;
-use crate::{Flow, RunError, Session};
+use crate::{RunError, Session};
 use bytes::Bytes;
 use ssh_auth::{Happening, Lent};
 use ssh_channels::{Adjusted, Chunk, DataKind};
 use ssh_link::{ChannelMsg, Notice};
-use ssh_wire::ChannelId;
+use ssh_wire::{ChannelId, WireError};
 
 /// Data, as the user of their channel is told of them.
 fn message_of(kind: DataKind, bytes: Bytes) -> ChannelMsg
@@ -41,27 +43,47 @@ fn happening_of(kind: DataKind, bytes: Bytes) -> Happening
     }
 }
 
+/// CHANNEL_WINDOW_ADJUST.
+pub(crate) fn grant_message(fields: &[u8]) -> Result<Spoken, WireError>
+    ensures { IsRead grant fields.now result }
+{
+    let (channel, amount) = read_grant(fields)?;
+    Ok(Spoken::Grant(channel, amount))
+}
+
 impl Session {
-    /// CHANNEL_WINDOW_ADJUST.
-    pub(crate) fn serve_window_adjust<O: Outside>(
-        &mut self,
-        outside: &mut O,
-        fields: &[u8],
-    ) -> Result<Flow, RunError<O::Error>>
-        requires suits { IsSuited O.suits self.old }
-        ensures does { (w : World) (moment : ℕ) → Refines self.old w →
-            (said : Said) × Spells grant fields.now said
-            × Completes (row w moment said) (O.heard outside.old) (O.heard outside.new) self.new
-            result }
-        ensures same { AreSame (O.heard outside.old) (O.heard outside.new) }
+    /// CHANNEL_DATA. On no channel nothing after its number is read.
+    pub(crate) fn data_message(&self, fields: &[u8]) -> Result<Spoken, WireError>
+        ensures { (w : World) → Refines self.now w →
+            IsRead (plain_data (is_there w)) fields.now result }
     {
-        let (channel, amount) = read_grant(fields)?;
-        self.grant(outside, channel, amount)?;
-        Ok(Flow::Continue)
+        let (channel, rest) = read_recipient(fields)?;
+        if !self.is_there(channel) {
+            return Ok(Spoken::Nothing);
+        }
+        let sent = read_data(rest)?;
+        let bytes = Bytes::copy_from_slice(self.alloc, sent)?;
+        let kind = DataKind::Plain;
+        Ok(Spoken::Data(channel, Chunk { kind, bytes }))
+    }
+
+    /// CHANNEL_EXTENDED_DATA. On no channel nothing after its number is read.
+    pub(crate) fn extended_data_message(&self, fields: &[u8]) -> Result<Spoken, WireError>
+        ensures { (w : World) → Refines self.now w →
+            IsRead (extended_data (is_there w)) fields.now result }
+    {
+        let (channel, rest) = read_recipient(fields)?;
+        if !self.is_there(channel) {
+            return Ok(Spoken::Nothing);
+        }
+        let (code, sent) = read_extended_data(rest)?;
+        let bytes = Bytes::copy_from_slice(self.alloc, sent)?;
+        let kind = DataKind::Extended(code);
+        Ok(Spoken::Data(channel, Chunk { kind, bytes }))
     }
 
     /// The peer grants more: what waits goes out, as far as the credit goes.
-    fn grant<O: Outside>(
+    pub(crate) fn grant<O: Outside>(
         &mut self,
         outside: &mut O,
         channel: ChannelId,
@@ -69,8 +91,8 @@ impl Session {
     ) -> Result<(), RunError<O::Error>>
         requires suits { IsSuited O.suits self.old }
         ensures does { (w : World) → Refines self.old w →
-            Does (owed w (Grant channel.0 amount)) w (O.heard outside.old) (O.heard outside.new)
-            self.new result }
+            Does (spoken_acts w (Grant channel amount)) w (O.heard outside.old)
+            (O.heard outside.new) self.new result }
         ensures same { AreSame (O.heard outside.old) (O.heard outside.new) }
     {
         let Some(new_size) = self.take_grant(channel, amount)? else {
@@ -86,56 +108,8 @@ impl Session {
         )
     }
 
-    /// CHANNEL_DATA. On no channel nothing after its number is read.
-    pub(crate) fn serve_channel_data<O: Outside>(
-        &mut self,
-        outside: &mut O,
-        fields: &[u8],
-    ) -> Result<Flow, RunError<O::Error>>
-        requires suits { IsSuited O.suits self.old }
-        ensures does { (w : World) (moment : ℕ) → Refines self.old w →
-            (said : Said) × Spells (data_message (is_there w)) fields.now said
-            × Completes (row w moment said) (O.heard outside.old) (O.heard outside.new) self.new
-            result }
-        ensures same { AreSame (O.heard outside.old) (O.heard outside.new) }
-    {
-        let (channel, rest) = read_recipient(fields)?;
-        if !self.is_there(channel) {
-            return Ok(Flow::Continue);
-        }
-        let sent = read_data(rest)?;
-        let bytes = Bytes::copy_from_slice(self.alloc, sent)?;
-        let kind = DataKind::Plain;
-        self.data(outside, channel, Chunk { kind, bytes })?;
-        Ok(Flow::Continue)
-    }
-
-    /// CHANNEL_EXTENDED_DATA. On no channel nothing after its number is read.
-    pub(crate) fn serve_channel_extended_data<O: Outside>(
-        &mut self,
-        outside: &mut O,
-        fields: &[u8],
-    ) -> Result<Flow, RunError<O::Error>>
-        requires suits { IsSuited O.suits self.old }
-        ensures does { (w : World) (moment : ℕ) → Refines self.old w →
-            (said : Said) × Spells (extended_message (is_there w)) fields.now said
-            × Completes (row w moment said) (O.heard outside.old) (O.heard outside.new) self.new
-            result }
-        ensures same { AreSame (O.heard outside.old) (O.heard outside.new) }
-    {
-        let (channel, rest) = read_recipient(fields)?;
-        if !self.is_there(channel) {
-            return Ok(Flow::Continue);
-        }
-        let (code, sent) = read_extended_data(rest)?;
-        let bytes = Bytes::copy_from_slice(self.alloc, sent)?;
-        let kind = DataKind::Extended(code);
-        self.data(outside, channel, Chunk { kind, bytes })?;
-        Ok(Flow::Continue)
-    }
-
     /// Data come in: those that are larger than the room are dropped.
-    fn data<O: Outside>(
+    pub(crate) fn data<O: Outside>(
         &mut self,
         outside: &mut O,
         channel: ChannelId,
@@ -143,7 +117,7 @@ impl Session {
     ) -> Result<(), RunError<O::Error>>
         requires suits { IsSuited O.suits self.old }
         ensures does { (w : World) → Refines self.old w →
-            Does (owed w (Data channel.0 piece)) w (O.heard outside.old) (O.heard outside.new)
+            Does (spoken_acts w (Data channel piece)) w (O.heard outside.old) (O.heard outside.new)
             self.new result }
         ensures same { AreSame (O.heard outside.old) (O.heard outside.new) }
     {

@@ -8,15 +8,15 @@ use Rattle.ssh_wire.specs.Open.{Leads, leading_fields}
 use Rattle.ssh_wire.specs.Field.{MisfitsAll}
 use Rattle.ssh_wire.proofs.Opens.{leads, no_packet_size}
 use Rattle.ssh_auth.proofs.Asks.{same_text, other_text}
-use Rattle.ssh_session.specs.OpenRead.{IsRead, IsUnread}
+use Rattle.ssh_session.specs.OpenRead.{IsOpenRead, IsOpenUnread}
 use Rattle.ssh_session.specs.declared.message.OpenRequest.{OpenRequest}
 use Rattle.ssh_session.proofs.message.read_open.Goals as goal
 
 unread : (result : Result OpenRequest LayoutError) (fields : List ℕ) (why : LayoutError) → result
-    ≡ Err why → IsUnread fields why →
-    MatchResult result (λ request. IsRead request fields) (λ why. IsUnread fields why)
-unread result fields why is h = subst (λ r. MatchResult r (λ request. IsRead request fields)
-    (λ why. IsUnread fields why)) (sym is) h
+    ≡ Err why → IsOpenUnread fields why →
+    MatchResult result (λ request. IsOpenRead request fields) (λ why. IsOpenUnread fields why)
+unread result fields why is h = subst (λ r. MatchResult r (λ request. IsOpenRead request fields)
+    (λ why. IsOpenUnread fields why)) (sym is) h
 
 pub returns-in_err-packet : goal.returns-in_err-packet
 returns-in_err-packet c =

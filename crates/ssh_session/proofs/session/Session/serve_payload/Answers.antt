@@ -3,6 +3,7 @@ use Rattle.ssh_auth.specs.Plan.{Finish}
 use Rattle.ssh_session.specs.declared.error.Flow.{Flow}
 use Rattle.ssh_session.specs.declared.error.Flow.TheVariants.{Continue, Ended}
 use Rattle.ssh_session.specs.Reading.{Says, Nothing, Disconnect, Over_cap, Unbuilt}
+use Rattle.ssh_session.specs.Reading.{Service, Channel, said_of}
 use Rattle.ssh_session.specs.Rows.{row}
 use Rattle.ssh_session.specs.Run.{is_there}
 use Rattle.ssh_session.specs.Serve.{comes}
@@ -13,11 +14,12 @@ use Rattle.ssh_session.proofs.session.Session.serve_payload.Goals as goal
 pub returns-in-ServiceRequest-clause-does : goal.returns-in-ServiceRequest-clause-does
 returns-in-ServiceRequest-clause-does g c = λ w r.
     let served = rw c.fields_of-fields.ensures at (c.serve_service_request.ensures.does w
-    c.args.moment r) in (
-      served.0,
+    c.args.moment r) in
+    let said = said_of Service served.0 in (
+      said,
       subst (λ at. Says (circumstances (g.V.Verifier.accepts c.args.verifier.now) w.settings
-          c.args.moment) (is_there w) at (drop 1 c.args.payload.now) served.0)
-          (c.in-ServiceRequest.ensures.gate w r) served.1,
+          c.args.moment) (is_there w) at (drop 1 c.args.payload.now) said)
+          (c.in-ServiceRequest.ensures.gate w r) (served.0, served.1, refl),
       served.2,
     )
 
@@ -32,71 +34,16 @@ returns-in-ChannelOpen-clause-does g c = λ w r.
       served.2,
     )
 
-pub returns-in-WindowAdjust-clause-does : goal.returns-in-WindowAdjust-clause-does
-returns-in-WindowAdjust-clause-does g c = λ w r.
-    let served = rw c.fields_of-fields.ensures at (c.serve_window_adjust.ensures.does w
-    c.args.moment r) in (
-      served.0,
+pub returns-in-Channel-clause-does : goal.returns-in-Channel-clause-does
+returns-in-Channel-clause-does g c = λ w r.
+    let served = rw c.fields_of-fields.ensures at (c.serve_channel_message.ensures.does w
+    c.args.moment r) in
+    let said = said_of Channel served.0 in (
+      said,
       subst (λ at. Says (circumstances (g.V.Verifier.accepts c.args.verifier.now) w.settings
-          c.args.moment) (is_there w) at (drop 1 c.args.payload.now) served.0)
-          (c.in-WindowAdjust.ensures.gate w r) served.1,
+          c.args.moment) (is_there w) at (drop 1 c.args.payload.now) said)
+          (c.in-Channel.ensures.gate w r) (served.0, served.1, refl),
       served.2,
-    )
-
-pub returns-in-ChannelData-clause-does : goal.returns-in-ChannelData-clause-does
-returns-in-ChannelData-clause-does g c = λ w r.
-    let served = rw c.fields_of-fields.ensures at (c.serve_channel_data.ensures.does w c.args.moment
-    r) in (
-      served.0,
-      subst (λ at. Says (circumstances (g.V.Verifier.accepts c.args.verifier.now) w.settings
-          c.args.moment) (is_there w) at (drop 1 c.args.payload.now) served.0)
-          (c.in-ChannelData.ensures.gate w r) served.1,
-      served.2,
-    )
-
-pub returns-in-ChannelExtendedData-clause-does : goal.returns-in-ChannelExtendedData-clause-does
-returns-in-ChannelExtendedData-clause-does g c = λ w r.
-    let served = rw c.fields_of-fields.ensures at (c.serve_channel_extended_data.ensures.does w
-    c.args.moment r) in (
-      served.0,
-      subst (λ at. Says (circumstances (g.V.Verifier.accepts c.args.verifier.now) w.settings
-          c.args.moment) (is_there w) at (drop 1 c.args.payload.now) served.0)
-          (c.in-ChannelExtendedData.ensures.gate w r) served.1,
-      served.2,
-    )
-
-pub returns-in-ChannelEof-clause-does : goal.returns-in-ChannelEof-clause-does
-returns-in-ChannelEof-clause-does g c = λ w r.
-    let served = rw c.fields_of-fields.ensures at (c.serve_channel_eof.ensures.does w c.args.moment
-    r) in (
-      served.0,
-      subst (λ at. Says (circumstances (g.V.Verifier.accepts c.args.verifier.now) w.settings
-          c.args.moment) (is_there w) at (drop 1 c.args.payload.now) served.0)
-          (c.in-ChannelEof.ensures.gate w r) served.1,
-      served.2,
-    )
-
-pub returns-in-ChannelClose-clause-does : goal.returns-in-ChannelClose-clause-does
-returns-in-ChannelClose-clause-does g c = λ w r.
-    let served = rw c.fields_of-fields.ensures at (c.serve_channel_close.ensures.does w
-    c.args.moment r) in (
-      served.0,
-      subst (λ at. Says (circumstances (g.V.Verifier.accepts c.args.verifier.now) w.settings
-          c.args.moment) (is_there w) at (drop 1 c.args.payload.now) served.0)
-          (c.in-ChannelClose.ensures.gate w r) served.1,
-      served.2,
-    )
-
-pub returns-in-ChannelRequest-clause-does : goal.returns-in-ChannelRequest-clause-does
-returns-in-ChannelRequest-clause-does g c = λ w r.
-    let served = rw c.fields_of-fields.ensures at (c.serve_channel_request.ensures w c.args.moment
-    r) in (
-      served.0,
-      subst (λ at. Says (circumstances (g.V.Verifier.accepts c.args.verifier.now) w.settings
-          c.args.moment) (is_there w) at (drop 1 c.args.payload.now) served.0)
-          (c.in-ChannelRequest.ensures.gate w r) served.1,
-      quiet (row w c.args.moment served.0) (λ flow world. Finish (comes flow world)) _
-          c.serve_channel_request.new.self c.serve_channel_request.result served.2,
     )
 
 pub returns-in-UserauthRequest-clause-does : goal.returns-in-UserauthRequest-clause-does

@@ -1,8 +1,8 @@
-use Rattle.std.proofs.Common.{inl, inr, refl}
+use Rattle.std.proofs.Common.{Ok, Err, inl, inr, refl}
 use Rattle.ssh_auth.specs.Plan.{Plan, Finish}
 use Rattle.ssh_session.specs.declared.error.Flow.{Flow}
 use Rattle.ssh_session.specs.Outcome.{Outcome, Goes}
-use Rattle.ssh_session.specs.Reading.{Service, Unfit}
+use Rattle.ssh_session.specs.Reading.{Unfit}
 use Rattle.ssh_session.specs.Rows.{row, service_row}
 use Rattle.ssh_session.specs.Serve.{comes}
 use Rattle.ssh_session.specs.World.{World}
@@ -13,7 +13,7 @@ pub returns-in_err-name-clause-does : goal.returns-in_err-name-clause-does
 returns-in_err-name-clause-does g c = λ w moment r.
     let why = c.in_err-name.field-0.0 in
     let finish : Flow → World → Plan Outcome = λ flow world. Finish (comes flow world) in (
-      Unfit why,
+      Err why,
       inr (why, c.in_err-name.ensures, refl),
       passed (row w moment (Unfit why)) finish finish _ _ c.args.self.now c.args.self.now _ _
           c.from_residual.ensures.1
@@ -23,7 +23,7 @@ returns-in_err-name-clause-does g c = λ w moment r.
 pub returns-in_err-serve_service-clause-does : goal.returns-in_err-serve_service-clause-does
 returns-in_err-serve_service-clause-does g c = λ w moment r.
     let name = c.in_ok-name.name.now in (
-      Service name,
+      Ok name,
       inl ((name, tt), c.in_ok-name.ensures, refl),
       passed (service_row w name) (λ (_ : Unit {0}) world. Finish (Goes world))
           (λ flow world. Finish (comes flow world)) _ _
@@ -35,7 +35,7 @@ returns-in_err-serve_service-clause-does g c = λ w moment r.
 pub returns-clause-does : goal.returns-clause-does
 returns-clause-does g c = λ w moment r.
     let name = c.in_ok-name.name.now in (
-      Service name,
+      Ok name,
       inl ((name, tt), c.in_ok-name.ensures, refl),
       goes_on_plan (service_row w name) _ _ c.serve_service.new.self
           (c.in_ok-serve_service.ensures.does w r),

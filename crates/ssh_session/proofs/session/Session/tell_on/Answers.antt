@@ -1,20 +1,17 @@
 use Rattle.std.proofs.Common.{sym, ◌∙◌}
-use Rattle.ssh_link.specs.declared.notice.ChannelMsg.TheVariants as msg
-use Rattle.ssh_auth.specs.declared.question.Happening.TheVariants as what
 use Rattle.ssh_session.specs.Acts.{acts}
-use Rattle.ssh_session.specs.Opens.{own}
 use Rattle.ssh_session.specs.Rows.{told}
 use Rattle.ssh_session.proofs.Rows.{nothing_on, all_on}
 use Rattle.ssh_session.proofs.Serving.{serves_nothing}
-use Rattle.ssh_session.proofs.session.Session.peer_eof.Goals as goal
+use Rattle.ssh_session.proofs.session.Session.tell_on.Goals as goal
 
 pub returns-then-not-is_there-clause-does : goal.returns-then-not-is_there-clause-does
 returns-then-not-is_there-clause-does g c = λ w r later.
-    rw (nothing_on c.args.channel.0 w (λ _. told (own c.args.channel.0) msg.Eof what.Eof)
+    rw (nothing_on c.args.channel.0 w (λ _. told c.args.channel c.args.message c.args.happening)
     (sym (c.is_there.ensures w r) ∙ c.if-not-is_there.true))
     (serves_nothing tt (λ (_ : Unit {0}). acts later) _ w c.args.self.now r)
 
 pub returns-clause-does : goal.returns-clause-does
 returns-clause-does g c = λ w r later.
-    rw (all_on c.args.channel.0 w (told (own c.args.channel.0) msg.Eof what.Eof)
+    rw (all_on c.args.channel.0 w (told c.args.channel c.args.message c.args.happening)
     (sym (c.is_there.ensures w r) ∙ c.if-not-is_there.false)) (c.tell.ensures.does w r later)

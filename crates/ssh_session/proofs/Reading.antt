@@ -1,0 +1,75 @@
+-- What the code reads of a message is what its layout says.
+use Rattle.std.proofs.Common.{◌≡◌, ◌∙◌, ℕ, List, sym, ap, subst}
+use Rattle.std.specs.Prelude.{IsErrAnd, Result, Err}
+use Rattle.std.proofs.lemmas.Result.{err_from_is_err_and}
+use Rattle.ssh_wire.specs.declared.error.WireError.{WireError}
+use Rattle.ssh_wire.specs.declared.error.WireError.TheVariants as wire
+use Rattle.ssh_auth.specs.Plan.{Plan, Finish}
+use Rattle.ssh_session.specs.declared.error.Flow.{Flow}
+use Rattle.ssh_session.specs.declared.error.RunError.{RunError}
+use Rattle.ssh_session.specs.declared.messages.Spoken.{Spoken}
+use Rattle.ssh_session.specs.declared.session.Session.{Session}
+use Rattle.ssh_session.specs.Failure.{run_error_of}
+use Rattle.ssh_session.specs.Heard.{Heard}
+use Rattle.ssh_session.specs.Outcome.{Outcome}
+use Rattle.ssh_session.specs.Reading.{said_of, Channel}
+use Rattle.ssh_session.specs.Rows.{row}
+use Rattle.ssh_session.specs.Serve.{Completes, comes}
+use Rattle.ssh_session.specs.Spelling.{Layout, Spells, IsRead}
+use Rattle.ssh_session.specs.World.{World}
+use Rattle.ssh_session.proofs.Serving.{starves, unfit}
+
+pub misread_so : {S : Type 0} (layout : Layout S) (bytes : List ℕ) (why : WireError)
+    → Spells layout bytes (Err why) → IsRead layout bytes (Err why)
+misread_so layout bytes wire.NoMemory h = (Err wire.NoMemory, h)
+misread_so layout bytes wire.Short h = h
+misread_so layout bytes wire.NotUtf8 h = h
+misread_so layout bytes (wire.Trailing left) h = h
+misread_so layout bytes wire.TooLong h = h
+
+-- a field does not fit
+pub misread : {S : Type 0} (layout : Layout S) (bytes : List ℕ) (why : WireError)
+    (result : Result S WireError) → IsErrAnd result (λ x. x ≡ why) → Spells layout bytes (Err why)
+    → IsRead layout bytes result
+misread layout bytes why result h spells =
+    let p = err_from_is_err_and result h in
+    subst (IsRead layout bytes) (sym (p.1 ∙ ap Err p.2)) (misread_so layout bytes why spells)
+
+-- memory was wanting to keep what was read
+pub unkept : {S : Type 0} (layout : Layout S) (bytes : List ℕ) (why : WireError)
+    (read result : Result S WireError) → IsErrAnd result (λ x. x ≡ why) → why ≡ wire.NoMemory
+    → Spells layout bytes read → IsRead layout bytes result
+unkept layout bytes why read result h is spells =
+    let p = err_from_is_err_and result h in
+    subst (IsRead layout bytes) (sym (p.1 ∙ ap Err (p.2 ∙ is))) (read, spells)
+
+abbrev finish : Flow → World → Plan Outcome
+finish flow world = Finish (comes flow world)
+
+unserved_so : {E : Type 0} (w : World) (moment : ℕ) (layout : Layout Spoken) (bytes : List ℕ)
+    (why : WireError) (a : Heard E) (session : Session) → IsRead layout bytes (Err why)
+    → (read : Result Spoken WireError) × Spells layout bytes read
+    × Completes (row w moment (said_of Channel read)) a a session (Err (run_error_of why))
+unserved_so w moment layout bytes wire.NoMemory a session h =
+    (h.0, h.1, starves {T = Flow} (row w moment (said_of Channel h.0)) finish a session)
+unserved_so w moment layout bytes wire.Short a session h =
+    (Err wire.Short, h, unfit wire.Short finish a session)
+unserved_so w moment layout bytes wire.NotUtf8 a session h =
+    (Err wire.NotUtf8, h, unfit wire.NotUtf8 finish a session)
+unserved_so w moment layout bytes (wire.Trailing left) a session h =
+    (Err (wire.Trailing left), h, unfit (wire.Trailing left) finish a session)
+unserved_so w moment layout bytes wire.TooLong a session h =
+    (Err wire.TooLong, h, unfit wire.TooLong finish a session)
+
+-- a message that was not read is not served
+pub unserved : {E : Type 0} (w : World) (moment : ℕ) (layout : Layout Spoken) (bytes : List ℕ)
+    (why : WireError) (a : Heard E) (session : Session) (e : RunError E)
+    (result : Result Flow (RunError E)) → IsErrAnd result (λ x. x ≡ e) → e ≡ run_error_of why
+    → IsRead layout bytes (Err why)
+    → (read : Result Spoken WireError) × Spells layout bytes read
+    × Completes (row w moment (said_of Channel read)) a a session result
+unserved {E} w moment layout bytes why a session e result h is k =
+    let p = err_from_is_err_and result h in
+    subst (λ r. (read : Result Spoken WireError) × Spells layout bytes read
+    × Completes {E = E} (row w moment (said_of Channel read)) a a session r)
+    (sym (p.1 ∙ ap Err (p.2 ∙ is))) (unserved_so w moment layout bytes why a session k)

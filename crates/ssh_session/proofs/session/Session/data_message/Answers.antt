@@ -1,0 +1,73 @@
+use Rattle.std.proofs.Common.{◌∷◌, [], ◌∙◌, inl, inr, refl, sym, subst, Ok, Err}
+use Rattle.ssh_wire.specs.Field.{Bytes, SpellsWhole}
+use Rattle.ssh_channels.specs.declared.chunk.DataKind.TheVariants.{Plain}
+use Rattle.ssh_channels.specs.Layout.{chunk}
+use Rattle.ssh_session.specs.declared.messages.Spoken.TheVariants.{Nothing, Data}
+use Rattle.ssh_session.specs.Messages.{plain_data, data_on}
+use Rattle.ssh_session.specs.Run.{is_there}
+use Rattle.ssh_session.specs.Spelling.{Spells}
+use Rattle.ssh_session.proofs.Reading.{misread, unkept}
+use Rattle.ssh_session.proofs.session.Session.data_message.Goals as goal
+
+pub returns-in_err-channel : goal.returns-in_err-channel
+returns-in_err-channel c = λ w r. misread (plain_data (is_there w)) c.args.fields.now _ _
+    c.from_residual.ensures.1 (inr (c.in_err-channel.field-0.0, c.in_err-channel.ensures, refl))
+
+pub returns-then-not-is_there : goal.returns-then-not-is_there
+returns-then-not-is_there c = λ w r.
+    let n = c.in_ok-channel.channel.0 in
+    let rest = c.in_ok-channel.rest.now in
+    let no = sym (c.is_there.ensures w r) ∙ c.if-not-is_there.true in
+    inl (
+      (n, tt),
+      rest,
+      c.in_ok-channel.ensures,
+      subst (λ b. Spells (data_on b n) rest (Ok Nothing)) (sym no) refl,
+    )
+
+pub returns-in_err-sent : goal.returns-in_err-sent
+returns-in_err-sent c = λ w r.
+    let n = c.in_ok-channel.channel.0 in
+    let rest = c.in_ok-channel.rest.now in
+    let there = sym (c.is_there.ensures w r) ∙ c.if-not-is_there.false in
+    let why = c.in_err-sent.field-0.0 in
+    misread (plain_data (is_there w)) c.args.fields.now _ _
+    c.from_residual-in_err-sent.ensures.1 (inl (
+      (n, tt),
+      rest,
+      c.in_ok-channel.ensures,
+      subst (λ b. Spells (data_on b n) rest (Err why)) (sym there)
+          (inr (why, c.in_err-sent.ensures, refl)),
+    ))
+
+pub returns-in_err-bytes : goal.returns-in_err-bytes
+returns-in_err-bytes c = λ w r.
+    let n = c.in_ok-channel.channel.0 in
+    let rest = c.in_ok-channel.rest.now in
+    let there = sym (c.is_there.ensures w r) ∙ c.if-not-is_there.false in
+    let said = Data c.in_ok-channel.channel (chunk Plain c.in_ok-sent.sent.now) in
+    unkept (plain_data (is_there w)) c.args.fields.now _ (Ok said) _
+    c.from_residual-in_err-bytes.ensures.1 refl (inl (
+      (n, tt),
+      rest,
+      c.in_ok-channel.ensures,
+      subst (λ b. Spells (data_on b n) rest (Ok said)) (sym there)
+          (inl ((c.in_ok-sent.sent.now, tt), c.in_ok-sent.ensures, refl)),
+    ))
+
+pub returns : goal.returns
+returns c = λ w r.
+    let n = c.in_ok-channel.channel.0 in
+    let rest = c.in_ok-channel.rest.now in
+    let there = sym (c.is_there.ensures w r) ∙ c.if-not-is_there.false in
+    let bytes = c.in_ok-bytes.bytes in
+    let said = Data c.in_ok-channel.channel (chunk Plain bytes) in
+    let spells = subst (λ b. SpellsWhole (Bytes ∷ []) (b, tt) rest)
+    (sym c.in_ok-bytes.ensures) c.in_ok-sent.ensures in
+    inl (
+      (n, tt),
+      rest,
+      c.in_ok-channel.ensures,
+      subst (λ b. Spells (data_on b n) rest (Ok said)) (sym there)
+          (inl ((bytes, tt), spells, refl)),
+    )

@@ -1,0 +1,28 @@
+use Rattle.ssh_channels.specs.Lines.{wants}
+use Rattle.ssh_session.specs.Acts.{acts}
+use Rattle.ssh_session.specs.World.{lined}
+use Rattle.ssh_session.proofs.Serving.{serves_nothing}
+use Rattle.ssh_session.proofs.session.Session.serve_spoken.Goals as goal
+
+pub returns-in-Nothing-clause-does : goal.returns-in-Nothing-clause-does
+returns-in-Nothing-clause-does g c = λ w r later.
+    rw c.in-Nothing.is (serves_nothing tt (λ (_ : Unit {0}). acts later) _ w c.args.self.now r)
+
+pub returns-in-Grant-clause-does : goal.returns-in-Grant-clause-does
+returns-in-Grant-clause-does g c = λ w r later. rw c.in-Grant.is (c.grant.ensures.does w r later)
+
+pub returns-in-Data-clause-does : goal.returns-in-Data-clause-does
+returns-in-Data-clause-does g c = λ w r later. rw c.in-Data.is (c.data.ensures.does w r later)
+
+pub returns-in-Tells-clause-does : goal.returns-in-Tells-clause-does
+returns-in-Tells-clause-does g c = λ w r later. rw c.in-Tells.is (c.tell_on.ensures.does w r later)
+
+pub returns-in-Close-clause-does : goal.returns-in-Close-clause-does
+returns-in-Close-clause-does g c = λ w r later.
+    rw c.in-Close.is (c.peer_close.ensures.does w r later)
+
+pub returns-in-Wants-clause-does : goal.returns-in-Wants-clause-does
+returns-in-Wants-clause-does g c = λ w r later.
+    rw c.in-Wants.is (serves_nothing tt (λ (_ : Unit {0}). acts later) _
+    (lined (wants c.in-Wants.channel.0 c.in-Wants.wanted) w) c.want_reply.new.self
+    (c.want_reply.ensures.world w r))

@@ -1,0 +1,82 @@
+-- What a message of channels says, by its layout: one line a message (RFC 4254 section 5).
+use Rattle.std.specs.Prelude.{ℕ, Bool, true, false, [], ◌∷◌, Option, Some, None}
+use Rattle.std.specs.Prelude.{◌==◌, if◌then◌else◌}
+use Rattle.ssh_wire.specs.Field.{Bytes, Number}
+use Rattle.ssh_wire.specs.Messages.{channel_window_adjust, channel_close}
+use Rattle.ssh_wire.specs.Messages.{channel_request}
+use Rattle.ssh_link.specs.declared.notice.ChannelMsg.{ChannelMsg}
+use Rattle.ssh_link.specs.declared.notice.ChannelMsg.TheVariants as msg
+use Rattle.ssh_auth.specs.declared.question.Happening.{Happening}
+use Rattle.ssh_auth.specs.declared.question.Happening.TheVariants as what
+use Rattle.ssh_channels.specs.declared.chunk.DataKind.TheVariants.{Plain, Extended}
+use Rattle.ssh_channels.specs.Layout.{chunk}
+use Rattle.ssh_session.specs.declared.messages.ChannelMessage.{ChannelMessage}
+use Rattle.ssh_session.specs.declared.messages.ChannelMessage.TheVariants as message
+use Rattle.ssh_session.specs.declared.messages.Spoken.{Spoken}
+use Rattle.ssh_session.specs.declared.messages.Spoken.TheVariants as spoken
+use Rattle.ssh_session.specs.Opens.{own}
+use Rattle.ssh_session.specs.Spelling.{Layout, Leaves, Whole, Fields}
+
+-- the message of channels of this number (RFC 4250 section 4.1.2)
+abbrev pub channel_message : ℕ → Option ChannelMessage
+channel_message n =
+    if n == 93 then Some message.WindowAdjust
+    else (if n == 94 then Some message.Data
+    else (if n == 95 then Some message.ExtendedData
+    else (if n == 96 then Some message.Eof
+    else (if n == 97 then Some message.Close
+    else (if n == 98 then Some message.Request else None)))))
+
+-- uint32 recipient channel, uint32 bytes to add (section 5.2)
+abbrev pub grant : Layout Spoken
+grant = Whole channel_window_adjust.fields (λ (channel, (amount, _)).
+    spoken.Grant (own channel) amount)
+
+-- uint32 recipient channel, string data; on no channel nothing after the number is read (section
+-- 5.2)
+abbrev pub data_on : (is_there : Bool) → (channel : ℕ) → Layout Spoken
+data_on false channel = Leaves spoken.Nothing
+data_on true channel = Whole (Bytes ∷ []) (λ (bytes, _).
+    spoken.Data (own channel) (chunk Plain bytes))
+
+abbrev pub plain_data : (is_there : ℕ → Bool) → Layout Spoken
+plain_data is_there = Fields (Number ∷ []) (λ (channel, _). data_on (is_there channel) channel)
+
+-- uint32 recipient channel, uint32 data type code, string data (section 5.2)
+abbrev pub extended_on : (is_there : Bool) → (channel : ℕ) → Layout Spoken
+extended_on false channel = Leaves spoken.Nothing
+extended_on true channel = Whole (Number ∷ Bytes ∷ []) (λ (code, (bytes, _)).
+    spoken.Data (own channel) (chunk (Extended code) bytes))
+
+abbrev pub extended_data : (is_there : ℕ → Bool) → Layout Spoken
+extended_data is_there = Fields (Number ∷ []) (λ (channel, _).
+    extended_on (is_there channel) channel)
+
+-- uint32 recipient channel, and nothing else; where the channel is there, its user and the handler
+-- are told this (section 5.3)
+abbrev pub tells : ChannelMsg → Happening → Layout Spoken
+tells message happening = Whole (Number ∷ []) (λ (channel, _).
+    spoken.Tells (own channel) message happening)
+
+-- uint32 recipient channel (section 5.3)
+abbrev pub close : Layout Spoken
+close = Whole channel_close.fields (λ (channel, _). spoken.Close (own channel))
+
+-- uint32 recipient channel, string request type, boolean want reply; on no channel nothing after
+-- them is read (section 5.4), and what is asked for on a channel is not built
+abbrev pub request_on : (is_there wanted : Bool) → (channel : ℕ) → Layout Spoken
+request_on false wanted channel = Leaves (spoken.Wants (own channel) wanted)
+request_on true wanted channel = Leaves spoken.Unbuilt
+
+abbrev pub request : (is_there : ℕ → Bool) → Layout Spoken
+request is_there = Fields channel_request.fields (λ (channel, (name, (wanted, _))).
+    request_on (is_there channel) wanted channel)
+
+-- one line a message
+abbrev pub message_layout : (is_there : ℕ → Bool) → ChannelMessage → Layout Spoken
+message_layout is_there message.WindowAdjust = grant
+message_layout is_there message.Data = plain_data is_there
+message_layout is_there message.ExtendedData = extended_data is_there
+message_layout is_there message.Eof = tells msg.Eof what.Eof
+message_layout is_there message.Close = close
+message_layout is_there message.Request = request is_there
