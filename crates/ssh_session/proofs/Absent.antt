@@ -7,11 +7,12 @@ use Rattle.ssh_channels.specs.declared.chunk.Chunk.{Chunk}
 use Rattle.ssh_channels.specs.declared.adjusted.Adjusted.{Adjusted}
 use Rattle.ssh_channels.specs.declared.adjusted.Adjusted.TheVariants.{Dropped, Kept, Granted}
 use Rattle.ssh_channels.specs.Entry.{Entry, accepting, after_eof, all_framed, closes_now, eof_out}
-use Rattle.ssh_channels.specs.Entry.{flush_out, flushed, granting}
+use Rattle.ssh_channels.specs.Entry.{flush_out, flushed, granting, agreed}
 use Rattle.ssh_channels.specs.Entry.{more_may_come, close_may_come}
 use Rattle.ssh_channels.specs.Lines.{Lines, find, turns, leaves, closes, settles}
 use Rattle.ssh_channels.specs.Lines.{where_found, at, takes_data, takes_eof}
 use Rattle.ssh_channels.specs.Lines.{takes_close, peer_closes, takes_grant, takes_in, wants}
+use Rattle.ssh_channels.specs.Lines.{confirms, fails}
 use Rattle.ssh_channels.specs.Room.{coming, having, adjust_out}
 use Rattle.ssh_channels.specs.Layout.{close_frame}
 use Rattle.ssh_channels.proofs.Listed.{find_other, without_other, found_number}
@@ -122,3 +123,13 @@ pub wants_absent : (n m : ℕ) (wanted : Bool) (l : Lines) → IsAbsent n l
     → IsAbsent n (wants m wanted l)
 wants_absent n m wanted l h = at_absent n m _ l
     (λ e apart. turned_absent n (record e { wants_reply = wanted }) e [] l apart refl h) h
+
+pub confirmed_absent : (n m peer window limit : ℕ) (l : Lines) → IsAbsent n l
+    → IsAbsent n (confirms m peer window limit l)
+confirmed_absent n m peer window limit l h = at_absent n m _ l
+    (λ e apart. chosen_absent (not e.confirmed) n _ _
+    (turned_absent n (agreed peer window limit e) e [] l apart refl h) h) h
+
+pub failed_absent : (n m : ℕ) (l : Lines) → IsAbsent n l → IsAbsent n (fails m l)
+failed_absent n m l h = at_absent n m _ l
+    (λ e apart. chosen_absent (not e.confirmed) n _ _ (left_absent n e true [] l apart h) h) h

@@ -51,7 +51,7 @@ concluded_walks : {E : Type 0} (plan : Plan Outcome) (events : List (Event E ⊥
 concluded_walks plan events rose (Ok done) h = follows_walks plan events (Ends h.0) h.1
 concluded_walks plan events rose (Err e) h = caused_walks (cause_of e) plan rose events h
 
-last_walks : {E : Type 0} (accepts : Acceptance) (w : World) (count max : ℕ)
+pub last_walks : {E : Type 0} (accepts : Acceptance) (w : World) (count max : ℕ)
     (last : Option (Turn E)) (rose : Type 0)
     (result : Result (Unit {0}) (RunError E)) → Closes accepts w count max last rose result →
     AllWalk accepts w (option_to_list last)
@@ -59,8 +59,8 @@ last_walks accepts w count max None rose result h = tt
 last_walks accepts w count max (Some turn) rose result h =
     let c = h.2 in (c.0, c.1, concluded_walks c.0 turn.events rose result c.2, inl refl)
 
-run_walks : {E : Type 0} (accepts : Acceptance) (w : World) (turns : List (Turn E)) (world : World)
-    (last : List (Turn E)) →
+pub run_walks : {E : Type 0} (accepts : Acceptance) (w : World) (turns : List (Turn E))
+    (world : World) (last : List (Turn E)) →
     Run accepts w turns world → AllWalk accepts world last → AllWalk accepts w (turns ++ last)
 run_walks accepts w [] world last run h = subst (λ v. AllWalk accepts v last) run h
 run_walks accepts w (turn ∷ turns) world last run h =

@@ -12,6 +12,7 @@ use Rattle.ssh_link.specs.declared.frame.InputKind.TheVariants.{Payload, Command
 use Rattle.ssh_link.specs.declared.link.TraceEntry.TheVariants as traced
 use Rattle.ssh_link.specs.declared.outcome.Refusal.{Refusal}
 use Rattle.ssh_link.specs.declared.outcome.Refusal.TheVariants.{UnknownChannel, UnknownOpen}
+use Rattle.ssh_link.specs.declared.outcome.Refusal.TheVariants.{NotAuthenticated}
 use Rattle.ssh_auth.specs.declared.auth_request.AuthRequest.{AuthRequest}
 use Rattle.ssh_auth.specs.declared.auth_step.AuthVerdict.TheVariants as verdict
 use Rattle.ssh_auth.specs.declared.question.Question.TheVariants.{Banner}
@@ -37,7 +38,9 @@ use Rattle.ssh_session.specs.declared.state.EncryptedState.TheVariants.{Authenti
 use Rattle.ssh_session.specs.Acts.{done, acts}
 use Rattle.ssh_session.specs.Authorised.{IsRequestOf, IsProvenRequest, IsOfChannel}
 use Rattle.ssh_session.specs.Effect.{Effect, Unbuilt, refuses, effect, refused_or, no_sending}
-use Rattle.ssh_session.specs.Effect.{no_closing, no_open, done_by}
+use Rattle.ssh_session.specs.Effect.{no_closing, no_open, done_by, no_user, lacks, opens_need}
+use Rattle.ssh_session.specs.Effect.{opens, opens_or_not}
+use Rattle.ssh_session.specs.OwnOpens.{OwnOpen, asking}
 use Rattle.ssh_session.specs.Gate.{gate_of, IsRequesting}
 use Rattle.ssh_session.specs.Layout.{at_once, held, service_accept, banner, too_many_attempts}
 use Rattle.ssh_session.specs.Opens.{opening_of}
@@ -334,10 +337,31 @@ row_guarded given named a w moment payload said gate.InfoResponse is h clear =
 row_guarded given named a w moment payload said gate.NotBuilt is h clear = rw h tt
 row_guarded given named a w moment payload said gate.ChannelOpen is h clear =
     let_in_only given named a w payload gate.ChannelOpen (row w moment said) is tt clear
+row_guarded given named a w moment payload said gate.OpenConfirmation is h clear =
+    let_in_only given named a w payload gate.OpenConfirmation (row w moment said) is tt clear
 row_guarded given named a w moment payload said (gate.Channel message) is h clear =
     let_in_only given named a w payload (gate.Channel message) (row w moment said) is tt clear
 
 -- ---- commands
+
+no_user_yet : (named : List ℕ → Type 0) (state : EncryptedState) → IsBefore named state
+    → no_user state ≡ Some NotAuthenticated
+no_user_yet named InitCompression h = absurd h
+no_user_yet named Authenticated h = absurd h
+no_user_yet named (WaitingAuthServiceRequest sent accepted) h = refl
+no_user_yet named (WaitingAuthRequest auth) h = refl
+
+-- nothing is opened before a user was let in
+opening_refused : (named : List ℕ → Type 0) (w : World) (asked : Option OwnOpen) → IsClear named w
+    → ((why : Refusal) × (refused_or (lacks w (opens_need asked)) w (opens_or_not asked w)
+    ≡ refuses why w)) ⊎ (refused_or (lacks w (opens_need asked)) w (opens_or_not asked w) ≡ Unbuilt)
+opening_refused named w None h = inr refl
+opening_refused named w (Some asked) h =
+    inl (
+      NotAuthenticated,
+      ap (λ o. refused_or o w (opens asked w))
+          (no_user_yet named w.user.state h.0),
+    )
 
 -- where there is neither a channel nor an open, each command is refused or not built
 refused : (named : List ℕ → Type 0) (w : World) (commanded : Commanded) → IsClear named w →
@@ -369,7 +393,7 @@ refused named w (command.Close channel) h =
 refused named w (command.Answer answer) h =
     let none : opening_of answer.channel.0 w ≡ None = rw h.2 refl in
     inl (UnknownOpen, ap (λ o. refused_or (no_open o) w (done_by w (command.Answer answer))) none)
-refused named w _ h = inr refl
+refused named w other h = opening_refused named w (asking other) h
 
 -- a command that comes before an accepted authentication does nothing
 command_guarded : (given : Circumstances) (named : List ℕ → Type 0) (a : Type 0) (kind : InputKind)

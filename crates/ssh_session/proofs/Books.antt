@@ -2,6 +2,7 @@
 use Rattle.std.proofs.Common.{◌≡◌, ◌≢◌, ◌<◌, ℕ, List, [], ◌∷◌, ◌++◌, map, Bool, true}
 use Rattle.std.proofs.Common.{false, refl, sym, subst, arith}
 use Rattle.std.proofs.Common.{append_assoc}
+use Rattle.ssh_session.proofs.Reading.{full_packet}
 use Rattle.std.specs.Prelude.{drop, flat_map, Result, Ok, Err}
 use Rattle.ssh_wire.specs.declared.error.WireError.{WireError}
 use Rattle.std.proofs.lemmas.List.{append-nil}
@@ -23,13 +24,15 @@ use Rattle.ssh_session.specs.Acts.{tell_all}
 use Rattle.ssh_session.specs.Gate.{gate_of}
 use Rattle.ssh_session.specs.Ledger.{Ledgered_after}
 use Rattle.ssh_session.specs.Outcome.{Outcome, Goes, Ends, Fails}
-use Rattle.ssh_session.specs.Reading.{Said, Service, Open, Channel, Unbuilt, Without_packets}
+use Rattle.ssh_session.specs.Reading.{Said, Service, Open, Agreed, SaysConfirmation, Unread}
+use Rattle.ssh_session.specs.Reading.{Channel, Without_packets}
 use Rattle.ssh_session.specs.Reading.{Unfit, Says, SaysOpen, said_of}
-use Rattle.ssh_session.specs.Run.{Turn, Turns, Run, OwesKind, handed_on, finish_input}
+use Rattle.ssh_session.specs.Run.{Turn, Turns, Run, Owes, OwesKind, handed_on, finish_input}
 use Rattle.ssh_session.specs.Run.{entries, is_there}
 use Rattle.ssh_session.specs.World.{Settings, World, circumstances, opening_world}
 use Rattle.ssh_session.proofs.Acting.{PlanComes}
-use Rattle.ssh_session.proofs.Ledger.{Kept, ComesKept, IsFairSaid, row_kept}
+use Rattle.ssh_session.proofs.Keeping.{Kept, ComesKept}
+use Rattle.ssh_session.proofs.Ledger.{IsFairSaid, row_kept}
 use Rattle.ssh_session.proofs.Ledger.{command_kept}
 use Rattle.ssh_session.proofs.Settled.{Anything}
 use Rattle.ssh_session.proofs.Telling.{IsUnsent, SendsNone, kind_silent}
@@ -128,14 +131,25 @@ some_packet : (n : ℕ) → n ≢ 0 → 0 < n
 some_packet n h = omega (arith, h)
 
 open_fair : (fields : List ℕ) (said : Said) → SaysOpen fields said → IsFairSaid said
-open_fair fields (Open opening) h =
-    let leads = h.0 in
+open_fair fields (Open message) h =
+    let opened = h.1 in
+    let leads = opened.2 in
     let window = leads.4.4.2 in
-    (some_packet opening.packet h.1, window.0)
-open_fair fields Unbuilt h = tt
+    (some_packet message.recipient_maximum_packet_size opened.3, window.0)
+open_fair fields Unread h = tt
 open_fair fields Without_packets h = tt
 open_fair fields (Unfit why) h = tt
 open_fair fields _ h = absurd h
+
+confirmation_fair : (fields : List ℕ) (said : Said) → SaysConfirmation fields said
+    → IsFairSaid said
+confirmation_fair fields (Agreed message) h =
+    let spells = h.0 in
+    let window = spells.4.4.2 in
+    (full_packet message.maximum_packet_size h.1, window.0)
+confirmation_fair fields Without_packets h = tt
+confirmation_fair fields (Unfit why) h = tt
+confirmation_fair fields _ h = absurd h
 
 -- what was read by a layout is fair, where it says what is fair
 read_fair : {S : Type 0} (says : S → Said) (read : Result S WireError)
@@ -154,6 +168,7 @@ fair_at given there gate.ServiceRequest fields said h = rw h.2 (read_fair Servic
 fair_at given there gate.UserauthRequest fields said h = rw h.2 tt
 fair_at given there gate.InfoResponse fields said h = rw h.2 tt
 fair_at given there gate.ChannelOpen fields said h = open_fair fields said h
+fair_at given there gate.OpenConfirmation fields said h = confirmation_fair fields said h
 fair_at given there (gate.Channel message) fields said h =
     rw h.2 (read_fair Channel h.0 (λ spoken. tt))
 
@@ -173,20 +188,24 @@ kind_kept accepts past w moment (input.OpenReply ticket answer) plan o k =
     rw o (command_kept past w ticket (command.Answer answer) k)
 kind_kept accepts past w moment kind plan o k = rw o tt
 
-turn_kept : {E : Type 0} (accepts : Acceptance) (past : List TraceEntry) (w : World) (turn : Turn E)
-    (world : World) →
-    Turns accepts w turn world → Kept past w → Kept (past ++ entries turn) world
-turn_kept accepts past w turn world t k =
+pub owed_kept : {E : Type 0} (accepts : Acceptance) (past : List TraceEntry) (w : World)
+    (turn : Turn E) (plan : Plan Outcome) (world : World) → Owes accepts w turn.input plan
+    → Follows plan turn.events (Goes world) → Kept past w → Kept (past ++ entries turn) world
+owed_kept accepts past w turn plan world owes follows k =
     let took = Took turn.commands true turn.input in
-    let owes = t.1 in
     let begun = kept_quiet past took w tt k in
     let books = row_books (past ++ took ∷ []) owes.0
     (kind_silent accepts w turn.input.moment turn.input.kind owes.0 owes.1)
     (kind_kept accepts (past ++ took ∷ []) w turn.input.moment turn.input.kind owes.0 owes.1
     begun) in
     subst (λ l. Kept l world) (append_assoc past (took ∷ []) (told_in turn.events))
-    (follows_books (past ++ took ∷ []) t.0 turn.events world (subst (Books (past ++ took ∷ []))
-    (sym owes.2) books) t.2)
+    (follows_books (past ++ took ∷ []) plan turn.events world (subst (Books (past ++ took ∷ []))
+    (sym owes.2) books) follows)
+
+turn_kept : {E : Type 0} (accepts : Acceptance) (past : List TraceEntry) (w : World) (turn : Turn E)
+    (world : World) →
+    Turns accepts w turn world → Kept past w → Kept (past ++ entries turn) world
+turn_kept accepts past w turn world t k = owed_kept accepts past w turn t.0 world t.1 t.2 k
 
 run_kept : {E : Type 0} (accepts : Acceptance) (past : List TraceEntry) (w : World)
     (turns : List (Turn E)) (world : World) →
@@ -207,7 +226,7 @@ run_front accepts w (turn ∷ earlier) later world run =
     let front = run_front accepts run.0 earlier later world run.2 in
     (front.0, (run.0, run.1, front.1))
 
-nothing_kept : (settings : Settings) → Kept [] (opening_world settings)
+pub nothing_kept : (settings : Settings) → Kept [] (opening_world settings)
 nothing_kept settings = record { ledger = λ n. tt; due = λ n. tt; waiting = tt }
 
 -- after each of its inputs

@@ -17,8 +17,10 @@ use Rattle.ssh_session.specs.declared.apply.Done.{Done}
 use Rattle.ssh_session.specs.declared.error.RunError.{RunError}
 use Rattle.ssh_session.specs.declared.error.RunError.TheVariants.{NoMemory}
 use Rattle.ssh_session.specs.declared.session.Session.{Session}
-use Rattle.ssh_session.specs.Effect.{Effect, Does, Unbuilt, effect, lacks, needs, done_by, accepts}
-use Rattle.ssh_session.specs.Effect.{refuses, refused_or, fails_open, is_too_long}
+use Rattle.ssh_session.specs.Effect.{Effect, Does, effect, lacks, needs, done_by, accepts}
+use Rattle.ssh_session.specs.Effect.{refuses, refused_or, fails_open, is_too_long, opens_need}
+use Rattle.ssh_session.specs.Effect.{opens_or_not}
+use Rattle.ssh_session.specs.OwnOpens.{asking}
 use Rattle.ssh_session.specs.Opens.{answered, failure_frame}
 use Rattle.ssh_session.specs.Serve.{Refines, HasEffect}
 use Rattle.ssh_session.specs.World.{World, lined, writes}
@@ -54,35 +56,38 @@ pub refusing : (w : World) (one : Command) (why : Option Refusal) → lacks w (n
 refusing w one why h = ap (λ o. refused_or o w (done_by w one)) h
 
 module _ (w : World) where
-  -- most commands need nothing, and are not built
-  pub needs_nothing : (one : Command) → ((channel : ChannelId) (bytes : List ℕ) → one
+  -- the other commands open a channel, or are not built
+  pub needs_other : (one : Command) → ((channel : ChannelId) (bytes : List ℕ) → one
       ≡ command.Data channel bytes → ⊥) →
       ((channel : ChannelId) (code : ℕ) (bytes : List ℕ) → one ≡ command.ExtendedData channel code
       bytes → ⊥) →
       ((channel : ChannelId) → one ≡ command.Eof channel → ⊥) →
       ((channel : ChannelId) → one ≡ command.Close channel → ⊥) →
-      ((answer : OpenAnswer) → one ≡ command.Answer answer → ⊥) → lacks w (needs one) ≡ None
-  needs_nothing (command.Data channel bytes) a b c d e = absurd (a channel bytes refl)
-  needs_nothing (command.ExtendedData channel code bytes) a b c d e =
+      ((answer : OpenAnswer) → one ≡ command.Answer answer → ⊥) →
+      lacks w (needs one) ≡ lacks w (opens_need (asking one))
+  needs_other (command.Data channel bytes) a b c d e = absurd (a channel bytes refl)
+  needs_other (command.ExtendedData channel code bytes) a b c d e =
       absurd (b channel code bytes refl)
-  needs_nothing (command.Eof channel) a b c d e = absurd (c channel refl)
-  needs_nothing (command.Close channel) a b c d e = absurd (d channel refl)
-  needs_nothing (command.Answer answer) a b c d e = absurd (e answer refl)
-  needs_nothing _ a b c d e = refl
+  needs_other (command.Eof channel) a b c d e = absurd (c channel refl)
+  needs_other (command.Close channel) a b c d e = absurd (d channel refl)
+  needs_other (command.Answer answer) a b c d e = absurd (e answer refl)
+  needs_other _ a b c d e = refl
 
-  pub unbuilt : (one : Command) → ((channel : ChannelId) (bytes : List ℕ) → one
+  pub done_other : (one : Command) → ((channel : ChannelId) (bytes : List ℕ) → one
       ≡ command.Data channel bytes → ⊥) →
       ((channel : ChannelId) (code : ℕ) (bytes : List ℕ) → one ≡ command.ExtendedData channel code
       bytes → ⊥) →
       ((channel : ChannelId) → one ≡ command.Eof channel → ⊥) →
       ((channel : ChannelId) → one ≡ command.Close channel → ⊥) →
-      ((answer : OpenAnswer) → one ≡ command.Answer answer → ⊥) → done_by w one ≡ Unbuilt
-  unbuilt (command.Data channel bytes) a b c d e = absurd (a channel bytes refl)
-  unbuilt (command.ExtendedData channel code bytes) a b c d e = absurd (b channel code bytes refl)
-  unbuilt (command.Eof channel) a b c d e = absurd (c channel refl)
-  unbuilt (command.Close channel) a b c d e = absurd (d channel refl)
-  unbuilt (command.Answer answer) a b c d e = absurd (e answer refl)
-  unbuilt _ a b c d e = refl
+      ((answer : OpenAnswer) → one ≡ command.Answer answer → ⊥) →
+      done_by w one ≡ opens_or_not (asking one) w
+  done_other (command.Data channel bytes) a b c d e = absurd (a channel bytes refl)
+  done_other (command.ExtendedData channel code bytes) a b c d e =
+      absurd (b channel code bytes refl)
+  done_other (command.Eof channel) a b c d e = absurd (c channel refl)
+  done_other (command.Close channel) a b c d e = absurd (d channel refl)
+  done_other (command.Answer answer) a b c d e = absurd (e answer refl)
+  done_other _ a b c d e = refl
 
 -- a payload that is too long is not sent
 pub too_long : (number : ℕ) (payload : List ℕ) (w : World) → 2 ^ 32 ≤ length payload →

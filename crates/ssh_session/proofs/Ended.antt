@@ -29,18 +29,24 @@ use Rattle.ssh_session.specs.declared.state.EncryptedState.TheVariants.{WaitingA
 use Rattle.ssh_session.specs.Acts.{acts}
 use Rattle.ssh_session.specs.Effect.{Effect, Does, Unbuilt, effect}
 use Rattle.ssh_session.specs.Gate.{gate_of}
-use Rattle.ssh_session.specs.Opening.{Opening}
+use Rattle.ssh_session.specs.Types.{handling}
+use Rattle.ssh_session.specs.declared.opens.Handling.{Handling}
+use Rattle.ssh_session.specs.declared.opens.Handling.TheVariants.{Asks, Unsupported, Unknown}
+use Rattle.ssh_wire.specs.declared.open.OpenChannelMessage.{OpenChannelMessage}
+use Rattle.ssh_wire.specs.declared.open.ChannelOpenConfirmation.{ChannelOpenConfirmation}
+use Rattle.ssh_wire.specs.declared.open_failure.ChannelOpenFailure.{ChannelOpenFailure}
 use Rattle.ssh_session.specs.Outcome.{Outcome, Goes, Ends, Fails, Not_built}
 use Rattle.ssh_session.specs.declared.messages.Spoken.{Spoken}
 use Rattle.ssh_session.specs.declared.messages.Spoken.TheVariants as spoken
 use Rattle.ssh_session.specs.Reading.{Said, Disconnect, Over_cap, Service, Request}
-use Rattle.ssh_session.specs.Reading.{Response, Open, Channel, Unfit, Without_packets, Says}
+use Rattle.ssh_session.specs.Reading.{Response, Open, Agreed, SaysConfirmation}
+use Rattle.ssh_session.specs.Reading.{Unread, Channel, Unfit, Without_packets, Says}
 use Rattle.ssh_session.specs.Reading.{SaysOpen, said_of}
 use Rattle.ssh_session.specs.Reading as read
-use Rattle.ssh_session.specs.Rows.{spoken_acts}
+use Rattle.ssh_session.specs.Rows.{spoken_acts, failure_acts, confirmation_acts}
 use Rattle.ssh_session.specs.Rows.{row, owed, greets, is_short, replied, concluded, asked_of}
 use Rattle.ssh_session.specs.Rows.{data_told, open_acts}
-use Rattle.ssh_session.specs.Run.{OwesKind, Owes, command_row, finish_input, is_there}
+use Rattle.ssh_session.specs.Run.{OwesKind, Owes, command_row, finish_input, is_there, is_waiting}
 use Rattle.ssh_session.specs.Valid.{IsEnding}
 use Rattle.ssh_session.specs.World.{World, circumstances, waits_for, lined}
 use Rattle.ssh_session.proofs.Gates.{is_disconnect}
@@ -86,10 +92,25 @@ told_on Dropped channel piece target w = tt
 told_on Kept channel piece target w = λ world k. tt
 told_on (Granted amount) channel piece target w = λ window. (tt, λ world k. tt)
 
-open_on : (number : Option ℕ) (opening : Opening) (w : World)
-    → ActsCome law (open_acts number opening) w
-open_on None opening w = tt
-open_on (Some number) opening w = (tt, λ world k. tt)
+open_on : (number : Option ℕ) (message : OpenChannelMessage) (does : Handling) (w : World)
+    → ActsCome law (open_acts number message does) w
+open_on None message (Asks type) w = tt
+open_on None message Unsupported w = tt
+open_on None message Unknown w = tt
+open_on (Some number) message (Asks type) w = (tt, λ world k. tt)
+open_on (Some number) message Unsupported w = (tt, tt)
+open_on (Some number) message Unknown w = (tt, tt)
+
+failure_on : (w : World) (there waiting : Bool) (channel : ChannelId) (why : ChannelOpenFailure)
+    → ActsCome law (failure_acts there waiting channel why) w
+failure_on w there true channel why = (tt, tt)
+failure_on w true false channel why = tt
+failure_on w false false channel why = tt
+
+confirmation_on : (w : World) (waiting : Bool) (message : ChannelOpenConfirmation)
+    → ActsCome law (confirmation_acts waiting message) w
+confirmation_on w true message = (tt, λ world k. tt)
+confirmation_on w false message = tt
 
 spoken_on : (w : World) (said : Spoken) → ActsCome law (spoken_acts w said) w
 spoken_on w spoken.Nothing = tt
@@ -107,6 +128,8 @@ spoken_on w (spoken.Tells channel message happening) =
 spoken_on w (spoken.Close channel) =
     on_come law w (find channel.0 w.channels.lines.entries) _ (λ e. (tt, λ world k. tt))
 spoken_on w (spoken.Wants channel wanted) = (tt, tt)
+spoken_on w (spoken.Failed channel reason) =
+    failure_on w (is_there w channel.0) (is_waiting w channel.0) channel reason
 spoken_on w spoken.Unbuilt = tt
 
 -- no row but those two ends a run
@@ -116,7 +139,11 @@ IsOther Over_cap = ⊥
 IsOther _ = Unit {0}
 
 owed_on : (w : World) (said : Said) → IsOther said → ActsCome law (owed w said) w
-owed_on w (Open opening) is = open_on (next_number w.channels.lines) opening w
+owed_on w (Open message) is =
+    open_on (next_number w.channels.lines) message (handling message.typ) w
+owed_on w (Agreed message) is =
+    confirmation_on w (is_waiting w message.recipient_channel) message
+owed_on w Unread is = tt
 owed_on w (Channel said) is = spoken_on w said
 owed_on w Disconnect is = absurd is
 owed_on w Over_cap is = absurd is
@@ -183,11 +210,17 @@ command_on w ticket commanded =
 
 -- what does not fit is no end
 open_said : (fields : List ℕ) (said : Said) → SaysOpen fields said → IsOther said
-open_said fields (Open opening) h = tt
-open_said fields read.Unbuilt h = tt
+open_said fields (Open message) h = tt
+open_said fields Unread h = tt
 open_said fields Without_packets h = tt
 open_said fields (Unfit why) h = tt
 open_said fields _ h = absurd h
+
+confirmation_said : (fields : List ℕ) (said : Said) → SaysConfirmation fields said → IsOther said
+confirmation_said fields (Agreed message) h = tt
+confirmation_said fields Without_packets h = tt
+confirmation_said fields (Unfit why) h = tt
+confirmation_said fields _ h = absurd h
 
 -- what was read by a layout is no end, where it says none
 read_other : {S : Type 0} (says : S → Said) (read : Result S WireError)
@@ -208,6 +241,8 @@ other_at given there gate.ServiceRequest fields said h =
 other_at given there gate.UserauthRequest fields said h = inr (inr (rw h.2 tt))
 other_at given there gate.InfoResponse fields said h = inr (inr (rw h.2 tt))
 other_at given there gate.ChannelOpen fields said h = inr (inr (open_said fields said h))
+other_at given there gate.OpenConfirmation fields said h =
+    inr (inr (confirmation_said fields said h))
 other_at given there (gate.Channel message) fields said h =
     inr (inr (rw h.2 (read_other Channel h.0 (λ spoken. tt))))
 

@@ -8,7 +8,9 @@ use Rattle.ssh_wire.specs.declared.error.WireError.{WireError}
 use Rattle.ssh_wire.specs.declared.channel_id.ChannelId.{ChannelId}
 use Rattle.ssh_wire.specs.declared.open_failure.ChannelOpenFailure.{ChannelOpenFailure}
 use Rattle.ssh_wire.specs.Field.{Text, SpellsWhole}
-use Rattle.ssh_wire.specs.Open.{leading_fields}
+use Rattle.ssh_wire.specs.declared.open.OpenChannelMessage.{OpenChannelMessage}
+use Rattle.ssh_wire.specs.declared.error.LayoutError.TheVariants.{Wire, Inconsistent}
+use Rattle.ssh_wire.proofs.OpensOnce.{misfits_open_not_spells}
 use Rattle.ssh_wire.proofs.Fields.{spells_all_once, misfits_all_not_spells}
 use Rattle.ssh_wire.proofs.Fields.{misfits_whole_not_spells, spells_whole_once}
 use Rattle.ssh_link.specs.declared.command.Command.{Command as Commanded}
@@ -44,26 +46,34 @@ use Rattle.ssh_session.specs.declared.state.EncryptedState.{EncryptedState}
 use Rattle.ssh_session.specs.declared.state.EncryptedState.TheVariants.{WaitingAuthRequest}
 use Rattle.ssh_session.specs.Acts.{acts}
 use Rattle.ssh_session.specs.Effect.{Effect, effect, lacks, needs, refused_or, done_by, answers}
-use Rattle.ssh_session.specs.Effect.{decides, fails_open, failure_of, is_too_long}
+use Rattle.ssh_session.specs.Effect.{decides, fails_open, failure_of, is_too_long, opens_at}
+use Rattle.ssh_session.specs.Effect.{opens, opens_or_not}
+use Rattle.ssh_session.specs.OwnOpens.{OwnOpen, asking, open_payload}
 use Rattle.ssh_session.specs.Gate.{gate_of}
 use Rattle.ssh_session.specs.Layout.{banner}
 use Rattle.ssh_session.specs.Opening.{Opening}
+use Rattle.ssh_session.specs.Types.{handling}
+use Rattle.ssh_session.specs.declared.opens.Handling.{Handling}
+use Rattle.ssh_session.specs.declared.opens.Handling.TheVariants.{Asks, Unsupported, Unknown}
 use Rattle.ssh_session.specs.Opens.{opening_of}
 use Rattle.ssh_session.specs.Outcome.{Outcome, Goes, Fails, Starved}
 use Rattle.ssh_session.specs.Messages.{message_layout}
-use Rattle.ssh_session.specs.Reading.{Said, Open, Service, Channel, Unbuilt, Without_packets}
+use Rattle.ssh_session.specs.Reading.{Said, Open, Agreed, Unread, Service, Channel}
+use Rattle.ssh_session.specs.Reading.{SaysConfirmation}
+use Rattle.ssh_session.specs.Reading.{Without_packets}
 use Rattle.ssh_session.specs.Reading.{Unfit, Says, SaysOpen, ReadsAs, said_of, service}
 use Rattle.ssh_session.specs.Spelling.{Layout, Leaves, Whole, Fields, Spells}
-use Rattle.ssh_session.specs.Rows.{spoken_acts}
+use Rattle.ssh_session.specs.Rows.{spoken_acts, agreed_acts, failure_acts}
 use Rattle.ssh_session.specs.Rows.{row, owed, greets, is_short, replied, concluded, asked_of}
 use Rattle.ssh_session.specs.Rows.{fault_of, data_told, open_acts}
-use Rattle.ssh_session.specs.Run.{OwesKind, command_row, is_there}
+use Rattle.ssh_session.specs.Run.{OwesKind, command_row, is_there, is_waiting}
 use Rattle.ssh_session.specs.Valid.{AreValidMethodFields, AreValidFields, FitsLayout, HasNoPrompt}
 use Rattle.ssh_session.specs.Valid.{IsBuiltCommand, AreBuilt, IsFineAnswer, IsFineBanner}
 use Rattle.ssh_session.specs.Valid.{IsServed, IsValidKind}
 use Rattle.ssh_session.specs.World.{World, circumstances, waits_for, lined}
 use Rattle.ssh_session.proofs.Acting.{PlanComes, EffectComes, AllBuilt, Law, ActsCome, acts_come}
 use Rattle.ssh_session.proofs.Acting.{one_comes}
+use Rattle.ssh_session.proofs.LayoutsOnce.{confirmation_once}
 use Rattle.ssh_session.proofs.FineVerdicts.{IsFineReply, IsFineVerdict, method_fine, responded_fine}
 use Rattle.ssh_session.proofs.Methods.{served, shortened}
 use Rattle.ssh_session.proofs.Responses.{IsRead, response_read}
@@ -103,6 +113,25 @@ answered_built answer None w = tt
 answered_built answer (Some opening) w = decided_built answer.channel.0 opening answer.rejection
     answer.texts w
 
+opened_built : (number : Option ℕ) (asked : OwnOpen) (w : World)
+    → EffectComes IsNoFault Any_world (opens_at number asked w)
+opened_built None asked w = tt
+opened_built (Some n) asked w = tt
+
+opens_built : (asked : OwnOpen) (w : World) (long : Bool)
+    → is_too_long (open_payload asked 0 w.settings.config.window_size
+    w.settings.config.maximum_packet_size) ≡ long
+    → EffectComes IsNoFault Any_world (opens asked w)
+opens_built asked w true is = rw is tt
+opens_built asked w false is = rw is (opened_built (next_number w.channels.lines) asked w)
+
+opens_or_not_built : (asked : Option OwnOpen) (w : World) → IsSome asked
+    → EffectComes IsNoFault Any_world (opens_or_not asked w)
+opens_or_not_built None w built = absurd (let e : false ≡ true = built in cc)
+opens_or_not_built (Some asked) w built = opens_built asked w
+    (is_too_long (open_payload asked 0 w.settings.config.window_size
+    w.settings.config.maximum_packet_size)) refl
+
 done_built : (w : World) (commanded : Commanded) → IsBuiltCommand commanded → EffectComes IsNoFault
     Any_world (done_by w commanded)
 done_built w (command.Data channel bytes) built = tt
@@ -110,7 +139,7 @@ done_built w (command.ExtendedData channel code bytes) built = tt
 done_built w (command.Eof channel) built = tt
 done_built w (command.Close channel) built = tt
 done_built w (command.Answer answer) built = answered_built answer (opening_of answer.channel.0 w) w
-done_built w _ built = absurd built
+done_built w other built = opens_or_not_built (asking other) w built
 
 refused_built : (why : Option Refusal) (w : World) (does : Effect) → EffectComes IsNoFault Any_world
     does →
@@ -226,21 +255,21 @@ service_fine kind w false = tt
 -- ---- messages by their layouts
 
 -- what fits its layout was read, and is served
-fits_read : (layout : Layout Spoken) (bytes : List ℕ) (read : Result Spoken WireError)
-    → FitsLayout layout bytes → Spells layout bytes read
-    → (said : Spoken) × (read ≡ Ok said) × IsServed said
-fits_read (Leaves says) bytes read v h = (says, h, v)
-fits_read (Whole fields says) bytes read v (inl h) =
+fits_read : (w : World) (layout : Layout Spoken) (bytes : List ℕ) (read : Result Spoken WireError)
+    → FitsLayout w layout bytes → Spells layout bytes read
+    → (said : Spoken) × (read ≡ Ok said) × IsServed w said
+fits_read w (Leaves says) bytes read v h = (says, h, v)
+fits_read w (Whole fields says) bytes read v (inl h) =
     let once = spells_whole_once fields v.0 h.0 bytes v.1 h.1 in
-    (says h.0, h.2, subst (λ x. IsServed (says x)) once v.2)
-fits_read (Whole fields says) bytes read v (inr h) =
+    (says h.0, h.2, subst (λ x. IsServed w (says x)) once v.2)
+fits_read w (Whole fields says) bytes read v (inr h) =
     absurd (misfits_whole_not_spells fields v.0 bytes h.0 h.1 v.1)
-fits_read (Fields fields next) bytes read v (inl h) =
+fits_read w (Fields fields next) bytes read v (inl h) =
     let once = spells_all_once fields v.0 h.0 bytes v.1 h.1 v.2 h.2 in
-    let fits = subst (λ r. FitsLayout (next h.0) r) once.1 (subst (λ x. FitsLayout (next x) v.1)
+    let fits = subst (λ r. FitsLayout w (next h.0) r) once.1 (subst (λ x. FitsLayout w (next x) v.1)
     once.0 v.3) in
-    fits_read (next h.0) h.1 read fits h.3
-fits_read (Fields fields next) bytes read v (inr h) =
+    fits_read w (next h.0) h.1 read fits h.3
+fits_read w (Fields fields next) bytes read v (inr h) =
     absurd (misfits_all_not_spells fields v.0 bytes v.1 h.0 h.1 v.2)
 
 -- ---- channels
@@ -252,8 +281,15 @@ told_fine kind Dropped channel piece target w = tt
 told_fine kind Kept channel piece target w = λ world k. tt
 told_fine kind (Granted amount) channel piece target w = λ window. (tt, λ world k. tt)
 
+failure_fine : (kind : InputKind) (w : World) (there waiting : Bool) (channel : ChannelId)
+    (reason : ChannelOpenFailure) → there ≡ false
+    → ActsCome (law kind) (failure_acts there waiting channel reason) w
+failure_fine kind w there true channel reason is = (tt, tt)
+failure_fine kind w true false channel reason is = absurd (cc)
+failure_fine kind w false false channel reason is = tt
+
 -- what is served of a message of channels comes to no fault
-spoken_fine : (kind : InputKind) (w : World) (said : Spoken) → IsServed said
+spoken_fine : (kind : InputKind) (w : World) (said : Spoken) → IsServed w said
     → ActsCome (law kind) (spoken_acts w said) w
 spoken_fine kind w spoken.Nothing is = tt
 spoken_fine kind w (spoken.Grant channel amount) is =
@@ -269,14 +305,16 @@ spoken_fine kind w (spoken.Tells channel message happening) is =
 spoken_fine kind w (spoken.Close channel) is =
     on_come (law kind) w (find channel.0 w.channels.lines.entries) _ (λ e. (tt, λ world k. tt))
 spoken_fine kind w (spoken.Wants channel wanted) is = (tt, tt)
+spoken_fine kind w (spoken.Failed channel reason) is =
+    failure_fine kind w (is_there w channel.0) (is_waiting w channel.0) channel reason is
 spoken_fine kind w spoken.Unbuilt is = absurd is
 
 channel_fine : (kind : InputKind) (w : World) (moment : ℕ) (layout : Layout Spoken)
-    (fields : List ℕ) (said : Said) → FitsLayout layout fields
+    (fields : List ℕ) (said : Said) → FitsLayout w layout fields
     → ReadsAs Channel layout fields said → PlanComes (IsFineAnswer kind) IsNoFault (row w moment
     said)
 channel_fine kind w moment layout fields said v h =
-    let fits = fits_read layout fields h.0 v h.1 in
+    let fits = fits_read w layout fields h.0 v h.1 in
     rw (h.2, fits.1) (acts_come (law kind) (spoken_acts w fits.0) w tt
     (spoken_fine kind w fits.0 fits.2))
 
@@ -285,40 +323,38 @@ channel_fine kind w moment layout fields said v h =
 never_some : IsSome {T = ℕ} None → ⊥
 never_some h = let e : false ≡ true = h in cc
 
-open_comes : (kind : InputKind) (w : World) (number : Option ℕ) (opening : Opening) → IsSome number
-    →
-    ActsCome (law kind) (open_acts number opening) w
-open_comes kind w None opening some = absurd (never_some some)
-open_comes kind w (Some number) opening some = (tt, λ world k. tt)
+open_comes : (kind : InputKind) (w : World) (number : Option ℕ) (message : OpenChannelMessage)
+    (does : Handling) → IsSome number → ActsCome (law kind) (open_acts number message does) w
+open_comes kind w None message does some = absurd (never_some some)
+open_comes kind w (Some number) message (Asks type) some = (tt, λ world k. tt)
+open_comes kind w (Some number) message Unsupported some = (tt, tt)
+open_comes kind w (Some number) message Unknown some = (tt, tt)
 
--- the fields of an open of a session are no other open
+-- the fields of an open are no other open, and none that does not fit
 open_fine : (kind : InputKind) (given : Circumstances) (w : World) (moment : ℕ) (fields : List ℕ)
     (said : Said) →
     AreValidFields given w gate.ChannelOpen fields → SaysOpen fields said →
     PlanComes (IsFineAnswer kind) IsNoFault (row w moment said)
-open_fine kind given w moment fields (Open opening) v h =
-    acts_come (law kind) (owed w (Open opening)) w tt
-    (open_comes kind w (next_number w.channels.lines) opening v.5)
-open_fine kind given w moment fields Unbuilt v h =
-    let once = spells_all_once leading_fields (codes "session", (v.0, (v.1, (v.2, tt)))) (
-      h.0,
-      (h.1, (h.2, (h.3, tt))),
-    ) fields [] h.4 v.3 h.5 in
-    absurd (h.7 (sym (ap (λ x. x.0) once.0)))
+open_fine kind given w moment fields (Open message) v h =
+    acts_come (law kind) (owed w (Open message)) w tt
+    (open_comes kind w (next_number w.channels.lines) message (handling message.typ) v.3)
+open_fine kind given w moment fields Unread v h = refl
 open_fine kind given w moment fields Without_packets v h =
-    let once = spells_all_once leading_fields (codes "session", (v.0, (v.1, (v.2, tt)))) (
-      h.0,
-      (h.1, (h.2, (0, tt))),
-    ) fields [] h.3 v.3 h.4 in
-    absurd (v.4 (ap (λ x. x.1.1.1.0) once.0))
-open_fine kind given w moment fields (Unfit why) v (inl h) =
-    absurd (misfits_all_not_spells leading_fields (codes "session", (v.0, (v.1, (v.2, tt)))) fields
-    [] why h v.3)
-open_fine kind given w moment fields (Unfit why) v (inr h) =
-    let once = spells_all_once leading_fields (codes "session", (v.0, (v.1, (v.2, tt))))
-    (codes "session", (h.0, (h.1, (h.2, tt)))) fields [] h.3 v.3 h.4 in
-    absurd (h.6.0 (sym once.1))
+    absurd (misfits_open_not_spells v.0 fields v.1 Inconsistent h v.2)
+open_fine kind given w moment fields (Unfit why) v h =
+    absurd (misfits_open_not_spells v.0 fields v.1 (Wire why) h v.2)
 open_fine kind given w moment fields _ v h = absurd h
+
+-- ---- confirmations
+
+-- the fields of a confirmation are no other, and an open waits for it
+confirmation_fine : (kind : InputKind) (given : Circumstances) (w : World) (moment : ℕ)
+    (fields : List ℕ) (said : Said) →
+    AreValidFields given w gate.OpenConfirmation fields → SaysConfirmation fields said →
+    PlanComes (IsFineAnswer kind) IsNoFault (row w moment said)
+confirmation_fine kind given w moment fields said v h =
+    let is = confirmation_once fields said (Agreed v.0) h v.1 in
+    rw (is, v.2) (acts_come (law kind) (agreed_acts v.0) w tt (tt, λ world k. tt))
 
 -- ---- a payload that is valid at its gate
 
@@ -352,6 +388,8 @@ fields_fine given w moment gate.InfoResponse payload said v h =
     (valid_response given w (drop 1 payload) auth h.0 at v h.1)))
 fields_fine given w moment gate.ChannelOpen payload said v h = open_fine (Payload payload) given w
     moment (drop 1 payload) said v h
+fields_fine given w moment gate.OpenConfirmation payload said v h =
+    confirmation_fine (Payload payload) given w moment (drop 1 payload) said v h
 fields_fine given w moment (gate.Channel message) payload said v h =
     channel_fine (Payload payload) w moment (message_layout (is_there w) message) (drop 1 payload)
     said v h

@@ -33,7 +33,8 @@ Meets state n gate.ServiceRequest = Unit {0}
 Meets state n gate.UserauthRequest = (n ≡ 50) × IsRequesting state
 Meets state n gate.InfoResponse = (n ≡ 61) × IsRequesting state
 Meets state n gate.NotBuilt = Unit {0}
--- a message of channels
+Meets state n gate.ChannelOpen = (n ≡ 90) × IsLetIn state
+-- another message of channels
 Meets state n _ = IsLetIn state
 
 -- what holds of both gates holds of the one that a test leads to
@@ -69,9 +70,10 @@ connection_meets : (state : EncryptedState) (n : ℕ) → IsLetIn state
     → Meets state n (connection_gate n)
 connection_meets state n is =
     let P : Gate → Type 0 = Meets state n in
-    chosen (n == 90) P gate.ChannelOpen _ (λ _. is)
+    chosen (n == 90) P gate.ChannelOpen _ (λ number. (eqb-true n 90 number, is))
+    (chosen (n == 91) P gate.OpenConfirmation _ (λ _. is)
     (of_channels_meets state n (channel_message n) _ is
-    (chosen (is_connection_number n) P gate.NotBuilt gate.Nothing (λ _. tt) tt))
+    (chosen (is_connection_number n) P gate.NotBuilt gate.Nothing (λ _. tt) tt)))
 
 state_meets : (config : Config) (state : EncryptedState) (n : ℕ)
     → Meets state n (state_gate config state n)
@@ -107,6 +109,14 @@ is_response w (n ∷ fields) e =
     let is = subst (Meets w.user.state n) e (meets w n fields) in
     let at : n ≡ 61 = is.0 in (cc, is.1)
 
+-- one that is read as an open is numbered 90
+pub is_channel_open : (w : World) (payload : List ℕ) → gate_of w payload ≡ gate.ChannelOpen
+    → payload ≡ 90 ∷ drop 1 payload
+is_channel_open w [] e = absurd (cc)
+is_channel_open w (n ∷ fields) e =
+    let is = subst (Meets w.user.state n) e (meets w n fields) in
+    let at : n ≡ 90 = is.0 in cc
+
 -- a payload that ends the run is numbered 1
 pub is_disconnect : (w : World) (payload : List ℕ) → gate_of w payload ≡ gate.Ends → payload ≡ 1
     ∷ drop 1 payload
@@ -135,12 +145,14 @@ is_for_request w auth fields is =
 -- the gates of the messages of channels
 abbrev pub IsOfChannels : Gate → Type 0
 IsOfChannels gate.ChannelOpen = Unit {0}
+IsOfChannels gate.OpenConfirmation = Unit {0}
 IsOfChannels (gate.Channel message) = Unit {0}
 IsOfChannels _ = ⊥
 
 meets_let_in : (state : EncryptedState) (n : ℕ) (at : Gate) → Meets state n at → IsOfChannels at
     → IsLetIn state
-meets_let_in state n gate.ChannelOpen h is = h
+meets_let_in state n gate.ChannelOpen h is = h.1
+meets_let_in state n gate.OpenConfirmation h is = h
 meets_let_in state n (gate.Channel message) h is = h
 meets_let_in state n _ h is = absurd is
 

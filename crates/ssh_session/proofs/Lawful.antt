@@ -10,6 +10,7 @@ use Rattle.ssh_session.specs.Run.{Turn}
 use Rattle.ssh_session.specs.Valid.{IsEnding}
 use Rattle.ssh_session.specs.World.{Settings, World}
 use Rattle.ssh_session.proofs.Accepting.{authorised}
+use Rattle.ssh_session.proofs.Answered.{answered}
 use Rattle.ssh_session.proofs.Books.{ledgered}
 use Rattle.ssh_session.proofs.Complete.{complete, link_fault}
 use Rattle.ssh_session.proofs.Ended.{ended}
@@ -36,6 +37,8 @@ lawful {E} accepts settings before after max result account =
           rose result account.run account.closes;
       ledger = λ earlier later is. ledgered accepts settings account.turns account.world account.run
           earlier later is;
+      answered = answered accepts settings account.turns account.world count max account.last rose
+          result account.run account.closes;
       complete = λ same valid. complete accepts account.world count max account.last before.faults
           after.faults result account.closes same valid;
       link_fault = λ is. link_fault {E = E} accepts account.world count max account.last rose

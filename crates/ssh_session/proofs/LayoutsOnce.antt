@@ -1,14 +1,17 @@
 -- A message of the connection says one thing: no case is by a message.
-use Rattle.std.proofs.Common.{◌≡◌, ℕ, List, [], refl, sym, ◌∙◌, ap, subst, inl, inr}
-use Rattle.std.specs.Prelude.{codes, Result, Ok, Err}
+use Rattle.std.proofs.Common.{◌≡◌, ◌⊎◌, ℕ, List, refl, sym, ◌∙◌, ap, subst, inl, inr}
+use Rattle.std.proofs.Common.{[], length}
+use Rattle.std.specs.Prelude.{Result, Ok, Err}
+use Rattle.ssh_wire.specs.declared.error.LayoutError.TheVariants.{Wire, Inconsistent}
 use Rattle.ssh_wire.specs.declared.error.WireError.{WireError}
-use Rattle.ssh_wire.specs.Field.{MisfitsAll, MisfitsWhole}
-use Rattle.ssh_wire.specs.Open.{leading_fields, Leads}
+use Rattle.ssh_wire.specs.declared.error.WireError.TheVariants.{Trailing}
 use Rattle.ssh_wire.proofs.Fields.{spells_all_once, spells_whole_once, misfits_all_not_spells}
 use Rattle.ssh_wire.proofs.Fields.{misfits_all_once, misfits_whole_not_spells, misfits_whole_once}
-use Rattle.ssh_session.specs.Opening.{Opening}
-use Rattle.ssh_session.specs.Reading.{Said, Open, Unbuilt, Without_packets, Unfit, MisfitsSession}
-use Rattle.ssh_session.specs.Reading.{SaysOpen, ReadsAs, said_of}
+use Rattle.ssh_wire.proofs.OpensOnce.{spells_open_once, misfits_open_not_spells}
+use Rattle.ssh_wire.proofs.OpensOnce.{misfits_open_once, spells_confirmation_once}
+use Rattle.ssh_wire.proofs.OpensOnce.{misfits_confirmation_not_spells, misfits_confirmation_once}
+use Rattle.ssh_session.specs.Reading.{Said, Open, Unread, Without_packets, Unfit, SaysOpen, ReadsAs}
+use Rattle.ssh_session.specs.Reading.{said_of, Agreed, SaysConfirmation}
 use Rattle.ssh_session.specs.Spelling.{Layout, Leaves, Whole, Fields, Spells}
 
 pub layout_once : {S : Type 0} (layout : Layout S) (bytes : List ℕ) (a b : Result S WireError)
@@ -41,100 +44,73 @@ said_once says layout bytes a b h k =
 
 -- ---- an open (RFC 4254 section 5.1)
 
--- the bytes lead to one name, one peer's number, one window, one packet size and one rest
-leads_once : (name nom : List ℕ) (k l m x y z : ℕ) (bytes a b : List ℕ) → Leads name k l m bytes a
-    → Leads nom x y z bytes b
-    → (name ≡ nom) × (k ≡ x) × (l ≡ y) × (m ≡ z) × (a ≡ b)
-leads_once name nom k l m x y z bytes a b p q =
-    let once = spells_all_once leading_fields (name, (k, (l, (m, tt)))) (nom, (x, (y, (z, tt))))
-    bytes a b p q in (
-      ap (λ v. v.0) once.0,
-      ap (λ v. v.1.0) once.0,
-      ap (λ v. v.1.1.0) once.0,
-      ap (λ v. v.1.1.1.0) once.0,
-      once.1,
-    )
+-- two readings of one open are the same, where memory was not wanting
+pub open_once : (fields : List ℕ) (a b : Said) → SaysOpen fields a → SaysOpen fields b
+    → (a ≡ Unread) ⊎ ((b ≡ Unread) ⊎ (a ≡ b))
+open_once fields (Open s) (Open t) h k =
+    inr (inr (ap Open (spells_open_once s t fields h.0 k.0 h.1 k.1).0))
+open_once fields (Open s) Without_packets h k =
+    absurd (misfits_open_not_spells s fields h.0 Inconsistent k h.1)
+open_once fields (Open s) (Unfit why) h k =
+    absurd (misfits_open_not_spells s fields h.0 (Wire why) k h.1)
+open_once fields Without_packets (Open t) h k =
+    absurd (misfits_open_not_spells t fields k.0 Inconsistent h k.1)
+open_once fields Without_packets Without_packets h k = inr (inr refl)
+open_once fields Without_packets (Unfit why) h k =
+    absurd (let e = misfits_open_once fields Inconsistent (Wire why) h k in cc)
+open_once fields (Unfit why) (Open t) h k =
+    absurd (misfits_open_not_spells t fields k.0 (Wire why) h k.1)
+open_once fields (Unfit why) Without_packets h k =
+    absurd (let e = misfits_open_once fields Inconsistent (Wire why) k h in cc)
+open_once fields (Unfit why) (Unfit other) h k =
+    let e = misfits_open_once fields (Wire why) (Wire other) h k in
+    inr (inr (ap Unfit (let same : why ≡ other = cc in same)))
+open_once fields Unread b h k = inl refl
+open_once fields (Open s) Unread h k = inr (inl refl)
+open_once fields Without_packets Unread h k = inr (inl refl)
+open_once fields (Unfit why) Unread h k = inr (inl refl)
+open_once fields (Open s) _ h k = absurd k
+open_once fields Without_packets _ h k = absurd k
+open_once fields (Unfit why) _ h k = absurd k
+open_once fields _ b h k = absurd h
 
--- leading fields that are there are none that does not fit
-leads_fit : (name : List ℕ) (k l m : ℕ) (bytes after : List ℕ) (why : WireError)
-    → Leads name k l m bytes after → MisfitsAll leading_fields bytes why → ⊥
-leads_fit name k l m bytes after why p misfit =
-    misfits_all_not_spells leading_fields (name, (k, (l, (m, tt)))) bytes after why misfit p
-
-session_fits : (fields : List ℕ) (o : Opening) (why : WireError) → SaysOpen fields (Open o)
-    → MisfitsSession fields why → ⊥
-session_fits fields o why h (inl leading) =
-    leads_fit (codes "session") o.peer o.window o.packet fields [] why h.0 leading
-session_fits fields o why h (inr f) =
-    f.6.0 (sym (leads_once (codes "session") (codes "session") o.peer o.window o.packet f.0 f.1 f.2
-    fields [] f.3 h.0 f.4).4)
-
-other_fits : (fields : List ℕ) (why : WireError) → SaysOpen fields Unbuilt
-    → MisfitsSession fields why → ⊥
-other_fits fields why h (inl leading) = leads_fit h.0 h.1 h.2 h.3 fields h.4 why h.5 leading
-other_fits fields why h (inr f) =
-    h.7 (leads_once h.0 (codes "session") h.1 h.2 h.3 f.0 f.1 f.2 fields h.4 f.3 h.5 f.4).0
-
-empty_fits : (fields : List ℕ) (why : WireError) → SaysOpen fields Without_packets
-    → MisfitsSession fields why → ⊥
-empty_fits fields why h (inl leading) = leads_fit h.0 h.1 h.2 0 fields h.3 why h.4 leading
-empty_fits fields why h (inr f) =
-    f.5 (sym (leads_once h.0 (codes "session") h.1 h.2 0 f.0 f.1 f.2 fields h.3 f.3 h.4 f.4).3)
-
-session_or_other : (fields : List ℕ) (o : Opening) → SaysOpen fields (Open o)
-    → SaysOpen fields Unbuilt → ⊥
-session_or_other fields o h k =
-    k.7 (sym (leads_once (codes "session") k.0 o.peer o.window o.packet k.1 k.2 k.3 fields [] k.4
-    h.0 k.5).0)
-
-session_or_empty : (fields : List ℕ) (o : Opening) → SaysOpen fields (Open o)
-    → SaysOpen fields Without_packets → ⊥
-session_or_empty fields o h k =
-    h.1 (leads_once (codes "session") k.0 o.peer o.window o.packet k.1 k.2 0 fields [] k.3 h.0
-    k.4).3
-
-other_or_empty : (fields : List ℕ) → SaysOpen fields Unbuilt → SaysOpen fields Without_packets → ⊥
-other_or_empty fields h k =
-    h.6 (leads_once h.0 k.0 h.1 h.2 h.3 k.1 k.2 0 fields h.4 k.3 h.5 k.4).3
-
-unfit_once : (fields : List ℕ) (why other : WireError) → MisfitsSession fields why
-    → MisfitsSession fields other → why ≡ other
-unfit_once fields why other (inl h) (inl k) = misfits_all_once leading_fields fields why other h k
-unfit_once fields why other (inl h) (inr k) =
-    absurd (leads_fit (codes "session") k.0 k.1 k.2 fields k.3 why k.4 h)
-unfit_once fields why other (inr h) (inl k) =
-    absurd (leads_fit (codes "session") h.0 h.1 h.2 fields h.3 other h.4 k)
-unfit_once fields why other (inr h) (inr k) =
-    let same = (leads_once (codes "session") (codes "session") h.0 h.1 h.2 k.0 k.1 k.2 fields h.3
-    k.3 h.4 k.4).4 in
-    misfits_whole_once [] h.3 why other h.6 (subst (λ x. MisfitsWhole [] x other) (sym same) k.6)
-
-openings_once : (fields : List ℕ) (o p : Opening) → SaysOpen fields (Open o)
-    → SaysOpen fields (Open p) → o ≡ p
-openings_once fields o p h j =
-    let same = leads_once (codes "session") (codes "session") o.peer o.window o.packet p.peer
-    p.window p.packet fields [] [] h.0 j.0 in
-    λ i. record { peer = same.1 i; window = same.2 i; packet = same.3 i }
-
-pub open_once : (fields : List ℕ) (a b : Said) → SaysOpen fields a → SaysOpen fields b → a ≡ b
-open_once fields (Open o) (Open p) h j = ap Open (openings_once fields o p h j)
-open_once fields (Open o) Unbuilt h j = absurd (session_or_other fields o h j)
-open_once fields (Open o) Without_packets h j = absurd (session_or_empty fields o h j)
-open_once fields (Open o) (Unfit why) h j = absurd (session_fits fields o why h j)
-open_once fields Unbuilt (Open o) h j = absurd (session_or_other fields o j h)
-open_once fields Unbuilt Unbuilt h j = refl
-open_once fields Unbuilt Without_packets h j = absurd (other_or_empty fields h j)
-open_once fields Unbuilt (Unfit why) h j = absurd (other_fits fields why h j)
-open_once fields Without_packets (Open o) h j = absurd (session_or_empty fields o j h)
-open_once fields Without_packets Unbuilt h j = absurd (other_or_empty fields j h)
-open_once fields Without_packets Without_packets h j = refl
-open_once fields Without_packets (Unfit why) h j = absurd (empty_fits fields why h j)
-open_once fields (Unfit why) (Open o) h j = absurd (session_fits fields o why j h)
-open_once fields (Unfit why) Unbuilt h j = absurd (other_fits fields why j h)
-open_once fields (Unfit why) Without_packets h j = absurd (empty_fits fields why j h)
-open_once fields (Unfit why) (Unfit other) h j = ap Unfit (unfit_once fields why other h j)
-open_once fields (Open o) _ h j = absurd j
-open_once fields Unbuilt _ h j = absurd j
-open_once fields Without_packets _ h j = absurd j
-open_once fields (Unfit why) _ h j = absurd j
-open_once fields _ b h j = absurd h
+-- .. and a confirmation says one thing
+pub confirmation_once : (fields : List ℕ) (a b : Said) → SaysConfirmation fields a
+    → SaysConfirmation fields b → a ≡ b
+confirmation_once fields (Agreed s) (Agreed t) h k =
+    ap Agreed (spells_confirmation_once s t fields [] [] h k).0
+confirmation_once fields (Agreed s) Without_packets h k =
+    absurd (misfits_confirmation_not_spells s fields [] Inconsistent k h)
+confirmation_once fields (Agreed s) (Unfit why) h (inl k) =
+    absurd (misfits_confirmation_not_spells s fields [] (Wire why) k h)
+confirmation_once fields (Agreed s) (Unfit why) h (inr k) =
+    absurd (k.3.0 (sym (spells_confirmation_once s k.0 fields [] k.1 h k.2).1))
+confirmation_once fields Without_packets (Agreed t) h k =
+    absurd (misfits_confirmation_not_spells t fields [] Inconsistent h k)
+confirmation_once fields Without_packets Without_packets h k = refl
+confirmation_once fields Without_packets (Unfit why) h (inl k) =
+    absurd (let e = misfits_confirmation_once fields Inconsistent (Wire why) h k in cc)
+confirmation_once fields Without_packets (Unfit why) h (inr k) =
+    absurd (misfits_confirmation_not_spells k.0 fields k.1 Inconsistent h k.2)
+confirmation_once fields (Unfit why) (Agreed t) (inl h) k =
+    absurd (misfits_confirmation_not_spells t fields [] (Wire why) h k)
+confirmation_once fields (Unfit why) (Agreed t) (inr h) k =
+    absurd (h.3.0 (sym (spells_confirmation_once t h.0 fields [] h.1 k h.2).1))
+confirmation_once fields (Unfit why) Without_packets (inl h) k =
+    absurd (let e = misfits_confirmation_once fields Inconsistent (Wire why) k h in cc)
+confirmation_once fields (Unfit why) Without_packets (inr h) k =
+    absurd (misfits_confirmation_not_spells h.0 fields h.1 Inconsistent k h.2)
+confirmation_once fields (Unfit why) (Unfit other) (inl h) (inl k) =
+    let e = misfits_confirmation_once fields (Wire why) (Wire other) h k in
+    ap Unfit (let same : why ≡ other = cc in same)
+confirmation_once fields (Unfit why) (Unfit other) (inl h) (inr k) =
+    absurd (misfits_confirmation_not_spells k.0 fields k.1 (Wire why) h k.2)
+confirmation_once fields (Unfit why) (Unfit other) (inr h) (inl k) =
+    absurd (misfits_confirmation_not_spells h.0 fields h.1 (Wire other) k h.2)
+confirmation_once fields (Unfit why) (Unfit other) (inr h) (inr k) =
+    let same = (spells_confirmation_once h.0 k.0 fields h.1 k.1 h.2 k.2).1 in
+    ap Unfit (h.3.1 ∙ (ap (λ after. Trailing (length after)) same ∙ sym k.3.1))
+confirmation_once fields (Agreed s) _ h k = absurd k
+confirmation_once fields Without_packets _ h k = absurd k
+confirmation_once fields (Unfit why) _ h k = absurd k
+confirmation_once fields _ b h k = absurd h

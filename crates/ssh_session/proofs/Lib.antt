@@ -5,6 +5,7 @@ pub mod Effects
 pub mod Reading
 pub mod Rows
 pub mod Opened
+pub mod OwnOpens
 pub mod Greeting
 pub mod Requests
 pub mod Stepping
@@ -16,8 +17,10 @@ pub mod Acting
 pub mod Settled
 pub mod Accepting
 pub mod Ended
+pub mod Pending
 pub mod Waiting
 pub mod Absent
+pub mod Keeping
 pub mod Ledger
 pub mod Telling
 pub mod Books
@@ -27,6 +30,11 @@ pub mod Responses
 pub mod FineVerdicts
 pub mod Fine
 pub mod Complete
+pub mod Answers
+pub mod Answering
+pub mod Calling
+pub mod Counting
+pub mod Answered
 pub mod Lawful
 pub mod Runs
 pub mod Shorter

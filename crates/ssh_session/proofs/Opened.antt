@@ -1,12 +1,15 @@
 -- Opens of the peer: their numbers, and the channels that they become.
 use Rattle.std.proofs.Common.{◌≡◌, ◌<◌, ◌∷◌, ◌++◌, ℕ, List, [], Some, sym, ◌∙◌, ap, subst}
-use Rattle.std.specs.Prelude.{◌^◌}
+use Rattle.std.specs.Prelude.{◌^◌, length, cond}
 use Rattle.ssh_link.specs.Frames.{Frame}
 use Rattle.ssh_wire.specs.declared.channel_id.ChannelId.{ChannelId}
-use Rattle.ssh_channels.specs.Calls.{stage}
+use Rattle.ssh_wire.specs.declared.open.ChannelOpenConfirmation.{ChannelOpenConfirmation}
+use Rattle.ssh_channels.specs.Calls.{stage, Draw, Drop_pending, Stage, Confirm, confirm}
+use Rattle.ssh_channels.specs.Does.{does}
 use Rattle.ssh_channels.specs.Entry.{opened}
 use Rattle.ssh_channels.specs.Line.{established}
 use Rattle.ssh_channels.specs.Lines.{Lines, drawn, next_number, adds, drops_pending, write}
+use Rattle.ssh_channels.specs.Lines.{confirms}
 use Rattle.ssh_channels.specs.Numbers as numbers
 use Rattle.ssh_channels.specs.Stands.{Stands}
 use Rattle.ssh_channels.specs.Table.{Table}
@@ -14,7 +17,12 @@ use Rattle.ssh_channels.proofs.Opening.{add_stands, draw_stands, drop_stands}
 use Rattle.ssh_session.specs.declared.session.Session.{Session}
 use Rattle.ssh_session.specs.Opening.{Opening}
 use Rattle.ssh_session.specs.Serve.{Refines}
-use Rattle.ssh_session.specs.World.{World}
+use Rattle.ssh_session.specs.Opens.{failure_frame}
+use Rattle.ssh_session.specs.Rows.{turns_away}
+use Rattle.ssh_session.specs.World.{World, lined}
+use Rattle.ssh_session.proofs.Refining.{called}
+use Rattle.ssh_session.proofs.Reading.{full_packet}
+use Rattle.ssh_session.proofs.Rows.{confirms_as}
 
 -- the table and the opens that wait changed alone
 pub changed : (old new : Session) (w : World) (waiting : List (ℕ × Opening)) (lines : Lines)
@@ -79,3 +87,29 @@ fails_stands table old w n frame e r =
       last = s.last;
       written = ap (λ fs. fs ++ frame ∷ []) s.written;
     })
+
+-- an open was refused by its type
+pub went_away : (session : Session) (w : World) (n : ℕ) (frame : Frame) (payload : List ℕ) →
+    Refines session (lined (does (Stage frame)) (lined (does (Drop_pending n)) (lined (does Draw)
+    w))) → next_number w.channels.lines ≡ Some n → frame ≡ failure_frame n payload
+    → Refines session (turns_away n payload w)
+went_away session w n frame payload r next is =
+    subst (λ f. Refines session (lined (λ l. write (f ∷ []) (drops_pending n (drawn (Some n) l)))
+    w)) is
+    (subst (λ o. Refines session (lined (λ l. write (frame ∷ []) (drops_pending n (drawn o l))) w))
+    next r)
+
+-- an open of this side's was agreed to
+pub confirmed_as : (message : ChannelOpenConfirmation) (session : Session) (table : Table)
+    (fits : length session.session_id < 2 ^ 32) (w : World)
+    → (message.maximum_packet_size ≡ 0 → ⊥) → message.initial_window_size < 2 ^ 32
+    → table ≡ confirm message session.table → Refines session w →
+    Refines (record session { table = table; session_id_fits = fits })
+    (lined (confirms message.recipient_channel message.sender_channel message.initial_window_size
+    message.maximum_packet_size) w)
+confirmed_as message session table fits w packets small e r =
+    subst (λ l. Refines (record session { table = table; session_id_fits = fits })
+    (lined (λ _. l) w)) (confirms_as message w.channels.lines packets)
+    (called (Confirm message) session table fits w small
+    (e ∙ sym (ap (λ b. cond b session.table (confirm message session.table))
+    (full_packet message.maximum_packet_size packets))) r)

@@ -30,13 +30,14 @@ use Rattle.ssh_session.specs.Acts.{acts}
 use Rattle.ssh_session.specs.Gate.{gate_of}
 use Rattle.ssh_session.specs.Outcome.{Outcome}
 use Rattle.ssh_session.specs.Messages.{message_layout}
-use Rattle.ssh_session.specs.Reading.{Said, Service, Request, Response, Channel, Says, service}
+use Rattle.ssh_session.specs.Reading.{Said, Service, Request, Response, Channel, Unread, Says}
+use Rattle.ssh_session.specs.Reading.{service}
 use Rattle.ssh_session.specs.Rows.{row, concluded, asked_of}
 use Rattle.ssh_session.specs.Run.{OwesKind, Owes, is_there, finish_input}
 use Rattle.ssh_session.specs.Short.{IsShortOf}
 use Rattle.ssh_session.specs.World.{World, circumstances}
 use Rattle.ssh_session.proofs.KeyFields.{AreOneAnswer, AreOneMethod}
-use Rattle.ssh_session.proofs.LayoutsOnce.{said_once, open_once}
+use Rattle.ssh_session.proofs.LayoutsOnce.{said_once, open_once, confirmation_once}
 use Rattle.ssh_session.proofs.RequestsOnce.{AreOneRequest, request_once}
 use Rattle.ssh_session.proofs.ResponsesOnce.{AreOneResponse, responses_once}
 use Rattle.ssh_session.proofs.Shorter.{whole, whole_as, finished_short}
@@ -203,6 +204,16 @@ responses_one w moment (Unfit_responses why) Unread_responses e =
 responses_one w moment a b e =
     same (response_row w moment a) (response_row w moment b) (ap (response_row w moment) e)
 
+-- ---- an open
+
+open_rows : (w : World) (moment : ℕ) (a b : Said) → (a ≡ Unread) ⊎ ((b ≡ Unread) ⊎ (a ≡ b))
+    → AreOne (row w moment a) (row w moment b)
+open_rows w moment a b (inl e) =
+    subst (λ x. AreOne (row w moment x) (row w moment b)) (sym e) (inl tt)
+open_rows w moment a b (inr (inl e)) =
+    subst (λ x. AreOne (row w moment a) (row w moment x)) (sym e) (inr tt)
+open_rows w moment a b (inr (inr e)) = same_row w moment a b e
+
 -- ---- an input
 
 -- at a gate a payload owes one plan
@@ -222,7 +233,9 @@ said_one given w moment gate.InfoResponse fields a b h k =
     (subst (λ x. AreOne (response_row w moment h.0) (row w moment x)) (sym k.2)
     (responses_one w moment h.0 k.0 (responses_once fields h.0 k.0 h.1 k.1)))
 said_one given w moment gate.ChannelOpen fields a b h k =
-    same_row w moment a b (open_once fields a b h k)
+    open_rows w moment a b (open_once fields a b h k)
+said_one given w moment gate.OpenConfirmation fields a b h k =
+    same_row w moment a b (confirmation_once fields a b h k)
 said_one given w moment gate.ServiceRequest fields a b h k =
     same_row w moment a b (said_once Service service fields a b h k)
 said_one given w moment (gate.Channel message) fields a b h k =

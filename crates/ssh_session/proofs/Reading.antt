@@ -1,23 +1,29 @@
 -- What the code reads of a message is what its layout says.
-use Rattle.std.proofs.Common.{◌≡◌, ◌∙◌, ℕ, List, sym, ap, subst}
+use Rattle.std.proofs.Common.{◌≡◌, ◌==◌, ◌∙◌, ℕ, List, [], false, refl, sym, ap, subst, inl, inr}
+use Rattle.std.proofs.Common.{length, rules}
 use Rattle.std.specs.Prelude.{IsErrAnd, Result, Err}
 use Rattle.std.proofs.lemmas.Result.{err_from_is_err_and}
 use Rattle.ssh_wire.specs.declared.error.WireError.{WireError}
 use Rattle.ssh_wire.specs.declared.error.WireError.TheVariants as wire
+use Rattle.ssh_wire.specs.declared.error.LayoutError.{LayoutError}
+use Rattle.ssh_wire.specs.declared.error.LayoutError.TheVariants as layout
+use Rattle.ssh_wire.specs.declared.open.ChannelOpenConfirmation.{ChannelOpenConfirmation}
+use Rattle.ssh_wire.specs.Open.{SpellsConfirmation, MisfitsConfirmation}
 use Rattle.ssh_auth.specs.Plan.{Plan, Finish}
 use Rattle.ssh_session.specs.declared.error.Flow.{Flow}
 use Rattle.ssh_session.specs.declared.error.RunError.{RunError}
 use Rattle.ssh_session.specs.declared.messages.Spoken.{Spoken}
 use Rattle.ssh_session.specs.declared.session.Session.{Session}
-use Rattle.ssh_session.specs.Failure.{run_error_of}
+use Rattle.ssh_session.specs.Failure.{run_error_of, error_of_layout}
 use Rattle.ssh_session.specs.Heard.{Heard}
 use Rattle.ssh_session.specs.Outcome.{Outcome}
-use Rattle.ssh_session.specs.Reading.{said_of, Channel}
+use Rattle.ssh_session.specs.Reading.{Said, said_of, Channel, Unfit, Agreed, Without_packets}
+use Rattle.ssh_session.specs.Reading.{SaysConfirmation}
 use Rattle.ssh_session.specs.Rows.{row}
 use Rattle.ssh_session.specs.Serve.{Completes, comes}
 use Rattle.ssh_session.specs.Spelling.{Layout, Spells, IsRead}
 use Rattle.ssh_session.specs.World.{World}
-use Rattle.ssh_session.proofs.Serving.{starves, unfit}
+use Rattle.ssh_session.proofs.Serving.{starves, unfit, hears_nothing}
 
 pub misread_so : {S : Type 0} (layout : Layout S) (bytes : List ℕ) (why : WireError)
     → Spells layout bytes (Err why) → IsRead layout bytes (Err why)
@@ -43,7 +49,7 @@ unkept layout bytes why read result h is spells =
     let p = err_from_is_err_and result h in
     subst (IsRead layout bytes) (sym (p.1 ∙ ap Err (p.2 ∙ is))) (read, spells)
 
-abbrev finish : Flow → World → Plan Outcome
+abbrev pub finish : Flow → World → Plan Outcome
 finish flow world = Finish (comes flow world)
 
 unserved_so : {E : Type 0} (w : World) (moment : ℕ) (layout : Layout Spoken) (bytes : List ℕ)
@@ -73,3 +79,35 @@ unserved {E} w moment layout bytes why a session e result h is k =
     subst (λ r. (read : Result Spoken WireError) × Spells layout bytes read
     × Completes {E = E} (row w moment (said_of Channel read)) a a session r)
     (sym (p.1 ∙ ap Err (p.2 ∙ is))) (unserved_so w moment layout bytes why a session k)
+
+-- a packet size
+pub full_packet : (n : ℕ) → (n ≡ 0 → ⊥) → (n == 0) ≡ false
+full_packet n h = search (rules, h)
+
+pub ended_confirmation : (fields left rest : List ℕ) (message : ChannelOpenConfirmation)
+    (why : WireError) → left ≡ fields → SpellsConfirmation message left rest → (rest ≡ [] → ⊥)
+    → why ≡ wire.Trailing (length rest) → SaysConfirmation fields (Unfit why)
+ended_confirmation fields left rest message why e h more is =
+    inr (message, rest, subst (λ l. SpellsConfirmation message l rest) e h, (more, is))
+
+pub agreed_by : (fields left rest : List ℕ) (message : ChannelOpenConfirmation) → left ≡ fields
+    → SpellsConfirmation message left rest → rest ≡ [] → SaysConfirmation fields (Agreed message)
+agreed_by fields left rest message e h none =
+    subst (λ l. SpellsConfirmation message l []) e (subst (SpellsConfirmation message left) none h)
+
+pub unfit_confirmation : {E : Type 0} (w : World) (moment : ℕ) (fields left : List ℕ)
+    (why : LayoutError) (a : Heard E) (session : Session) → left ≡ fields
+    → MisfitsConfirmation left why → (said : Said)
+    × SaysConfirmation fields said
+    × Completes (row w moment said) a a session (Err (error_of_layout why))
+unfit_confirmation w moment fields left (layout.Wire why) a session e h = (
+  Unfit why,
+  inl (subst (λ l. MisfitsConfirmation l (layout.Wire why)) e h),
+  unfit why finish a
+      session,
+)
+unfit_confirmation w moment fields left layout.Inconsistent a session e h = (
+  Without_packets,
+  subst (λ l. MisfitsConfirmation l layout.Inconsistent) e h,
+  ([], hears_nothing false a, refl),
+)

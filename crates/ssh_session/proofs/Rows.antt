@@ -1,32 +1,45 @@
 -- Rows, by what is found on their channel.
 use Rattle.std.proofs.Common.{◌≡◌, ◌⊎◌, inl, inr, ℕ, Bool, true, false, List, [], Option, Some}
-use Rattle.std.proofs.Common.{None, length, Err, refl, ap, subst, cond}
+use Rattle.std.proofs.Common.{None, length, not, Err, refl, sym, ap, subst, cond, ◌∙◌, ◌∷◌, ◌++◌}
+use Rattle.std.specs.Prelude.{IsErrAnd, Result}
+use Rattle.std.proofs.lemmas.Result.{err_from_is_err_and}
 use Rattle.ssh_wire.specs.declared.error.LayoutError.{LayoutError}
 use Rattle.ssh_wire.specs.declared.error.LayoutError.TheVariants as layout
+use Rattle.ssh_wire.specs.declared.error.WireError.TheVariants as wire
+use Rattle.ssh_wire.specs.declared.open.OpenChannelMessage.{OpenChannelMessage}
+use Rattle.ssh_wire.specs.Open.{SpellsOpen, MisfitsOpen}
 use Rattle.ssh_channels.specs.declared.error.TableError.{TableError}
 use Rattle.ssh_channels.specs.declared.error.TableError.TheVariants as table
 use Rattle.ssh_channels.specs.declared.adjusted.Adjusted.{Adjusted}
 use Rattle.ssh_channels.specs.declared.chunk.Chunk.{Chunk}
-use Rattle.ssh_channels.specs.Does.{credit_after, coming_of, is_one}
+use Rattle.ssh_channels.specs.Does.{credit_after, coming_of, is_one, does}
 use Rattle.ssh_channels.specs.Entry.{Entry}
 use Rattle.ssh_channels.specs.Lines.{Lines, find, where_found, takes_grant, peer_closes}
+use Rattle.ssh_channels.specs.Lines.{fails, confirms}
+use Rattle.ssh_channels.specs.Line.{is_opening}
+use Rattle.ssh_channels.specs.Table.{has}
+use Rattle.ssh_channels.specs.Calls.{Fail_open, Confirm}
+use Rattle.ssh_channels.proofs.Keeping.{op_answers}
+use Rattle.ssh_wire.specs.declared.channel_id.ChannelId.{ChannelId}
+use Rattle.ssh_wire.specs.declared.open.ChannelOpenConfirmation.{ChannelOpenConfirmation}
+use Rattle.ssh_wire.specs.declared.open_failure.ChannelOpenFailure.{ChannelOpenFailure}
 use Rattle.ssh_channels.specs.Lines.{next_number}
 use Rattle.ssh_auth.specs.Plan.{Plan, Finish}
 use Rattle.ssh_session.specs.declared.error.Flow.{Flow}
+use Rattle.ssh_session.specs.declared.error.RunError.{RunError}
 use Rattle.ssh_session.specs.declared.session.Session.{Session}
-use Rattle.ssh_session.specs.Acts.{Act, acts}
+use Rattle.ssh_session.specs.Acts.{Act, Stops, acts}
 use Rattle.ssh_session.specs.Failure.{error_of_layout, error_of_table}
 use Rattle.ssh_session.specs.Heard.{Heard}
-use Rattle.ssh_session.specs.Opening.{Opening}
-use Rattle.ssh_session.specs.OpenRead.{IsOpenUnread}
 use Rattle.ssh_session.specs.Opens.{own}
-use Rattle.ssh_session.specs.Outcome.{Outcome}
-use Rattle.ssh_session.specs.declared.messages.Spoken.TheVariants.{Data}
-use Rattle.ssh_session.specs.Reading.{Said, Unfit, Without_packets, SaysOpen}
+use Rattle.ssh_session.specs.Outcome.{Outcome, Fails, Channels_full}
+use Rattle.ssh_session.specs.declared.messages.Spoken.TheVariants.{Data, Failed}
+use Rattle.ssh_session.specs.Reading.{Said, Open, Unread, Unfit, Without_packets, SaysOpen}
 use Rattle.ssh_session.specs.Rows.{on, on_entry, on_confirmed, grant_acts, credit_left, data_acts}
-use Rattle.ssh_session.specs.Rows.{open_acts, spoken_acts, row}
-use Rattle.ssh_session.specs.Run.{is_there}
-use Rattle.ssh_session.specs.Serve.{Refines, Serves, Completes, comes}
+use Rattle.ssh_session.specs.Rows.{spoken_acts, failure_acts, row}
+use Rattle.ssh_session.specs.Run.{is_there, is_waiting}
+use Rattle.ssh_session.proofs.Reading.{full_packet}
+use Rattle.ssh_session.specs.Serve.{Refines, Answers, Completes, comes}
 use Rattle.ssh_session.specs.World.{World, lined}
 use Rattle.ssh_session.proofs.Serving.{unfit, starves, hears_nothing}
 
@@ -108,25 +121,59 @@ not_closed n w session h r =
 
 -- ---- an open
 
+abbrev pub finish : Flow → World → Plan Outcome
+finish flow world = Finish (comes flow world)
+
 pub unread_open : {E : Type 0} (w : World) (moment : ℕ) (fields : List ℕ) (why : LayoutError)
-    (a : Heard E) (session : Session) →
-    IsOpenUnread fields why → (said : Said) × SaysOpen fields said
+    (a : Heard E) (session : Session)
+    → (why ≡ layout.Wire wire.NoMemory) ⊎ MisfitsOpen fields why → (said : Said)
+    × SaysOpen fields said
     × Completes (row w moment said) a a session (Err (error_of_layout why))
-unread_open w moment fields (layout.Wire why) a session h =
-    (Unfit why, h, unfit why (λ (flow : Flow) world. Finish (comes flow world)) a session)
-unread_open w moment fields layout.Inconsistent a session h =
+unread_open w moment fields why a session (inl is) =
+    rw is (Unread, tt, starves {T = Flow} (row w moment Unread) finish a session)
+unread_open w moment fields (layout.Wire why) a session (inr h) =
+    (Unfit why, h, unfit why finish a session)
+unread_open w moment fields layout.Inconsistent a session (inr h) =
     (Without_packets, h, ([], hears_nothing false a, refl))
 
-pub not_drawn : {T E : Type 0} (w : World) (opening : Opening) (e : TableError) (next : T → World
-    → Plan Outcome) (a : Heard E)
-    (session : Session) → (e ≡ table.Inconsistent → ⊥)
+-- what the reader read
+pub opened_by : (message : OpenChannelMessage) (left fields rest : List ℕ) → left ≡ fields
+    → SpellsOpen message left rest → SaysOpen fields (Open message)
+opened_by message left fields rest e h = (rest, subst (λ x. SpellsOpen message x rest) e h)
+
+-- what is owed where every number is taken
+abbrev pub IsFull : (Option ℕ → List Act) → Type 0
+IsFull owes = owes None ≡ Stops Channels_full ∷ []
+
+full_row : (owes : Option ℕ → List Act) (number : Option ℕ) (later : List Act) (w : World)
+    → IsFull owes → number ≡ None → acts (owes number ++ later) w ≡ Finish (Fails Channels_full)
+full_row owes number later w h is =
+    ap (λ o. acts (owes o ++ later) w) is ∙ ap (λ l. acts (l ++ later) w) h
+
+pub not_drawn : (E : Type 0) (w : World) (owes : Option ℕ → List Act) (e : TableError)
+    (later : List Act) (session : Session) → IsFull owes → (e ≡ table.Inconsistent → ⊥)
     → (e ≡ table.Full → next_number w.channels.lines ≡ None) →
-    Serves {T = T} (acts (open_acts (next_number w.channels.lines) opening) w) next a a session
-    (Err (error_of_table e))
-not_drawn w opening table.NoMemory next a session n f =
-    starves (acts (open_acts (next_number w.channels.lines) opening) w) next a session
-not_drawn w opening table.Inconsistent next a session n f = absurd (n refl)
-not_drawn w opening table.Full next a session n f = rw (f refl) ([], hears_nothing false a, refl)
+    Answers {T = Unit {0}} {E = E} (acts (owes (next_number w.channels.lines) ++ later) w)
+    (λ _. acts later) ⊥ [] session (Err (error_of_table e))
+not_drawn E w owes table.NoMemory later session h n f =
+    (acts (owes (next_number w.channels.lines) ++ later) w, refl)
+not_drawn E w owes table.Inconsistent later session h n f = absurd (n refl)
+not_drawn E w owes table.Full later session h n f =
+    full_row owes (next_number w.channels.lines) later w h (f refl)
+
+pub undrawn : {E : Type 0} (w : World) (owes : Option ℕ → List Act) (e : TableError)
+    (later : List Act) (session : Session) (error : RunError E)
+    (result : Result (Unit {0}) (RunError E)) → IsErrAnd result (λ x. x ≡ error)
+    → error ≡ error_of_table e → IsFull owes → (e ≡ table.Inconsistent → ⊥)
+    → (e ≡ table.Full → next_number w.channels.lines ≡ None) →
+    Answers (acts (owes (next_number w.channels.lines) ++ later) w)
+    (λ _. acts later) ⊥ [] session result
+undrawn {E} w owes e later session error result i is h n f =
+    let p = err_from_is_err_and result i in
+    subst (λ r. Answers {T = Unit {0}} {E = E}
+    (acts (owes (next_number w.channels.lines) ++ later) w)
+    (λ _. acts later) ⊥ [] session r) (sym (p.1 ∙ ap Err (p.2 ∙ is)))
+    (not_drawn E w owes e later session h n f)
 
 -- ---- data that come in
 
@@ -139,3 +186,50 @@ pub not_inconsistent : (e : TableError) → (e ≡ table.NoMemory) ⊎ (e ≡ ta
     ≡ table.Inconsistent → ⊥
 not_inconsistent e (inl h) i = absurd (cc)
 not_inconsistent e (inr h) i = absurd (cc)
+
+-- ---- opens of this side's
+
+-- one that is open waits no longer
+not_both : (found : Option Entry) → is_one (λ e. e.confirmed) found ≡ true
+    → is_one (λ e. not e.confirmed) found ≡ false
+not_both None h = refl
+not_both (Some e) h = ap not h
+
+pub open_waits_not : (n : ℕ) (w : World) → is_there w n ≡ true → is_waiting w n ≡ false
+open_waits_not n w h = not_both (find n w.channels.lines.entries) h
+
+-- what a refusal does, by what is found under its number
+pub failure_by : (w : World) (channel : ChannelId) (reason : ChannelOpenFailure)
+    (there waiting : Bool) → is_there w channel.0 ≡ there → is_waiting w channel.0 ≡ waiting
+    → spoken_acts w (Failed channel reason) ≡ failure_acts there waiting channel reason
+failure_by w channel reason there waiting t v =
+    ap (λ b. failure_acts b (is_waiting w channel.0) channel reason) t
+    ∙ ap (λ b. failure_acts there b channel reason) v
+
+unless_waiting : (found : Option Entry) (change : Entry → Lines → Lines) (l : Lines)
+    → is_one (λ e. not e.confirmed) found ≡ false →
+    where_found found (λ e l. cond (not e.confirmed) (change e l) l) l ≡ l
+unless_waiting None change l h = refl
+unless_waiting (Some e) change l h = ap (λ b. cond b (change e l) l) h
+
+pub not_failed : (n : ℕ) (w : World) (session : Session) → is_waiting w n ≡ false →
+    Refines session (lined (fails n) w) → Refines session w
+not_failed n w session h r =
+    subst (Refines session) (stays w (fails n) (unless_waiting (find n w.channels.lines.entries)
+    _ w.channels.lines h)) r
+
+-- the table's answer
+pub waiting_same : (n : ℕ) (session : Session) (w : World) → Refines session w
+    → has is_opening n session.table ≡ is_waiting w n
+waiting_same n session w r = let e = op_answers session.table w.channels.lines r.table
+    (Fail_open n) in cc
+
+-- what a confirmation that names a packet size does
+pub confirms_as : (message : ChannelOpenConfirmation) (l : Lines)
+    → (message.maximum_packet_size ≡ 0 → ⊥) → does (Confirm message) l
+    ≡ confirms message.recipient_channel message.sender_channel message.initial_window_size
+    message.maximum_packet_size l
+confirms_as message l h =
+    ap (λ b. cond b l (confirms message.recipient_channel message.sender_channel
+    message.initial_window_size message.maximum_packet_size l))
+    (full_packet message.maximum_packet_size h)

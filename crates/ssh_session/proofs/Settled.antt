@@ -30,15 +30,24 @@ use Rattle.ssh_session.specs.declared.state.EncryptedState.{EncryptedState}
 use Rattle.ssh_session.specs.declared.state.EncryptedState.TheVariants.{WaitingAuthRequest}
 use Rattle.ssh_session.specs.Acts.{Act, acts}
 use Rattle.ssh_session.specs.Effect.{Effect, effect, lacks, needs, refused_or, done_by, answers}
-use Rattle.ssh_session.specs.Effect.{decides, fails_open, failure_of, is_too_long}
+use Rattle.ssh_session.specs.Effect.{decides, fails_open, failure_of, is_too_long, opens_at}
+use Rattle.ssh_session.specs.Effect.{opens, opens_or_not}
+use Rattle.ssh_session.specs.OwnOpens.{OwnOpen, asking, open_payload}
 use Rattle.ssh_session.specs.Opening.{Opening}
+use Rattle.ssh_session.specs.Types.{handling}
+use Rattle.ssh_session.specs.declared.opens.Handling.{Handling}
+use Rattle.ssh_session.specs.declared.opens.Handling.TheVariants.{Asks, Unsupported, Unknown}
+use Rattle.ssh_wire.specs.declared.open.OpenChannelMessage.{OpenChannelMessage}
+use Rattle.ssh_wire.specs.declared.open.ChannelOpenConfirmation.{ChannelOpenConfirmation}
 use Rattle.ssh_session.specs.Opens.{opening_of}
 use Rattle.ssh_session.specs.Outcome.{Outcome, Goes, Ends, Fails}
 use Rattle.ssh_session.specs.declared.messages.Spoken.{Spoken}
 use Rattle.ssh_session.specs.declared.messages.Spoken.TheVariants as spoken
 use Rattle.ssh_session.specs.Reading.{Said, Disconnect, Over_cap, Service, Request}
-use Rattle.ssh_session.specs.Reading.{Response, Open, Channel, Unfit, Without_packets, Unbuilt}
-use Rattle.ssh_session.specs.Rows.{spoken_acts}
+use Rattle.ssh_session.specs.Reading.{Response, Open, Agreed, Unread, Channel, Unfit}
+use Rattle.ssh_session.specs.Reading.{Without_packets, Unbuilt}
+use Rattle.ssh_session.specs.Run.{is_there, is_waiting}
+use Rattle.ssh_session.specs.Rows.{spoken_acts, failure_acts, confirmation_acts}
 use Rattle.ssh_session.specs.Rows.{row, owed, greets, is_short, replied, concluded, asked_of}
 use Rattle.ssh_session.specs.Rows.{on_entry, on_confirmed, data_told, open_acts}
 use Rattle.ssh_session.specs.Run.{OwesKind, Owes, command_row}
@@ -87,6 +96,26 @@ answers_set settings answer None w h = h
 answers_set settings answer (Some opening) w h = decides_set settings answer.channel.0 opening
     answer.rejection answer.texts w h
 
+opened_set : (settings : Settings) (number : Option ℕ) (asked : OwnOpen) (w : World)
+    → IsSet settings w → EffectComes (ComesSet settings) (IsSet settings) (opens_at number asked w)
+opened_set settings None asked w h = h
+opened_set settings (Some n) asked w h = h
+
+opens_set : (settings : Settings) (asked : OwnOpen) (w : World) (long : Bool)
+    → is_too_long (open_payload asked 0 w.settings.config.window_size
+    w.settings.config.maximum_packet_size) ≡ long → IsSet settings w
+    → EffectComes (ComesSet settings) (IsSet settings) (opens asked w)
+opens_set settings asked w true is h = rw is h
+opens_set settings asked w false is h =
+    rw is (opened_set settings (next_number w.channels.lines) asked w h)
+
+opens_or_not_set : (settings : Settings) (asked : Option OwnOpen) (w : World) → IsSet settings w
+    → EffectComes (ComesSet settings) (IsSet settings) (opens_or_not asked w)
+opens_or_not_set settings None w h = tt
+opens_or_not_set settings (Some asked) w h = opens_set settings asked w
+    (is_too_long (open_payload asked 0 w.settings.config.window_size
+    w.settings.config.maximum_packet_size)) refl h
+
 done_set : (settings : Settings) (w : World) (commanded : Command) → IsSet settings w →
     EffectComes (ComesSet settings) (IsSet settings) (done_by w commanded)
 done_set settings w (command.Data channel bytes) h = h
@@ -95,7 +124,7 @@ done_set settings w (command.Eof channel) h = h
 done_set settings w (command.Close channel) h = h
 done_set settings w (command.Answer answer) h = answers_set settings answer
     (opening_of answer.channel.0 w) w h
-done_set settings w _ h = tt
+done_set settings w other h = opens_or_not_set settings (asking other) w h
 
 refused_set : (settings : Settings) (why : Option Refusal) (w : World) (does : Effect)
     → IsSet settings w →
@@ -145,10 +174,28 @@ told_set settings Dropped channel piece target w h = tt
 told_set settings Kept channel piece target w h = λ world k. tt
 told_set settings (Granted amount) channel piece target w h = λ window. (h, λ world k. tt)
 
-open_set : (settings : Settings) (number : Option ℕ) (opening : Opening) (w : World) →
-    IsSet settings w → ActsCome (law settings) (open_acts number opening) w
-open_set settings None opening w h = tt
-open_set settings (Some number) opening w h = (h, λ world k. tt)
+open_set : (settings : Settings) (number : Option ℕ) (message : OpenChannelMessage)
+    (does : Handling) (w : World) →
+    IsSet settings w → ActsCome (law settings) (open_acts number message does) w
+open_set settings None message (Asks type) w h = tt
+open_set settings None message Unsupported w h = tt
+open_set settings None message Unknown w h = tt
+open_set settings (Some number) message (Asks type) w h = (h, λ world k. tt)
+open_set settings (Some number) message Unsupported w h = (h, tt)
+open_set settings (Some number) message Unknown w h = (h, tt)
+
+failure_set : (settings : Settings) (w : World) (there waiting : Bool) (channel : ChannelId)
+    (why : ChannelOpenFailure) → IsSet settings w
+    → ActsCome (law settings) (failure_acts there waiting channel why) w
+failure_set settings w there true channel why h = (h, tt)
+failure_set settings w true false channel why h = tt
+failure_set settings w false false channel why h = tt
+
+confirmation_set : (settings : Settings) (w : World) (waiting : Bool)
+    (message : ChannelOpenConfirmation) → IsSet settings w
+    → ActsCome (law settings) (confirmation_acts waiting message) w
+confirmation_set settings w true message h = (h, λ world k. tt)
+confirmation_set settings w false message h = tt
 
 spoken_set : (settings : Settings) (w : World) (said : Spoken) → IsSet settings w
     → ActsCome (law settings) (spoken_acts w said) w
@@ -167,11 +214,17 @@ spoken_set settings w (spoken.Tells channel message happening) h =
 spoken_set settings w (spoken.Close channel) h =
     on_come (law settings) w (find channel.0 w.channels.lines.entries) _ (λ e. (h, λ world k. tt))
 spoken_set settings w (spoken.Wants channel wanted) h = (h, tt)
+spoken_set settings w (spoken.Failed channel reason) h =
+    failure_set settings w (is_there w channel.0) (is_waiting w channel.0) channel reason h
 spoken_set settings w spoken.Unbuilt h = tt
 
 owed_set : (settings : Settings) (w : World) (said : Said) → IsSet settings w
     → ActsCome (law settings) (owed w said) w
-owed_set settings w (Open opening) h = open_set settings (next_number w.channels.lines) opening w h
+owed_set settings w (Open message) h =
+    open_set settings (next_number w.channels.lines) message (handling message.typ) w h
+owed_set settings w (Agreed message) h =
+    confirmation_set settings w (is_waiting w message.recipient_channel) message h
+owed_set settings w Unread h = tt
 owed_set settings w (Channel said) h = spoken_set settings w said h
 owed_set settings w Disconnect h = h
 owed_set settings w Over_cap h = (h, h)

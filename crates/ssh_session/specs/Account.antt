@@ -13,6 +13,7 @@ use Rattle.ssh_session.specs.declared.error.Flow.TheVariants.{Continue, Ended}
 use Rattle.ssh_session.specs.declared.error.RunError.{RunError}
 use Rattle.ssh_session.specs.declared.error.RunError.TheVariants as error
 use Rattle.ssh_session.specs.declared.session.Session.{Session}
+use Rattle.ssh_session.specs.Answered.{Answered}
 use Rattle.ssh_session.specs.Authorised.{Authorised}
 use Rattle.ssh_session.specs.Ledger.{Ledgered_after}
 use Rattle.ssh_session.specs.Outcome.{Outcome, Goes, Ends}
@@ -108,6 +109,8 @@ pub record Lawful {E : Type 0} {accepts : Acceptance} {settings : Settings} {bef
   -- in order
   pub ledger : (earlier later : List (Turn E)) → account.turns ≡ earlier ++ later
       → Ledgered_after accepts settings earlier
+  -- an open of the peer's gets at most one answer, and none before its callback returned
+  pub answered : Answered (account.turns ++ option_to_list account.last)
   -- where no fault of the link rose and the last input was valid, it ends well, or memory or the
   -- limit of inputs ends it
   pub complete : after.faults ≡ before.faults → IfSome account.last (IsValid accepts account.world)

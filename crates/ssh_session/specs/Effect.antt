@@ -11,14 +11,20 @@ use Rattle.ssh_link.specs.declared.notice.Notice.{Notice}
 use Rattle.ssh_link.specs.declared.notice.Notice.TheVariants.{Ready}
 use Rattle.ssh_link.specs.declared.open_answer.OpenAnswer.{OpenAnswer}
 use Rattle.ssh_link.specs.declared.outcome.CommandOutcome.{CommandOutcome}
-use Rattle.ssh_link.specs.declared.outcome.CommandOutcome.TheVariants.{Accepted, Refused}
+use Rattle.ssh_link.specs.declared.outcome.CommandOutcome.TheVariants.{Accepted, Opened, Refused}
 use Rattle.ssh_link.specs.declared.outcome.Refusal.{Refusal}
 use Rattle.ssh_link.specs.declared.outcome.Refusal.TheVariants.{UnknownChannel, UnknownOpen}
 use Rattle.ssh_link.specs.declared.outcome.Refusal.TheVariants.{NotConfirmed, SendingEnded, TooLong}
+use Rattle.ssh_link.specs.declared.outcome.Refusal.TheVariants.{NotAuthenticated, NumbersFull}
 use Rattle.ssh_channels.specs.declared.chunk.DataKind.TheVariants.{Plain, Extended}
 use Rattle.ssh_channels.specs.Entry.{Entry, opened}
 use Rattle.ssh_channels.specs.Layout.{chunk}
 use Rattle.ssh_channels.specs.Lines.{find, takes_data, takes_eof, takes_close, adds, drops_pending}
+use Rattle.ssh_channels.specs.Lines.{asks_next, next_number}
+use Rattle.ssh_session.specs.declared.state.EncryptedState.{EncryptedState}
+use Rattle.ssh_session.specs.declared.state.EncryptedState.TheVariants.{InitCompression}
+use Rattle.ssh_session.specs.declared.state.EncryptedState.TheVariants.{Authenticated}
+use Rattle.ssh_session.specs.OwnOpens.{OwnOpen, asking, open_payload, open_frame}
 use Rattle.ssh_session.specs.Opening.{Opening}
 use Rattle.ssh_session.specs.Opens.{opening_of, answered, confirmation_frame, failure_frame}
 use Rattle.ssh_session.specs.World.{World, lined, writes}
@@ -30,8 +36,15 @@ pub data Need : Type 0 where
   Closing : (channel : ChannelId) → Need
   -- an open of the peer's that waits for its answer (section 5.1)
   Opening_of : (channel : ChannelId) → Need
+  -- a user who was let in (RFC 4252 section 6)
+  User : Need
   -- nothing
   Nothing : Need
+
+-- a command that opens a channel needs a user
+abbrev pub opens_need : Option OwnOpen → Need
+opens_need None = Nothing
+opens_need (Some asked) = User
 
 -- one line a command
 abbrev pub needs : Command → Need
@@ -40,7 +53,7 @@ needs (command.ExtendedData channel code bytes) = Sending channel
 needs (command.Eof channel) = Sending channel
 needs (command.Close channel) = Closing channel
 needs (command.Answer answer) = Opening_of answer.channel
-needs _ = Nothing
+needs other = opens_need (asking other)
 
 -- what keeps a channel from being used: the peer has not confirmed it, or what is asked for was
 -- ended
@@ -61,11 +74,18 @@ abbrev pub no_open : Option Opening → Option Refusal
 no_open None = Some UnknownOpen
 no_open (Some opening) = None
 
+-- nobody was let in yet
+abbrev pub no_user : EncryptedState → Option Refusal
+no_user InitCompression = None
+no_user Authenticated = None
+no_user _ = Some NotAuthenticated
+
 -- what is missing, where something is
 abbrev pub lacks : World → Need → Option Refusal
 lacks w (Sending channel) = no_sending (find channel.0 w.channels.lines.entries)
 lacks w (Closing channel) = no_closing (find channel.0 w.channels.lines.entries)
 lacks w (Opening_of channel) = no_open (opening_of channel.0 w)
+lacks w User = no_user w.user.state
 lacks w Nothing = None
 
 -- the description of a refusal and its language: those of the answer, or that of its reason in
@@ -126,6 +146,24 @@ abbrev pub answers : OpenAnswer → Option Opening → World → Effect
 answers answer None w = accepts w
 answers answer (Some opening) w = decides answer.channel.0 opening answer.rejection answer.texts w
 
+-- this side's open draws the next number and is written (section 5.1)
+abbrev pub opens_at : (number : Option ℕ) → OwnOpen → World → Effect
+opens_at None asked w = refuses NumbersFull w
+opens_at (Some number) asked w = Does [] (Opened (record { 0 = number }))
+    (writes (open_frame asked number w.settings.config.window_size
+    w.settings.config.maximum_packet_size ∷ [])
+    (lined (asks_next w.settings.config.window_size) w))
+
+abbrev pub opens : OwnOpen → World → Effect
+opens asked w = if is_too_long (open_payload asked 0 w.settings.config.window_size
+    w.settings.config.maximum_packet_size)
+    then refuses TooLong w
+    else opens_at (next_number w.channels.lines) asked w
+
+abbrev pub opens_or_not : Option OwnOpen → World → Effect
+opens_or_not None w = Unbuilt
+opens_or_not (Some asked) w = opens asked w
+
 -- a command that lacks nothing is done: one line a command
 abbrev pub done_by : World → Command → Effect
 done_by w (command.Data channel bytes) =
@@ -135,7 +173,7 @@ done_by w (command.ExtendedData channel code bytes) =
 done_by w (command.Eof channel) = accepts (lined (takes_eof channel.0) w)
 done_by w (command.Close channel) = accepts (lined (takes_close channel.0) w)
 done_by w (command.Answer answer) = answers answer (opening_of answer.channel.0 w) w
-done_by w _ = Unbuilt
+done_by w other = opens_or_not (asking other) w
 
 -- a command that is refused does nothing
 abbrev pub refused_or : Option Refusal → World → Effect → Effect

@@ -40,8 +40,9 @@ of_channels None other = other
 abbrev pub connection_gate : ℕ → Gate
 connection_gate n =
     if n == 90 then gate.ChannelOpen
+    else (if n == 91 then gate.OpenConfirmation
     else of_channels (channel_message n)
-    (if is_connection_number n then gate.NotBuilt else gate.Nothing)
+    (if is_connection_number n then gate.NotBuilt else gate.Nothing))
 
 -- what a number means to what is waited for: SERVICE_REQUEST is 5
 abbrev pub state_gate : Config → EncryptedState → ℕ → Gate

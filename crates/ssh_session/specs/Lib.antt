@@ -9,7 +9,8 @@ pub mod Effect
 pub mod Acts
 pub mod Gate
 pub mod Reading
-pub mod OpenRead
+pub mod Types
+pub mod OwnOpens
 pub mod Rows
 pub mod Run
 pub mod Short
@@ -17,6 +18,7 @@ pub mod Heard
 pub mod Failure
 pub mod Serve
 pub mod Authorised
+pub mod Answered
 pub mod Ledger
 pub mod Valid
 pub mod Account

@@ -1,9 +1,11 @@
 -- What a message of channels says, by its layout: one line a message (RFC 4254 section 5).
 use Rattle.std.specs.Prelude.{ℕ, Bool, true, false, [], ◌∷◌, Option, Some, None}
 use Rattle.std.specs.Prelude.{◌==◌, if◌then◌else◌}
-use Rattle.ssh_wire.specs.Field.{Bytes, Number}
+use Rattle.ssh_wire.specs.Field.{Bytes, Number, Text}
 use Rattle.ssh_wire.specs.Messages.{channel_window_adjust, channel_close}
 use Rattle.ssh_wire.specs.Messages.{channel_request}
+use Rattle.ssh_wire.specs.declared.open_failure.ChannelOpenFailure.{ChannelOpenFailure}
+use Rattle.ssh_wire.specs.declared.open_failure.ChannelOpenFailure.TheVariants as reason
 use Rattle.ssh_link.specs.declared.notice.ChannelMsg.{ChannelMsg}
 use Rattle.ssh_link.specs.declared.notice.ChannelMsg.TheVariants as msg
 use Rattle.ssh_auth.specs.declared.question.Happening.{Happening}
@@ -20,12 +22,25 @@ use Rattle.ssh_session.specs.Spelling.{Layout, Leaves, Whole, Fields}
 -- the message of channels of this number (RFC 4250 section 4.1.2)
 abbrev pub channel_message : ℕ → Option ChannelMessage
 channel_message n =
-    if n == 93 then Some message.WindowAdjust
+    if n == 92 then Some message.OpenFailure
+    else (if n == 93 then Some message.WindowAdjust
     else (if n == 94 then Some message.Data
     else (if n == 95 then Some message.ExtendedData
     else (if n == 96 then Some message.Eof
     else (if n == 97 then Some message.Close
-    else (if n == 98 then Some message.Request else None)))))
+    else (if n == 98 then Some message.Request else None))))))
+
+-- the reason of a refusal; a code that is none is read as the first (section 5.1)
+abbrev pub reason_of : (code : ℕ) → ChannelOpenFailure
+reason_of code =
+    if code == 2 then reason.ConnectFailed
+    else (if code == 3 then reason.UnknownChannelType
+    else (if code == 4 then reason.ResourceShortage else reason.AdministrativelyProhibited))
+
+-- uint32 recipient channel, uint32 reason, string description, string language (section 5.1)
+abbrev pub failure : Layout Spoken
+failure = Fields (Number ∷ []) (λ (channel, _). Fields (Number ∷ []) (λ (code, _).
+    Whole (Text ∷ Text ∷ []) (λ texts. spoken.Failed (own channel) (reason_of code))))
 
 -- uint32 recipient channel, uint32 bytes to add (section 5.2)
 abbrev pub grant : Layout Spoken
@@ -74,6 +89,7 @@ request is_there = Fields channel_request.fields (λ (channel, (name, (wanted, _
 
 -- one line a message
 abbrev pub message_layout : (is_there : ℕ → Bool) → ChannelMessage → Layout Spoken
+message_layout is_there message.OpenFailure = failure
 message_layout is_there message.WindowAdjust = grant
 message_layout is_there message.Data = plain_data is_there
 message_layout is_there message.ExtendedData = extended_data is_there

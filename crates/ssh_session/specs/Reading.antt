@@ -1,14 +1,15 @@
 -- What a payload says, by the layout of its message.
-use Rattle.std.specs.Prelude.{◌≡◌, ◌≢◌, ◌⊎◌, ℕ, Bool, List, [], codes, Result, Ok, Err}
+use Rattle.std.specs.Prelude.{◌≡◌, ◌⊎◌, ℕ, Bool, List, [], Result, Ok, Err}
 use Rattle.ssh_wire.specs.declared.error.WireError.{WireError}
-use Rattle.ssh_wire.specs.declared.error.LayoutError.TheVariants.{Inconsistent}
-use Rattle.ssh_wire.specs.Field.{MisfitsAll, MisfitsWhole}
+use Rattle.ssh_wire.specs.declared.error.LayoutError.TheVariants.{Wire, Inconsistent}
+use Rattle.ssh_wire.specs.declared.open.OpenChannelMessage.{OpenChannelMessage}
 use Rattle.ssh_wire.specs.Messages.{service_request}
-use Rattle.ssh_wire.specs.Open.{Leads, MisfitsOpen, leading_fields}
+use Rattle.ssh_wire.specs.declared.open.ChannelOpenConfirmation.{ChannelOpenConfirmation}
+use Rattle.ssh_wire.specs.Field.{MisfitsWhole}
+use Rattle.ssh_wire.specs.Open.{SpellsOpen, MisfitsOpen, SpellsConfirmation, MisfitsConfirmation}
 use Rattle.ssh_auth.specs.Publickey.{Circumstances}
 use Rattle.ssh_auth.specs.Requested.{Requested as Asked, SaysRequest}
 use Rattle.ssh_auth.specs.Response.{Responded, SaysResponses}
-use Rattle.ssh_session.specs.Opening.{Opening}
 use Rattle.ssh_session.specs.declared.gate.Gate.{Gate}
 use Rattle.ssh_session.specs.declared.gate.Gate.TheVariants as gate
 use Rattle.ssh_session.specs.declared.messages.Spoken.{Spoken}
@@ -27,8 +28,12 @@ pub data Said : Type 0 where
   Request : (asked : Asked) → Said
   -- USERAUTH_INFO_RESPONSE, or the field of it that does not fit
   Response : (responded : Responded) → Said
-  -- CHANNEL_OPEN of a session
-  Open : (opening : Opening) → Said
+  -- CHANNEL_OPEN
+  Open : (message : OpenChannelMessage) → Said
+  -- CHANNEL_OPEN_CONFIRMATION
+  Agreed : (message : ChannelOpenConfirmation) → Said
+  -- memory was wanting to keep what it says
+  Unread : Said
   -- a message of channels
   Channel : (spoken : Spoken) → Said
   -- it does not fit its layout
@@ -42,26 +47,24 @@ pub data Said : Type 0 where
 abbrev pub service : Layout (List ℕ)
 service = Whole service_request.fields (λ (name, _). name)
 
--- the fields are no open of a session, for this reason: the first of the leading fields that does
--- not fit, or bytes after the packet size
-abbrev pub MisfitsSession : List ℕ → WireError → Type 0
-MisfitsSession fields why = MisfitsAll leading_fields fields why
-    ⊎ ((peer window packet : ℕ) × (after : List ℕ) × Leads (codes "session") peer window packet
-    fields after
-    × (packet ≢ 0) × MisfitsWhole [] after why)
-
--- string "session", uint32 sender channel, uint32 initial window size, uint32 maximum packet size
--- (RFC 4254 sections 5.1 and 6.1); an open of another type is not built, and what follows its
--- packet size is not read
+-- an open says this, or the first field that does not fit is named (RFC 4254 section 5.1); of one
+-- of an unknown type what follows the packet size is not read
 abbrev pub SaysOpen : List ℕ → Said → Type 0
-SaysOpen fields (Open opening) =
-    Leads (codes "session") opening.peer opening.window opening.packet fields []
-    × (opening.packet ≢ 0)
-SaysOpen fields Unbuilt = (name : List ℕ) × (peer window packet : ℕ) × (after : List ℕ)
-    × Leads name peer window packet fields after × (packet ≢ 0) × (name ≢ codes "session")
+SaysOpen fields (Open message) = (rest : List ℕ) × SpellsOpen message fields rest
+SaysOpen fields Unread = Unit {0}
 SaysOpen fields Without_packets = MisfitsOpen fields Inconsistent
-SaysOpen fields (Unfit why) = MisfitsSession fields why
+SaysOpen fields (Unfit why) = MisfitsOpen fields (Wire why)
 SaysOpen fields _ = ⊥
+
+-- an open of this side's was agreed to (RFC 4254 section 5.1); a packet size of 0 is looked at
+-- before bytes after the last field
+abbrev pub SaysConfirmation : List ℕ → Said → Type 0
+SaysConfirmation fields (Agreed message) = SpellsConfirmation message fields []
+SaysConfirmation fields Without_packets = MisfitsConfirmation fields Inconsistent
+SaysConfirmation fields (Unfit why) = MisfitsConfirmation fields (Wire why)
+    ⊎ ((message : ChannelOpenConfirmation) × (after : List ℕ)
+    × SpellsConfirmation message fields after × MisfitsWhole [] after why)
+SaysConfirmation fields _ = ⊥
 
 -- a response to prompts
 abbrev pub SaysResponse : List ℕ → Said → Type 0
@@ -88,6 +91,7 @@ Says given is_there gate.UserauthRequest fields said = (asked : Asked) × SaysRe
     asked × (said ≡ Request asked)
 Says given is_there gate.InfoResponse fields said = SaysResponse fields said
 Says given is_there gate.ChannelOpen fields said = SaysOpen fields said
+Says given is_there gate.OpenConfirmation fields said = SaysConfirmation fields said
 Says given is_there (gate.Channel message) fields said =
     ReadsAs Channel (message_layout is_there message) fields said
 Says given is_there gate.NotBuilt fields said = said ≡ Unbuilt

@@ -1,9 +1,12 @@
 -- The reply table: what each input owes, row by row.
 use Rattle.std.specs.Prelude.{ℕ, ◌+◌, ◌-◌, ◌^◌, ◌==◌, min, nat_lt, List, [], ◌∷◌, length}
-use Rattle.std.specs.Prelude.{Bool, true, false, Option, Some, None, unwrap_or, if◌then◌else◌}
+use Rattle.std.specs.Prelude.{Bool, true, false, not, Option, Some, None, unwrap_or, if◌then◌else◌}
 use Rattle.std.specs.Prelude.{bytes_eq, codes}
 use Rattle.ssh_wire.specs.declared.error.WireError.TheVariants.{TooLong}
 use Rattle.ssh_wire.specs.declared.channel_id.ChannelId.{ChannelId}
+use Rattle.ssh_wire.specs.declared.open.OpenChannelMessage.{OpenChannelMessage}
+use Rattle.ssh_wire.specs.declared.open.ChannelOpenConfirmation.{ChannelOpenConfirmation}
+use Rattle.ssh_wire.specs.declared.open_failure.ChannelOpenFailure.{ChannelOpenFailure}
 use Rattle.ssh_link.specs.Frames.{Frame}
 use Rattle.ssh_link.specs.declared.notice.ChannelMsg.{ChannelMsg}
 use Rattle.ssh_link.specs.declared.notice.ChannelMsg.TheVariants as msg
@@ -14,8 +17,8 @@ use Rattle.ssh_auth.specs.declared.auth_step.AuthVerdict.TheVariants as verdict
 use Rattle.ssh_auth.specs.declared.question.Question.TheVariants.{Banner}
 use Rattle.ssh_auth.specs.declared.question.Happening.{Happening}
 use Rattle.ssh_auth.specs.declared.question.Happening.TheVariants as what
+use Rattle.ssh_auth.specs.declared.question.OpenType.{OpenType}
 use Rattle.ssh_auth.specs.declared.question.Lent.TheVariants.{Succeeded, Opens, Happened}
-use Rattle.ssh_auth.specs.declared.question.OpenType.TheVariants.{Session}
 use Rattle.ssh_auth.specs.Plan.{Plan, Ask, after}
 use Rattle.ssh_auth.specs.Request.{server_request, principal_of}
 use Rattle.ssh_auth.specs.Requested.{Requested as Asked}
@@ -29,8 +32,8 @@ use Rattle.ssh_channels.specs.declared.chunk.DataKind.{DataKind}
 use Rattle.ssh_channels.specs.declared.chunk.DataKind.TheVariants.{Plain, Extended}
 use Rattle.ssh_channels.specs.Entry.{Entry, flushed, granting}
 use Rattle.ssh_channels.specs.Lines.{find, takes_grant, takes_in, peer_closes, wants, drawn}
-use Rattle.ssh_channels.specs.Lines.{next_number}
-use Rattle.ssh_channels.specs.Does.{coming_of}
+use Rattle.ssh_channels.specs.Lines.{next_number, drops_pending, confirms, fails}
+use Rattle.ssh_channels.specs.Does.{coming_of, has}
 use Rattle.ssh_channels.specs.declared.adjusted.Adjusted.{Adjusted}
 use Rattle.ssh_channels.specs.declared.adjusted.Adjusted.TheVariants.{Dropped, Kept}
 use Rattle.ssh_channels.specs.declared.adjusted.Adjusted.TheVariants.{Granted as Filled}
@@ -41,14 +44,17 @@ use Rattle.ssh_session.specs.Opening.{Opening}
 use Rattle.ssh_session.specs.declared.state.EncryptedState.{EncryptedState}
 use Rattle.ssh_session.specs.declared.state.EncryptedState.TheVariants.{WaitingAuthRequest}
 use Rattle.ssh_session.specs.declared.state.EncryptedState.TheVariants.{InitCompression}
+use Rattle.ssh_session.specs.declared.opens.Handling.{Handling}
+use Rattle.ssh_session.specs.declared.opens.Handling.TheVariants.{Asks, Unsupported, Unknown}
 use Rattle.ssh_session.specs.declared.messages.Spoken.{Spoken}
 use Rattle.ssh_session.specs.declared.messages.Spoken.TheVariants as spoken
 use Rattle.ssh_session.specs.Layout.{service_accept, banner, too_many_attempts, at_once, held}
-use Rattle.ssh_session.specs.Opens.{own}
+use Rattle.ssh_session.specs.Opens.{own, failure_frame}
+use Rattle.ssh_session.specs.Types.{handling, opening_by, unsupported, unknown}
 use Rattle.ssh_session.specs.Outcome.{Fault, Encoding, Inconsistent, Key, Unsupported, Starved}
 use Rattle.ssh_session.specs.Outcome.{Channels_full, Not_built, Outcome}
 use Rattle.ssh_session.specs.Reading.{Said, Disconnect, Over_cap, Service, Request, Response, Open}
-use Rattle.ssh_session.specs.Reading.{Channel, Unfit, Without_packets, Unbuilt}
+use Rattle.ssh_session.specs.Reading.{Agreed, Channel, Unread, Unfit, Without_packets, Unbuilt}
 use Rattle.ssh_session.specs.World.{World, waits_for, lined, writes}
 use Rattle.ssh_session.specs.Acts.{Act, Notes, Calls, Adjusts_by, Turns, Is_over, Stops, acts}
 
@@ -231,16 +237,60 @@ waits number said w = record w {
   };
 }
 
--- an open draws the next number, and the handler is asked
-abbrev pub open_acts : (number : Option ℕ) → Opening → List Act
-open_acts None opening = Stops Channels_full ∷ []
-open_acts (Some number) opening = Turns (waits number opening) ∷ Calls (Opens (own number) Session)
-    ∷ []
+-- .. or it is refused at once, and the number is free again
+abbrev pub turns_away : (number : ℕ) → (payload : List ℕ) → World → World
+turns_away number payload w = writes (failure_frame number payload ∷ [])
+    (lined (λ l. drops_pending number (drawn (Some number) l)) w)
+
+-- where a number is free, the open draws it, and the handler is asked; or it is refused at once
+abbrev pub asks_first : (number : Option ℕ) → Opening → OpenType → List Act
+asks_first None opening type = Stops Channels_full ∷ []
+asks_first (Some number) opening type = Turns (waits number opening)
+    ∷ Calls (Opens (own number) type) ∷ []
+
+abbrev pub turns_first : (number : Option ℕ) → (payload : List ℕ) → List Act
+turns_first None payload = Stops Channels_full ∷ []
+turns_first (Some number) payload = Turns (turns_away number payload) ∷ []
+
+-- one line a handling of its type
+abbrev pub open_acts : (number : Option ℕ) → OpenChannelMessage → Handling → List Act
+open_acts number message (Asks type) = asks_first number (opening_by message) type
+open_acts number message Unsupported = turns_first number (unsupported message.recipient_channel)
+open_acts number message Unknown = turns_first number (unknown message.recipient_channel)
+
+-- ---- opens of this side's (section 5.1)
+
+-- the peer agrees: its number, its window and its packet size are known from now on
+abbrev pub agreed_acts : ChannelOpenConfirmation → List Act
+agreed_acts message =
+    Turns (lined (confirms message.recipient_channel message.sender_channel
+    message.initial_window_size message.maximum_packet_size))
+    ∷ Notes (notice.Ready (own message.recipient_channel) message.initial_window_size
+    message.maximum_packet_size)
+    ∷ told (own message.recipient_channel)
+    (msg.Open (own message.recipient_channel) message.maximum_packet_size
+    message.initial_window_size)
+    (what.Confirmed message.maximum_packet_size message.initial_window_size)
+
+-- only an open that waits is agreed to
+abbrev pub confirmation_acts : (is_waiting : Bool) → ChannelOpenConfirmation → List Act
+confirmation_acts true message = agreed_acts message
+confirmation_acts false message = Stops Inconsistent ∷ []
+
+-- .. and refused: of no channel that does nothing, and one that is open cannot be refused
+abbrev pub failure_acts : (is_there is_waiting : Bool) → ChannelId → ChannelOpenFailure → List Act
+failure_acts is_there true channel reason = Turns (lined (fails channel.0))
+    ∷ Notes (notice.Channel channel (msg.OpenFailure reason)) ∷ []
+failure_acts true false channel reason = Stops Inconsistent ∷ []
+failure_acts false false channel reason = []
 
 -- ---- messages of channels, by what they say
 
 abbrev pub spoken_acts : World → Spoken → List Act
 spoken_acts w spoken.Nothing = []
+spoken_acts w (spoken.Failed channel reason) =
+    failure_acts (has (λ e. e.confirmed) channel.0 w.channels.lines)
+    (has (λ e. not e.confirmed) channel.0 w.channels.lines) channel reason
 spoken_acts w (spoken.Grant channel amount) =
     on channel.0 w (λ e. grant_acts channel.0 amount (credit_left amount e))
 spoken_acts w (spoken.Data channel piece) = data_acts
@@ -257,7 +307,10 @@ spoken_acts w spoken.Unbuilt = Stops Not_built ∷ []
 -- ---- one line a row
 
 abbrev pub owed : World → Said → List Act
-owed w (Open opening) = open_acts (next_number w.channels.lines) opening
+owed w (Open message) = open_acts (next_number w.channels.lines) message (handling message.typ)
+owed w (Agreed message) = confirmation_acts (has (λ e. not e.confirmed)
+    message.recipient_channel w.channels.lines) message
+owed w Unread = Stops Starved ∷ []
 owed w (Channel said) = spoken_acts w said
 owed w Disconnect = Is_over ∷ []
 owed w Over_cap = Turns (writes (at_once too_many_attempts ∷ [])) ∷ Is_over ∷ []

@@ -1,5 +1,5 @@
 -- A run: inputs, each with its calls and what the link was told.
-use Rattle.std.specs.Prelude.{◌≡◌, ℕ, Bool, true, false, List, [], ◌∷◌, map, drop}
+use Rattle.std.specs.Prelude.{◌≡◌, ℕ, Bool, true, false, not, List, [], ◌∷◌, map, drop}
 use Rattle.ssh_link.specs.Asked.{IsAsked}
 use Rattle.ssh_link.specs.declared.command.Command.TheVariants.{Answer}
 use Rattle.ssh_link.specs.declared.frame.Input.{Input}
@@ -27,6 +27,10 @@ use Rattle.std.specs.List.{list_all}
 -- a channel of this number is there, which both sides agreed to
 abbrev pub is_there : World → ℕ → Bool
 is_there w channel = has (λ e. e.confirmed) channel w.channels.lines
+
+-- an open of this side's waits under this number for the peer
+abbrev pub is_waiting : World → ℕ → Bool
+is_waiting w channel = has (λ e. not e.confirmed) channel w.channels.lines
 
 -- a command from outside is done, and its ticket is answered
 abbrev pub command_row : World → (ticket : ℕ) → Commanded → Plan Outcome

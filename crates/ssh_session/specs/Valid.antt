@@ -1,8 +1,10 @@
 -- Which inputs a session can finish, said positively.
-use Rattle.std.specs.Prelude.{◌≡◌, ◌≢◌, ◌<◌, ◌^◌, ◌⊎◌, ℕ, List, [], ◌∷◌, length, Option, Some, None}
+use Rattle.std.specs.Prelude.{◌≡◌, ◌<◌, ◌^◌, ◌⊎◌, ℕ, List, [], ◌∷◌, length, Option, Some, None}
 use Rattle.std.specs.Prelude.{Bool, true, false, Result, Ok, Err, codes, drop}
 use Rattle.ssh_wire.specs.Field.{Flag, Number, Text, SpellsAll, SpellsWhole}
-use Rattle.ssh_wire.specs.Open.{Leads}
+use Rattle.ssh_wire.specs.declared.open.OpenChannelMessage.{OpenChannelMessage}
+use Rattle.ssh_wire.specs.declared.open.ChannelOpenConfirmation.{ChannelOpenConfirmation}
+use Rattle.ssh_wire.specs.Open.{SpellsOpen, SpellsConfirmation}
 use Rattle.ssh_link.specs.declared.command.Command.{Command as Commanded}
 use Rattle.ssh_link.specs.declared.command.Command.TheVariants as command
 use Rattle.ssh_auth.specs.Requested.{Named, Is_none, Is_password, Is_publickey, Is_interactive}
@@ -40,9 +42,10 @@ use Rattle.ssh_session.specs.Gate.{gate_of}
 use Rattle.ssh_session.specs.Layout.{banner}
 use Rattle.ssh_session.specs.declared.messages.Spoken.{Spoken}
 use Rattle.ssh_session.specs.declared.messages.Spoken.TheVariants as spoken
+use Rattle.ssh_session.specs.OwnOpens.{asking}
 use Rattle.ssh_session.specs.Messages.{message_layout}
 use Rattle.ssh_session.specs.Spelling.{Layout, Leaves, Whole, Fields}
-use Rattle.ssh_session.specs.Run.{Turn, calls_of, is_there}
+use Rattle.ssh_session.specs.Run.{Turn, calls_of, is_there, is_waiting}
 
 -- boolean signed, string algorithm name, string blob: nothing that can be used is offered, and the
 -- rest is not read; or a usable offer is asked about; or it is signed, and string signature ends
@@ -78,18 +81,19 @@ abbrev pub HasNoPrompt : EncryptedState → Type 0
 HasNoPrompt (WaitingAuthRequest auth) = prompt_of auth ≡ None
 HasNoPrompt _ = Unit {0}
 
--- what it asks for is built
-abbrev pub IsServed : Spoken → Type 0
-IsServed spoken.Unbuilt = ⊥
-IsServed _ = Unit {0}
+-- what it asks for is built, and it refuses no open that was agreed to
+abbrev pub IsServed : World → Spoken → Type 0
+IsServed w spoken.Unbuilt = ⊥
+IsServed w (spoken.Failed channel reason) = is_there w channel.0 ≡ false
+IsServed w _ = Unit {0}
 
 -- the bytes fit the layout, and say what is served
-abbrev pub FitsLayout : Layout Spoken → List ℕ → Type 0
-FitsLayout (Leaves said) bytes = IsServed said
-FitsLayout (Whole fields says) bytes = (values : Values fields) × SpellsWhole fields values bytes
-    × IsServed (says values)
-FitsLayout (Fields fields next) bytes = (values : Values fields) × (rest : List ℕ)
-    × SpellsAll fields values bytes rest × FitsLayout (next values) rest
+abbrev pub FitsLayout : World → Layout Spoken → List ℕ → Type 0
+FitsLayout w (Leaves said) bytes = IsServed w said
+FitsLayout w (Whole fields says) bytes = (values : Values fields) × SpellsWhole fields values bytes
+    × IsServed w (says values)
+FitsLayout w (Fields fields next) bytes = (values : Values fields) × (rest : List ℕ)
+    × SpellsAll fields values bytes rest × FitsLayout w (next values) rest
 
 -- the fields fit their layout, and ask for what is built
 abbrev pub AreValidFields : Circumstances → World → Gate → List ℕ → Type 0
@@ -110,12 +114,14 @@ AreValidFields given w gate.InfoResponse fields = HasNoPrompt w.user.state
       length responses,
       values responses,
     ) fields)
--- an open of a session, for which a number is free
-AreValidFields given w gate.ChannelOpen fields = (peer window packet : ℕ)
-    × Leads (codes "session") peer window packet fields [] × (packet ≢ 0)
-    × IsSome (next_number w.channels.lines)
+-- an open, for which a number is free
+AreValidFields given w gate.ChannelOpen fields = (message : OpenChannelMessage) × (rest : List ℕ)
+    × SpellsOpen message fields rest × IsSome (next_number w.channels.lines)
+-- a confirmation of an open of this side's that waits
+AreValidFields given w gate.OpenConfirmation fields = (message : ChannelOpenConfirmation)
+    × SpellsConfirmation message fields [] × (is_waiting w message.recipient_channel ≡ true)
 AreValidFields given w (gate.Channel message) fields =
-    FitsLayout (message_layout (is_there w) message) fields
+    FitsLayout w (message_layout (is_there w) message) fields
 AreValidFields given w gate.NotBuilt fields = ⊥
 
 -- what the command does is built
@@ -125,7 +131,7 @@ IsBuiltCommand (command.ExtendedData channel code bytes) = Unit {0}
 IsBuiltCommand (command.Eof channel) = Unit {0}
 IsBuiltCommand (command.Close channel) = Unit {0}
 IsBuiltCommand (command.Answer answer) = Unit {0}
-IsBuiltCommand _ = ⊥
+IsBuiltCommand other = IsSome (asking other)
 
 -- a tick is not built
 abbrev pub IsValidKind : Circumstances → World → InputKind → Type 0

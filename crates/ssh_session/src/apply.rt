@@ -25,7 +25,7 @@ pub(crate) struct Done {
 
 impl Done {
     /// It is done, and nothing is to be told.
-    fn accepted() -> Done
+    pub(crate) fn accepted() -> Done
         ensures { result ≡ record { notice = None; outcome = CommandOutcome.Accepted } }
     {
         Done {
@@ -35,7 +35,7 @@ impl Done {
     }
 
     /// It does nothing, for this reason.
-    fn refused(why: Refusal) -> Done
+    pub(crate) fn refused(why: Refusal) -> Done
         ensures { result ≡ record { notice = None; outcome = CommandOutcome.Refused why } }
     {
         Done {
@@ -84,7 +84,7 @@ impl Session {
             Command::Eof { channel } => self.no_sending(*channel),
             Command::Close { channel } => self.no_closing(*channel),
             Command::Answer(answer) => self.no_open(answer.channel),
-            _ => None,
+            other => self.no_opening(other),
         }
     }
 
@@ -143,9 +143,10 @@ impl Session {
                 Ok(Done::accepted())
             }
             Command::Answer(answer) => self.answer_open(answer),
-            unbuilt => {
-                drop(unbuilt);
-                Err(RunError::NotBuilt)
+            other => {
+                let opened = self.do_open(&other);
+                drop(other);
+                opened
             }
         }
     }

@@ -5,6 +5,7 @@ ghost use Rattle.ssh_wire.specs.OpenFailures.{open_failure_code};
 ghost use Rattle.ssh_wire.specs.Open.{open_failure};
 ghost use Rattle.ssh_channels.specs.Layout.{on_channel};
 ghost use Rattle.ssh_session.specs.Opens as layout;
+ghost use Rattle.ssh_session.specs.Types.{type_refusal};
 
 use bytes::Bytes;
 use ssh_link::Frame;
@@ -17,7 +18,7 @@ use std::alloc::Global;
 const MAX_FAILURE_TEXTS: usize = u32::MAX as usize - 17;
 
 /// A frame of this side's channel with this payload, which may go out at once.
-fn frame_on(own: ChannelId, payload: Vec<u8>) -> Result<Frame, WireError>
+pub(crate) fn frame_on(own: ChannelId, payload: Vec<u8>) -> Result<Frame, WireError>
     ensures ok { IfOk result (λ f. f ≡ on_channel own.0 payload.items) }
     ensures memory { IfErr result (λ e. e ≡ NoMemory) }
 {
@@ -68,6 +69,23 @@ pub(crate) fn failure_frame(
     }
     let payload = failure_payload(alloc, peer, reason, description, language)?;
     Ok(frame_on(own, payload)?)
+}
+
+/// CHANNEL_OPEN_FAILURE for the type of the open, in English (RFC 4254 section 5.1).
+pub(crate) fn type_refusal_frame(
+    alloc: Global,
+    own: ChannelId,
+    peer: u32,
+    reason: ChannelOpenFailure,
+    description: &str,
+) -> Result<Frame, WireError>
+    requires short { length description.now < 2 ^ 32 }
+    ensures ok { IfOk result (λ f. f
+        ≡ layout.failure_frame own.0 (type_refusal peer reason description.now)) }
+    ensures memory { IfErr result (λ e. e ≡ NoMemory) }
+{
+    let payload = failure_payload(alloc, peer, reason, description, "en")?;
+    frame_on(own, payload)
 }
 
 /// The payload of a CHANNEL_OPEN_FAILURE whose texts fit.

@@ -33,8 +33,9 @@ pub enum RunError<HE> {
     /// A field of the payload does not fit its layout; or it is `TooLong`, and a banner or a reply
     /// that the handler's answer asks for would have more than 2^32 - 1 bytes.
     Encoding(WireError),
-    /// A request of authentication names another service than `ssh-connection`, an open has a
-    /// packet size of 0, or the session is spent.
+    /// A request of authentication names another service than `ssh-connection`, an open or a
+    /// confirmation has a packet size of 0, a confirmation is for no open of this side that waits, a
+    /// refusal is for an open that was agreed to, or the session is spent.
     Inconsistent,
     /// The blob of a key or a certificate in a request does not fit its layout, or a signature
     /// does not: always `KeyError::Blob`.
@@ -45,10 +46,9 @@ pub enum RunError<HE> {
     Handler(HE),
     /// The peer opens a channel, and every number is taken.
     ChannelsFull,
-    /// The input asks for what is not built yet: a key exchange, an open of another type than a
-    /// session, an answer to an open, a global request or an answer to one, a request on a channel,
-    /// or a tick; or it brings a command, or a callback records one, that is none of data of both
-    /// kinds, end of file, close and answer to an open.
+    /// The input asks for what is not built yet: a key exchange, a global request or an answer to
+    /// one, a request on a channel, or a tick; or it brings a command, or a callback records one,
+    /// that is none of data of both kinds, end of file, close, opens and answers to opens.
     NotBuilt,
 }
 

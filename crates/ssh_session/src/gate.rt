@@ -12,7 +12,8 @@ use crate::state::EncryptedState;
 use ssh_auth::AuthRequest;
 use ssh_handler::Config;
 use ssh_wire::message::{
-    CHANNEL_OPEN, DISCONNECT, KEXINIT, SERVICE_REQUEST, USERAUTH_INFO_RESPONSE, USERAUTH_REQUEST,
+    CHANNEL_OPEN, CHANNEL_OPEN_CONFIRMATION, DISCONNECT, KEXINIT, SERVICE_REQUEST,
+    USERAUTH_INFO_RESPONSE, USERAUTH_REQUEST,
 };
 
 /// What a payload is to a session, by its number alone.
@@ -32,6 +33,8 @@ pub enum Gate {
     InfoResponse,
     /// It opens a channel.
     ChannelOpen,
+    /// It agrees to an open of this side's.
+    OpenConfirmation,
     /// It is of a channel.
     Channel(ChannelMessage),
     /// What it asks for is not built.
@@ -114,6 +117,9 @@ fn connection_gate(number: u8) -> Gate
 {
     if number == CHANNEL_OPEN {
         return Gate::ChannelOpen;
+    }
+    if number == CHANNEL_OPEN_CONFIRMATION {
+        return Gate::OpenConfirmation;
     }
     match channel_message(number) {
         Some(message) => Gate::Channel(message),

@@ -4,6 +4,7 @@
 #![tactic(auto)]
 
 mod apply;
+mod asked;
 mod authentication;
 mod callbacks;
 mod channel_frames;
@@ -20,6 +21,7 @@ mod messages;
 mod once;
 mod opens;
 mod outside;
+mod own_opens;
 mod peer_open;
 mod readers;
 mod run;

@@ -3,9 +3,8 @@ ghost use Rattle.std.specs.Prelude.{ℕ, List, [], ◌∷◌, IfOk, IfErr, Match
 ghost use Rattle.ssh_wire.specs.Field.{Bytes, Flag, Number, Text, SpellsAll, SpellsWhole};
 ghost use Rattle.ssh_wire.specs.Field.{Misfits, MisfitsAll, MisfitsWhole};
 ghost use Rattle.ssh_wire.specs.Reading.{Reads};
-ghost use Rattle.ssh_session.specs.OpenRead.{IsOpenRead, IsOpenUnread};
 
-use ssh_wire::{ChannelId, LayoutError, Reader, WireError};
+use ssh_wire::{ChannelId, Reader, WireError};
 
 /// The name of the service that a SERVICE_REQUEST asks for (RFC 4253 section 10).
 pub(crate) fn read_service(fields: &[u8]) -> Result<&str, WireError>
@@ -19,45 +18,28 @@ pub(crate) fn read_service(fields: &[u8]) -> Result<&str, WireError>
     Ok(name)
 }
 
-/// What a CHANNEL_OPEN asks for.
-#[derive(Clone, Copy, Debug, PartialEq, Eq)]
-pub(crate) enum OpenRequest {
-    /// A session channel.
-    Session {
-        /// The peer's number of the channel.
-        peer: u32,
-        /// How many bytes of data the peer takes at first.
-        window: u32,
-        /// The peer's maximum packet size, in bytes, which is not 0.
-        packet: u32,
-    },
-    /// A channel of another type, whose own fields are not read.
-    Other,
-}
-
-/// CHANNEL_OPEN (RFC 4254 section 5.1). `Inconsistent` at a packet size of 0, before what follows
-/// it is looked at.
-pub(crate) fn read_open(fields: &[u8]) -> Result<OpenRequest, LayoutError>
-    ensures { MatchResult result (λ request. IsOpenRead request fields.now)
-        (λ why. IsOpenUnread fields.now why) }
+/// The number at the head of these fields, and the fields behind it.
+pub(crate) fn read_number(fields: &[u8]) -> Result<(u32, &[u8]), WireError>
+    ensures { MatchResult result
+        (λ read. SpellsAll (Number ∷ []) (read.0, tt) fields.now read.1.now)
+        (λ why. MisfitsAll (Number ∷ []) fields.now why) }
 {
     let mut reader = Reader::new(fields);
-    let name = reader.text()?;
-    let peer = reader.u32()?;
-    let window = reader.u32()?;
-    let packet = reader.u32()?;
-    if packet == 0 {
-        return Err(LayoutError::Inconsistent);
-    }
-    if name != "session" {
-        return Ok(OpenRequest::Other);
-    }
+    let number = reader.u32()?;
+    Ok((number, reader.rest()))
+}
+
+/// The description of a refusal and its language tag, of which nobody is told.
+pub(crate) fn read_texts<'a>(rest: &'a [u8]) -> Result<(&'a str, &'a str), WireError>
+    ensures { MatchResult result
+        (λ texts. SpellsWhole (Text ∷ Text ∷ []) (texts.0.now, (texts.1.now, tt)) rest.now)
+        (λ why. MisfitsWhole (Text ∷ Text ∷ []) rest.now why) }
+{
+    let mut reader = Reader::new(rest);
+    let description = reader.text()?;
+    let language = reader.text()?;
     reader.end()?;
-    Ok(OpenRequest::Session {
-        peer,
-        window,
-        packet,
-    })
+    Ok((description, language))
 }
 
 /// CHANNEL_WINDOW_ADJUST (RFC 4254 section 5.2): the channel, and how many bytes are granted.

@@ -15,21 +15,24 @@ ghost use Rattle.ssh_session.specs.Serve.{Refines, Does, Completes, IsSuited};
 use crate::endings::close_message;
 use crate::message::read_channel;
 use crate::outside::Outside;
+use crate::own_opens::failure_message;
 use crate::windows::grant_message;
 use crate::{Flow, RunError, Session};
 use ssh_auth::Happening;
 use ssh_channels::Chunk;
 use ssh_link::ChannelMsg;
 use ssh_wire::message::{
-    CHANNEL_CLOSE, CHANNEL_DATA, CHANNEL_EOF, CHANNEL_EXTENDED_DATA, CHANNEL_REQUEST,
-    CHANNEL_WINDOW_ADJUST,
+    CHANNEL_CLOSE, CHANNEL_DATA, CHANNEL_EOF, CHANNEL_EXTENDED_DATA, CHANNEL_OPEN_FAILURE,
+    CHANNEL_REQUEST, CHANNEL_WINDOW_ADJUST,
 };
-use ssh_wire::{ChannelId, WireError};
+use ssh_wire::{ChannelId, ChannelOpenFailure, WireError};
 
 /// A message of a channel that is there.
 #[derive(Clone, Copy, Debug, PartialEq, Eq)]
 pub enum ChannelMessage {
-    /// CHANNEL_WINDOW_ADJUST (RFC 4254 section 5.2).
+    /// CHANNEL_OPEN_FAILURE (RFC 4254 section 5.1).
+    OpenFailure,
+    /// CHANNEL_WINDOW_ADJUST (section 5.2).
     WindowAdjust,
     /// CHANNEL_DATA (section 5.2).
     Data,
@@ -48,6 +51,7 @@ pub(crate) fn channel_message(number: u8) -> Option<ChannelMessage>
     ensures { result ≡ channel_message number }
 {
     match number {
+        CHANNEL_OPEN_FAILURE => Some(ChannelMessage::OpenFailure),
         CHANNEL_WINDOW_ADJUST => Some(ChannelMessage::WindowAdjust),
         CHANNEL_DATA => Some(ChannelMessage::Data),
         CHANNEL_EXTENDED_DATA => Some(ChannelMessage::ExtendedData),
@@ -63,6 +67,8 @@ pub(crate) fn channel_message(number: u8) -> Option<ChannelMessage>
 pub enum Spoken {
     /// Nothing that is served.
     Nothing,
+    /// The peer refuses an open of this side's, for this reason.
+    Failed(ChannelId, ChannelOpenFailure),
     /// So many bytes more may be sent on the channel.
     Grant(ChannelId, u32),
     /// Data on the channel.
@@ -122,6 +128,7 @@ impl Session {
             IsRead (message_layout (is_there w) message) fields.now result }
     {
         match message {
+            ChannelMessage::OpenFailure => failure_message(fields),
             ChannelMessage::WindowAdjust => grant_message(fields),
             ChannelMessage::Data => self.data_message(fields),
             ChannelMessage::ExtendedData => self.extended_data_message(fields),
@@ -145,6 +152,7 @@ impl Session {
     {
         match spoken {
             Spoken::Nothing => Ok(()),
+            Spoken::Failed(channel, reason) => self.peer_fails(outside, channel, reason),
             Spoken::Grant(channel, amount) => self.grant(outside, channel, amount),
             Spoken::Data(channel, piece) => self.data(outside, channel, piece),
             Spoken::Tells(channel, message, happening) => {

@@ -1,23 +1,72 @@
 // Opens of the peer (RFC 4254 section 5.1).
-ghost use Rattle.std.specs.Prelude.{◌≡◌, ◌⊎◌, ℕ, Some, None, IfOk, IfErr, IsErrOf};
+ghost use Rattle.std.specs.Prelude.{◌≡◌, ◌≢◌, ◌<◌, ◌^◌, ◌⊎◌, ◌∷◌, [], ℕ, Some, None, length};
+ghost use Rattle.std.specs.Prelude.{IfOk, IfErr, IsErrOf};
+ghost use Rattle.ssh_wire.specs.declared.open.OpenChannelMessage.{OpenChannelMessage as Message};
+ghost use Rattle.ssh_auth.specs.declared.question.Lent.TheVariants.{Opens};
 ghost use Rattle.ssh_channels.specs.declared.error.TableError.TheVariants.{NoMemory};
 ghost use Rattle.ssh_channels.specs.Lines.{next_number};
 ghost use Rattle.ssh_session.specs.World.{World};
+ghost use Rattle.ssh_session.specs.Types.{handling, opening_by, type_refusal};
 ghost use Rattle.ssh_session.specs.Reading.{Said, SaysOpen, Open};
-ghost use Rattle.ssh_session.specs.Rows.{row, waits};
+ghost use Rattle.ssh_session.specs.Rows.{row, owed, waits, asks_first, turns_first};
 ghost use Rattle.ssh_session.specs.Heard.{AreSame};
-ghost use Rattle.ssh_session.specs.Serve.{Refines, Completes, IsSuited, IsSamePeer};
+ghost use Rattle.ssh_session.specs.Serve.{Refines, Does, Completes, Turned, IsSuited, IsSamePeer};
 
-use crate::message::{OpenRequest, read_open};
+use crate::channel_frames::type_refusal_frame;
 use crate::outside::Outside;
 use crate::peer_open::PeerOpen;
 use crate::{Flow, RunError, Session};
 use ssh_auth::{Lent, OpenType};
 use ssh_channels::TableError;
-use ssh_wire::ChannelId;
+use ssh_wire::{ChannelId, ChannelOpenFailure, ChannelType, OpenChannelMessage, Reader};
+
+/// What is done by the type of an open.
+#[derive(Debug, Drop)]
+pub enum Handling {
+    /// The handler is asked.
+    Asks(OpenType),
+    /// It is refused: a server takes no channel of this type.
+    Unsupported,
+    /// It is refused: the type is not known.
+    Unknown,
+}
+
+/// How an open of this type is handled: one line a type.
+fn handled_by(typ: ChannelType) -> Handling
+    ensures { result ≡ handling typ }
+{
+    match typ {
+        ChannelType::Session => Handling::Asks(OpenType::Session),
+        ChannelType::X11 {
+            originator_address,
+            originator_port,
+        } => Handling::Asks(OpenType::X11 {
+            originator_address,
+            originator_port,
+        }),
+        ChannelType::DirectTcpip(info) => Handling::Asks(OpenType::DirectTcpip {
+            host_to_connect: info.host_to_connect,
+            port_to_connect: info.port_to_connect,
+            originator_address: info.originator_address,
+            originator_port: info.originator_port,
+        }),
+        ChannelType::ForwardedTcpIp(info) => Handling::Asks(OpenType::ForwardedTcpip {
+            host_to_connect: info.host_to_connect,
+            port_to_connect: info.port_to_connect,
+            originator_address: info.originator_address,
+            originator_port: info.originator_port,
+        }),
+        ChannelType::DirectStreamLocal(info) => Handling::Asks(OpenType::DirectStreamlocal {
+            socket_path: info.socket_path,
+        }),
+        ChannelType::ForwardedStreamLocal(_) => Handling::Unsupported,
+        ChannelType::AgentForward => Handling::Unsupported,
+        ChannelType::Unknown { .. } => Handling::Unknown,
+    }
+}
 
 impl Session {
-    /// CHANNEL_OPEN: each type but the session is not built.
+    /// CHANNEL_OPEN.
     pub(crate) fn serve_channel_open<O: Outside>(
         &mut self,
         outside: &mut O,
@@ -30,41 +79,69 @@ impl Session {
             result }
         ensures same { AreSame (O.heard outside.old) (O.heard outside.new) }
     {
-        match read_open(fields) {
-            Ok(
-                OpenRequest::Session {
-                    peer,
-                    window,
-                    packet,
-                },
-            ) => self.open(
-                outside,
-                PeerOpen {
-                    peer,
-                    window,
-                    packet,
-                },
-            ),
-            Ok(OpenRequest::Other) => Err(RunError::NotBuilt),
+        let mut reader = Reader::new(fields);
+        match OpenChannelMessage::parse(self.alloc, &mut reader) {
+            Ok(message) => {
+                self.open(outside, message)?;
+                Ok(Flow::Continue)
+            }
             Err(e) => Err(RunError::from(e)),
         }
     }
 
-    /// The open of the peer draws the next number, and the handler is asked.
+    /// The open draws the next number, and is handled by its type.
     fn open<O: Outside>(
         &mut self,
         outside: &mut O,
-        said: PeerOpen,
-    ) -> Result<Flow, RunError<O::Error>>
+        message: OpenChannelMessage,
+    ) -> Result<(), RunError<O::Error>>
         requires suits { IsSuited O.suits self.old }
-        ensures does { (w : World) (moment : ℕ) → Refines self.old w →
-            Completes (row w moment (Open said)) (O.heard outside.old) (O.heard outside.new)
-            self.new result }
+        requires packets { message.recipient_maximum_packet_size ≢ 0 }
+        ensures does { (w : World) → Refines self.old w →
+            Does (owed w (Open message)) w (O.heard outside.old) (O.heard outside.new) self.new
+            result }
         ensures same { AreSame (O.heard outside.old) (O.heard outside.new) }
     {
-        let number = self.draw(said)?;
-        self.call(outside, Lent::Opens(number, OpenType::Session))?;
-        Ok(Flow::Continue)
+        let said = PeerOpen {
+            peer: message.recipient_channel,
+            window: message.recipient_window_size,
+            packet: message.recipient_maximum_packet_size,
+        };
+        match handled_by(message.typ) {
+            Handling::Asks(kind) => self.ask_open(outside, said, kind),
+            Handling::Unsupported => self.turn_away(
+                said.peer,
+                ChannelOpenFailure::AdministrativelyProhibited,
+                "Unsupported channel type",
+            ),
+            Handling::Unknown => self.turn_away(
+                said.peer,
+                ChannelOpenFailure::UnknownChannelType,
+                "Unknown channel type",
+            ),
+        }
+    }
+
+    /// The open waits for its answer, and the handler is asked.
+    fn ask_open<O: Outside>(
+        &mut self,
+        outside: &mut O,
+        said: PeerOpen,
+        kind: OpenType,
+    ) -> Result<(), RunError<O::Error>>
+        requires suits { IsSuited O.suits self.old }
+        ensures does { (w : World) → Refines self.old w →
+            Does (asks_first (next_number w.channels.lines) said kind) w (O.heard outside.old)
+            (O.heard outside.new) self.new result }
+        ensures same { AreSame (O.heard outside.old) (O.heard outside.new) }
+    {
+        match self.draw(said) {
+            Ok(number) => self.call(outside, Lent::Opens(number, kind)),
+            Err(e) => {
+                drop(kind);
+                Err(RunError::from(e))
+            }
+        }
     }
 
     /// The next number is drawn for an open of the peer that said this of itself. `Full` where
@@ -82,5 +159,24 @@ impl Session {
         let number = self.table.new_channel_id()?;
         self.opens.insert(number.0, said)?;
         Ok(number)
+    }
+
+    /// The open is refused by its type, and its number is free again.
+    fn turn_away<E>(
+        &mut self,
+        peer: u32,
+        reason: ChannelOpenFailure,
+        description: &str,
+    ) -> Result<(), RunError<E>>
+        requires short { length description.now < 2 ^ 32 }
+        ensures { (w : World) → Refines self.old w →
+            Turned (turns_first (next_number w.channels.lines)
+            (type_refusal peer reason description.now)) w self.new result }
+    {
+        let number = self.table.new_channel_id()?;
+        self.table.drop_pending(number);
+        let frame = type_refusal_frame(self.alloc, number, peer, reason, description)?;
+        self.table.stage(frame)?;
+        Ok(())
     }
 }

@@ -158,6 +158,7 @@ impl Session {
             }
             Gate::InfoResponse => self.serve_info_response(outside, moment, payload),
             Gate::ChannelOpen => self.serve_channel_open(outside, fields),
+            Gate::OpenConfirmation => self.serve_open_confirmation(outside, fields),
             Gate::Channel(message) => self.serve_channel_message(outside, message, fields),
             Gate::NotBuilt => Err(RunError::NotBuilt),
         }

@@ -7,7 +7,7 @@ use Rattle.ssh_session.specs.Effect.{done_by}
 use Rattle.ssh_session.specs.Failure.{error_of_table}
 use Rattle.ssh_session.specs.Serve.{HasEffect}
 use Rattle.ssh_session.specs.World.{lined}
-use Rattle.ssh_session.proofs.Effects.{accepted, starved_effect, unbuilt}
+use Rattle.ssh_session.proofs.Effects.{accepted, starved_effect, done_other}
 use Rattle.ssh_session.proofs.Refining.{called}
 use Rattle.ssh_session.proofs.session.Session.do_command.Goals as goal
 
@@ -76,5 +76,6 @@ returns-in-Answer-clause-does g c = λ w r.
 
 pub returns-in_default-clause-does : goal.returns-in_default-clause-does
 returns-in_default-clause-does g c = λ w r.
-    unbuilt w c.args.command c.in_default.not-Data c.in_default.not-ExtendedData
-    c.in_default.not-Eof c.in_default.not-Close c.in_default.not-Answer
+    rw (done_other w c.args.command c.in_default.not-Data c.in_default.not-ExtendedData
+    c.in_default.not-Eof c.in_default.not-Close c.in_default.not-Answer)
+    (c.do_open-opened.ensures.does w r)

@@ -1,5 +1,5 @@
-use Rattle.std.proofs.Common.{sym}
-use Rattle.ssh_session.proofs.Effects.{needs_nothing}
+use Rattle.std.proofs.Common.{◌∙◌, sym}
+use Rattle.ssh_session.proofs.Effects.{needs_other}
 use Rattle.ssh_session.proofs.session.Session.refusal.Goals as goal
 
 pub returns-in-Data : goal.returns-in-Data
@@ -20,5 +20,6 @@ returns-in-Answer c = λ w r. rw c.in-Answer.is (c.no_open.ensures w r)
 
 pub returns-in_default : goal.returns-in_default
 returns-in_default c = λ w r.
-    sym (needs_nothing w c.args.command.now c.in_default.not-Data c.in_default.not-ExtendedData
+    c.no_opening.ensures w r ∙ sym (needs_other w c.args.command.now c.in_default.not-Data
+    c.in_default.not-ExtendedData
     c.in_default.not-Eof c.in_default.not-Close c.in_default.not-Answer)

@@ -34,6 +34,17 @@ returns-in-ChannelOpen-clause-does g c = λ w r.
       served.2,
     )
 
+pub returns-in-OpenConfirmation-clause-does : goal.returns-in-OpenConfirmation-clause-does
+returns-in-OpenConfirmation-clause-does g c = λ w r.
+    let served = rw c.fields_of-fields.ensures at (c.serve_open_confirmation.ensures.does w
+    c.args.moment r) in (
+      served.0,
+      subst (λ at. Says (circumstances (g.V.Verifier.accepts c.args.verifier.now) w.settings
+          c.args.moment) (is_there w) at (drop 1 c.args.payload.now) served.0)
+          (c.in-OpenConfirmation.ensures.gate w r) served.1,
+      served.2,
+    )
+
 pub returns-in-Channel-clause-does : goal.returns-in-Channel-clause-does
 returns-in-Channel-clause-does g c = λ w r.
     let served = rw c.fields_of-fields.ensures at (c.serve_channel_message.ensures.does w

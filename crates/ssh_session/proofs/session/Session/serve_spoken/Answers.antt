@@ -8,6 +8,10 @@ pub returns-in-Nothing-clause-does : goal.returns-in-Nothing-clause-does
 returns-in-Nothing-clause-does g c = λ w r later.
     rw c.in-Nothing.is (serves_nothing tt (λ (_ : Unit {0}). acts later) _ w c.args.self.now r)
 
+pub returns-in-Failed-clause-does : goal.returns-in-Failed-clause-does
+returns-in-Failed-clause-does g c = λ w r later.
+    rw c.in-Failed.is (c.peer_fails.ensures.does w r later)
+
 pub returns-in-Grant-clause-does : goal.returns-in-Grant-clause-does
 returns-in-Grant-clause-does g c = λ w r later. rw c.in-Grant.is (c.grant.ensures.does w r later)
 

@@ -1,0 +1,486 @@
+-- The callback of an open is made in a CHANNEL_OPEN alone, and once (RFC 4254 section 5.1).
+use Rattle.std.proofs.Common.{◌≡◌, ◌⊎◌, ◌≤◌, ◌+◌, ℕ, List, [], ◌∷◌, map, Bool, true, false, cond}
+use Rattle.std.proofs.Common.{Option, Some, None, Result, Ok, Err}
+use Rattle.std.proofs.Common.{refl, sym, ◌∙◌, ap, inl, inr, arith}
+use Rattle.std.specs.Prelude.{drop, length, bytes_eq, codes, if◌then◌else◌}
+use Rattle.ssh_wire.specs.declared.channel_id.ChannelId.{ChannelId}
+use Rattle.ssh_wire.specs.declared.error.WireError.{WireError}
+use Rattle.ssh_keys.specs.declared.algorithm.Algorithm.{Algorithm}
+use Rattle.ssh_keys.specs.declared.key_or_certificate.PublicKeyOrCertificate.{PublicKeyOrCertificate}
+use Rattle.ssh_keys.specs.declared.key_or_certificate.PublicKeyOrCertificate.TheVariants.{PublicKey as Plain}
+use Rattle.ssh_keys.specs.declared.key_or_certificate.PublicKeyOrCertificate.TheVariants.{Certificate}
+use Rattle.ssh_keys.specs.Offers.{offered_key}
+use Rattle.ssh_link.specs.Frames.{Frame}
+use Rattle.ssh_link.specs.declared.command.Command.{Command}
+use Rattle.ssh_link.specs.declared.command.Command.TheVariants as command
+use Rattle.ssh_link.specs.declared.frame.InputKind.{InputKind}
+use Rattle.ssh_link.specs.declared.frame.InputKind.TheVariants as input
+use Rattle.ssh_link.specs.declared.kex.KexCall.{KexCall}
+use Rattle.ssh_link.specs.declared.kex.KexCall.TheVariants as kex
+use Rattle.ssh_link.specs.declared.link.TraceEntry.{TraceEntry}
+use Rattle.ssh_link.specs.declared.link.TraceEntry.TheVariants.{Noticed, Sent}
+use Rattle.ssh_link.specs.declared.outcome.CommandOutcome.{CommandOutcome}
+use Rattle.ssh_link.specs.declared.outcome.CommandOutcome.TheVariants.{Accepted, Opened, Refused}
+use Rattle.ssh_auth.specs.declared.auth.Auth.{Auth}
+use Rattle.ssh_auth.specs.declared.auth.Auth.TheVariants.{Accept}
+use Rattle.ssh_auth.specs.declared.auth_request.AuthRequest.{AuthRequest}
+use Rattle.ssh_auth.specs.declared.auth_step.AuthVerdict.TheVariants as verdict
+use Rattle.ssh_auth.specs.declared.question.Admission.TheVariants as by
+use Rattle.ssh_auth.specs.declared.question.Question.{Question}
+use Rattle.ssh_auth.specs.declared.question.Question.TheVariants.{Admits, Banner, Lends}
+use Rattle.ssh_auth.specs.Plan.{Plan, Finish, Ask, Tell, Answer, Event, Called, Stepped, Told}
+use Rattle.ssh_auth.specs.Plan.{asked_in, asked_in_step, after}
+use Rattle.ssh_auth.specs.Proven.{AsksOnly}
+use Rattle.ssh_auth.specs.Publickey.{Acceptance, Circumstances, Offer}
+use Rattle.ssh_auth.specs.Request.{begun, is_probed, prompt_of}
+use Rattle.ssh_auth.specs.Requested.{Method, None_method, Password_method, Change_method}
+use Rattle.ssh_auth.specs.Requested.{Unusable_method, Broken_method, Probe_method, Misnamed_method}
+use Rattle.ssh_auth.specs.Requested.{Signed_method, Interactive_method, Other_method, Unfit_method}
+use Rattle.ssh_auth.specs.Requested.{Requested as Asked}
+use Rattle.ssh_auth.specs.Requested as asks
+use Rattle.ssh_auth.specs.Response.{Responded, Responses, Unfit_responses, Unread_responses}
+use Rattle.ssh_auth.specs.Verdict.{AuthOutcome, proof, signed, permitted, method_verdict, responded}
+use Rattle.ssh_auth.specs.Verdict.{verdict as verdict_on, response_verdict}
+use Rattle.ssh_auth.specs.Verdict as verdicts
+use Rattle.ssh_auth.specs.Was.{asked_of}
+use Rattle.ssh_auth.proofs.Back.{asked_so, refused_so}
+use Rattle.ssh_channels.specs.declared.adjusted.Adjusted.{Adjusted}
+use Rattle.ssh_channels.specs.declared.adjusted.Adjusted.TheVariants.{Dropped, Kept, Granted}
+use Rattle.ssh_channels.specs.declared.chunk.Chunk.{Chunk}
+use Rattle.ssh_channels.specs.Does.{coming_of}
+use Rattle.ssh_channels.specs.Entry.{Entry}
+use Rattle.ssh_channels.specs.Lines.{find, next_number}
+use Rattle.ssh_session.specs.declared.gate.Gate.{Gate}
+use Rattle.ssh_session.specs.declared.gate.Gate.TheVariants as gate
+use Rattle.ssh_session.specs.declared.messages.Spoken.{Spoken}
+use Rattle.ssh_session.specs.declared.messages.Spoken.TheVariants as spoken
+use Rattle.ssh_session.specs.declared.state.EncryptedState.{EncryptedState}
+use Rattle.ssh_session.specs.declared.state.EncryptedState.TheVariants.{WaitingAuthRequest}
+use Rattle.ssh_session.specs.Acts.{Act, Notes, Calls, Adjusts_by, Turns, Is_over, Stops, tell_all}
+use Rattle.ssh_session.specs.Acts.{tell_done, done, done_all, acts}
+use Rattle.ssh_session.specs.Answered.{how_many, is_open, open_returned, open_asked, open_of, sends}
+use Rattle.ssh_session.specs.Effect.{Effect, Does, Unbuilt, effect}
+use Rattle.ssh_session.specs.Gate.{gate_of}
+use Rattle.ssh_session.specs.declared.opens.Handling.{Handling}
+use Rattle.ssh_session.specs.declared.opens.Handling.TheVariants.{Asks, Unsupported, Unknown}
+use Rattle.ssh_session.specs.Types.{handling, opening_by}
+use Rattle.ssh_wire.specs.declared.open.OpenChannelMessage.{OpenChannelMessage}
+use Rattle.ssh_wire.specs.declared.open.ChannelOpenConfirmation.{ChannelOpenConfirmation}
+use Rattle.ssh_wire.specs.declared.open_failure.ChannelOpenFailure.{ChannelOpenFailure}
+use Rattle.ssh_session.specs.Outcome.{Outcome, Goes, Ends, Fails}
+use Rattle.ssh_session.specs.Reading.{Said, Service, Request, Response, Open}
+use Rattle.ssh_session.specs.Reading.{Channel, Unfit, Without_packets, Says, SaysOpen, said_of}
+use Rattle.ssh_session.specs.Reading.{Agreed, Unread, SaysConfirmation}
+use Rattle.ssh_session.specs.Rows.{row, owed, spoken_acts, open_acts, waits, greets, is_short}
+use Rattle.ssh_session.specs.Rows.{replied, concluded, asked_of as asked_at, data_told, on_entry}
+use Rattle.ssh_session.specs.Rows.{on_confirmed, failure_acts, confirmation_acts}
+use Rattle.ssh_session.specs.Run.{Turn, Owes, OwesKind, command_row, finish_input, is_there}
+use Rattle.ssh_session.specs.Run.{is_waiting}
+use Rattle.ssh_session.specs.World.{World, circumstances, waits_for}
+use Rattle.ssh_session.proofs.Gates.{is_channel_open}
+use Rattle.ssh_session.proofs.Guards.{Walks}
+
+-- ---- what an event asked
+
+no_step : {F : Type 0} (step : KexCall F) → open_asked (asked_in_step step) ≡ None
+no_step (kex.Begun answer) = refl
+no_step (kex.Stepped payload answer) = refl
+
+-- an event in which this was asked is about the same open
+pub asked_open : {E : Type 0} (event : Event E ⊥) (question : Question) →
+    asked_in event ≡ Some question → open_of event ≡ open_asked question
+asked_open (Called call) question is =
+    let e : Some (asked_of call) ≡ Some question = is in
+    let same : asked_of call ≡ question = cc in
+    ap open_asked same
+asked_open (Stepped step) question is =
+    let e : Some (asked_in_step step) ≡ Some question = is in
+    let same : asked_in_step step ≡ question = cc in
+    sym (no_step step) ∙ ap open_asked same
+asked_open (Told entry) question is = absurd (let e : None ≡ Some question = is in cc)
+
+-- and nothing was sent in it
+pub asked_silent : {E : Type 0} (such : Frame → Bool) (event : Event E ⊥) (question : Question) →
+    asked_in event ≡ Some question → sends such event ≡ false
+asked_silent such (Called call) question is = refl
+asked_silent such (Stepped step) question is = refl
+asked_silent such (Told entry) question is = absurd (let e : None ≡ Some question = is in cc)
+
+-- ---- acts
+
+-- it is asked about no open
+abbrev pub IsBeside : Question → Type 0
+IsBeside question = open_asked question ≡ None
+
+abbrev pub ActsBeside : List Act → Type 0
+ActsBeside [] = Unit {0}
+ActsBeside (Calls lent ∷ later) = IsBeside (Lends lent) × ActsBeside later
+ActsBeside (_ ∷ later) = ActsBeside later
+
+tells_beside : (entries : List TraceEntry) (next : Plan Outcome) → AsksOnly IsBeside next →
+    AsksOnly IsBeside (tell_all entries next)
+tells_beside [] next h = h
+tells_beside (entry ∷ entries) next h = tells_beside entries next h
+
+done_beside : (place : ℕ) (outcome : CommandOutcome) (next : Plan Outcome) →
+    AsksOnly IsBeside next → AsksOnly IsBeside (tell_done place outcome next)
+done_beside place Accepted next h = h
+done_beside place (Opened channel) next h = (refl, λ _. h)
+done_beside place (Refused why) next h = (refl, λ _. h)
+
+one_beside : (does : Effect) (next : CommandOutcome → World → Plan Outcome) →
+    ((outcome : CommandOutcome) (world : World) → AsksOnly IsBeside (next outcome world)) →
+    AsksOnly IsBeside (done does next)
+one_beside (Does notices outcome world) next h =
+    tells_beside (map Noticed notices) (next outcome world) (h outcome world)
+one_beside Unbuilt next h = tt
+
+all_beside : (place : ℕ) (commands : List Command) (w : World) (next : World → Plan Outcome) →
+    ((world : World) → AsksOnly IsBeside (next world)) →
+    AsksOnly IsBeside (done_all place commands w next)
+all_beside place [] w next h = h w
+all_beside place (command ∷ commands) w next h =
+    one_beside (effect w command) (λ outcome world. tell_done place outcome
+    (done_all (place + 1) commands world next))
+    (λ outcome world. done_beside place outcome (done_all (place + 1) commands world next)
+    (all_beside (place + 1) commands world next h))
+
+acts_beside : (now : List Act) (w : World) → ActsBeside now → AsksOnly IsBeside (acts now w)
+acts_beside [] w h = tt
+acts_beside (Notes notice ∷ later) w h = acts_beside later w h
+acts_beside (Calls lent ∷ later) w h = (
+  h.0,
+  λ commands. all_beside 0 commands w (acts later) (λ world. acts_beside later world h.1),
+)
+acts_beside (Adjusts_by channel current by ∷ later) w h = (
+  refl,
+  λ window. acts_beside later (by window w) h,
+)
+acts_beside (Turns by ∷ later) w h = acts_beside later (by w) h
+acts_beside (Is_over ∷ later) w h = tt
+acts_beside (Stops why ∷ later) w h = tt
+
+-- ---- rows
+
+entry_step : (confirmed : Bool) (owes : List Act) → ActsBeside owes →
+    ActsBeside (on_confirmed confirmed owes)
+entry_step true owes h = h
+entry_step false owes h = tt
+
+on_beside : (e : Option Entry) (owes : Entry → List Act) → ((e : Entry) → ActsBeside (owes e)) →
+    ActsBeside (on_entry e owes)
+on_beside None owes h = tt
+on_beside (Some e) owes h = entry_step e.confirmed (owes e) (h e)
+
+data_beside : (adjusted : Adjusted) (channel : ChannelId) (piece : Chunk) (target : ℕ) →
+    ActsBeside (data_told adjusted channel piece target)
+data_beside Dropped channel piece target = tt
+data_beside Kept channel piece target = (refl, tt)
+data_beside (Granted amount) channel piece target = (refl, tt)
+
+failure_beside : (there waiting : Bool) (channel : ChannelId) (why : ChannelOpenFailure)
+    → ActsBeside (failure_acts there waiting channel why)
+failure_beside there true channel why = tt
+failure_beside true false channel why = tt
+failure_beside false false channel why = tt
+
+confirmation_acts_beside : (waiting : Bool) (message : ChannelOpenConfirmation)
+    → ActsBeside (confirmation_acts waiting message)
+confirmation_acts_beside true message = (refl, tt)
+confirmation_acts_beside false message = tt
+
+spoken_beside : (w : World) (said : Spoken) → ActsBeside (spoken_acts w said)
+spoken_beside w spoken.Nothing = tt
+spoken_beside w (spoken.Grant channel amount) =
+    on_beside (find channel.0 w.channels.lines.entries) _ (λ e. (refl, tt))
+spoken_beside w (spoken.Data channel piece) =
+    data_beside (coming_of (length piece.bytes) w.channels.target
+    (find channel.0 w.channels.lines.entries)) channel piece w.channels.target
+spoken_beside w (spoken.Tells channel message happening) =
+    on_beside (find channel.0 w.channels.lines.entries) _ (λ e. (refl, tt))
+spoken_beside w (spoken.Close channel) =
+    on_beside (find channel.0 w.channels.lines.entries) _ (λ e. (refl, tt))
+spoken_beside w (spoken.Wants channel wanted) = tt
+spoken_beside w (spoken.Failed channel reason) =
+    failure_beside (is_there w channel.0) (is_waiting w channel.0) channel reason
+spoken_beside w spoken.Unbuilt = tt
+
+-- what is said is no open of the peer's
+abbrev pub IsBesideOpen : Said → Type 0
+IsBesideOpen (Open message) = ⊥
+IsBesideOpen _ = Unit {0}
+
+owed_beside : (w : World) (said : Said) → IsBesideOpen said → ActsBeside (owed w said)
+owed_beside w (Open message) beside = absurd beside
+owed_beside w (Agreed message) beside =
+    confirmation_acts_beside (is_waiting w message.recipient_channel) message
+owed_beside w (Channel said) beside = spoken_beside w said
+owed_beside w said beside = tt
+
+-- ---- verdicts
+
+proof_beside : (auth : AuthRequest) (user : List ℕ) (key : PublicKeyOrCertificate)
+    (algorithm : Algorithm) → AsksOnly IsBeside (proof auth user key algorithm)
+proof_beside auth user (Plain key hash) algorithm = (refl, λ answer. tt)
+proof_beside auth user (Certificate certificate) algorithm = (refl, λ answer. tt)
+
+signed_beside : (auth : AuthRequest) (user : List ℕ) (offer : Offer) (accepted : Option Bool) →
+    AsksOnly IsBeside (signed auth user offer accepted)
+signed_beside auth user offer None = tt
+signed_beside auth user offer (Some false) = tt
+signed_beside auth user offer (Some true) = proof_beside auth user offer.key offer.algorithm
+
+permitted_beside : (auth : AuthRequest) (answer : Auth) (next : Plan AuthOutcome) →
+    AsksOnly IsBeside next → AsksOnly IsBeside (permitted auth answer next)
+permitted_beside auth Accept next h = h
+permitted_beside auth _ next h = tt
+
+probed_beside : (auth : AuthRequest) (user : List ℕ) (offer : Offer) (accepted : Option Bool)
+    (is_probed : Bool) →
+    AsksOnly IsBeside (if is_probed then signed auth user offer accepted
+    else Ask (Admits (by.PublickeyOffered user (offered_key offer.key) offer.algorithm))
+    (λ answer. permitted auth answer (signed auth user offer accepted)))
+probed_beside auth user offer accepted true = signed_beside auth user offer accepted
+probed_beside auth user offer accepted false = (
+  refl,
+  λ answer. permitted_beside auth answer (signed auth user offer accepted)
+      (signed_beside auth user offer accepted),
+)
+
+method_beside : (auth : AuthRequest) (user : List ℕ) (method : Method) →
+    AsksOnly IsBeside (method_verdict auth user method)
+method_beside auth user None_method = (refl, λ answer. tt)
+method_beside auth user (Password_method password) = (refl, λ answer. tt)
+method_beside auth user (Change_method password new_password) = tt
+method_beside auth user Unusable_method = tt
+method_beside auth user Misnamed_method = tt
+method_beside auth user Broken_method = tt
+method_beside auth user (Probe_method offer) = (refl, λ answer. tt)
+method_beside auth user (Signed_method offer accepted) =
+    probed_beside auth user offer accepted (is_probed auth.current offer.name offer.blob)
+method_beside auth user (Interactive_method submethods) = (refl, λ answer. tt)
+method_beside auth user Other_method = tt
+method_beside auth user (Unfit_method why) = tt
+
+verdict_beside : (auth : AuthRequest) (asked : Asked) → AsksOnly IsBeside (verdict_on auth asked)
+verdict_beside auth (asks.Request user method) =
+    method_beside (begun auth user (codes "ssh-connection")) user method
+verdict_beside auth asks.Other_service = tt
+verdict_beside auth (asks.Unfit why) = tt
+verdict_beside auth asks.Unread = tt
+
+responded_beside : (auth : AuthRequest) (prompt : Option (List ℕ × List ℕ)) (said : Responded) →
+    AsksOnly IsBeside (responded auth prompt said)
+responded_beside auth None said = tt
+responded_beside auth (Some prompt) (Responses responses) = (refl, λ answer. tt)
+responded_beside auth (Some prompt) (Unfit_responses why) = tt
+responded_beside auth (Some prompt) Unread_responses = tt
+
+-- one plan and then another
+then_beside : {A B : Type 0} (plan : Plan A) (later : A → Plan B) → AsksOnly IsBeside plan →
+    ((outcome : A) → AsksOnly IsBeside (later outcome)) → AsksOnly IsBeside (after plan later)
+then_beside (Finish outcome) later h k = k outcome
+then_beside (Ask question next) later h k =
+    (h.0, λ answer. then_beside (next answer) later (h.1 answer) k)
+then_beside (Tell entry next) later h k = then_beside next later h k
+
+concluded_beside : (w : World) (moment : ℕ) (requested : Bool) (outcome : AuthOutcome) →
+    AsksOnly IsBeside (concluded w moment requested outcome)
+concluded_beside w moment requested (verdicts.Replies reply verdict.Accepted state) =
+    acts_beside (replied w moment requested reply verdict.Accepted)
+    (waits_for (WaitingAuthRequest state) w) (refl, tt)
+concluded_beside w moment requested
+    (verdicts.Replies reply (verdict.Rejected none_method) state) = tt
+concluded_beside w moment requested (verdicts.Replies reply verdict.Continued state) = tt
+concluded_beside w moment requested (verdicts.Fails fault) = tt
+
+state_beside : (state : EncryptedState) (next : AuthRequest → Plan AuthOutcome) (w : World)
+    (moment : ℕ) (requested : Bool) → ((auth : AuthRequest) → AsksOnly IsBeside (next auth)) →
+    AsksOnly IsBeside (asked_at state (λ auth. after (next auth) (concluded w moment requested))
+    (acts [] w))
+state_beside (WaitingAuthRequest auth) next w moment requested h =
+    then_beside (next auth) (concluded w moment requested) (h auth)
+    (concluded_beside w moment requested)
+state_beside _ next w moment requested h = tt
+
+greets_beside : (w : World) (message : Option (List ℕ)) (short : Bool) → is_short message ≡ short →
+    AsksOnly IsBeside (acts (greets message) w)
+greets_beside w message true is = rw is tt
+greets_beside w message false is = rw is tt
+
+service_beside : (w : World) (b : Bool) →
+    AsksOnly IsBeside (if b then Ask Banner (λ message. acts (greets message) w) else acts [] w)
+service_beside w true = (refl, λ message. greets_beside w message (is_short message) refl)
+service_beside w false = tt
+
+row_beside : (w : World) (moment : ℕ) (said : Said) → IsBesideOpen said →
+    AsksOnly IsBeside (row w moment said)
+row_beside w moment (Service name) beside = service_beside w (bytes_eq name (codes "ssh-userauth"))
+row_beside w moment (Request asked) beside =
+    state_beside w.user.state (λ auth. verdict_on auth asked) w moment true
+    (λ auth. verdict_beside auth asked)
+row_beside w moment (Response said) beside =
+    state_beside w.user.state (λ auth. response_verdict auth said) w moment w.user.requested
+    (λ auth. responded_beside (record auth { partial_success = false }) (prompt_of auth) said)
+row_beside w moment said beside = acts_beside (owed w said) w (owed_beside w said beside)
+
+-- ---- inputs
+
+-- the first question at most is about an open
+abbrev pub AsksOnce : Plan Outcome → Type 0
+AsksOnce (Finish outcome) = Unit {0}
+AsksOnce (Ask question next) = (answer : Answer question) → AsksOnly IsBeside (next answer)
+AsksOnce (Tell entry next) = AsksOnce next
+
+-- in a CHANNEL_OPEN one question at most, in other inputs none
+abbrev pub AsksUpTo : (is_open : Bool) → Plan Outcome → Type 0
+AsksUpTo true plan = AsksOnce plan
+AsksUpTo false plan = AsksOnly IsBeside plan
+
+none_once : (plan : Plan Outcome) → AsksOnly IsBeside plan → AsksOnce plan
+none_once (Finish outcome) h = tt
+none_once (Ask question next) h = h.1
+none_once (Tell entry next) h = none_once next h
+
+none_upto : (b : Bool) (plan : Plan Outcome) → AsksOnly IsBeside plan → AsksUpTo b plan
+none_upto true plan h = none_once plan h
+none_upto false plan h = h
+
+opens_once : (w : World) (drawn : Option ℕ) (message : OpenChannelMessage) (does : Handling) →
+    AsksOnce (acts (open_acts drawn message does) w)
+opens_once w None message (Asks type) = tt
+opens_once w None message Unsupported = tt
+opens_once w None message Unknown = tt
+opens_once w (Some number) message (Asks type) = λ commands.
+    all_beside 0 commands (waits number (opening_by message) w) (acts []) (λ world. tt)
+opens_once w (Some number) message Unsupported = tt
+opens_once w (Some number) message Unknown = tt
+
+open_once : (w : World) (moment : ℕ) (fields : List ℕ) (said : Said) → SaysOpen fields said →
+    AsksOnce (row w moment said)
+open_once w moment fields (Open message) h =
+    opens_once w (next_number w.channels.lines) message (handling message.typ)
+open_once w moment fields Unread h = tt
+open_once w moment fields Without_packets h = tt
+open_once w moment fields (Unfit why) h = tt
+open_once w moment fields _ h = absurd h
+
+-- what was read by a layout is no open of the peer's, where it says none
+read_beside : {S : Type 0} (says : S → Said) (read : Result S WireError) →
+    ((value : S) → IsBesideOpen (says value)) → IsBesideOpen (said_of says read)
+read_beside says (Ok value) h = h value
+read_beside says (Err why) h = tt
+
+confirmation_beside : (fields : List ℕ) (said : Said) → SaysConfirmation fields said
+    → IsBesideOpen said
+confirmation_beside fields (Agreed message) h = tt
+confirmation_beside fields Without_packets h = tt
+confirmation_beside fields (Unfit why) h = tt
+confirmation_beside fields _ h = absurd h
+
+-- an open is said at its gate alone
+pub beside_at : (given : Circumstances) (there : ℕ → Bool) (at : Gate) (fields : List ℕ)
+    (said : Said) → Says given there at fields said →
+    ((at ≡ gate.ChannelOpen) × SaysOpen fields said) ⊎ IsBesideOpen said
+beside_at given there gate.ChannelOpen fields said h = inl (refl, h)
+beside_at given there gate.Nothing fields said h = inr (rw h tt)
+beside_at given there gate.Ends fields said h = inr (rw h tt)
+beside_at given there gate.OverCap fields said h = inr (rw h tt)
+beside_at given there gate.NotBuilt fields said h = inr (rw h tt)
+beside_at given there gate.ServiceRequest fields said h =
+    inr (rw h.2 (read_beside Service h.0 (λ name. tt)))
+beside_at given there gate.UserauthRequest fields said h = inr (rw h.2 tt)
+beside_at given there gate.InfoResponse fields said h = inr (rw h.2 tt)
+beside_at given there gate.OpenConfirmation fields said h =
+    inr (confirmation_beside fields said h)
+beside_at given there (gate.Channel message) fields said h =
+    inr (rw h.2 (read_beside Channel h.0 (λ spoken. tt)))
+
+-- a payload that is read as an open is a CHANNEL_OPEN
+pub read_open : (w : World) (payload : List ℕ) → gate_of w payload ≡ gate.ChannelOpen →
+    is_open (input.Payload payload) ≡ true
+read_open w payload at = ap (λ p. is_open (input.Payload p)) (is_channel_open w payload at)
+
+payload_upto : (w : World) (moment : ℕ) (payload : List ℕ) (said : Said) →
+    ((gate_of w payload ≡ gate.ChannelOpen) × SaysOpen (drop 1 payload) said) ⊎ IsBesideOpen said →
+    AsksUpTo (is_open (input.Payload payload)) (row w moment said)
+payload_upto w moment payload said (inl at) =
+    rw (read_open w payload at.0) (open_once w moment (drop 1 payload) said at.1)
+payload_upto w moment payload said (inr beside) =
+    none_upto (is_open (input.Payload payload)) (row w moment said)
+    (row_beside w moment said beside)
+
+command_beside : (w : World) (ticket : ℕ) (commanded : Command) →
+    AsksOnly IsBeside (command_row w ticket commanded)
+command_beside w ticket commanded = one_beside (effect w commanded) _ (λ outcome world. tt)
+
+kind_upto : (accepts : Acceptance) (w : World) (moment : ℕ) (kind : InputKind)
+    (plan : Plan Outcome) → OwesKind accepts w moment kind plan → AsksUpTo (is_open kind) plan
+kind_upto accepts w moment input.End plan o = rw o tt
+kind_upto accepts w moment (input.Payload payload) plan o =
+    rw o.2 (payload_upto w moment payload o.0
+    (beside_at (circumstances accepts w.settings moment) (is_there w) (gate_of w payload)
+    (drop 1 payload) o.0 o.1))
+kind_upto accepts w moment (input.Command ticket commanded) plan o =
+    rw o (command_beside w ticket commanded)
+kind_upto accepts w moment (input.OpenReply ticket answer) plan o =
+    rw o (command_beside w ticket (command.Answer answer))
+kind_upto accepts w moment kind plan o = rw o tt
+
+finish_beside : (outcome : Outcome) → AsksOnly IsBeside (finish_input outcome)
+finish_beside (Goes w) = tells_beside (map Sent w.channels.lines.written) _ tt
+finish_beside (Ends w) = tells_beside (map Sent w.channels.lines.written) _ tt
+finish_beside (Fails fault) = tt
+
+input_once : (plan : Plan Outcome) → AsksOnce plan → AsksOnce (after plan finish_input)
+input_once (Finish outcome) h = none_once (finish_input outcome) (finish_beside outcome)
+input_once (Ask question next) h = λ answer.
+    then_beside (next answer) finish_input (h answer) finish_beside
+input_once (Tell entry next) h = input_once next h
+
+input_upto : (b : Bool) (plan : Plan Outcome) → AsksUpTo b plan →
+    AsksUpTo b (after plan finish_input)
+input_upto true plan h = input_once plan h
+input_upto false plan h = then_beside plan finish_input h finish_beside
+
+-- ---- events
+
+beside_none : {E : Type 0} (plan : Plan Outcome) (events : List (Event E ⊥)) →
+    AsksOnly IsBeside plan → Walks plan events → how_many open_returned events ≡ 0
+beside_none plan [] h w = refl
+beside_none (Finish outcome) (event ∷ events) h w = absurd w
+beside_none (Ask question next) (event ∷ events) h (inl w) =
+    rw (asked_open event question (asked_so question w.0 event w.1), h.0)
+    (beside_none (next w.0) events (h.1 w.0) w.2)
+beside_none (Ask question next) (event ∷ events) h (inr w) =
+    rw (asked_open event question (refused_so question w.0 event w.1), h.0, w.2) refl
+beside_none (Tell entry next) (event ∷ events) h w = rw w.0 (beside_none next events h w.1)
+
+one_more : (b : Bool) (n : ℕ) → n ≡ 0 → cond b (n + 1) n ≤ 1
+one_more true n h = omega (arith, h)
+one_more false n h = omega (arith, h)
+
+once_one : {E : Type 0} (plan : Plan Outcome) (events : List (Event E ⊥)) → AsksOnce plan →
+    Walks plan events → how_many open_returned events ≤ 1
+once_one plan [] h w = omega arith
+once_one (Finish outcome) (event ∷ events) h w = absurd w
+once_one (Ask question next) (event ∷ events) h (inl w) =
+    one_more (open_returned event) (how_many open_returned events)
+    (beside_none (next w.0) events (h w.0) w.2)
+once_one (Ask question next) (event ∷ events) h (inr w) =
+    one_more (open_returned event) (how_many open_returned events) (ap (how_many open_returned) w.2)
+once_one (Tell entry next) (event ∷ events) h w = rw w.0 (once_one next events h w.1)
+
+upto_count : {E : Type 0} (b : Bool) (plan : Plan Outcome) (events : List (Event E ⊥)) →
+    AsksUpTo b plan → Walks plan events → how_many open_returned events ≤ (if b then 1 else 0)
+upto_count true plan events h w = once_one plan events h w
+upto_count false plan events h w = let none = beside_none plan events h w in omega (arith, none)
+
+-- a CHANNEL_OPEN makes the callback of an open once at most, and another input never
+pub turn_called : {E : Type 0} (accepts : Acceptance) (w : World) (turn : Turn E)
+    (plan : Plan Outcome) → Owes accepts w turn.input plan → Walks plan turn.events →
+    how_many open_returned turn.events ≤ (if is_open turn.input.kind then 1 else 0)
+turn_called accepts w turn plan o walks =
+    upto_count (is_open turn.input.kind) plan turn.events
+    (rw o.2 (input_upto (is_open turn.input.kind) o.0
+    (kind_upto accepts w turn.input.moment turn.input.kind o.0 o.1))) walks

@@ -1,0 +1,40 @@
+use Rattle.std.proofs.Common.{◌∙◌, sym, true, false}
+use Rattle.ssh_link.specs.declared.link.TraceEntry.TheVariants.{Noticed}
+use Rattle.ssh_link.specs.declared.notice.ChannelMsg.TheVariants.{OpenFailure}
+use Rattle.ssh_link.specs.declared.notice.Notice.TheVariants.{Channel}
+use Rattle.ssh_auth.specs.Plan.{Tell}
+use Rattle.ssh_channels.specs.Calls.{Fail_open}
+use Rattle.ssh_channels.specs.Lines.{fails}
+use Rattle.ssh_session.specs.Acts.{acts}
+use Rattle.ssh_session.specs.World.{lined}
+use Rattle.ssh_session.proofs.Refining.{called}
+use Rattle.ssh_session.proofs.Rows.{failure_by, waiting_same, not_failed}
+use Rattle.ssh_session.proofs.Serving.{serves_nothing, settled_by}
+use Rattle.ssh_session.proofs.session.Session.peer_fails.Goals as goal
+
+pub returns-then-not-waited-clause-does : goal.returns-then-not-waited-clause-does
+returns-then-not-waited-clause-does g c = λ w r later.
+    let n = c.args.channel.0 in
+    let old = c.args.self.now in
+    let there = sym (c.is_there.ensures w r) ∙ c.if-is_there.false in
+    let none = sym (waiting_same n old w r) ∙ (sym c.fail_open-waited.ensures.answer
+    ∙ c.if-not-waited.true) in
+    let failed = called (Fail_open n) old c.fail_open-waited.new.self _ w tt
+    c.fail_open-waited.ensures.table r in
+    rw (failure_by w c.args.channel c.args.reason false false there none)
+    (serves_nothing tt (λ (_ : Unit {0}). acts later) _ w _ (not_failed n w _ none failed))
+
+pub returns-clause-does : goal.returns-clause-does
+returns-clause-does g c = λ w r later.
+    let n = c.args.channel.0 in
+    let old = c.args.self.now in
+    let there = sym (c.is_there.ensures w r) ∙ c.if-is_there.false in
+    let waits = sym (waiting_same n old w r) ∙ (sym c.fail_open-waited.ensures.answer
+    ∙ c.if-not-waited.false) in
+    let failed = called (Fail_open n) old c.fail_open-waited.new.self _ w tt
+    c.fail_open-waited.ensures.table r in
+    let v = lined (fails n) w in
+    rw (failure_by w c.args.channel c.args.reason false true there waits)
+    (settled_by (Tell (Noticed (Channel c.args.channel (OpenFailure c.args.reason)))
+    (acts later v)) (acts later) _ _ v _ c.note.result failed
+    (c.note.ensures.does v failed (acts later v)))

@@ -1,0 +1,89 @@
+-- A CHANNEL_OPEN of the peer's gets at most one answer, and none before its callback returned (RFC
+-- 4254 section 5.1).
+use Rattle.std.specs.Prelude.{◌≡◌, ◌≤◌, ◌+◌, ◌==◌, ◌&&◌, ◌||◌, ℕ, List, [], ◌∷◌, ◌++◌, flat_map}
+use Rattle.std.specs.Prelude.{Bool, true, false, cond, if◌then◌else◌, Option, Some, None, is_some}
+use Rattle.ssh_wire.specs.Messages.{channel_open, channel_open_confirmation, channel_open_failure}
+use Rattle.ssh_wire.specs.declared.channel_id.ChannelId.{ChannelId}
+use Rattle.ssh_link.specs.Frames.{Frame}
+use Rattle.ssh_link.specs.declared.frame.InputKind.{InputKind}
+use Rattle.ssh_link.specs.declared.frame.InputKind.TheVariants.{Payload}
+use Rattle.ssh_link.specs.declared.link.TraceEntry.TheVariants.{Sent}
+use Rattle.ssh_auth.specs.declared.question.Lent.TheVariants.{Opens}
+use Rattle.ssh_auth.specs.declared.question.Question.{Question}
+use Rattle.ssh_auth.specs.declared.question.Question.TheVariants.{Lends}
+use Rattle.ssh_auth.specs.Plan.{Event, Called, Told}
+use Rattle.ssh_auth.specs.Was.{asked_of}
+use Rattle.ssh_channels.specs.Sent.{is_tagged, message_of}
+use Rattle.ssh_session.specs.Run.{Turn, calls_of}
+
+-- how many of these are such
+abbrev pub how_many : {X : Type 0} → (such : X → Bool) → List X → ℕ
+how_many such [] = 0
+how_many such (x ∷ xs) = cond (such x) (how_many such xs + 1) (how_many such xs)
+
+-- a frame that answers an open: CHANNEL_OPEN_CONFIRMATION is 91, CHANNEL_OPEN_FAILURE 92 (section
+-- 5.1)
+abbrev pub is_answer : Frame → Bool
+is_answer frame =
+    (message_of frame.payload == channel_open_confirmation.number)
+    || (message_of frame.payload == channel_open_failure.number)
+
+-- on this side's number of the channel
+abbrev pub is_answer_on : (number : ℕ) → Frame → Bool
+is_answer_on number frame = is_tagged number frame.channel && is_answer frame
+
+-- such a frame was sent
+abbrev pub sends : {E : Type 0} → (such : Frame → Bool) → Event E ⊥ → Bool
+sends such (Told (Sent frame)) = such frame
+sends such _ = false
+
+-- the channel whose open the handler is asked about
+abbrev pub open_asked : Question → Option ChannelId
+open_asked (Lends (Opens channel type)) = Some channel
+open_asked _ = None
+
+-- the channel whose open's callback returned
+abbrev pub open_of : {E : Type 0} → Event E ⊥ → Option ChannelId
+open_of (Called call) = open_asked (asked_of call)
+open_of _ = None
+
+-- the callback of an open returned, and of one of this number
+abbrev pub open_returned : {E : Type 0} → Event E ⊥ → Bool
+open_returned event = is_some (open_of event)
+
+abbrev pub open_returned_on : {E : Type 0} → (number : ℕ) → Event E ⊥ → Bool
+open_returned_on number event = is_tagged number (open_of event)
+
+-- CHANNEL_OPEN is 90 (section 5.1)
+abbrev pub is_open : InputKind → Bool
+is_open (Payload payload) = message_of payload == channel_open.number
+is_open _ = false
+
+abbrev pub is_none : {A : Type 0} → List A → Bool
+is_none [] = true
+is_none (x ∷ xs) = false
+
+-- a CHANNEL_OPEN, and no callback was made in its input: its type has none
+abbrev pub is_uncalled : {E : Type 0} → Turn E → Bool
+is_uncalled turn = is_open turn.input.kind && is_none (calls_of turn)
+
+-- what happened in the other inputs, one after another
+abbrev pub called_events : {E : Type 0} → List (Turn E) → List (Event E ⊥)
+called_events turns = flat_map (λ turn. cond (is_uncalled turn) [] turn.events) turns
+
+pub record Answered {E : Type 0} (turns : List (Turn E)) : Type 0 where
+  -- a CHANNEL_OPEN makes the callback of an open at most once, and no other input does
+  pub called_once : (before after : List (Turn E)) (turn : Turn E) → turns ≡ before ++ turn ∷ after
+      → how_many open_returned turn.events ≤ (if is_open turn.input.kind then 1 else 0)
+  -- an open whose type has no callback gets at most one answer in its input
+  pub at_once : (before after : List (Turn E)) (turn : Turn E) → turns ≡ before ++ turn ∷ after
+      → is_uncalled turn ≡ true → how_many (sends is_answer) turn.events ≤ 1
+  -- in the other inputs, at every moment and on each number, no more answers were sent than
+  -- callbacks of opens have returned
+  pub after_call : (past more : List (Event E ⊥)) → called_events turns ≡ past ++ more
+      → (number : ℕ) → how_many (sends (is_answer_on number)) past
+      ≤ how_many (open_returned_on number) past
+  -- and while no further one returns, at most one answer is sent
+  pub one_each : (past span more : List (Event E ⊥)) → called_events turns ≡ past ++ (span ++ more)
+      → (number : ℕ) → how_many (open_returned_on number) span ≡ 0
+      → how_many (sends (is_answer_on number)) span ≤ 1

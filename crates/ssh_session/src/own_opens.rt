@@ -1,0 +1,213 @@
+// Opens of this side (RFC 4254 section 5.1).
+ghost use Rattle.std.specs.Prelude.{◌≡◌, ◌≢◌, ◌<◌, ◌^◌, ℕ};
+ghost use Rattle.ssh_session.specs.declared.messages.Spoken.TheVariants.{Failed};
+ghost use Rattle.ssh_session.specs.World.{World};
+ghost use Rattle.ssh_session.specs.Run.{is_waiting};
+ghost use Rattle.ssh_session.specs.Spelling.{IsRead};
+ghost use Rattle.ssh_session.specs.Messages.{failure, reason_of};
+ghost use Rattle.ssh_session.specs.Reading.{Said, SaysConfirmation};
+ghost use Rattle.ssh_session.specs.Rows.{row, confirmation_acts, spoken_acts};
+ghost use Rattle.ssh_session.specs.OwnOpens.{asking};
+ghost use Rattle.ssh_session.specs.Effect.{no_user, lacks, opens_need, opens_or_not, opens};
+ghost use Rattle.ssh_session.specs.Heard.{AreSame};
+ghost use Rattle.ssh_session.specs.Serve.{Refines, Does, Completes, HasEffect, IsSuited};
+ghost use Rattle.ssh_session.specs.Serve.{IsSamePeer};
+
+use crate::apply::Done;
+use crate::asked::{own_open_frame, put_own_fields, type_name};
+use crate::message::{read_number, read_recipient, read_texts};
+use crate::messages::Spoken;
+use crate::outside::Outside;
+use crate::state::EncryptedState;
+use crate::{Flow, RunError, Session};
+use ssh_auth::Happening;
+use ssh_channels::TableError;
+use ssh_link::{ChannelMsg, Command, CommandOutcome, Notice, Refusal};
+use ssh_wire::{ChannelId, ChannelOpenConfirmation, ChannelOpenFailure, Reader, WireError};
+
+/// How many bytes the name and the own fields of a CHANNEL_OPEN have together at most: 17 bytes are
+/// the other fields, and a payload has at most 2^32 - 1.
+const MAX_OPEN_PARTS: usize = u32::MAX as usize - 17;
+
+/// The reason of a refusal; a code that is none is read as the first.
+fn reason_of(code: u32) -> ChannelOpenFailure
+    ensures { result ≡ reason_of code }
+{
+    match code {
+        2 => ChannelOpenFailure::ConnectFailed,
+        3 => ChannelOpenFailure::UnknownChannelType,
+        4 => ChannelOpenFailure::ResourceShortage,
+        _ => ChannelOpenFailure::AdministrativelyProhibited,
+    }
+}
+
+/// CHANNEL_OPEN_FAILURE.
+pub(crate) fn failure_message(fields: &[u8]) -> Result<Spoken, WireError>
+    ensures { IsRead failure fields.now result }
+{
+    let (channel, rest) = read_recipient(fields)?;
+    let (code, texts) = read_number(rest)?;
+    read_texts(texts)?;
+    Ok(Spoken::Failed(channel, reason_of(code)))
+}
+
+impl Session {
+    /// CHANNEL_OPEN_CONFIRMATION. `Inconsistent` at a packet size of 0, and where no open of this
+    /// side waits under its number.
+    pub(crate) fn serve_open_confirmation<O: Outside>(
+        &mut self,
+        outside: &mut O,
+        fields: &[u8],
+    ) -> Result<Flow, RunError<O::Error>>
+        requires suits { IsSuited O.suits self.old }
+        ensures does { (w : World) (moment : ℕ) → Refines self.old w →
+            (said : Said) × SaysConfirmation fields.now said
+            × Completes (row w moment said) (O.heard outside.old) (O.heard outside.new) self.new
+            result }
+        ensures same { AreSame (O.heard outside.old) (O.heard outside.new) }
+    {
+        let mut reader = Reader::new(fields);
+        match ChannelOpenConfirmation::parse(&mut reader) {
+            Ok(message) => {
+                reader.end()?;
+                self.peer_confirms(outside, message)?;
+                Ok(Flow::Continue)
+            }
+            Err(e) => Err(RunError::from(e)),
+        }
+    }
+
+    /// The peer agrees to an open of this side, which is a channel from then on.
+    fn peer_confirms<O: Outside>(
+        &mut self,
+        outside: &mut O,
+        message: ChannelOpenConfirmation,
+    ) -> Result<(), RunError<O::Error>>
+        requires suits { IsSuited O.suits self.old }
+        requires packets { message.maximum_packet_size ≢ 0 }
+        requires window { message.initial_window_size < 2 ^ 32 }
+        ensures does { (w : World) → Refines self.old w →
+            Does (confirmation_acts (is_waiting w message.recipient_channel) message) w
+            (O.heard outside.old) (O.heard outside.new) self.new result }
+        ensures same { AreSame (O.heard outside.old) (O.heard outside.new) }
+    {
+        let waited = self.table.confirm(&message)?;
+        if !waited {
+            return Err(RunError::Inconsistent);
+        }
+        let channel = ChannelId(message.recipient_channel);
+        let window = message.initial_window_size;
+        let packet = message.maximum_packet_size;
+        self.note(
+            outside,
+            Notice::Ready {
+                channel,
+                window,
+                packet,
+            },
+        )?;
+        self.tell(
+            outside,
+            channel,
+            ChannelMsg::Open {
+                id: channel,
+                max_packet_size: packet,
+                window_size: window,
+            },
+            Happening::Confirmed {
+                max_packet_size: packet,
+                window_size: window,
+            },
+        )
+    }
+
+    /// The peer refuses an open of this side, which is gone. `Inconsistent` where it is a channel
+    /// already.
+    pub(crate) fn peer_fails<O: Outside>(
+        &mut self,
+        outside: &mut O,
+        channel: ChannelId,
+        reason: ChannelOpenFailure,
+    ) -> Result<(), RunError<O::Error>>
+        ensures does { (w : World) → Refines self.old w →
+            Does (spoken_acts w (Failed channel reason)) w (O.heard outside.old)
+            (O.heard outside.new) self.new result }
+        ensures same { AreSame (O.heard outside.old) (O.heard outside.new) }
+    {
+        if self.is_there(channel) {
+            return Err(RunError::Inconsistent);
+        }
+        let waited = self.table.fail_open(channel);
+        if !waited {
+            return Ok(());
+        }
+        self.note(
+            outside,
+            Notice::Channel(channel, ChannelMsg::OpenFailure(reason)),
+        )
+    }
+
+    /// Why nothing can be opened yet.
+    fn no_user(&self) -> Option<Refusal>
+        ensures { (w : World) → Refines self.now w → result ≡ no_user w.user.state }
+    {
+        match &self.state {
+            EncryptedState::InitCompression | EncryptedState::Authenticated => None,
+            _ => Some(Refusal::NotAuthenticated),
+        }
+    }
+
+    /// Why a command cannot open a channel, where it would.
+    pub(crate) fn no_opening(&self, command: &Command) -> Option<Refusal>
+        ensures { (w : World) → Refines self.now w →
+            result ≡ lacks w (opens_need (asking command.now)) }
+    {
+        match type_name(command) {
+            Some(_) => self.no_user(),
+            None => None,
+        }
+    }
+
+    /// A command that opens a channel; others are not built.
+    pub(crate) fn do_open<E>(&mut self, command: &Command) -> Result<Done, RunError<E>>
+        ensures does { (w : World) → Refines self.old w →
+            HasEffect (opens_or_not (asking command.now) w) self.new result }
+        ensures peer { IsSamePeer self.old self.new }
+    {
+        let Some(name) = type_name(command) else {
+            return Err(RunError::NotBuilt);
+        };
+        let mut fields = Vec::new(self.alloc);
+        match put_own_fields(&mut fields, command) {
+            Ok(()) => self.open_own(name, fields.as_slice()),
+            Err(WireError::TooLong) => Ok(Done::refused(Refusal::TooLong)),
+            Err(_) => Err(RunError::NoMemory),
+        }
+    }
+
+    /// An open of a channel of this type with these own fields.
+    fn open_own<E>(&mut self, name: &str, fields: &[u8]) -> Result<Done, RunError<E>>
+        ensures does { (w : World) → Refines self.old w →
+            HasEffect (opens (record { name = name.now; fields = fields.now }) w) self.new result }
+        ensures peer { IsSamePeer self.old self.new }
+    {
+        if name.len().saturating_add(fields.len()) > MAX_OPEN_PARTS {
+            return Ok(Done::refused(Refusal::TooLong));
+        }
+        let window = self.common.config.window_size;
+        let packet = self.common.config.maximum_packet_size;
+        match self.table.new_channel(window, packet) {
+            Ok(number) => {
+                let alloc = self.alloc;
+                let frame = own_open_frame(alloc, number, name, window, packet, fields)?;
+                self.table.stage(frame)?;
+                Ok(Done {
+                    notice: None,
+                    outcome: CommandOutcome::Opened(number),
+                })
+            }
+            Err(TableError::Full) => Ok(Done::refused(Refusal::NumbersFull)),
+            Err(_) => Err(RunError::NoMemory),
+        }
+    }
+}
