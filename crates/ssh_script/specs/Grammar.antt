@@ -294,6 +294,11 @@ eof_form rest = Of_small (λ channel. Whole (commands (command.Eof (own channel)
 abbrev pub close_form : List ℕ → Form
 close_form rest = Of_small (λ channel. Whole (commands (command.Close (own channel)))) rest
 
+-- open, and the type of the channel
+abbrev pub own_open_form : List ℕ → Form
+own_open_form type =
+    if bytes_eq type (codes "session") then Whole (commands command.OpenSession) else No_form
+
 -- accept, and a channel
 abbrev pub accept_form : List ℕ → Form
 accept_form rest = Of_small (λ channel. Whole (replies (accepting (own channel)))) rest
@@ -337,6 +342,7 @@ word_form word rest =
     else if bytes_eq word (codes "ext") then ext_form rest
     else if bytes_eq word (codes "eof") then eof_form rest
     else if bytes_eq word (codes "close") then close_form rest
+    else if bytes_eq word (codes "open") then own_open_form rest
     else if bytes_eq word (codes "accept") then accept_form rest
     else if bytes_eq word (codes "reject") then reject_form rest
     else No_form

@@ -3,6 +3,7 @@ use Rattle.std.specs.Prelude.{ℕ, ◌+◌, List, [], ◌∷◌, ◌++◌, codes
 use Rattle.std.specs.Prelude.{Result, Ok, Err}
 use Rattle.std.specs.Fmt.{decimal}
 use Rattle.ssh_wire.specs.declared.channel_id.ChannelId.{ChannelId}
+use Rattle.ssh_wire.specs.OpenFailures.{open_failure_code}
 use Rattle.ssh_link.specs.declared.notice.ChannelMsg.{ChannelMsg}
 use Rattle.ssh_link.specs.declared.notice.ChannelMsg.TheVariants as msg
 use Rattle.ssh_link.specs.declared.notice.Notice.{Notice}
@@ -34,6 +35,9 @@ frame_line frame =
 
 -- what happened on a channel; no row tells of other messages
 abbrev pub msg_text : ChannelMsg → List ℕ
+msg_text (msg.Open id packet window) =
+    codes " Open " ++ decimal id.0 ++ codes " " ++ decimal packet ++ codes " " ++ decimal window
+msg_text (msg.OpenFailure reason) = codes " OpenFailure " ++ decimal (open_failure_code reason)
 msg_text (msg.Data bytes) = codes " Data " ++ hex_text bytes
 msg_text (msg.ExtendedData bytes code) =
     codes " ExtendedData " ++ hex_text bytes ++ codes " " ++ decimal code

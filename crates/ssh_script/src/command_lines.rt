@@ -1,8 +1,8 @@
 // How the lines of a script are written that bring a command, or the answer to an open of the peer.
 ghost use Rattle.std.specs.Prelude.{◌≡◌, IfOk};
 ghost use Rattle.ssh_script.specs.Grammar.{IsSmallIn, IsChannelIn, Fits, reason_of, data_form};
-ghost use Rattle.ssh_script.specs.Grammar.{ext_form, eof_form, close_form, accept_form};
-ghost use Rattle.ssh_script.specs.Grammar.{reject_form};
+ghost use Rattle.ssh_script.specs.Grammar.{ext_form, eof_form, close_form, own_open_form};
+ghost use Rattle.ssh_script.specs.Grammar.{accept_form, reject_form};
 
 use crate::grammar::{bytes_in, number_in};
 use crate::lines::{InputLine, Line};
@@ -101,6 +101,16 @@ pub(crate) fn close_line(alloc: Global, number: &str) -> Result<Option<Line>, Al
     };
     let command = Command::Close { channel };
     Ok(Some(Line::Input(InputLine::Command(command))))
+}
+
+/// The rest of a line `open`: the type of the channel.
+pub(crate) fn own_open_line(word: &str) -> Option<Line>
+    ensures { Fits (own_open_form word.now) result }
+{
+    match word {
+        "session" => Some(Line::Input(InputLine::Command(Command::OpenSession))),
+        _ => None,
+    }
 }
 
 /// The rest of a line `accept`: a channel.

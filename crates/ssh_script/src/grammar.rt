@@ -10,7 +10,7 @@ ghost use Rattle.ssh_script.specs.Grammar.{data_answer_form};
 
 use crate::answers::{DataVerdict, InteractiveVerdict, OpenVerdict, Verdict};
 use crate::command_lines::{
-    accept_line, close_line, data_line, eof_line, ext_line, reject_line, small_in,
+    accept_line, close_line, data_line, eof_line, ext_line, own_open_line, reject_line, small_in,
 };
 use crate::lines::{InputLine, Line, Setting};
 use bytes::Bytes;
@@ -312,6 +312,7 @@ fn word_line(alloc: Global, word: &str, rest: &str) -> Result<Option<Line>, Allo
         "ext" => ext_line(alloc, rest),
         "eof" => eof_line(alloc, rest),
         "close" => close_line(alloc, rest),
+        "open" => Ok(own_open_line(rest)),
         "accept" => accept_line(alloc, rest),
         "reject" => reject_line(alloc, rest),
         _ => Ok(None),

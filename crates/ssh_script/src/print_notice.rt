@@ -72,10 +72,36 @@ fn print_extended(
     print_field(alloc, out, " ", u64::from(code))
 }
 
+/// A channel that the peer confirmed: its number, and the peer's packet size and window.
+fn print_open(
+    alloc: Global,
+    out: &mut String,
+    id: ChannelId,
+    packet: u32,
+    window: u32,
+) -> Result<(), AllocError>
+    ensures { OnOk result (string_bytes out.new ≡ string_bytes out.old
+        ++ (codes " Open " ++ decimal id.0 ++ codes " " ++ decimal packet ++ codes " "
+        ++ decimal window)) }
+{
+    print_field(alloc, out, " Open ", u64::from(id.0))?;
+    print_field(alloc, out, " ", u64::from(packet))?;
+    print_field(alloc, out, " ", u64::from(window))
+}
+
+/// What happened on a channel.
 fn print_msg(alloc: Global, out: &mut String, msg: &ChannelMsg) -> Result<(), AllocError>
     ensures { OnOk result (string_bytes out.new ≡ string_bytes out.old ++ msg_text msg.now) }
 {
     match msg {
+        ChannelMsg::Open {
+            id,
+            max_packet_size: packet,
+            window_size: window,
+        } => print_open(alloc, out, *id, *packet, *window),
+        ChannelMsg::OpenFailure(reason) => {
+            print_field(alloc, out, " OpenFailure ", u64::from(reason.code()))
+        }
         ChannelMsg::Data { bytes } => print_data(alloc, out, " Data ", bytes.as_slice()),
         ChannelMsg::ExtendedData { bytes, ext } => {
             print_extended(alloc, out, bytes.as_slice(), *ext)
