@@ -3,17 +3,20 @@ use crate::transcripts::run;
 use std::alloc::Global;
 use std::test::Fail;
 
-// Alice is let in by method none.
-const SETTINGS: &[u8] = b"answer none accept\n";
+/// Alice is let in by method none.
+pub(crate) const SETTINGS: &[u8] = b"answer none accept\n";
 
-const LOGIN: &[u8] = b"\
+/// The service request and the request of alice.
+pub(crate) const LOGIN: &[u8] = b"\
     recv 050000000c7373682d7573657261757468\n\
     recv 3200000005616c6963650000000e7373682d636f6e6e656374696f6e000000046e6f6e65\n";
 
-const LOGIN_CALLS: &[u8] =
+/// The callbacks of the login.
+pub(crate) const LOGIN_CALLS: &[u8] =
     b"call authentication_banner\ncall auth_none 616c696365\ncall auth_succeeded\n";
 
-const LOGIN_TRACE: &[u8] =
+/// The trace of the login.
+pub(crate) const LOGIN_TRACE: &[u8] =
     b"input 1\nsend - 060000000c7373682d7573657261757468\ninput 2\nsend - 34\n";
 
 // What follows the login: settings, input lines, and the callbacks and the trace after those of the
@@ -26,7 +29,8 @@ struct Case {
     trace: &'static [u8],
 }
 
-fn joined(alloc: Global, parts: &[&[u8]]) -> Result<Vec<u8>, Fail> {
+/// The parts, one after another.
+pub(crate) fn joined(alloc: Global, parts: &[&[u8]]) -> Result<Vec<u8>, Fail> {
     let mut whole = Vec::new(alloc);
     for part in parts {
         whole.extend_from_slice(*part)?;
@@ -291,7 +295,7 @@ fn commands_before_any_channel(rt: HostRuntime) -> Result<(), Fail> {
 
 #[test]
 fn bad_command_lines(rt: HostRuntime) -> Result<(), Fail> {
-    let scripts: [&[u8]; 19] = [
+    let scripts: [&[u8]; 26] = [
         b"data 2",
         b"data 2 ",
         b"data  61",
@@ -305,6 +309,13 @@ fn bad_command_lines(rt: HostRuntime) -> Result<(), Fail> {
         b"eof 4294967296",
         b"close -1",
         b"close 2 2",
+        b"open",
+        b"open ",
+        b"open  session",
+        b"open session ",
+        b"open session 2",
+        b"open Session",
+        b"open x11",
         b"accept",
         b"accept 2 1",
         b"reject 2",

@@ -255,6 +255,54 @@ fn the_examples_of_the_page_print_what_it_says(rt: HostRuntime) -> Result<(), Fa
               input 9\n\
               ok\n",
         },
+        // Channels that this side opens: one is confirmed and one refused.
+        Case {
+            script: b"answer none accept\n\
+              recv 050000000c7373682d7573657261757468\n\
+              recv 3200000005616c6963650000000e7373682d636f6e6e656374696f6e000000046e6f6e65\n\
+              open session\n\
+              data 2 6869\n\
+              recv 5b00000002000000050000040000000100\n\
+              data 2 6869\n\
+              recv 5e00000002000000026f6b\n\
+              open session\n\
+              recv 5c00000003000000040000000466756c6c00000002656e\n\
+              recv 6100000002\n",
+            status: 0,
+            written: b"call authentication_banner\n\
+              call auth_none 616c696365\n\
+              call auth_succeeded\n\
+              call channel_open_confirmation 2 256 1024\n\
+              call data 2 6f6b\n\
+              call channel_close 2\n\
+              input 1\n\
+              send - 060000000c7373682d7573657261757468\n\
+              input 2\n\
+              send - 34\n\
+              input 3\n\
+              done 1 opened 2\n\
+              send 2 5a0000000773657373696f6e000000020020000000008000\n\
+              input 4\n\
+              done 2 refused NotConfirmed\n\
+              input 5\n\
+              notice 2 Ready 1024 256\n\
+              notice 2 Open 2 256 1024\n\
+              input 6\n\
+              done 3 accepted\n\
+              send 2 5e00000005000000026869\n\
+              input 7\n\
+              notice 2 Data 6f6b\n\
+              input 8\n\
+              done 4 opened 3\n\
+              send 3 5a0000000773657373696f6e000000030020000000008000\n\
+              input 9\n\
+              notice 3 OpenFailure 4\n\
+              input 10\n\
+              notice 2 Close\n\
+              send 2 6100000005\n\
+              input 11\n\
+              ok\n",
+        },
     ];
     passes(&rt, rt.alloc(), &cases)
 }

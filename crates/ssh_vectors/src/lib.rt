@@ -13,6 +13,8 @@ mod handlers;
 #[cfg(test)]
 mod keys;
 #[cfg(test)]
+mod opens;
+#[cfg(test)]
 mod prompts;
 #[cfg(test)]
 mod runs;
