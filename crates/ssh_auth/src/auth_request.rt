@@ -1,7 +1,9 @@
 // The state of authentication between requests.
 ghost use Rattle.std.specs.Prelude.{◌≡◌, None, true, false, not, IfOk, IfErr, OnOk, OnErr};
 ghost use Rattle.ssh_wire.specs.declared.error.WireError.TheVariants.{NoMemory};
-ghost use Rattle.ssh_auth.specs.Request.{server_request, client_request, principal_of, pair_of, initial_of, is_bound, bound_to, is_probed, prompt_of, count_after};
+ghost use Rattle.ssh_auth.specs.Request.{server_request, client_request, principal_of, pair_of};
+ghost use Rattle.ssh_auth.specs.Request.{initial_of, is_bound, bound_to, is_probed, prompt_of};
+ghost use Rattle.ssh_auth.specs.Request.{count_after};
 
 #[cfg(test)]
 mod tests;
@@ -115,8 +117,8 @@ impl AuthRequest {
     }
 
     /// Binds the user and the service that a request names. True where they differ from the bound
-    /// ones: then the initial methods come back, the partial flag and the round are cleared, and the
-    /// count of rejections stays.
+    /// ones: then the initial methods come back, the partial flag and the round are cleared, and
+    /// the count of rejections stays.
     pub fn bind_or_reset_principal(
         &mut self,
         alloc: Global,
@@ -124,8 +126,10 @@ impl AuthRequest {
         service: &str,
     ) -> Result<bool, WireError>
         ensures ok { OnOk result (self.new ≡ bound_to self.old user.now service.now) }
-        ensures differed { IfOk result (λ differed. differed ≡ not (is_bound self.old.bound user.now service.now)) }
-        ensures restored { result ≡ Ok true → (self.new.methods ≡ initial_of self.old) × (self.new.partial_success ≡ false)
+        ensures differed { IfOk result (λ differed. differed
+            ≡ not (is_bound self.old.bound user.now service.now)) }
+        ensures restored { result ≡ Ok true → (self.new.methods ≡ initial_of self.old)
+            × (self.new.partial_success ≡ false)
             × (self.new.current ≡ None) × (self.new.rejection_count ≡ self.old.rejection_count) }
         ensures memory { IfErr result (λ e. e ≡ NoMemory) }
         ensures err { OnErr result (self.new ≡ self.old) }

@@ -5,7 +5,8 @@ ghost use Rattle.ssh_auth.specs.Failure.{auth_error_of, auth_error_of_key};
 use ssh_keys::KeyError;
 use ssh_wire::WireError;
 
-/// Why a request of authentication, or a response to prompts, gets no reply. `E` is the handler's error.
+/// Why a request of authentication, or a response to prompts, gets no reply. `E` is the handler's
+/// error.
 #[derive(Debug, Drop)]
 pub enum AuthError<E> {
     /// There was no memory.

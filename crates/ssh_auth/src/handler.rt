@@ -2,7 +2,11 @@
 ghost use Rattle.std.specs.Prelude.{◌≡◌, List, Option, None, Result};
 ghost use Rattle.ssh_link.specs.Told.{Tells, IsUntold};
 ghost use Rattle.ssh_auth.specs.declared.call.Call.{Call};
-ghost use Rattle.ssh_auth.specs.declared.call.Call.TheVariants.{AuthenticationBanner, AuthNone, AuthPassword, AuthPublickeyOffered, AuthPublickey, AuthOpensshCertificate, AuthKeyboardInteractive};
+ghost use Rattle.ssh_auth.specs.declared.call.Call.TheVariants.{AuthenticationBanner, AuthNone};
+ghost use Rattle.ssh_auth.specs.declared.call.Call.TheVariants.{AuthPassword, AuthPublickeyOffered};
+ghost use Rattle.ssh_auth.specs.declared.call.Call.TheVariants.{AuthPublickey};
+ghost use Rattle.ssh_auth.specs.declared.call.Call.TheVariants.{AuthOpensshCertificate};
+ghost use Rattle.ssh_auth.specs.declared.call.Call.TheVariants.{AuthKeyboardInteractive};
 
 use crate::{Auth, PublicKeyOffer, Response, VerifiedPublicKey};
 use ssh_keys::Certificate;
@@ -58,30 +62,34 @@ pub trait AuthHandler {
     /// A user asks to be let in by a password (RFC 4252 section 8): refused where it is not
     /// written.
     fn auth_password(&mut self, user: &str, password: &str) -> Result<Auth, Self::Error>
-        ensures { Tells (told self.old) (told self.new) result (AuthPassword user.now password.now result) }
+        ensures { Tells (told self.old) (told self.new) result
+            (AuthPassword user.now password.now result) }
     {
         self.untold(Unwritten::new())?;
         Ok(Auth::reject())
     }
 
-    /// A user offers a key (RFC 4252 section 7), in a probe, or in a signed request whose key was not
-    /// accepted in the probe before it; which of the two it is, is not told. The key may sign where this
-    /// is not written. Nobody is let in by the answer, whatever it is.
+    /// A user offers a key (RFC 4252 section 7), in a probe, or in a signed request whose key was
+    /// not accepted in the probe before it; which of the two it is, is not told. The key may sign
+    /// where this is not written. Nobody is let in by the answer, whatever it is.
     ///
-    /// The answer to a probe counts whole. Of the answer to a signed request it only counts whether it is
-    /// `Auth::Accept`, and then the signature is verified; else the request is refused, and neither the
+    /// The answer to a probe counts whole. Of the answer to a signed request it only counts whether
+    /// it is
+    /// `Auth::Accept`, and then the signature is verified; else the request is refused, and neither
+    /// the
     /// methods nor the flag of an `Auth::Reject` are used.
     ///
-    /// The algorithm is the one that the request names, and the key is what its blob holds, or what its
-    /// certificate certifies. The two need not belong together, as an RSA key and `ssh-ed25519`: whoever
-    /// minds it refuses them here, or leaves it to the verifier. So it is with an algorithm that is not to
-    /// be used any more, as `ssh-rsa`, which signs by SHA-1.
+    /// The algorithm is the one that the request names, and the key is what its blob holds, or what
+    /// its certificate certifies. The two need not belong together, as an RSA key and
+    /// `ssh-ed25519`: whoever minds it refuses them here, or leaves it to the verifier. So it is
+    /// with an algorithm that is not to be used any more, as `ssh-rsa`, which signs by SHA-1.
     fn auth_publickey_offered(
         &mut self,
         user: &str,
         offer: PublicKeyOffer<'_>,
     ) -> Result<Auth, Self::Error>
-        ensures { Tells (told self.old) (told self.new) result (AuthPublickeyOffered user.now offer.entry.public_key.now offer.entry.algorithm result) }
+        ensures { Tells (told self.old) (told self.new) result
+            (AuthPublickeyOffered user.now offer.entry.public_key.now offer.entry.algorithm result) }
     {
         self.untold(Unwritten::new())?;
         Ok(Auth::Accept)
@@ -94,7 +102,8 @@ pub trait AuthHandler {
         user: &str,
         key: VerifiedPublicKey<'_>,
     ) -> Result<Auth, Self::Error>
-        ensures { Tells (told self.old) (told self.new) result (AuthPublickey user.now key.entry.public_key.now key.entry.algorithm result) }
+        ensures { Tells (told self.old) (told self.new) result
+            (AuthPublickey user.now key.entry.public_key.now key.entry.algorithm result) }
     {
         self.untold(Unwritten::new())?;
         Ok(Auth::reject())
@@ -105,15 +114,16 @@ pub trait AuthHandler {
     /// principals, its critical options and whether its signature key is one to trust are for the
     /// handler to check. Refused where it is not written.
     ///
-    /// It is told neither the algorithm by which the certified key signed the request nor the moment:
-    /// whoever refuses an algorithm does so in `auth_publickey_offered`, or in the verifier. A certificate
-    /// is never handed to `auth_publickey` by the key that it certifies.
+    /// It is told neither the algorithm by which the certified key signed the request nor the
+    /// moment: whoever refuses an algorithm does so in `auth_publickey_offered`, or in the
+    /// verifier. A certificate is never handed to `auth_publickey` by the key that it certifies.
     fn auth_openssh_certificate(
         &mut self,
         user: &str,
         certificate: &Certificate,
     ) -> Result<Auth, Self::Error>
-        ensures { Tells (told self.old) (told self.new) result (AuthOpensshCertificate user.now certificate.now result) }
+        ensures { Tells (told self.old) (told self.new) result
+            (AuthOpensshCertificate user.now certificate.now result) }
     {
         self.untold(Unwritten::new())?;
         Ok(Auth::reject())
@@ -128,7 +138,8 @@ pub trait AuthHandler {
         submethods: &str,
         response: Option<Response<'_>>,
     ) -> Result<Auth, Self::Error>
-        ensures { Tells (told self.old) (told self.new) result (AuthKeyboardInteractive user.now submethods.now response.entry result) }
+        ensures { Tells (told self.old) (told self.new) result
+            (AuthKeyboardInteractive user.now submethods.now response.entry result) }
     {
         self.untold(Unwritten::new())?;
         Ok(Auth::reject())

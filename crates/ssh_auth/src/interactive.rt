@@ -20,7 +20,8 @@ pub(crate) fn serve_interactive<H: AuthHandler>(
     user: &str,
     fields: &[u8],
 ) -> Result<AuthStep, AuthError<H::Error>>
-    ensures { CarriesOutMethod (SaysInteractive fields.now) auth.old user.now (H.told handler.old) (H.told handler.new) auth.new result }
+    ensures { CarriesOutMethod (SaysInteractive fields.now) auth.old user.now (H.told handler.old)
+        (H.told handler.new) auth.new result }
 {
     let submethods = read_interactive(fields)?;
     begin_round(alloc, auth, handler, user, submethods)
@@ -34,7 +35,8 @@ fn begin_round<H: AuthHandler>(
     user: &str,
     submethods: &str,
 ) -> Result<AuthStep, AuthError<H::Error>>
-    ensures { CarriesOut (method_verdict auth.old user.now (Interactive_method submethods.now)) (H.told handler.old) (H.told handler.new) auth.new result }
+    ensures { CarriesOut (method_verdict auth.old user.now (Interactive_method submethods.now))
+        (H.told handler.old) (H.told handler.new) auth.new result }
 {
     auth.current = Some(CurrentRequest::KeyboardInteractive {
         submethods: Text::new(alloc, submethods)?,
@@ -46,8 +48,8 @@ fn begin_round<H: AuthHandler>(
 }
 
 /// Serves a USERAUTH_INFO_RESPONSE (RFC 4256 section 3.4): makes the call that it owes, and gives
-/// its reply and its verdict. Where no prompts wait it is refused, and not read. A response is about
-/// prompts alone: no other callback is made. After an error the state is not used again.
+/// its reply and its verdict. Where no prompts wait it is refused, and not read. A response is
+/// about prompts alone: no other callback is made. After an error the state is not used again.
 pub fn serve_response<H: AuthHandler>(
     alloc: Global,
     auth: &mut AuthRequest,
@@ -56,7 +58,8 @@ pub fn serve_response<H: AuthHandler>(
 ) -> Result<AuthStep, AuthError<H::Error>>
     requires numbered { IsNumbered 61 payload.now }
     ensures verdict { (said : Responded) × SaysResponses (drop 1 payload.now) said
-        × CarriesOut (response_verdict auth.old said) (H.told handler.old) (H.told handler.new) auth.new result }
+        × CarriesOut (response_verdict auth.old said) (H.told handler.old) (H.told handler.new)
+        auth.new result }
     ensures prompts { AllAdded IsPromptCall (H.told handler.old) (H.told handler.new) }
 {
     auth.partial_success = false;

@@ -1,5 +1,6 @@
 // The fields of a request by a key or a certificate, one after another.
-ghost use Rattle.std.specs.Prelude.{◌≡◌, ◌⊎◌, ◌↔◌, ◌<◌, ◌^◌, ◌++◌, length, IsTrue, IfOk, IfErr, MatchOption, MatchResult};
+ghost use Rattle.std.specs.Prelude.{◌≡◌, ◌⊎◌, ◌↔◌, ◌<◌, ◌^◌, ◌++◌, length, IsTrue, IfOk, IfErr};
+ghost use Rattle.std.specs.Prelude.{MatchOption, MatchResult};
 ghost use Rattle.ssh_wire.specs.Field.{SpellsAll, MisfitsAll, string};
 ghost use Rattle.ssh_wire.specs.declared.error.WireError.TheVariants.{NoMemory as NoWireMemory};
 ghost use Rattle.ssh_keys.specs.Algorithms.{algorithm_name, certificate_name, NamesNone};
@@ -48,7 +49,13 @@ impl<'a> Model for Offer<'a> {
 
     ghost Value = { Offer };
 
-    ghost view = { λ offer. record { name = offer.name.now; blob = offer.blob.now; key = offer.key; algorithm = offer.algorithm } };
+    ghost view = { λ offer. record {
+      name = offer.name.now;
+      blob = offer.blob.now;
+      key =
+          offer.key;
+      algorithm = offer.algorithm;
+    } };
 }
 
 /// The signature that ends a request, and what it covers.
@@ -65,7 +72,8 @@ pub(crate) struct SignedRequest<'a> {
 /// The fields that each request of method publickey begins with (RFC 4252 section 7).
 pub(crate) fn read_offer_fields(fields: &[u8]) -> Result<OfferFields<'_>, WireError>
     ensures { MatchResult result
-        (λ asked. SpellsAll offer_fields (asked.signed, (asked.name.now, (asked.blob.now, tt))) fields.now asked.rest.now)
+        (λ asked. SpellsAll offer_fields (asked.signed, (asked.name.now, (asked.blob.now, tt)))
+        fields.now asked.rest.now)
         (λ why. MisfitsAll offer_fields fields.now why) }
 {
     let mut reader = Reader::new(fields);
@@ -85,7 +93,8 @@ pub(crate) fn read_offer_fields(fields: &[u8]) -> Result<OfferFields<'_>, WireEr
 fn algorithm_named(name: &str) -> Option<Algorithm>
     ensures { MatchOption result
         (NamesNone algorithm_name name.now × NamesNone certificate_name name.now)
-        (λ algorithm. (algorithm_name algorithm ≡ name.now) ⊎ (certificate_name algorithm ≡ name.now)) }
+        (λ algorithm. (algorithm_name algorithm ≡ name.now)
+        ⊎ (certificate_name algorithm ≡ name.now)) }
 {
     match Algorithm::new(name) {
         Some(algorithm) => Some(algorithm),
@@ -116,8 +125,10 @@ pub(crate) fn read_offer<'a, V: Verifier>(
 ) -> Result<Option<Offer<'a>>, KeyError>
     ensures ok { IfOk result (λ offered. MatchOption offered
         (OffersNothing (V.accepts verifier.now) moment name.now blob.now)
-        (λ offer. (offer.name ≡ name.now) × (offer.blob ≡ blob.now) × IsOffered offer × IsUsable (V.accepts verifier.now) moment offer.key)) }
-    ensures refused { IfErr result (λ e. (e ≡ NoMemory) ⊎ ((e ≡ Blob) × FailsOffer name.now blob.now Blob)) }
+        (λ offer. (offer.name ≡ name.now) × (offer.blob ≡ blob.now) × IsOffered offer
+        × IsUsable (V.accepts verifier.now) moment offer.key)) }
+    ensures refused { IfErr result (λ e. (e ≡ NoMemory)
+        ⊎ ((e ≡ Blob) × FailsOffer name.now blob.now Blob)) }
 {
     let Some(algorithm) = algorithm_named(name) else {
         return Ok(None);
@@ -138,7 +149,8 @@ pub(crate) fn read_offer<'a, V: Verifier>(
 
 /// The signature that ends a request: its field holds it and nothing else, and is the last.
 pub(crate) fn read_signature<E>(alloc: Global, fields: &[u8]) -> Result<Signature, AuthError<E>>
-    ensures { MatchResult result (λ signature. EndsInSignature signature fields.now) (SignatureFails fields.now) }
+    ensures { MatchResult result (λ signature. EndsInSignature signature fields.now)
+        (SignatureFails fields.now) }
 {
     let mut reader = Reader::new(fields);
     let field = reader.bytes()?;
@@ -170,7 +182,8 @@ pub(crate) fn is_accepted<V: Verifier>(
     signed: &SignedRequest<'_>,
 ) -> Result<bool, WireError>
     requires { length signed.now.session_id.now < 2 ^ 32 }
-    ensures ok { IfOk result (λ yes. IsTrue yes ↔ V.accepts verifier.now (offered_key offer.now.key) offer.now.algorithm
+    ensures ok { IfOk result (λ yes. IsTrue yes ↔ V.accepts verifier.now (offered_key offer.now.key)
+        offer.now.algorithm
         (string signed.now.session_id.now ++ signed.now.unsigned.now) signed.now.signature.blob) }
     ensures memory { IfErr result (λ e. e ≡ NoWireMemory) }
 {

@@ -1,9 +1,11 @@
 // The fields of a USERAUTH_REQUEST, or of a response to prompts, one after another.
 ghost use Rattle.std.specs.Prelude.{◌≡◌, ◌⊎◌, [], ◌∷◌, List, ℕ, MatchResult, IfOk, IfErr, map};
-ghost use Rattle.ssh_wire.specs.Field.{Flag, Text, SpellsAll, SpellsWhole, Misfits, MisfitsAll, MisfitsWhole};
+ghost use Rattle.ssh_wire.specs.Field.{Flag, Text, SpellsAll, SpellsWhole, Misfits, MisfitsAll};
+ghost use Rattle.ssh_wire.specs.Field.{MisfitsWhole};
 ghost use Rattle.ssh_wire.specs.Reading.{Reads};
 ghost use Rattle.ssh_wire.specs.declared.error.WireError.TheVariants.{NoMemory};
-ghost use Rattle.ssh_auth.specs.Requested.{head_fields, SaysPassword, SaysInteractive, Change_method, Interactive_method, Unfit_method};
+ghost use Rattle.ssh_auth.specs.Requested.{head_fields, SaysPassword, SaysInteractive};
+ghost use Rattle.ssh_auth.specs.Requested.{Change_method, Interactive_method, Unfit_method};
 ghost use Rattle.ssh_auth.specs.Response.{SaysResponses, Responses, Unfit_responses};
 ghost use Rattle.ssh_auth.specs.Read.{password_method};
 
@@ -40,7 +42,8 @@ pub(crate) enum PasswordRequest<'a> {
 /// The head of a USERAUTH_REQUEST (RFC 4252 section 5).
 pub(crate) fn read_request_head(fields: &[u8]) -> Result<RequestHead<'_>, WireError>
     ensures { MatchResult result
-        (λ head. SpellsAll head_fields (head.user.now, (head.service.now, (head.method.now, tt))) fields.now head.rest.now)
+        (λ head. SpellsAll head_fields (head.user.now, (head.service.now, (head.method.now, tt)))
+        fields.now head.rest.now)
         (λ why. MisfitsAll head_fields fields.now why) }
 {
     let mut reader = Reader::new(fields);
@@ -86,7 +89,8 @@ fn read_plain<'a>(mut reader: Reader<'a>) -> Result<&'a str, WireError>
 /// A password and a new one, and nothing after them (RFC 4252 section 8).
 fn read_change<'a>(mut reader: Reader<'a>) -> Result<PasswordRequest<'a>, WireError>
     ensures { MatchResult result
-        (λ asked. (password new_password : List ℕ) × (password_method asked ≡ Change_method password new_password)
+        (λ asked. (password new_password : List ℕ)
+        × (password_method asked ≡ Change_method password new_password)
         × SpellsWhole (Text ∷ Text ∷ []) (password, (new_password, tt)) reader.entry.left)
         (λ why. MisfitsWhole (Text ∷ Text ∷ []) reader.entry.left why) }
 {

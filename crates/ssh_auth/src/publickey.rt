@@ -35,7 +35,8 @@ pub(crate) fn serve_publickey<H: AuthHandler, V: Verifier>(
     request: &Request<'_>,
 ) -> Result<AuthStep, AuthError<H::Error>>
     requires { IsWhole request.now }
-    ensures { CarriesOutMethod (SaysPublickey (circumstances (V.accepts verifier.now) request.now) (all_fields request.now) request.now.fields.now)
+    ensures { CarriesOutMethod (SaysPublickey (circumstances (V.accepts verifier.now) request.now)
+        (all_fields request.now) request.now.fields.now)
         auth.old request.now.user.now (H.told handler.old) (H.told handler.new) auth.new result }
 {
     let asked = read_offer_fields(request.fields)?;
@@ -57,8 +58,10 @@ fn go_on_with_offer<H: AuthHandler, V: Verifier>(
     offer: &Offer<'_>,
 ) -> Result<AuthStep, AuthError<H::Error>>
     requires whole { IsWhole request.now }
-    requires offered { Offers (circumstances (V.accepts verifier.now) request.now) asked.signed offer.now request.now.fields.now asked.rest.now }
-    ensures { CarriesOutMethod (SaysPublickey (circumstances (V.accepts verifier.now) request.now) (all_fields request.now) request.now.fields.now)
+    requires offered { Offers (circumstances (V.accepts verifier.now) request.now) asked.signed
+        offer.now request.now.fields.now asked.rest.now }
+    ensures { CarriesOutMethod (SaysPublickey (circumstances (V.accepts verifier.now) request.now)
+        (all_fields request.now) request.now.fields.now)
         auth.old request.now.user.now (H.told handler.old) (H.told handler.new) auth.new result }
 {
     if asked.signed {
@@ -74,7 +77,8 @@ fn ask_offered<H: AuthHandler>(
     user: &str,
     offer: &Offer<'_>,
 ) -> Result<Auth, H::Error>
-    ensures { Tells (H.told handler.old) (H.told handler.new) result (AuthPublickeyOffered user.now (offered_key offer.now.key) offer.now.algorithm result) }
+    ensures { Tells (H.told handler.old) (H.told handler.new) result
+        (AuthPublickeyOffered user.now (offered_key offer.now.key) offer.now.algorithm result) }
 {
     handler.auth_publickey_offered(
         user,
@@ -93,7 +97,8 @@ fn ask_probe<H: AuthHandler>(
     user: &str,
     offer: &Offer<'_>,
 ) -> Result<AuthStep, AuthError<H::Error>>
-    ensures { CarriesOut (method_verdict auth.old user.now (Probe_method offer.now)) (H.told handler.old) (H.told handler.new) auth.new result }
+    ensures { CarriesOut (method_verdict auth.old user.now (Probe_method offer.now))
+        (H.told handler.old) (H.told handler.new) auth.new result }
 {
     match ask_offered(handler, user, offer) {
         Ok(verdict) => Ok(answer_offer(alloc, auth, offer, &verdict)?),
@@ -112,8 +117,10 @@ fn read_signed<H: AuthHandler, V: Verifier>(
     offer: &Offer<'_>,
 ) -> Result<AuthStep, AuthError<H::Error>>
     requires whole { IsWhole request.now }
-    requires offered { Offers (circumstances (V.accepts verifier.now) request.now) true offer.now request.now.fields.now rest.now }
-    ensures { CarriesOutMethod (SaysPublickey (circumstances (V.accepts verifier.now) request.now) (all_fields request.now) request.now.fields.now)
+    requires offered { Offers (circumstances (V.accepts verifier.now) request.now) true offer.now
+        request.now.fields.now rest.now }
+    ensures { CarriesOutMethod (SaysPublickey (circumstances (V.accepts verifier.now) request.now)
+        (all_fields request.now) request.now.fields.now)
         auth.old request.now.user.now (H.told handler.old) (H.told handler.new) auth.new result }
 {
     let signature = match read_signature(alloc, rest) {
@@ -143,9 +150,12 @@ fn permit_signed<H: AuthHandler, V: Verifier>(
     signed: &SignedRequest<'_>,
 ) -> Result<AuthStep, AuthError<H::Error>>
     requires { length signed.now.session_id.now < 2 ^ 32 }
-    ensures { (accepted : Option Bool) × IsAnswer (V.accepts verifier.now) (offered_key offer.now.key) offer.now.algorithm
-        (string signed.now.session_id.now ++ signed.now.unsigned.now) signed.now.signature.blob accepted
-        × CarriesOut (method_verdict auth.old user.now (Signed_method offer.now accepted)) (H.told handler.old) (H.told handler.new) auth.new result }
+    ensures { (accepted : Option Bool) × IsAnswer (V.accepts verifier.now)
+        (offered_key offer.now.key) offer.now.algorithm
+        (string signed.now.session_id.now ++ signed.now.unsigned.now) signed.now.signature.blob
+        accepted
+        × CarriesOut (method_verdict auth.old user.now (Signed_method offer.now accepted))
+        (H.told handler.old) (H.told handler.new) auth.new result }
 {
     if auth.is_probed(offer.name, offer.blob) {
         return verify_signed(alloc, auth, handler, verifier, user, offer, signed);
@@ -168,9 +178,12 @@ fn verify_signed<H: AuthHandler, V: Verifier>(
     signed: &SignedRequest<'_>,
 ) -> Result<AuthStep, AuthError<H::Error>>
     requires { length signed.now.session_id.now < 2 ^ 32 }
-    ensures { (accepted : Option Bool) × IsAnswer (V.accepts verifier.now) (offered_key offer.now.key) offer.now.algorithm
-        (string signed.now.session_id.now ++ signed.now.unsigned.now) signed.now.signature.blob accepted
-        × CarriesOut (signed_plan auth.old user.now offer.now accepted) (H.told handler.old) (H.told handler.new) auth.new result }
+    ensures { (accepted : Option Bool) × IsAnswer (V.accepts verifier.now)
+        (offered_key offer.now.key) offer.now.algorithm
+        (string signed.now.session_id.now ++ signed.now.unsigned.now) signed.now.signature.blob
+        accepted
+        × CarriesOut (signed_plan auth.old user.now offer.now accepted) (H.told handler.old)
+        (H.told handler.new) auth.new result }
 {
     if !is_accepted(alloc, verifier, offer, signed)? {
         return Ok(refuse(alloc, auth)?);
@@ -186,7 +199,8 @@ fn let_in<H: AuthHandler>(
     user: &str,
     offer: &Offer<'_>,
 ) -> Result<AuthStep, AuthError<H::Error>>
-    ensures { CarriesOut (proof auth.old user.now offer.now.key offer.now.algorithm) (H.told handler.old) (H.told handler.new) auth.new result }
+    ensures { CarriesOut (proof auth.old user.now offer.now.key offer.now.algorithm)
+        (H.told handler.old) (H.told handler.new) auth.new result }
 {
     match &offer.key {
         PublicKeyOrCertificate::PublicKey { key, .. } => {
@@ -207,7 +221,9 @@ fn let_in_by_key<H: AuthHandler>(
     public_key: &PublicKey,
     algorithm: Algorithm,
 ) -> Result<AuthStep, AuthError<H::Error>>
-    ensures { CarriesOut (Ask (Admits (by.Publickey user.now public_key.now algorithm)) (λ answer. Finish (after_proof auth.old answer))) (H.told handler.old) (H.told handler.new) auth.new result }
+    ensures { CarriesOut (Ask (Admits (by.Publickey user.now public_key.now algorithm))
+        (λ answer. Finish (after_proof auth.old answer))) (H.told handler.old) (H.told handler.new)
+        auth.new result }
 {
     let key = VerifiedPublicKey {
         public_key,
@@ -227,7 +243,9 @@ fn let_in_by_certificate<H: AuthHandler>(
     user: &str,
     certificate: &Certificate,
 ) -> Result<AuthStep, AuthError<H::Error>>
-    ensures { CarriesOut (Ask (Admits (by.OpensshCertificate user.now certificate.now)) (λ answer. Finish (after_proof auth.old answer))) (H.told handler.old) (H.told handler.new) auth.new result }
+    ensures { CarriesOut (Ask (Admits (by.OpensshCertificate user.now certificate.now))
+        (λ answer. Finish (after_proof auth.old answer))) (H.told handler.old) (H.told handler.new)
+        auth.new result }
 {
     match handler.auth_openssh_certificate(user, certificate) {
         Ok(verdict) => Ok(answer_proof(alloc, auth, &verdict)?),

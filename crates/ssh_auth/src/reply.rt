@@ -5,7 +5,9 @@ ghost use Rattle.ssh_wire.specs.Methods.{without};
 ghost use Rattle.ssh_auth.specs.Layout.{failure, success, pk_ok, prompts_fields, info_request};
 ghost use Rattle.ssh_auth.specs.Plan.{Finish};
 ghost use Rattle.ssh_auth.specs.Serve.{Concludes};
-ghost use Rattle.ssh_auth.specs.Verdict.{Replies, Fails, Encoding, rejected, rejected_naming, taken_away, refused, is_none, after_method, after_offer, after_proof, after_prompts};
+ghost use Rattle.ssh_auth.specs.Verdict.{Replies, Fails, Encoding, rejected, rejected_naming};
+ghost use Rattle.ssh_auth.specs.Verdict.{taken_away, refused, is_none, after_method, after_offer};
+ghost use Rattle.ssh_auth.specs.Verdict.{after_proof, after_prompts};
 ghost use Rattle.ssh_auth.specs.declared.auth.Auth.TheVariants.{Accept};
 
 use crate::auth_request::count_after_rejection;
@@ -48,8 +50,10 @@ fn success_payload(alloc: Global) -> Result<Bytes, WireError>
 /// USERAUTH_PK_OK (RFC 4252 section 7). `TooLong` exactly where it has more than 2^32 - 1 bytes,
 /// and no other error but `NoMemory`.
 fn pk_ok_payload(alloc: Global, name: &str, blob: &[u8]) -> Result<Bytes, WireError>
-    ensures ok { IfOk result (λ payload. (payload ≡ pk_ok name.now blob.now) × (length payload < 2 ^ 32)) }
-    ensures refused { IfErr result (λ e. (e ≡ NoMemory) ⊎ ((e ≡ TooLong) × (2 ^ 32 ≤ length (pk_ok name.now blob.now)))) }
+    ensures ok { IfOk result (λ payload. (payload ≡ pk_ok name.now blob.now)
+        × (length payload < 2 ^ 32)) }
+    ensures refused { IfErr result (λ e. (e ≡ NoMemory)
+        ⊎ ((e ≡ TooLong) × (2 ^ 32 ≤ length (pk_ok name.now blob.now)))) }
 {
     let mut payload = Vec::new(alloc);
     put_u8(&mut payload, USERAUTH_PK_OK)?;
@@ -78,7 +82,8 @@ pub(crate) fn reject(
     auth: &mut AuthRequest,
     rejection: Rejection,
 ) -> Result<AuthStep, WireError>
-    ensures ok { IfOk result (λ step. rejected auth.old rejection ≡ Replies step.reply step.verdict auth.new) }
+    ensures ok { IfOk result (λ step. rejected auth.old rejection
+        ≡ Replies step.reply step.verdict auth.new) }
     ensures memory { IfErr result (λ e. e ≡ NoMemory) }
 {
     let reply = failure_payload(alloc, &rejection.methods, rejection.partial_success)?;
@@ -114,7 +119,8 @@ fn refuse_naming(
     named: Option<MethodSet>,
     partial_success: bool,
 ) -> Result<AuthStep, WireError>
-    ensures ok { IfOk result (λ step. rejected_naming auth.old named partial_success ≡ Replies step.reply step.verdict auth.new) }
+    ensures ok { IfOk result (λ step. rejected_naming auth.old named partial_success
+        ≡ Replies step.reply step.verdict auth.new) }
     ensures memory { IfErr result (λ e. e ≡ NoMemory) }
 {
     let rejection = Rejection {
@@ -127,8 +133,10 @@ fn refuse_naming(
 
 /// PK_OK: the key may sign, and the round is its probe.
 fn permit(alloc: Global, auth: &mut AuthRequest, offer: &Offer<'_>) -> Result<AuthStep, WireError>
-    ensures ok { IfOk result (λ step. after_offer auth.old offer.now Accept ≡ Replies step.reply step.verdict auth.new) }
-    ensures refused { IfErr result (λ e. (e ≡ NoMemory) ⊎ ((e ≡ TooLong) × (after_offer auth.old offer.now Accept ≡ Fails (Encoding TooLong)))) }
+    ensures ok { IfOk result (λ step. after_offer auth.old offer.now Accept
+        ≡ Replies step.reply step.verdict auth.new) }
+    ensures refused { IfErr result (λ e. (e ≡ NoMemory)
+        ⊎ ((e ≡ TooLong) × (after_offer auth.old offer.now Accept ≡ Fails (Encoding TooLong)))) }
 {
     let reply = pk_ok_payload(alloc, offer.name, offer.blob)?;
     auth.current = Some(CurrentRequest::PublicKey {
@@ -150,8 +158,10 @@ pub(crate) fn answer_offer(
     offer: &Offer<'_>,
     answer: &Auth,
 ) -> Result<AuthStep, WireError>
-    ensures ok { IfOk result (λ step. after_offer auth.old offer.now answer.now ≡ Replies step.reply step.verdict auth.new) }
-    ensures refused { IfErr result (λ e. (e ≡ NoMemory) ⊎ ((e ≡ TooLong) × (after_offer auth.old offer.now answer.now ≡ Fails (Encoding TooLong)))) }
+    ensures ok { IfOk result (λ step. after_offer auth.old offer.now answer.now
+        ≡ Replies step.reply step.verdict auth.new) }
+    ensures refused { IfErr result (λ e. (e ≡ NoMemory)
+        ⊎ ((e ≡ TooLong) × (after_offer auth.old offer.now answer.now ≡ Fails (Encoding TooLong)))) }
 {
     match answer {
         Auth::Accept => permit(alloc, auth, offer),
@@ -169,7 +179,8 @@ pub(crate) fn answer_proof(
     auth: &mut AuthRequest,
     answer: &Auth,
 ) -> Result<AuthStep, WireError>
-    ensures ok { IfOk result (λ step. after_proof auth.old answer.now ≡ Replies step.reply step.verdict auth.new) }
+    ensures ok { IfOk result (λ step. after_proof auth.old answer.now
+        ≡ Replies step.reply step.verdict auth.new) }
     ensures memory { IfErr result (λ e. e ≡ NoMemory) }
 {
     match answer {
@@ -210,7 +221,8 @@ pub(crate) fn take_away(
     auth: &mut AuthRequest,
     method: MethodKind,
 ) -> Result<AuthStep, WireError>
-    ensures ok { IfOk result (λ step. taken_away auth.old method ≡ Replies step.reply step.verdict auth.new) }
+    ensures ok { IfOk result (λ step. taken_away auth.old method
+        ≡ Replies step.reply step.verdict auth.new) }
     ensures memory { IfErr result (λ e. e ≡ NoMemory) }
 {
     let rejection = Rejection {
@@ -228,7 +240,8 @@ pub(crate) fn answer(
     method: MethodKind,
     answer: &Auth,
 ) -> Result<AuthStep, WireError>
-    ensures ok { IfOk result (λ step. after_method auth.old method answer.now ≡ Replies step.reply step.verdict auth.new) }
+    ensures ok { IfOk result (λ step. after_method auth.old method answer.now
+        ≡ Replies step.reply step.verdict auth.new) }
     ensures memory { IfErr result (λ e. e ≡ NoMemory) }
 {
     match answer {
@@ -256,7 +269,8 @@ pub(crate) fn answer(
 /// only where that is more than 2^32 - 1 bytes, and no other error but `NoMemory`.
 fn put_prompts(out: &mut Vec<u8>, prompts: &[(Text, bool)]) -> Result<(), WireError>
     ensures ok { OnOk result (out.new.items ≡ out.old.items ++ prompts_fields prompts.now) }
-    ensures refused { IfErr result (λ e. (e ≡ NoMemory) ⊎ ((e ≡ TooLong) × (2 ^ 32 ≤ length (prompts_fields prompts.now)))) }
+    ensures refused { IfErr result (λ e. (e ≡ NoMemory)
+        ⊎ ((e ≡ TooLong) × (2 ^ 32 ≤ length (prompts_fields prompts.now)))) }
 {
     let Ok(count) = u32::try_from(prompts.len()) else {
         return Err(WireError::TooLong);
@@ -277,8 +291,10 @@ fn info_request_payload(
     instructions: &str,
     prompts: &Prompts,
 ) -> Result<Bytes, WireError>
-    ensures ok { IfOk result (λ payload. (payload ≡ info_request name.now instructions.now prompts.now) × (length payload < 2 ^ 32)) }
-    ensures refused { IfErr result (λ e. (e ≡ NoMemory) ⊎ ((e ≡ TooLong) × (2 ^ 32 ≤ length (info_request name.now instructions.now prompts.now)))) }
+    ensures ok { IfOk result (λ payload. (payload ≡ info_request name.now instructions.now
+        prompts.now) × (length payload < 2 ^ 32)) }
+    ensures refused { IfErr result (λ e. (e ≡ NoMemory)
+        ⊎ ((e ≡ TooLong) × (2 ^ 32 ≤ length (info_request name.now instructions.now prompts.now)))) }
 {
     let mut payload = Vec::new(alloc);
     put_u8(&mut payload, USERAUTH_INFO_REQUEST)?;

@@ -1,6 +1,7 @@
 // One request of authentication, from its payload to its verdict.
 ghost use Rattle.std.specs.Prelude.{◌≡◌, ◌<◌, ◌^◌, length, drop};
-ghost use Rattle.ssh_auth.specs.Requested.{Requested, SaysRequest, None_method, Password_method, SaysMethod, SaysNone, SaysPassword, named_by};
+ghost use Rattle.ssh_auth.specs.Requested.{Requested, SaysRequest, None_method, Password_method};
+ghost use Rattle.ssh_auth.specs.Requested.{SaysMethod, SaysNone, SaysPassword, named_by};
 ghost use Rattle.ssh_auth.specs.Verdict.{verdict, method_verdict};
 ghost use Rattle.ssh_auth.specs.Proven.{IsProvenCall, AllAdded};
 ghost use Rattle.ssh_auth.specs.Serve.{IsNumbered, CarriesOut, CarriesOutMethod};
@@ -46,9 +47,14 @@ pub fn serve_request<H: AuthHandler, V: Verifier>(
 ) -> Result<AuthStep, AuthError<H::Error>>
     requires session_id { length session_id.now < 2 ^ 32 }
     requires numbered { IsNumbered 50 payload.now }
-    ensures verdict { (said : Requested) × SaysRequest (record { accepts = V.accepts verifier.now; session_id = session_id.now; moment = moment }) (drop 1 payload.now) said
-        × CarriesOut (verdict auth.old said) (H.told handler.old) (H.told handler.new) auth.new result }
-    ensures proven { AllAdded (IsProvenCall (record { accepts = V.accepts verifier.now; session_id = session_id.now; moment = moment }) (drop 1 payload.now))
+    ensures verdict { (said : Requested) × SaysRequest
+        (record { accepts = V.accepts verifier.now; session_id = session_id.now; moment = moment })
+        (drop 1 payload.now) said
+        × CarriesOut (verdict auth.old said) (H.told handler.old) (H.told handler.new) auth.new
+        result }
+    ensures proven { AllAdded (IsProvenCall (record
+        { accepts = V.accepts verifier.now; session_id = session_id.now; moment = moment })
+        (drop 1 payload.now))
         (H.told handler.old) (H.told handler.new) }
 {
     let head = read_request_head(fields_of(payload))?;
@@ -77,7 +83,8 @@ fn serve_method<H: AuthHandler, V: Verifier>(
     request: &Request<'_>,
 ) -> Result<AuthStep, AuthError<H::Error>>
     requires { IsWhole request.now }
-    ensures { CarriesOutMethod (SaysMethod (circumstances (V.accepts verifier.now) request.now) (all_fields request.now) (named_by name.now) request.now.fields.now)
+    ensures { CarriesOutMethod (SaysMethod (circumstances (V.accepts verifier.now) request.now)
+        (all_fields request.now) (named_by name.now) request.now.fields.now)
         auth.old request.now.user.now (H.told handler.old) (H.told handler.new) auth.new result }
 {
     if name == "none" {
@@ -103,7 +110,8 @@ fn serve_none<H: AuthHandler>(
     user: &str,
     fields: &[u8],
 ) -> Result<AuthStep, AuthError<H::Error>>
-    ensures { CarriesOutMethod (SaysNone fields.now) auth.old user.now (H.told handler.old) (H.told handler.new) auth.new result }
+    ensures { CarriesOutMethod (SaysNone fields.now) auth.old user.now (H.told handler.old)
+        (H.told handler.new) auth.new result }
 {
     read_none(fields)?;
     ask_none(alloc, auth, handler, user)
@@ -116,7 +124,8 @@ fn ask_none<H: AuthHandler>(
     handler: &mut H,
     user: &str,
 ) -> Result<AuthStep, AuthError<H::Error>>
-    ensures { CarriesOut (method_verdict auth.old user.now None_method) (H.told handler.old) (H.told handler.new) auth.new result }
+    ensures { CarriesOut (method_verdict auth.old user.now None_method) (H.told handler.old)
+        (H.told handler.new) auth.new result }
 {
     match handler.auth_none(user) {
         Ok(verdict) => Ok(answer(alloc, auth, MethodKind::None, &verdict)?),
@@ -132,7 +141,8 @@ fn serve_password<H: AuthHandler>(
     user: &str,
     fields: &[u8],
 ) -> Result<AuthStep, AuthError<H::Error>>
-    ensures { CarriesOutMethod (SaysPassword fields.now) auth.old user.now (H.told handler.old) (H.told handler.new) auth.new result }
+    ensures { CarriesOutMethod (SaysPassword fields.now) auth.old user.now (H.told handler.old)
+        (H.told handler.new) auth.new result }
 {
     let asked = read_password(fields)?;
     serve_password_request(alloc, auth, handler, user, asked)
@@ -146,7 +156,8 @@ fn serve_password_request<H: AuthHandler>(
     user: &str,
     asked: PasswordRequest<'_>,
 ) -> Result<AuthStep, AuthError<H::Error>>
-    ensures { CarriesOut (method_verdict auth.old user.now (password_method asked.entry)) (H.told handler.old) (H.told handler.new) auth.new result }
+    ensures { CarriesOut (method_verdict auth.old user.now (password_method asked.entry))
+        (H.told handler.old) (H.told handler.new) auth.new result }
 {
     match asked {
         PasswordRequest::Password { password } => {
@@ -164,7 +175,8 @@ fn ask_password<H: AuthHandler>(
     user: &str,
     password: &str,
 ) -> Result<AuthStep, AuthError<H::Error>>
-    ensures { CarriesOut (method_verdict auth.old user.now (Password_method password.now)) (H.told handler.old) (H.told handler.new) auth.new result }
+    ensures { CarriesOut (method_verdict auth.old user.now (Password_method password.now))
+        (H.told handler.old) (H.told handler.new) auth.new result }
 {
     match handler.auth_password(user, password) {
         Ok(verdict) => Ok(answer(alloc, auth, MethodKind::Password, &verdict)?),

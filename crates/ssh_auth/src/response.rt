@@ -42,7 +42,8 @@ impl<'a> Response<'a> {
         Response { left: self.left }
     }
 
-    /// Copies of the responses that are left, in their order, to keep. `NoMemory` is the only error.
+    /// Copies of the responses that are left, in their order, to keep. `NoMemory` is the only
+    /// error.
     pub fn into_blobs(self, alloc: Global) -> Result<Blobs, WireError>
         ensures ok { IfOk result (λ blobs. blobs ≡ self.entry) }
         ensures memory { IfErr result (λ e. e ≡ NoMemory) }
@@ -55,8 +56,8 @@ impl<'a> Response<'a> {
     }
 }
 
-/// Copies of the responses of a callback, to keep: none where nothing was prompted for yet. `NoMemory` is the
-/// only error.
+/// Copies of the responses of a callback, to keep: none where nothing was prompted for yet.
+/// `NoMemory` is the only error.
 pub fn copied_response(
     alloc: Global,
     response: Option<Response<'_>>,

@@ -10,7 +10,8 @@ use Rattle.ssh_channels.specs.Layout.{adjust_frame}
 abbrev pub fits : (count : ℕ) → ChannelParams → Bool
 fits count l = l.confirmed && nat_le count l.sender_window_size
 
--- the room is to be kept at target: where less than half of it is left, the rest of it is granted
+-- the room is to be kept at target: where less than half of it, rounded down, is left, the rest of
+-- it is granted
 abbrev pub adjusting : (count target : ℕ) → ChannelParams → Adjusted
 adjusting count target l = cond (fits count l)
     (cond (nat_lt (l.sender_window_size - count) (target / 2))

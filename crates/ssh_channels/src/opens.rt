@@ -1,6 +1,8 @@
 // The numbers of channels, and the channels that are opened, confirmed and refused.
-ghost use Rattle.std.specs.Prelude.{◌≡◌, ◌^◌, ◌⊎◌, ◌↔◌, not, Some, None, IfOk, IfErr, OnOk, OnErr, IsErrOf};
-ghost use Rattle.ssh_channels.specs.declared.error.TableError.TheVariants.{NoMemory, Full, Inconsistent};
+ghost use Rattle.std.specs.Prelude.{◌≡◌, ◌^◌, ◌⊎◌, ◌↔◌, not, Some, None, IfOk, IfErr, OnOk, OnErr};
+ghost use Rattle.std.specs.Prelude.{IsErrOf};
+ghost use Rattle.ssh_channels.specs.declared.error.TableError.TheVariants.{NoMemory, Full};
+ghost use Rattle.ssh_channels.specs.declared.error.TableError.TheVariants.{Inconsistent};
 ghost use Rattle.ssh_channels.specs.Line as line;
 ghost use Rattle.ssh_channels.specs.Table as table;
 ghost use Rattle.ssh_channels.specs.Numbers as numbers;

@@ -42,7 +42,8 @@ impl Encrypted {
     }
 
     /// These bytes of data came in on the channel, whose room is to be kept at `target`, in bytes.
-    /// Where fewer than half of `target` are left, WINDOW_ADJUST with the rest of it is staged.
+    /// Where fewer than half of `target`, rounded down, are left, WINDOW_ADJUST with the rest of it
+    /// is staged.
     pub fn adjust_window_size(
         &mut self,
         channel: ChannelId,

@@ -109,7 +109,8 @@ between_mine n a b c p q same =
     same ∙ (sym (Rattle.std.proofs.Common.append-nil (calls_by n a))
     ∙ (ap (λ l. calls_by n a ++ l) (sym none_there) ∙ to_b))
 
--- of the facts about a call that the lock needs, these alone speak of what a call does: `Counts` has them
+-- of the facts about a call that the lock needs, these alone speak of what a call does: `Counts`
+-- has them
 
 -- a call draws no number, or the next one
 pub numbers_drawn : (w : World) (by : ℕ) (c : HubCall) (r : HubReply) → r ≡ (hub_step w by c).1

@@ -119,13 +119,14 @@ ended_as m n o e wrote left none =
 pub made : (m o : Sat) (e : Entry) (h : World) → IsLegal (opening m.0.config) m.0.seen → e.by
     ≡ m.0.number → act (world m.0.config m.0.seen) e.by e.call ≡ (h, e.reply) → o
     ≡ (ended e m.0, []) → Makes m.0 e.call e.reply o.0
-made m o e h legal by answer is = subst (λ (x : Sat). Makes m.0 e.call e.reply x.0) (sym is) record {
-  same = (refl, refl);
-  legal = legal_snoc (opening m.0.config) m.0.seen e legal (sym (ap (λ p. p.1) answer));
-  before = m.0.seen;
-  grows = ([], sym (append-nil m.0.seen), refl);
-  ends = ap (λ (n : ℕ). m.0.seen ++ entry n e.call e.reply ∷ []) by;
-}
+made m o e h legal by answer is =
+    subst (λ (x : Sat). Makes m.0 e.call e.reply x.0) (sym is) record {
+      same = (refl, refl);
+      legal = legal_snoc (opening m.0.config) m.0.seen e legal (sym (ap (λ p. p.1) answer));
+      before = m.0.seen;
+      grows = ([], sym (append-nil m.0.seen), refl);
+      ends = ap (λ (n : ℕ). m.0.seen ++ entry n e.call e.reply ∷ []) by;
+    }
 
 grows_on : (n : ℕ) (a b c : List Entry) → Grows n a b → Grows n b c → Grows n a c
 grows_on n a b c p q = (

@@ -224,9 +224,11 @@ act_goes w by (ReceiveMsg c) = record {
 act_goes w by (AnswerTicket t o) = let a = answer_commands w t o w.due in
     record {
       commands = append-nil (waiting_commands w)
-          ∙ ap (map (λ (q : QueuedCommand). let p : ℕ × Command = (q.ticket, q.command) in p)) (sym a.0);
+          ∙ ap (map (λ (q : QueuedCommand). let p : ℕ × Command = (q.ticket, q.command) in p))
+          (sym a.0);
       replies = append-nil (waiting_replies w)
-          ∙ ap (map (λ (q : QueuedReply). let p : ℕ × OpenAnswer = (q.ticket, q.answer) in p)) (sym a.1);
+          ∙ ap (map (λ (q : QueuedReply). let p : ℕ × OpenAnswer = (q.ticket, q.answer) in p))
+          (sym a.1);
     }
 act_goes w by (TakeOutcome t) = record {
   commands = append-nil (waiting_commands w);

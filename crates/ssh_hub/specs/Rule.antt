@@ -1,5 +1,6 @@
 -- The rule of the lock, and what its steps tell.
--- Word 0 is the number of tickets that were drawn, word 1 the ticket that is served, and word 2 the number of entries.
+-- Word 0 is the number of tickets that were drawn, word 1 the ticket that is served, and word 2 the
+-- number of entries.
 use Rattle.std.specs.Prelude.{◌≡◌, ◌≢◌, ℕ, ◌+◌, ◌%◌, ◌<◌, ◌≤◌, ◌⊎◌, cond, ltb}
 use Rattle.std.specs.Prelude.{List, [], ◌∷◌, ◌++◌, length, Option, Some, None}
 use mathlib.Core.Option as maybe

@@ -1,7 +1,9 @@
 // One channel of a hub: what may be sent on it, and what waits for its reader.
 ghost use Rattle.std.specs.Prelude.{◌≡◌, IfOk, IfErr, OnErr, not};
-ghost use Rattle.ssh_hub.specs.Channels.{waiting, with_window, reserve_from, releasing, spending, granting};
-ghost use Rattle.ssh_hub.specs.Channels.{deliver_to, receive_from, look_at, claimed, closed, closes_by};
+ghost use Rattle.ssh_hub.specs.Channels.{waiting, with_window, reserve_from, releasing, spending};
+ghost use Rattle.ssh_hub.specs.Channels.{granting};
+ghost use Rattle.ssh_hub.specs.Channels.{deliver_to, receive_from, look_at, claimed, closed};
+ghost use Rattle.ssh_hub.specs.Channels.{closes_by};
 
 use crate::answers::{Deliver, Look, Received, Reserve};
 use crate::reservations::Reservations;
@@ -78,7 +80,8 @@ impl Channel {
 
     // Takes up to `want` of the bytes that are left for the seat.
     pub fn reserve(&mut self, seat: u64, want: u32) -> Result<Reserve, AllocError>
-        ensures ok { IfOk result (λ r. reserve_from self.old seat want self.old.is_closed ≡ (self.new, r)) }
+        ensures ok { IfOk result (λ r. reserve_from self.old seat want self.old.is_closed
+            ≡ (self.new, r)) }
         ensures err { OnErr result (self.new ≡ self.old) }
     {
         if self.is_closed {
@@ -124,7 +127,8 @@ impl Channel {
         size: usize,
         msg: ChannelMsg,
     ) -> Result<Deliver, (ChannelMsg, AllocError)>
-        ensures ok { IfOk result (λ r. deliver_to self.old size msg self.old.is_closed ≡ (self.new, r)) }
+        ensures ok { IfOk result (λ r. deliver_to self.old size msg self.old.is_closed
+            ≡ (self.new, r)) }
         ensures back { IfErr result (λ e. e.0 ≡ msg) }
         ensures err { OnErr result (self.new ≡ self.old) }
     {

@@ -1,4 +1,5 @@
-// What holds of the histories of a hub. Each law is a statement of specs/, which its function proves.
+// What holds of the histories of a hub. Each law is a statement of specs/, which its function
+// proves.
 ghost use Rattle.ssh_hub.specs.Laws.{CommandsInOrder, RepliesInOrder, AnswersFirst};
 ghost use Rattle.ssh_hub.specs.Laws.{BytesAreConserved, BytesFit, EndsAtTheFirst};
 ghost use Rattle.ssh_hub.specs.Does.{OneCallDoes, CallsAddUp};
@@ -22,8 +23,8 @@ pub fn answers_before_commands()
     ensures { AnswersFirst }
 {}
 
-/// What the window and the grants of a channel counted is left, or reserved by one seat, or spent by
-/// puts.
+/// What the window and the grants of a channel counted is left, or reserved by one seat, or spent
+/// by puts.
 #[tactic(auto, using(crate::proofs::Bytes::conserved))]
 pub fn bytes_are_conserved()
     ensures { BytesAreConserved }

@@ -1,8 +1,9 @@
-//! A hub that threads share: what they ask of a session waits in it, and what the session tells them.
+//! A hub that threads share: what they ask of a session waits in it, and what the session tells
+//! them.
 //!
-//! What the crates above rely on: each call of a seat ends a history which is legal, begins with all
-//! that the seat had seen, and has of this seat just the calls that it made; and what holds of every
-//! legal history (the laws).
+//! What the crates above rely on: each call of a seat ends a history which is legal, begins with
+//! all that the seat had seen, and has of this seat just the calls that it made; and what holds of
+//! every legal history (the laws).
 #![tactic(auto)]
 
 mod answers;

@@ -1,4 +1,5 @@
--- The algorithms of signatures and their names (RFC 4253 section 6.6, RFC 5656 section 6.2, RFC 8332 section 3, RFC 8709 section 4).
+-- The algorithms of signatures and their names (RFC 4253 section 6.6, RFC 5656 section 6.2, RFC
+-- 8332 section 3, RFC 8709 section 4).
 use Rattle.std.specs.Prelude.{◌≡◌, ℕ, List, ◌++◌, Some, None, codes}
 use Rattle.ssh_keys.specs.declared.algorithm.Algorithm.{Algorithm}
 use Rattle.ssh_keys.specs.declared.algorithm.Algorithm.TheVariants.{Ed25519, Ecdsa, Rsa}

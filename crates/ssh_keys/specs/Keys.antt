@@ -1,5 +1,6 @@
 -- Public keys as blobs (RFC 4253 section 6.6, RFC 5656 section 3.1, RFC 8709 section 4).
-use Rattle.std.specs.Prelude.{◌≡◌, ◌^◌, ◌≤◌, ◌⊎◌, ℕ, List, [], ◌∷◌, ◌++◌, length, codes, Result, Ok, Err}
+use Rattle.std.specs.Prelude.{◌≡◌, ◌^◌, ◌≤◌, ◌⊎◌, ℕ, List, [], ◌∷◌, ◌++◌, length, codes, Result, Ok}
+use Rattle.std.specs.Prelude.{Err}
 use Rattle.ssh_wire.specs.Field.{Field, Text, Bytes, Values, SpellsAll, SpellsWhole, string}
 use Rattle.ssh_keys.specs.Algorithms.{curve_name, certificate_suffix, NamesNone}
 use Rattle.ssh_keys.specs.declared.algorithm.EcdsaCurve.TheVariants.{NistP256, NistP384, NistP521}
@@ -48,19 +49,23 @@ SpellsKey public bytes rest = SpellsAll (key_fields (type_of public)) (key_value
 
 -- the blob is the key's: its type, its fields, and nothing else
 abbrev pub IsKey : PublicKey → List ℕ → Type 0
-IsKey public blob = SpellsWhole (Text ∷ key_fields (type_of public)) (type_name (type_of public), key_values public) blob
+IsKey public blob = SpellsWhole (Text ∷ key_fields (type_of public))
+    (type_name (type_of public), key_values public) blob
 
 -- the bytes do not begin with these fields, whatever they may say
 abbrev pub LacksFields : List Field → List ℕ → Type 0
-LacksFields fields bytes = (values : Values fields) (rest : List ℕ) → SpellsAll fields values bytes rest → ⊥
+LacksFields fields bytes =
+    (values : Values fields) (rest : List ℕ) → SpellsAll fields values bytes rest → ⊥
 
 -- the bytes do not begin with the fields of a key of this type
 abbrev pub LacksKey : KeyType → List ℕ → Type 0
-LacksKey type bytes = (public : PublicKey) (rest : List ℕ) → type_of public ≡ type → SpellsKey public bytes rest → ⊥
+LacksKey type bytes =
+    (public : PublicKey) (rest : List ℕ) → type_of public ≡ type → SpellsKey public bytes rest → ⊥
 
 -- the bytes are not the fields of a key of this type and nothing else
 abbrev pub LacksWholeKey : KeyType → List ℕ → Type 0
-LacksWholeKey type bytes = (public : PublicKey) → type_of public ≡ type → SpellsKey public bytes [] → ⊥
+LacksWholeKey type bytes =
+    (public : PublicKey) → type_of public ≡ type → SpellsKey public bytes [] → ⊥
 
 -- the bytes up to this rest are a name
 abbrev pub SpellsName : (name bytes rest : List ℕ) → Type 0
@@ -69,14 +74,16 @@ SpellsName name bytes rest = SpellsAll (Text ∷ []) (name, tt) bytes rest
 -- a blob does not begin with the name of a type, for this reason: with no name, or with another one
 abbrev pub FailsType : (KeyType → List ℕ) → List ℕ → KeyError → Type 0
 FailsType names blob Blob = LacksFields (Text ∷ []) blob
-FailsType names blob Unknown = (name after : List ℕ) × SpellsName name blob after × NamesNone names name
+FailsType names blob Unknown =
+    (name after : List ℕ) × SpellsName name blob after × NamesNone names name
 FailsType names blob _ = ⊥
 
 -- a blob is no key's, for this reason: its type, or else what follows it
 abbrev pub FailsKey : List ℕ → KeyError → Type 0
 FailsKey blob why =
     FailsType type_name blob why
-    ⊎ ((type : KeyType) × (after : List ℕ) × SpellsName (type_name type) blob after × (why ≡ Blob) × LacksWholeKey type after)
+    ⊎ ((type : KeyType) × (after : List ℕ) × SpellsName (type_name type) blob after × (why ≡ Blob)
+    × LacksWholeKey type after)
 
 -- what reading a blob as a key answers
 abbrev pub DecodesKey : List ℕ → Result PublicKey KeyError → Type 0
@@ -92,5 +99,6 @@ HasLongField (key.Rsa e n) = (2 ^ 32 ≤ length e) ⊎ (2 ^ 32 ≤ length n)
 -- the key's blob, field by field
 abbrev pub key_blob : PublicKey → List ℕ
 key_blob (key.Ed25519 bytes) = string (codes "ssh-ed25519") ++ string bytes
-key_blob (key.Ecdsa curve point) = string (type_name (type.Ecdsa curve)) ++ (string (curve_name curve) ++ string point)
+key_blob (key.Ecdsa curve point) =
+    string (type_name (type.Ecdsa curve)) ++ (string (curve_name curve) ++ string point)
 key_blob (key.Rsa e n) = string (codes "ssh-rsa") ++ (string e ++ string n)

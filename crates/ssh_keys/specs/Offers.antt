@@ -1,4 +1,5 @@
--- A key or a certificate, by the name of an algorithm (RFC 4252 section 7, OpenSSH PROTOCOL.certkeys).
+-- A key or a certificate, by the name of an algorithm (RFC 4252 section 7, OpenSSH
+-- PROTOCOL.certkeys).
 use Rattle.std.specs.Prelude.{◌≡◌, ◌⊎◌, ℕ, List, Option, None, Result, Ok, Err}
 use Rattle.ssh_keys.specs.Algorithms.{algorithm_name, certificate_name, NamesNone}
 use Rattle.ssh_keys.specs.Keys.{IsKey, FailsKey}
@@ -18,12 +19,16 @@ hash_of algorithm.Ed25519 = None
 hash_of (algorithm.Ecdsa _) = None
 hash_of (algorithm.Rsa hash) = hash
 
--- the name and the blob say this: a key under the name of an algorithm, a certificate under that of its certificates
+-- the name and the blob say this: a key under the name of an algorithm, a certificate under that of
+-- its certificates
 abbrev pub IsOffer : PublicKeyOrCertificate → (name blob : List ℕ) → Type 0
-IsOffer (offer.PublicKey public hash) name blob = (algorithm : Algorithm) × (algorithm_name algorithm ≡ name) × (hash ≡ hash_of algorithm) × IsKey public blob
-IsOffer (offer.Certificate certificate) name blob = (algorithm : Algorithm) × (certificate_name algorithm ≡ name) × IsCertificate certificate blob
+IsOffer (offer.PublicKey public hash) name blob = (algorithm : Algorithm)
+    × (algorithm_name algorithm ≡ name) × (hash ≡ hash_of algorithm) × IsKey public blob
+IsOffer (offer.Certificate certificate) name blob =
+    (algorithm : Algorithm) × (certificate_name algorithm ≡ name) × IsCertificate certificate blob
 
--- they say nothing, for this reason: the name is not known, or else as for the blob of a key, or of a certificate
+-- they say nothing, for this reason: the name is not known, or else as for the blob of a key, or of
+-- a certificate
 abbrev pub FailsOffer : (name blob : List ℕ) → KeyError → Type 0
 FailsOffer name blob why =
     (NamesNone algorithm_name name × NamesNone certificate_name name × (why ≡ Unknown))

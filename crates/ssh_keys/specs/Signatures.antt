@@ -9,11 +9,13 @@ signature_fields = Text ∷ Bytes ∷ []
 
 -- the bytes up to this rest are the signature
 abbrev pub SpellsSignature : Signature → (bytes rest : List ℕ) → Type 0
-SpellsSignature signature bytes rest = SpellsAll signature_fields (signature.name, (signature.blob, tt)) bytes rest
+SpellsSignature signature bytes rest =
+    SpellsAll signature_fields (signature.name, (signature.blob, tt)) bytes rest
 
 -- the bytes are one string, which holds the signature and nothing else
 abbrev pub EndsInSignature : Signature → List ℕ → Type 0
-EndsInSignature signature bytes = (inner : List ℕ) × SpellsWhole (Bytes ∷ []) (inner, tt) bytes × SpellsSignature signature inner []
+EndsInSignature signature bytes = (inner : List ℕ) × SpellsWhole (Bytes ∷ []) (inner, tt) bytes
+    × SpellsSignature signature inner []
 
 -- the bytes are no such string
 abbrev pub LacksSignature : List ℕ → Type 0

@@ -1,6 +1,7 @@
 // The algorithms that sign, and their names.
 ghost use Rattle.std.specs.Prelude.{◌≡◌, MatchOption};
-ghost use Rattle.ssh_keys.specs.Algorithms.{curve_name, algorithm_name, certificate_name, NamesNone};
+ghost use Rattle.ssh_keys.specs.Algorithms.{curve_name, algorithm_name, certificate_name};
+ghost use Rattle.ssh_keys.specs.Algorithms.{NamesNone};
 
 /// An algorithm of signatures.
 #[derive(Clone, Copy, Debug, PartialEq, Eq)]
@@ -55,7 +56,8 @@ impl EcdsaCurve {
 impl Algorithm {
     /// The algorithm of this name. There is none exactly where no algorithm has the name.
     pub fn new(name: &str) -> Option<Algorithm>
-        ensures { MatchOption result (NamesNone algorithm_name name.now) (λ algorithm. algorithm_name algorithm ≡ name.now) }
+        ensures { MatchOption result (NamesNone algorithm_name name.now)
+            (λ algorithm. algorithm_name algorithm ≡ name.now) }
     {
         match name {
             "ssh-ed25519" => Some(Algorithm::Ed25519),
@@ -82,7 +84,8 @@ impl Algorithm {
     /// The algorithm whose certificates have this name (OpenSSH PROTOCOL.certkeys). There is none
     /// exactly where no algorithm's certificates have the name.
     pub fn new_certificate(name: &str) -> Option<Algorithm>
-        ensures { MatchOption result (NamesNone certificate_name name.now) (λ algorithm. certificate_name algorithm ≡ name.now) }
+        ensures { MatchOption result (NamesNone certificate_name name.now)
+            (λ algorithm. certificate_name algorithm ≡ name.now) }
     {
         match name {
             "ssh-ed25519-cert-v01@openssh.com" => Some(Algorithm::Ed25519),

@@ -3,7 +3,9 @@ ghost use Rattle.std.specs.Prelude.{◌≡◌, ◌⊎◌, ◌↔◌, Result, IsE
 ghost use Rattle.ssh_wire.specs.Reading.{MovesOn};
 ghost use Rattle.ssh_wire.specs.declared.error.WireError.TheVariants.{NoMemory as NoWireMemory};
 ghost use Rattle.ssh_keys.specs.Keys.{type_of, IsKey};
-ghost use Rattle.ssh_keys.specs.Certificates.{certified, SpellsCertified, LacksCertified, IsCertificate, HasCertificateType, FailsSignatureKey, FailsCertificate, DecodesCertificate};
+ghost use Rattle.ssh_keys.specs.Certificates.{certified, SpellsCertified, LacksCertified};
+ghost use Rattle.ssh_keys.specs.Certificates.{IsCertificate, HasCertificateType, FailsSignatureKey};
+ghost use Rattle.ssh_keys.specs.Certificates.{FailsCertificate, DecodesCertificate};
 ghost use Rattle.ssh_keys.specs.declared.certificate.Certificate.{Certificate};
 ghost use Rattle.ssh_keys.specs.declared.error.KeyError.{KeyError};
 ghost use Rattle.ssh_keys.specs.declared.error.KeyError.TheVariants.{Blob, NoMemory};
@@ -62,9 +64,11 @@ pub(crate) struct Certified {
 impl Certified {
     /// Reads what is certified of a key of this type.
     pub fn read(alloc: Global, typ: KeyType, r: &mut Reader<'_>) -> Result<Certified, KeyError>
-        ensures ok { IfOk result (λ part. (type_of part.public_key ≡ typ) × SpellsCertified part r.old.left r.new.left) }
+        ensures ok { IfOk result (λ part. (type_of part.public_key ≡ typ)
+            × SpellsCertified part r.old.left r.new.left) }
         ensures moves { OnOk result (MovesOn r.old r.new) }
-        ensures refused { IfErr result (λ e. (e ≡ NoMemory) ⊎ ((e ≡ Blob) × LacksCertified typ r.old.left)) }
+        ensures refused { IfErr result (λ e. (e ≡ NoMemory)
+            ⊎ ((e ≡ Blob) × LacksCertified typ r.old.left)) }
     {
         let nonce = r.bytes()?;
         let public_key = PublicKey::read_fields(alloc, typ, r)?;
@@ -151,7 +155,9 @@ impl Certificate {
     pub fn decode(alloc: Global, blob: &[u8]) -> Result<Certificate, KeyError>
         ensures ok { IfOk result (λ certificate. IsCertificate certificate blob.now) }
         ensures refused { IfErr result (λ e. (e ≡ NoMemory) ⊎ FailsCertificate blob.now e) }
-        ensures exactly { (answer : Result Certificate KeyError) → DecodesCertificate blob.now answer → (result ≡ answer) ⊎ IsErrOf result KeyError.NoMemory }
+        ensures exactly { (answer : Result Certificate KeyError)
+            → DecodesCertificate blob.now answer → (result ≡ answer)
+            ⊎ IsErrOf result KeyError.NoMemory }
     {
         Certificate::read(alloc, blob)
     }

@@ -12,14 +12,16 @@ const MILLISECONDS_PER_SECOND: u128 = 1000;
 
 impl Certificate {
     /// Checks the time of a decoded certificate at this moment, in milliseconds since 1970, and its
-    /// own signature. `Time` exactly where the moment is not in its time; and `CertificateValidation`
-    /// exactly where it is, and the signature's name is not known or the verifier refuses the
-    /// signature. No other error. The certificate's type, its principals, its critical options and
-    /// whether its signature key is one to trust are for the caller to check.
+    /// own signature. `Time` exactly where the moment is not in its time; and
+    /// `CertificateValidation` exactly where it is, and the signature's name is not known or the
+    /// verifier refuses the signature. No other error. The certificate's type, its principals, its
+    /// critical options and whether its signature key is one to trust are for the caller to check.
     pub fn check<V: Verifier>(&self, moment: u64, verifier: &V) -> Result<(), KeyError>
-        ensures ok { IsOk result ↔ ((IsOutOfTime self.now moment → ⊥) × IsSigned (V.accepts verifier.now) self.now) }
+        ensures ok { IsOk result ↔ ((IsOutOfTime self.now moment → ⊥)
+            × IsSigned (V.accepts verifier.now) self.now) }
         ensures time { IsErrOf result KeyError.Time ↔ IsOutOfTime self.now moment }
-        ensures validation { IsErrOf result KeyError.CertificateValidation ↔ ((IsOutOfTime self.now moment → ⊥) × (IsSigned (V.accepts verifier.now) self.now → ⊥)) }
+        ensures validation { IsErrOf result KeyError.CertificateValidation
+            ↔ ((IsOutOfTime self.now moment → ⊥) × (IsSigned (V.accepts verifier.now) self.now → ⊥)) }
         ensures errors { IfErr result (λ e. (e ≡ Time) ⊎ (e ≡ CertificateValidation)) }
     {
         if self.is_early(moment) {

@@ -1,10 +1,12 @@
 // A key that is offered, plain or in a certificate.
 ghost use Rattle.std.specs.Prelude.{◌≡◌, ◌⊎◌, None, Result, IsErrOf, IfOk, IfErr, MatchOption};
-ghost use Rattle.ssh_keys.specs.Offers.{hash_of, IsOffer, FailsOffer, DecodesOffer, offered_key, IsPlain};
+ghost use Rattle.ssh_keys.specs.Offers.{hash_of, IsOffer, FailsOffer, DecodesOffer, offered_key};
+ghost use Rattle.ssh_keys.specs.Offers.{IsPlain};
 ghost use Rattle.ssh_keys.specs.declared.error.KeyError.{KeyError};
 ghost use Rattle.ssh_keys.specs.declared.error.KeyError.TheVariants.{NoMemory};
 ghost use Rattle.ssh_keys.specs.declared.key_or_certificate.PublicKeyOrCertificate.{PublicKeyOrCertificate};
-ghost use Rattle.ssh_keys.specs.declared.key_or_certificate.PublicKeyOrCertificate.TheVariants as offer;
+ghost use Rattle.ssh_keys.specs.declared.key_or_certificate.PublicKeyOrCertificate.TheVariants as
+    offer;
 
 use crate::{Algorithm, Certificate, HashAlg, KeyError, PublicKey};
 use std::alloc::Global;
@@ -46,7 +48,9 @@ impl PublicKeyOrCertificate {
     ) -> Result<PublicKeyOrCertificate, KeyError>
         ensures ok { IfOk result (λ offered. IsOffer offered pubkey_algo.now blob.now) }
         ensures refused { IfErr result (λ e. (e ≡ NoMemory) ⊎ FailsOffer pubkey_algo.now blob.now e) }
-        ensures exactly { (answer : Result PublicKeyOrCertificate KeyError) → DecodesOffer pubkey_algo.now blob.now answer → (result ≡ answer) ⊎ IsErrOf result KeyError.NoMemory }
+        ensures exactly { (answer : Result PublicKeyOrCertificate KeyError)
+            → DecodesOffer pubkey_algo.now blob.now answer
+            → (result ≡ answer) ⊎ IsErrOf result KeyError.NoMemory }
     {
         PublicKeyOrCertificate::read(alloc, pubkey_algo, blob)
     }
@@ -84,7 +88,8 @@ impl PublicKeyOrCertificate {
 
     /// The certificate, where it is one.
     pub fn certificate(&self) -> Option<&Certificate>
-        ensures { MatchOption result (IsPlain self.now) (λ certificate. self.now ≡ offer.Certificate certificate.now) }
+        ensures { MatchOption result (IsPlain self.now)
+            (λ certificate. self.now ≡ offer.Certificate certificate.now) }
     {
         match self {
             PublicKeyOrCertificate::PublicKey { .. } => None,

@@ -18,7 +18,8 @@ pub(crate) enum KeyType {
 impl KeyType {
     /// The type of the keys whose blobs begin with this name.
     pub(crate) fn of_key(name: &str) -> Option<KeyType>
-        ensures { MatchOption result (NamesNone type_name name.now) (λ typ. type_name typ ≡ name.now) }
+        ensures { MatchOption result (NamesNone type_name name.now)
+            (λ typ. type_name typ ≡ name.now) }
     {
         match name {
             "ssh-ed25519" => Some(KeyType::Ed25519),
@@ -38,7 +39,8 @@ impl KeyType {
 
     /// The type of the keys whose certificates begin with this name.
     pub(crate) fn of_certificate(name: &str) -> Option<KeyType>
-        ensures { MatchOption result (NamesNone certificate_type_name name.now) (λ typ. certificate_type_name typ ≡ name.now) }
+        ensures { MatchOption result (NamesNone certificate_type_name name.now)
+            (λ typ. certificate_type_name typ ≡ name.now) }
     {
         match name {
             "ssh-ed25519-cert-v01@openssh.com" => Some(KeyType::Ed25519),
@@ -71,7 +73,8 @@ impl KeyType {
 
     /// Reads the type of a certificate.
     pub(crate) fn read_of_certificate(r: &mut Reader<'_>) -> Result<KeyType, KeyError>
-        ensures ok { IfOk result (λ typ. SpellsName (certificate_type_name typ) r.old.left r.new.left) }
+        ensures ok { IfOk result (λ typ. SpellsName (certificate_type_name typ) r.old.left
+            r.new.left) }
         ensures moves { OnOk result (MovesOn r.old r.new) }
         ensures refused { IfErr result (FailsType certificate_type_name r.old.left) }
     {

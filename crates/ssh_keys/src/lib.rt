@@ -3,7 +3,8 @@
 //! its own signature hold.
 //!
 //! What the crates above rely on: a blob is read exactly as its layout says, a refusal is of
-//! exactly one kind, and a check of a certificate passes exactly where its time and its signature do.
+//! exactly one kind, and a check of a certificate passes exactly where its time and its signature
+//! do.
 #![tactic(auto)]
 
 mod algorithm;

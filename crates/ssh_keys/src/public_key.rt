@@ -1,8 +1,10 @@
 // Public keys and their blobs.
-ghost use Rattle.std.specs.Prelude.{◌≡◌, ◌⊎◌, ◌↔◌, ◌++◌, ℕ, List, Result, Ok, IfOk, IfErr, OnOk, IsErrOf, IsTrue};
+ghost use Rattle.std.specs.Prelude.{◌≡◌, ◌⊎◌, ◌↔◌, ◌++◌, ℕ, List, Result, Ok, IfOk, IfErr, OnOk};
+ghost use Rattle.std.specs.Prelude.{IsErrOf, IsTrue};
 ghost use Rattle.ssh_wire.specs.Reading.{MovesOn};
 ghost use Rattle.ssh_wire.specs.declared.error.WireError.TheVariants.{NoMemory as NoWireMemory};
-ghost use Rattle.ssh_keys.specs.Keys.{type_of, SpellsKey, IsKey, LacksKey, FailsKey, DecodesKey, HasLongField, key_blob};
+ghost use Rattle.ssh_keys.specs.Keys.{type_of, SpellsKey, IsKey, LacksKey, FailsKey, DecodesKey};
+ghost use Rattle.ssh_keys.specs.Keys.{HasLongField, key_blob};
 ghost use Rattle.ssh_keys.specs.declared.error.KeyError.{KeyError};
 ghost use Rattle.ssh_keys.specs.declared.error.KeyError.TheVariants.{Blob, NoMemory};
 ghost use Rattle.ssh_keys.specs.declared.public_key.PublicKey.{PublicKey};
@@ -45,7 +47,8 @@ impl PublicKey {
     pub fn decode(alloc: Global, blob: &[u8]) -> Result<PublicKey, KeyError>
         ensures ok { IfOk result (λ public. IsKey public blob.now) }
         ensures refused { IfErr result (λ e. (e ≡ NoMemory) ⊎ FailsKey blob.now e) }
-        ensures exactly { (answer : Result PublicKey KeyError) → DecodesKey blob.now answer → (result ≡ answer) ⊎ IsErrOf result KeyError.NoMemory }
+        ensures exactly { (answer : Result PublicKey KeyError) → DecodesKey blob.now answer
+            → (result ≡ answer) ⊎ IsErrOf result KeyError.NoMemory }
     {
         PublicKey::read(alloc, blob)
     }
@@ -68,9 +71,11 @@ impl PublicKey {
         typ: KeyType,
         r: &mut Reader<'_>,
     ) -> Result<PublicKey, KeyError>
-        ensures ok { IfOk result (λ public. (type_of public ≡ typ) × SpellsKey public r.old.left r.new.left) }
+        ensures ok { IfOk result (λ public. (type_of public ≡ typ)
+            × SpellsKey public r.old.left r.new.left) }
         ensures moves { OnOk result (MovesOn r.old r.new) }
-        ensures refused { IfErr result (λ e. (e ≡ NoMemory) ⊎ ((e ≡ Blob) × LacksKey typ r.old.left)) }
+        ensures refused { IfErr result (λ e. (e ≡ NoMemory)
+            ⊎ ((e ≡ Blob) × LacksKey typ r.old.left)) }
     {
         match typ {
             KeyType::Ed25519 => read_ed25519(alloc, r),
@@ -84,7 +89,8 @@ impl PublicKey {
     pub fn blob(&self, alloc: Global) -> Result<Bytes, KeyError>
         ensures ok { IfOk result (λ blob. IsKey self.now blob) }
         ensures only { IfOk result (λ blob. (other : List ℕ) → IsKey self.now other → other ≡ blob) }
-        ensures decodes { IfOk result (λ blob. (answer : Result PublicKey KeyError) → DecodesKey blob answer → answer ≡ Ok self.now) }
+        ensures decodes { IfOk result (λ blob. (answer : Result PublicKey KeyError)
+            → DecodesKey blob answer → answer ≡ Ok self.now) }
         ensures long { IsErrOf result KeyError.Blob ↔ HasLongField self.now }
         ensures errors { IfErr result (λ e. (e ≡ Blob) ⊎ (e ≡ NoMemory)) }
     {
@@ -155,9 +161,11 @@ impl PublicKey {
 
 /// Reads the key (RFC 8709 section 4).
 fn read_ed25519(alloc: Global, r: &mut Reader<'_>) -> Result<PublicKey, KeyError>
-    ensures ok { IfOk result (λ public. (type_of public ≡ type.Ed25519) × SpellsKey public r.old.left r.new.left) }
+    ensures ok { IfOk result (λ public. (type_of public ≡ type.Ed25519)
+        × SpellsKey public r.old.left r.new.left) }
     ensures moves { OnOk result (MovesOn r.old r.new) }
-    ensures refused { IfErr result (λ e. (e ≡ NoMemory) ⊎ ((e ≡ Blob) × LacksKey type.Ed25519 r.old.left)) }
+    ensures refused { IfErr result (λ e. (e ≡ NoMemory)
+        ⊎ ((e ≡ Blob) × LacksKey type.Ed25519 r.old.left)) }
 {
     let key = r.bytes()?;
     Ok(PublicKey::Ed25519 {
@@ -167,9 +175,11 @@ fn read_ed25519(alloc: Global, r: &mut Reader<'_>) -> Result<PublicKey, KeyError
 
 /// Reads the curve's identifier, which is that of the type, and the point (RFC 5656 section 3.1).
 fn read_ecdsa(alloc: Global, curve: EcdsaCurve, r: &mut Reader<'_>) -> Result<PublicKey, KeyError>
-    ensures ok { IfOk result (λ public. (type_of public ≡ type.Ecdsa curve) × SpellsKey public r.old.left r.new.left) }
+    ensures ok { IfOk result (λ public. (type_of public ≡ type.Ecdsa curve)
+        × SpellsKey public r.old.left r.new.left) }
     ensures moves { OnOk result (MovesOn r.old r.new) }
-    ensures refused { IfErr result (λ e. (e ≡ NoMemory) ⊎ ((e ≡ Blob) × LacksKey (type.Ecdsa curve) r.old.left)) }
+    ensures refused { IfErr result (λ e. (e ≡ NoMemory)
+        ⊎ ((e ≡ Blob) × LacksKey (type.Ecdsa curve) r.old.left)) }
 {
     let name = r.text()?;
     if name != curve.as_str() {
@@ -184,9 +194,11 @@ fn read_ecdsa(alloc: Global, curve: EcdsaCurve, r: &mut Reader<'_>) -> Result<Pu
 
 /// Reads the exponent and the modulus (RFC 4253 section 6.6).
 fn read_rsa(alloc: Global, r: &mut Reader<'_>) -> Result<PublicKey, KeyError>
-    ensures ok { IfOk result (λ public. (type_of public ≡ type.Rsa) × SpellsKey public r.old.left r.new.left) }
+    ensures ok { IfOk result (λ public. (type_of public ≡ type.Rsa)
+        × SpellsKey public r.old.left r.new.left) }
     ensures moves { OnOk result (MovesOn r.old r.new) }
-    ensures refused { IfErr result (λ e. (e ≡ NoMemory) ⊎ ((e ≡ Blob) × LacksKey type.Rsa r.old.left)) }
+    ensures refused { IfErr result (λ e. (e ≡ NoMemory)
+        ⊎ ((e ≡ Blob) × LacksKey type.Rsa r.old.left)) }
 {
     let e = r.bytes()?;
     let n = r.bytes()?;

@@ -3,7 +3,8 @@ ghost use Rattle.std.specs.Prelude.{◌≡◌, ◌⊎◌, IfOk, IfErr, OnOk, OnE
 ghost use Rattle.ssh_wire.specs.Reading.{MovesOn};
 ghost use Rattle.ssh_wire.specs.declared.error.WireError.TheVariants.{NoMemory as NoWireMemory};
 ghost use Rattle.ssh_keys.specs.Keys.{LacksFields};
-ghost use Rattle.ssh_keys.specs.Signatures.{signature_fields, SpellsSignature, EndsInSignature, LacksSignature};
+ghost use Rattle.ssh_keys.specs.Signatures.{signature_fields, SpellsSignature, EndsInSignature};
+ghost use Rattle.ssh_keys.specs.Signatures.{LacksSignature};
 ghost use Rattle.ssh_keys.specs.declared.error.KeyError.TheVariants.{Blob, NoMemory};
 
 use crate::KeyError;
@@ -26,7 +27,8 @@ impl Signature {
     pub fn decode(alloc: Global, r: &mut Reader<'_>) -> Result<Signature, KeyError>
         ensures ok { IfOk result (λ signature. SpellsSignature signature r.old.left r.new.left) }
         ensures moves { OnOk result (MovesOn r.old r.new) }
-        ensures refused { IfErr result (λ e. (e ≡ NoMemory) ⊎ ((e ≡ Blob) × LacksFields signature_fields r.old.left)) }
+        ensures refused { IfErr result (λ e. (e ≡ NoMemory)
+            ⊎ ((e ≡ Blob) × LacksFields signature_fields r.old.left)) }
         ensures err { OnErr result (r.new ≡ r.old) }
     {
         let mut ahead = r.ahead();
@@ -43,7 +45,8 @@ impl Signature {
     /// Reads a string that holds a signature and nothing else, and the end after it.
     pub(crate) fn decode_last(alloc: Global, r: &mut Reader<'_>) -> Result<Signature, KeyError>
         ensures ok { IfOk result (λ signature. EndsInSignature signature r.old.left) }
-        ensures refused { IfErr result (λ e. (e ≡ NoMemory) ⊎ ((e ≡ Blob) × LacksSignature r.old.left)) }
+        ensures refused { IfErr result (λ e. (e ≡ NoMemory)
+            ⊎ ((e ≡ Blob) × LacksSignature r.old.left)) }
     {
         let inner = r.bytes()?;
         r.end()?;

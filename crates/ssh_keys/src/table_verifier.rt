@@ -24,7 +24,13 @@ pub struct AcceptedSignature {
 impl AcceptedSignature {
     /// Whether it is this one.
     fn is(&self, key: &PublicKey, algorithm: Algorithm, message: &[u8], signature: &[u8]) -> bool
-        ensures { IsTrue result ↔ (self.now ≡ record { key = key.now; algorithm = algorithm; message = message.now; signature = signature.now }) }
+        ensures { IsTrue result ↔ (self.now ≡ record {
+          key = key.now;
+          algorithm = algorithm;
+          message = message.now;
+          signature =
+              signature.now;
+        }) }
     {
         self.key == *key
             && self.algorithm == algorithm
@@ -66,7 +72,14 @@ impl TableVerifier {
         message: Bytes,
         signature: Bytes,
     ) -> Result<(), KeyError>
-        ensures ok { OnOk result (self.new ≡ self.old ++ (record { key = key; algorithm = algorithm; message = message; signature = signature }) ∷ []) }
+        ensures ok { OnOk result (self.new ≡ self.old
+            ++ (record {
+              key = key;
+              algorithm = algorithm;
+              message = message;
+              signature =
+                  signature;
+            }) ∷ []) }
         ensures memory { IfErr result (λ e. e ≡ NoMemory) }
         ensures err { OnErr result (self.new ≡ self.old) }
     {

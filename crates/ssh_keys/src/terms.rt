@@ -2,7 +2,9 @@
 ghost use Rattle.std.specs.Prelude.{◌≡◌, ◌⊎◌, MatchOption, ℕ, IfOk, IfErr, OnOk};
 ghost use Rattle.ssh_wire.specs.Reading.{MovesOn};
 ghost use Rattle.ssh_keys.specs.Keys.{LacksFields};
-ghost use Rattle.ssh_keys.specs.Certificates.{cert_type_number, SpellsIdentity, LacksIdentity, validity_fields, SpellsValidity, option_fields, SpellsOptions};
+ghost use Rattle.ssh_keys.specs.Certificates.{cert_type_number, SpellsIdentity, LacksIdentity};
+ghost use Rattle.ssh_keys.specs.Certificates.{validity_fields, SpellsValidity, option_fields};
+ghost use Rattle.ssh_keys.specs.Certificates.{SpellsOptions};
 ghost use Rattle.ssh_keys.specs.declared.error.KeyError.TheVariants.{Blob, NoMemory};
 ghost use Rattle.ssh_keys.specs.declared.terms.CertType.{CertType};
 
@@ -23,7 +25,8 @@ pub enum CertType {
 impl CertType {
     /// The type of this number. There is none outside 1 and 2.
     fn from_u32(number: u32) -> Option<CertType>
-        ensures { MatchOption result ((typ : CertType) → cert_type_number typ ≡ number → ⊥) (λ typ. cert_type_number typ ≡ number) }
+        ensures { MatchOption result ((typ : CertType) → cert_type_number typ ≡ number → ⊥)
+            (λ typ. cert_type_number typ ≡ number) }
     {
         match number {
             1 => Some(CertType::User),
@@ -62,7 +65,8 @@ impl Identity {
     pub fn read(alloc: Global, r: &mut Reader<'_>) -> Result<Identity, KeyError>
         ensures ok { IfOk result (λ identity. SpellsIdentity identity r.old.left r.new.left) }
         ensures moves { OnOk result (MovesOn r.old r.new) }
-        ensures refused { IfErr result (λ e. (e ≡ NoMemory) ⊎ ((e ≡ Blob) × LacksIdentity r.old.left)) }
+        ensures refused { IfErr result (λ e. (e ≡ NoMemory)
+            ⊎ ((e ≡ Blob) × LacksIdentity r.old.left)) }
     {
         let serial = r.u64()?;
         let number = r.u32()?;
@@ -85,7 +89,8 @@ impl Validity {
     pub fn read(r: &mut Reader<'_>) -> Result<Validity, KeyError>
         ensures ok { IfOk result (λ validity. SpellsValidity validity r.old.left r.new.left) }
         ensures moves { OnOk result (MovesOn r.old r.new) }
-        ensures refused { IfErr result (λ e. (e ≡ NoMemory) ⊎ ((e ≡ Blob) × LacksFields validity_fields r.old.left)) }
+        ensures refused { IfErr result (λ e. (e ≡ NoMemory)
+            ⊎ ((e ≡ Blob) × LacksFields validity_fields r.old.left)) }
     {
         let valid_after = r.u64()?;
         let valid_before = r.u64()?;
@@ -101,7 +106,8 @@ impl Options {
     pub fn read(alloc: Global, r: &mut Reader<'_>) -> Result<Options, KeyError>
         ensures ok { IfOk result (λ options. SpellsOptions options r.old.left r.new.left) }
         ensures moves { OnOk result (MovesOn r.old r.new) }
-        ensures refused { IfErr result (λ e. (e ≡ NoMemory) ⊎ ((e ≡ Blob) × LacksFields option_fields r.old.left)) }
+        ensures refused { IfErr result (λ e. (e ≡ NoMemory)
+            ⊎ ((e ≡ Blob) × LacksFields option_fields r.old.left)) }
     {
         let critical_options = r.bytes()?;
         let extensions = r.bytes()?;

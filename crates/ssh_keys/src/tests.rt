@@ -259,8 +259,8 @@ fn a_signature_is_read_to_its_end(rt: HostRuntime) -> Result<(), Fail> {
     Ok(())
 }
 
-// What an offer shows: the hash that its name says, whether it is a certificate, and whether its key
-// is this one.
+// What an offer shows: the hash that its name says, whether it is a certificate, and whether its
+// key is this one.
 fn shown(offer: &PublicKeyOrCertificate, key: &PublicKey) -> (Option<HashAlg>, bool, bool) {
     let hash = match offer {
         PublicKeyOrCertificate::PublicKey { hash_alg, .. } => *hash_alg,

@@ -5,7 +5,8 @@ use Rattle.std.specs.Prelude.{◌≡◌, ◌≤◌, ℕ, List, [], take, drop, l
 abbrev pub Takes : Option (List ℕ) → Option (List ℕ) → ℕ → List ℕ → Type 0
 Takes None new count buffer = new ≡ None
 Takes (Some bytes) new count buffer =
-    (new ≡ Some (drop count bytes)) × (count ≤ length bytes) × (take count buffer ≡ take count bytes)
+    (new ≡ Some (drop count bytes)) × (count ≤ length bytes)
+    × (take count buffer ≡ take count bytes)
 
 -- no byte is left, where it is told
 abbrev pub AtEnd : Option (List ℕ) → Type 0

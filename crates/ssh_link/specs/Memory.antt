@@ -1,5 +1,6 @@
 -- The outsides in memory: what they still have, and which of their calls fail.
-use Rattle.std.specs.Prelude.{◌+◌, ◌^◌, ◌==◌, ◌&&◌, ℕ, Bool, nat_lt, if◌then◌else◌, List, [], ◌∷◌, ◌++◌}
+use Rattle.std.specs.Prelude.{◌+◌, ◌^◌, ◌==◌, ◌&&◌, ℕ, Bool, nat_lt, if◌then◌else◌, List, [], ◌∷◌}
+use Rattle.std.specs.Prelude.{◌++◌}
 use Rattle.std.specs.List.{list_any}
 use Rattle.ssh_link.specs.declared.frame.Input.{Input}
 use Rattle.ssh_link.specs.declared.link.TraceEntry.{TraceEntry}
@@ -45,7 +46,8 @@ pub record Remembered : Type 0 where
 
 -- a link that has these inputs, and the end at this moment, and was not called yet
 abbrev pub unused_until : ℕ → List Input → List ℕ → Remembered
-unused_until moment inputs fails = record { supply = left_until moment inputs; failures = no_calls fails; trace = [] }
+unused_until moment inputs fails =
+    record { supply = left_until moment inputs; failures = no_calls fails; trace = [] }
 
 -- with the end at the moment of the last of them
 abbrev pub unused : List Input → List ℕ → Remembered
@@ -57,7 +59,8 @@ failed link = record link { failures = called link.failures }
 
 -- after a call that was finished, and told so
 abbrev pub finished : Remembered → TraceEntry → Remembered
-finished link entry = record link { failures = called link.failures; trace = link.trace ++ entry ∷ [] }
+finished link entry =
+    record link { failures = called link.failures; trace = link.trace ++ entry ∷ [] }
 
 -- after the next input was given
 abbrev pub gave : Bool → Bool → Remembered → Remembered

@@ -1,7 +1,9 @@
--- Inputs that are given in order, while commands and replies to opens wait until they are asked for.
+-- Inputs that are given in order, while commands and replies to opens wait until they are asked
+-- for.
 use Rattle.std.specs.Prelude.{ℕ, ◌-◌, Bool, true, false, if◌then◌else◌, Option, Some, None}
 use Rattle.std.specs.Prelude.{List, [], ◌++◌, drop, length}
-use Rattle.std.specs.List.{list_any, slice_get, filter, find, position_or_len, before_first, after_first}
+use Rattle.std.specs.List.{list_any, slice_get, filter, find, position_or_len, before_first}
+use Rattle.std.specs.List.{after_first}
 use Rattle.ssh_link.specs.declared.frame.Input.{Input}
 use Rattle.ssh_link.specs.declared.frame.InputKind.{InputKind}
 use Rattle.ssh_link.specs.declared.frame.InputKind.TheVariants.{Command, OpenReply, End}
@@ -29,7 +31,8 @@ last_moment inputs = moment_or_zero (slice_get inputs (length inputs - 1))
 
 -- before the first input was given, with the end at this moment
 abbrev pub left_until : ℕ → List Input → Supply
-left_until moment inputs = record { replies = []; commands = []; left = inputs; end_moment = moment }
+left_until moment inputs =
+    record { replies = []; commands = []; left = inputs; end_moment = moment }
 
 -- with the end at the moment of the last of them
 abbrev pub all_left : List Input → Supply
@@ -58,7 +61,8 @@ in_turn supply = supply.replies ++ (supply.commands ++ supply.left)
 -- the input that comes next: the first in turn that is asked for
 abbrev pub next_input : Bool → Bool → Supply → Input
 next_input commands replies supply =
-    input_or_end (find (λ input. is_asked commands replies input.kind) (in_turn supply)) supply.end_moment
+    input_or_end (find (λ input. is_asked commands replies input.kind) (in_turn supply))
+    supply.end_moment
 
 -- these inputs without the first of which this holds
 abbrev pub without_first : (Input → Bool) → List Input → List Input
@@ -67,8 +71,10 @@ without_first comes inputs = before_first comes inputs ++ after_first comes inpu
 -- those that were not reached yet are set aside, up to the first of which this holds
 abbrev pub passed_over : (Input → Bool) → Supply → Supply
 passed_over comes supply = record supply {
-  replies = supply.replies ++ filter (λ input. is_reply input.kind) (before_first comes supply.left);
-  commands = supply.commands ++ filter (λ input. is_command input.kind) (before_first comes supply.left);
+  replies =
+      supply.replies ++ filter (λ input. is_reply input.kind) (before_first comes supply.left);
+  commands =
+      supply.commands ++ filter (λ input. is_command input.kind) (before_first comes supply.left);
   left = drop (position_or_len comes supply.left) supply.left;
 }
 
@@ -76,10 +82,13 @@ passed_over comes supply = record supply {
 -- the others as they are; else those before it are set aside
 abbrev pub after_taking : (Input → Bool) → Supply → Supply
 after_taking comes supply =
-    if list_any comes supply.replies then record supply { replies = without_first comes supply.replies }
-    else if list_any comes supply.commands then record supply { commands = without_first comes supply.commands }
+    if list_any comes supply.replies then record supply
+    { replies = without_first comes supply.replies }
+    else if list_any comes supply.commands then record supply
+    { commands = without_first comes supply.commands }
     else record (passed_over comes supply) { left = after_first comes supply.left }
 
 -- what is left behind the input that comes next
 abbrev pub after_next : Bool → Bool → Supply → Supply
-after_next commands replies supply = after_taking (λ input. is_asked commands replies input.kind) supply
+after_next commands replies supply =
+    after_taking (λ input. is_asked commands replies input.kind) supply

@@ -1,5 +1,6 @@
 // What goes out to the peer, and what comes in.
-ghost use Rattle.std.specs.Prelude.{◌≡◌, ◌≤◌, ◌-◌, ◌+◌, ◌^◌, ◌++◌, None, Some, IfOk, IfErr, IsOk, bytes_eq, length, take, drop};
+ghost use Rattle.std.specs.Prelude.{◌≡◌, ◌≤◌, ◌-◌, ◌+◌, ◌^◌, ◌++◌, None, Some, IfOk, IfErr, IsOk};
+ghost use Rattle.std.specs.Prelude.{bytes_eq, length, take, drop};
 ghost use Rattle.ssh_wire.specs.declared.error.WireError.TheVariants.{NoMemory};
 ghost use Rattle.ssh_link.specs.Frames.{channel_data, channel_extended_data};
 ghost use Rattle.ssh_link.specs.Asked.{is_asked};
@@ -38,7 +39,12 @@ impl Model for Frame {
 
     ghost Value = { Frame };
 
-    ghost view = { λ f. record { payload = take f.head_length f.head ++ f.body; hold_until = f.hold_until; channel = f.channel } };
+    ghost view = { λ f. record {
+      payload = take f.head_length f.head ++ f.body;
+      hold_until =
+          f.hold_until;
+      channel = f.channel;
+    } };
 
     ghost invariant = { λ f. f.head_length ≤ 13 };
 }
@@ -73,7 +79,12 @@ impl Frame {
     /// A frame of a payload that has at most 13 bytes. Takes no memory.
     pub fn short(payload: &[u8], hold_until: Option<u64>, channel: Option<ChannelId>) -> Frame
         requires { length payload.now ≤ 13 }
-        ensures { result ≡ record { payload = payload.now; hold_until = hold_until; channel = channel } }
+        ensures { result ≡ record {
+          payload = payload.now;
+          hold_until = hold_until;
+          channel =
+              channel;
+        } }
     {
         Frame {
             head: in_place(payload, &[]),
@@ -88,7 +99,12 @@ impl Frame {
     /// `peer`. The frame shares the bytes, and may go out at once. Takes no memory.
     pub fn data(channel: ChannelId, peer: u32, bytes: Bytes) -> Frame
         requires { length bytes ≤ 2 ^ 32 - 14 }
-        ensures { result ≡ record { payload = channel_data peer bytes; hold_until = None; channel = Some channel } }
+        ensures { result ≡ record {
+          payload = channel_data peer bytes;
+          hold_until = None;
+          channel =
+              Some channel;
+        } }
     {
         let [a, b, c, d] = peer.to_be_bytes();
         let [e, f, g, h] = (bytes.len() as u32).to_be_bytes();
@@ -106,7 +122,12 @@ impl Frame {
     /// at once. Takes no memory.
     pub fn extended(channel: ChannelId, peer: u32, ext: u32, bytes: Bytes) -> Frame
         requires { length bytes ≤ 2 ^ 32 - 14 }
-        ensures { result ≡ record { payload = channel_extended_data peer ext bytes; hold_until = None; channel = Some channel } }
+        ensures { result ≡ record {
+          payload = channel_extended_data peer ext bytes;
+          hold_until =
+              None;
+          channel = Some channel;
+        } }
     {
         let [a, b, c, d] = peer.to_be_bytes();
         let [e, f, g, h] = ext.to_be_bytes();
@@ -140,7 +161,8 @@ impl Frame {
 
     /// The bytes behind the head: all but at most the first 13 of the payload.
     pub fn body(&self) -> &[u8]
-        ensures last { drop (length self.now.payload - length result.now) self.now.payload ≡ result.now }
+        ensures last { drop (length self.now.payload - length result.now) self.now.payload
+            ≡ result.now }
         ensures length { length self.now.payload ≤ 13 + length result.now }
     {
         let (_, body) = self.parts();
@@ -161,8 +183,8 @@ impl Frame {
         self.channel
     }
 
-    /// An equal frame, whose body shares its bytes where it can. A payload of at most 13 bytes takes
-    /// no memory. `NoMemory` is the only error.
+    /// An equal frame, whose body shares its bytes where it can. A payload of at most 13 bytes
+    /// takes no memory. `NoMemory` is the only error.
     pub fn copy(&self) -> Result<Frame, WireError>
         ensures ok { IfOk result (λ frame. frame ≡ self.now) }
         ensures memory { IfErr result (λ e. e ≡ NoMemory) }

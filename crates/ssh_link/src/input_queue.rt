@@ -1,5 +1,6 @@
 // The inputs that a link in memory has still to give.
-ghost use Rattle.std.specs.Prelude.{◌≡◌, ◌⊎◌, [], ◌∷◌, false, true, None, Some, IfOk, IfErr, MatchOption};
+ghost use Rattle.std.specs.Prelude.{◌≡◌, ◌⊎◌, [], ◌∷◌, false, true, None, Some, IfOk, IfErr};
+ghost use Rattle.std.specs.Prelude.{MatchOption};
 ghost use Rattle.std.specs.List.{position, slice_get};
 ghost use Rattle.std.specs.VecDeque.{deque_capacity};
 ghost use Rattle.ssh_wire.specs.declared.error.WireError.TheVariants.{NoMemory};
@@ -100,7 +101,8 @@ fn copy_asked(inputs: &VecDeque<Input>, asked: bool) -> Result<Option<Input>, Wi
 }
 
 impl InputQueue {
-    // All these inputs, and the end at the moment of the last of them. `NoMemory` is the only error.
+    // All these inputs, and the end at the moment of the last of them. `NoMemory` is the only
+    // error.
     pub(crate) fn new(alloc: Global, inputs: Inputs) -> Result<InputQueue, WireError>
         ensures ok { IfOk result (λ queue. queue ≡ all_left inputs) }
         ensures memory { IfErr result (λ e. e ≡ NoMemory) }

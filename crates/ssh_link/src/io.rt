@@ -1,5 +1,6 @@
 // Where bytes come from, and where they go to.
-ghost use Rattle.std.specs.Prelude.{◌≡◌, ◌<◌, ◌≤◌, ℕ, List, Option, length, take, IfOk, OnOk, OnErr};
+ghost use Rattle.std.specs.Prelude.{◌≡◌, ◌<◌, ◌≤◌, ℕ, List, Option, length, take, IfOk, OnOk};
+ghost use Rattle.std.specs.Prelude.{OnErr};
 ghost use Rattle.ssh_link.specs.Told.{Adds, AddsNothing};
 ghost use Rattle.ssh_link.specs.Faults.{RoseOrFull};
 ghost use Rattle.ssh_link.specs.Io.{Takes, AtEnd};

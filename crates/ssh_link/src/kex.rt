@@ -57,8 +57,8 @@ pub enum KexCall<E> {
 }
 
 /// The exchange of keys of a connection (RFC 4253 section 7). The payloads numbered 20 to 49 are
-/// its own: a session hands them to it, and hands on what it gives. One that tells its calls goes on
-/// telling them.
+/// its own: a session hands them to it, and hands on what it gives. One that tells its calls goes
+/// on telling them.
 pub trait Kex {
     /// Why an exchange cannot go on.
     type Error: Drop;

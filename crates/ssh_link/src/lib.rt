@@ -2,8 +2,8 @@
 //! bytes of a program through a `Source` and a `Sink`; keys are exchanged by a `Kex`.
 //!
 //! What the crates above rely on: an outside fails only where its count of faults rose (of a source
-//! or a sink: rose, or is full), which does not rise where a call is finished, and whatever tells its
-//! calls goes on telling them.
+//! or a sink: rose, or is full), which does not rise where a call is finished, and whatever tells
+//! its calls goes on telling them.
 #![tactic(auto)]
 
 mod command;

@@ -2,7 +2,8 @@
 ghost use Rattle.std.specs.Prelude.{◌≡◌, ◌≤◌, ℕ, List, Option, IfOk, IfErr, OnOk, OnErr, IsErrOf};
 ghost use Rattle.ssh_wire.specs.declared.error.WireError.TheVariants.{NoMemory};
 ghost use Rattle.ssh_link.specs.declared.link.TraceEntry.{TraceEntry};
-ghost use Rattle.ssh_link.specs.declared.link.TraceEntry.TheVariants.{Took, Sent, Noticed, Answered};
+ghost use Rattle.ssh_link.specs.declared.link.TraceEntry.TheVariants.{Took, Sent, Noticed};
+ghost use Rattle.ssh_link.specs.declared.link.TraceEntry.TheVariants.{Answered};
 ghost use Rattle.ssh_link.specs.Told.{AddsOne, AddsNothing};
 ghost use Rattle.ssh_link.specs.Asked.{IsAsked};
 ghost use Rattle.ssh_link.specs.Faults.{Rose};
@@ -71,13 +72,15 @@ pub trait Link {
     /// The finished calls in order, where the link tells them.
     ghost trace: { Self → Option (List TraceEntry) };
 
-    /// How often the outside has failed: it rises where a call fails so, and not where one is finished.
+    /// How often the outside has failed: it rises where a call fails so, and not where one is
+    /// finished.
     ghost faults: { Self → ℕ };
 
     /// The next input. A link gives a command only where `commands` asks for it, and a reply to
     /// an open only where `replies` asks for it.
     fn next(&mut self, commands: bool, replies: bool) -> Result<Input, LinkFault>
-        ensures took { IfOk result (λ input. AddsOne (trace self.old) (trace self.new) (Took commands replies input)) }
+        ensures took { IfOk result (λ input. AddsOne (trace self.old) (trace self.new)
+            (Took commands replies input)) }
         ensures asked { IfOk result (λ input. IsAsked commands replies input.kind) }
         ensures err { OnErr result (AddsNothing (trace self.old) (trace self.new)) }
         ensures cause { IsErrOf result LinkFault.Failed → Rose (faults self.old) (faults self.new) }
@@ -102,7 +105,8 @@ pub trait Link {
 
     /// Answers what came of the command or the reply with this ticket.
     fn answer(&mut self, ticket: u64, outcome: CommandOutcome) -> Result<(), LinkFault>
-        ensures answered { OnOk result (AddsOne (trace self.old) (trace self.new) (Answered ticket outcome)) }
+        ensures answered { OnOk result (AddsOne (trace self.old) (trace self.new)
+            (Answered ticket outcome)) }
         ensures err { OnErr result (AddsNothing (trace self.old) (trace self.new)) }
         ensures cause { IsErrOf result LinkFault.Failed → Rose (faults self.old) (faults self.new) }
         ensures quiet { OnOk result (faults self.new ≡ faults self.old) }

@@ -1,5 +1,6 @@
 // A source and a sink in memory.
-ghost use Rattle.std.specs.Prelude.{◌≡◌, [], ◌<◌, ◌≤◌, ◌+◌, ◌++◌, ◌↔◌, ◌⊎◌, Some, IfOk, OnOk, OnErr, IsErr, IsTrue, drop, take, length, min};
+ghost use Rattle.std.specs.Prelude.{◌≡◌, [], ◌<◌, ◌≤◌, ◌+◌, ◌++◌, ◌↔◌, ◌⊎◌, Some, IfOk, OnOk};
+ghost use Rattle.std.specs.Prelude.{OnErr, IsErr, IsTrue, drop, take, length, min};
 ghost use Rattle.ssh_link.specs.Told.{Adds, AddsNothing};
 ghost use Rattle.ssh_link.specs.Faults.{RoseOrFull};
 ghost use Rattle.ssh_link.specs.Io.{Takes, AtEnd};
@@ -130,15 +131,21 @@ impl Sink for MemorySink {
     fn write(&mut self, piece: &[u8]) -> Result<usize, IoFailed>
         ensures within { IfOk result (λ n. n ≤ length piece.now) }
         ensures some { IfOk result (λ n. 0 < length piece.now → 0 < n) }
-        ensures written { IfOk result (λ n. Adds (Some self.old.held) (Some self.new.held) (take n piece.now)) }
+        ensures written { IfOk result (λ n. Adds (Some self.old.held) (Some self.new.held)
+            (take n piece.now)) }
         ensures err { OnErr result (AddsNothing (Some self.old.held) (Some self.new.held)) }
-        ensures cause { OnErr result (RoseOrFull (self.old.failures.faults + self.old.starved) (self.new.failures.faults + self.new.starved)) }
-        ensures quiet { OnOk result (self.new.failures.faults + self.new.starved ≡ self.old.failures.faults + self.old.starved) }
-        ensures later { self.old.failures.faults + self.old.starved ≤ self.new.failures.faults + self.new.starved }
+        ensures cause { OnErr result (RoseOrFull (self.old.failures.faults + self.old.starved)
+            (self.new.failures.faults + self.new.starved)) }
+        ensures quiet { OnOk result (self.new.failures.faults + self.new.starved
+            ≡ self.old.failures.faults + self.old.starved) }
+        ensures later { self.old.failures.faults + self.old.starved ≤ self.new.failures.faults
+            + self.new.starved }
         ensures count { IfOk result (λ n. n ≡ length piece.now) }
         ensures wrote { OnOk result (self.new ≡ wrote self.old piece.now) }
-        ensures starved { OnErr result (IsTrue (fails_next self.old.failures) ⊎ (self.new ≡ starved self.old)) }
-        ensures planned { IsTrue (fails_next self.old.failures) → IsErr result × (self.new ≡ refused self.old) }
+        ensures starved { OnErr result (IsTrue (fails_next self.old.failures)
+            ⊎ (self.new ≡ starved self.old)) }
+        ensures planned { IsTrue (fails_next self.old.failures)
+            → IsErr result × (self.new ≡ refused self.old) }
     {
         if self.failures.next_fails() {
             return Err(IoFailed);

@@ -1,7 +1,8 @@
 // A link in memory.
 ghost use Rattle.std.specs.Prelude.{◌≡◌, ◌≤◌, ◌↔◌, Some, IfOk, IfErr, OnOk, OnErr, IsErrOf, IsTrue};
 ghost use Rattle.ssh_wire.specs.declared.error.WireError.TheVariants.{NoMemory};
-ghost use Rattle.ssh_link.specs.declared.link.TraceEntry.TheVariants.{Took, Sent, Noticed, Answered};
+ghost use Rattle.ssh_link.specs.declared.link.TraceEntry.TheVariants.{Took, Sent, Noticed};
+ghost use Rattle.ssh_link.specs.declared.link.TraceEntry.TheVariants.{Answered};
 ghost use Rattle.ssh_link.specs.Told.{AddsOne, AddsNothing};
 ghost use Rattle.ssh_link.specs.Asked.{IsAsked};
 ghost use Rattle.ssh_link.specs.Faults.{Rose};
@@ -16,10 +17,10 @@ use ssh_wire::WireError;
 use std::alloc::Global;
 use std::marker::Model;
 
-/// A link in memory. It gives its inputs in order, and behind the last of them the end. A command or a reply to an open that is
-/// not asked for is set aside, and comes first once it is asked for, replies before commands. The
-/// calls whose numbers it was given fail; all kinds of call are counted together, from 1. It tells
-/// its finished calls.
+/// A link in memory. It gives its inputs in order, and behind the last of them the end. A command
+/// or a reply to an open that is not asked for is set aside, and comes first once it is asked for,
+/// replies before commands. The calls whose numbers it was given fail; all kinds of call are
+/// counted together, from 1. It tells its finished calls.
 #[derive(Debug, Drop)]
 pub struct MemoryLink {
     inputs: InputQueue,
@@ -32,12 +33,17 @@ impl Model for MemoryLink {
 
     ghost Value = { Remembered };
 
-    ghost view = { λ link. record { supply = link.inputs; failures = link.failures; trace = link.trace.items } };
+    ghost view = { λ link. record {
+      supply = link.inputs;
+      failures = link.failures;
+      trace =
+          link.trace.items;
+    } };
 }
 
 impl MemoryLink {
-    /// A link with these inputs, whose calls with these numbers fail. The end comes at the moment of
-    /// the last input, or at 0 where there is none. `NoMemory` is the only error.
+    /// A link with these inputs, whose calls with these numbers fail. The end comes at the moment
+    /// of the last input, or at 0 where there is none. `NoMemory` is the only error.
     pub fn new(alloc: Global, inputs: Inputs, fails: Calls) -> Result<MemoryLink, WireError>
         ensures ok { IfOk result (λ link. link ≡ unused inputs fails) }
         ensures memory { IfErr result (λ e. e ≡ NoMemory) }
@@ -104,13 +110,16 @@ impl Link for MemoryLink {
     ghost faults = { λ link. link.failures.faults };
 
     fn next(&mut self, commands: bool, replies: bool) -> Result<Input, LinkFault>
-        ensures took { IfOk result (λ input. AddsOne (Some self.old.trace) (Some self.new.trace) (Took commands replies input)) }
+        ensures took { IfOk result (λ input. AddsOne (Some self.old.trace) (Some self.new.trace)
+            (Took commands replies input)) }
         ensures asked { IfOk result (λ input. IsAsked commands replies input.kind) }
         ensures err { OnErr result (AddsNothing (Some self.old.trace) (Some self.new.trace)) }
-        ensures cause { IsErrOf result LinkFault.Failed → Rose self.old.failures.faults self.new.failures.faults }
+        ensures cause { IsErrOf result LinkFault.Failed
+            → Rose self.old.failures.faults self.new.failures.faults }
         ensures quiet { OnOk result (self.new.failures.faults ≡ self.old.failures.faults) }
         ensures later { self.old.failures.faults ≤ self.new.failures.faults }
-        ensures given { IfOk result (λ input. (input ≡ next_input commands replies self.old.supply) × (self.new ≡ gave commands replies self.old)) }
+        ensures given { IfOk result (λ input. (input ≡ next_input commands replies self.old.supply)
+            × (self.new ≡ gave commands replies self.old)) }
         ensures failed { OnErr result (self.new ≡ failed self.old) }
         ensures planned { IsErrOf result LinkFault.Failed ↔ IsTrue (fails_next self.old.failures) }
     {
@@ -132,9 +141,11 @@ impl Link for MemoryLink {
     }
 
     fn send(&mut self, frame: Frame) -> Result<(), LinkFault>
-        ensures sent { OnOk result (AddsOne (Some self.old.trace) (Some self.new.trace) (Sent frame)) }
+        ensures sent { OnOk result (AddsOne (Some self.old.trace) (Some self.new.trace)
+            (Sent frame)) }
         ensures err { OnErr result (AddsNothing (Some self.old.trace) (Some self.new.trace)) }
-        ensures cause { IsErrOf result LinkFault.Failed → Rose self.old.failures.faults self.new.failures.faults }
+        ensures cause { IsErrOf result LinkFault.Failed
+            → Rose self.old.failures.faults self.new.failures.faults }
         ensures quiet { OnOk result (self.new.failures.faults ≡ self.old.failures.faults) }
         ensures later { self.old.failures.faults ≤ self.new.failures.faults }
         ensures finished { OnOk result (self.new ≡ finished self.old (Sent frame)) }
@@ -145,9 +156,11 @@ impl Link for MemoryLink {
     }
 
     fn notice(&mut self, notice: Notice) -> Result<(), LinkFault>
-        ensures noticed { OnOk result (AddsOne (Some self.old.trace) (Some self.new.trace) (Noticed notice)) }
+        ensures noticed { OnOk result (AddsOne (Some self.old.trace) (Some self.new.trace)
+            (Noticed notice)) }
         ensures err { OnErr result (AddsNothing (Some self.old.trace) (Some self.new.trace)) }
-        ensures cause { IsErrOf result LinkFault.Failed → Rose self.old.failures.faults self.new.failures.faults }
+        ensures cause { IsErrOf result LinkFault.Failed
+            → Rose self.old.failures.faults self.new.failures.faults }
         ensures quiet { OnOk result (self.new.failures.faults ≡ self.old.failures.faults) }
         ensures later { self.old.failures.faults ≤ self.new.failures.faults }
         ensures finished { OnOk result (self.new ≡ finished self.old (Noticed notice)) }
@@ -158,9 +171,11 @@ impl Link for MemoryLink {
     }
 
     fn answer(&mut self, ticket: u64, outcome: CommandOutcome) -> Result<(), LinkFault>
-        ensures answered { OnOk result (AddsOne (Some self.old.trace) (Some self.new.trace) (Answered ticket outcome)) }
+        ensures answered { OnOk result (AddsOne (Some self.old.trace) (Some self.new.trace)
+            (Answered ticket outcome)) }
         ensures err { OnErr result (AddsNothing (Some self.old.trace) (Some self.new.trace)) }
-        ensures cause { IsErrOf result LinkFault.Failed → Rose self.old.failures.faults self.new.failures.faults }
+        ensures cause { IsErrOf result LinkFault.Failed
+            → Rose self.old.failures.faults self.new.failures.faults }
         ensures quiet { OnOk result (self.new.failures.faults ≡ self.old.failures.faults) }
         ensures later { self.old.failures.faults ≤ self.new.failures.faults }
         ensures finished { OnOk result (self.new ≡ finished self.old (Answered ticket outcome)) }

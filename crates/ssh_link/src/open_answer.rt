@@ -99,7 +99,12 @@ impl ChannelOpenHandle {
 
     /// The open is refused as administratively prohibited.
     pub fn reject_default(self) -> OpenAnswer
-        ensures { result ≡ record { channel = self; rejection = Some AdministrativelyProhibited; texts = None } }
+        ensures { result ≡ record {
+          channel = self;
+          rejection =
+              Some AdministrativelyProhibited;
+          texts = None;
+        } }
     {
         self.reject(ChannelOpenFailure::AdministrativelyProhibited)
     }
@@ -111,7 +116,12 @@ impl ChannelOpenHandle {
         description: Text,
         language: Text,
     ) -> OpenAnswer
-        ensures { result ≡ record { channel = self; rejection = Some reason; texts = Some (description, language) } }
+        ensures { result ≡ record {
+          channel = self;
+          rejection = Some reason;
+          texts =
+              Some (description, language);
+        } }
     {
         self.answer(Some(reason), Some((description, language)))
     }

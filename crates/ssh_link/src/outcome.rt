@@ -17,8 +17,8 @@ pub enum Refusal {
     UnknownOpen,
     /// The peer has not confirmed the open of the channel yet (RFC 4254 section 5.1).
     NotConfirmed,
-    /// Nothing more goes out on the channel: data or an end of file after an end of file or a close,
-    /// or a close after a close (RFC 4254 section 5.3).
+    /// Nothing more goes out on the channel: data or an end of file after an end of file or a
+    /// close, or a close after a close (RFC 4254 section 5.3).
     SendingEnded,
     /// The payload would be longer than 2^32 - 1 bytes.
     TooLong,

@@ -1,8 +1,10 @@
 // An exchange without cryptography.
-ghost use Rattle.std.specs.Prelude.{◌≡◌, [], ◌∷◌, ◌++◌, Some, Ok, Err, false, not, All, IfOk, OnOk, OnErr};
+ghost use Rattle.std.specs.Prelude.{◌≡◌, [], ◌∷◌, ◌++◌, Some, Ok, Err, false, not, All, IfOk, OnOk};
+ghost use Rattle.std.specs.Prelude.{OnErr};
 ghost use Rattle.ssh_link.specs.declared.plain_kex.PlainKexError.TheVariants.{Unexpected};
 ghost use Rattle.ssh_link.specs.declared.kex.KexCall.TheVariants.{Begun, Stepped};
-ghost use Rattle.ssh_link.specs.Exchange.{TellsStep, IsKexinit, IsOfTransport, plain_turn, plain_answer, plain_both, IsOwed};
+ghost use Rattle.ssh_link.specs.Exchange.{TellsStep, IsKexinit, IsOfTransport, plain_turn};
+ghost use Rattle.ssh_link.specs.Exchange.{plain_answer, plain_both, IsOwed};
 
 use crate::lists::pushed;
 use crate::{Kex, KexCall, KexFault, KexStep};
@@ -22,8 +24,9 @@ pub enum PlainKexError {
 }
 
 /// An exchange without cryptography, for programs and tests whose transport is secured otherwise or
-/// not at all. It begins with a KEXINIT of one byte; the peer's KEXINIT gives no payload; the NEWKEYS
-/// after it is answered by another, and ends the exchange. All else is refused. It tells its calls.
+/// not at all. It begins with a KEXINIT of one byte; the peer's KEXINIT gives no payload; the
+/// NEWKEYS after it is answered by another, and ends the exchange. All else is refused. It tells
+/// its calls.
 #[derive(Debug, Drop)]
 pub struct PlainKex {
     alloc: Global,
@@ -38,7 +41,12 @@ impl Model for PlainKex {
 
     ghost Value = { Plain };
 
-    ghost view = { λ kex. record { repeatable = kex.repeatable; both = kex.both; calls = kex.calls.items } };
+    ghost view = { λ kex. record {
+      repeatable = kex.repeatable;
+      both = kex.both;
+      calls =
+          kex.calls.items;
+    } };
 }
 
 impl PlainKex {
@@ -88,7 +96,8 @@ impl PlainKex {
 
     // Keeps a finished call.
     fn tell(&mut self, call: KexCall<PlainKexError>) -> Result<(), WireError>
-        ensures ok { OnOk result (self.new ≡ record self.old { calls = self.old.calls ++ call ∷ [] }) }
+        ensures ok { OnOk result (self.new ≡ record self.old
+            { calls = self.old.calls ++ call ∷ [] }) }
         ensures err { OnErr result (self.new ≡ self.old) }
     {
         pushed(&mut self.calls, call)
@@ -96,7 +105,8 @@ impl PlainKex {
 
     // A KEXINIT of one byte, which is told.
     fn begun(&mut self) -> Result<Bytes, WireError>
-        ensures ok { IfOk result (λ payload. (payload ≡ 20 ∷ []) × (self.new ≡ record self.old { calls = self.old.calls ++ Begun (Ok payload) ∷ [] })) }
+        ensures ok { IfOk result (λ payload. (payload ≡ 20 ∷ [])
+            × (self.new ≡ record self.old { calls = self.old.calls ++ Begun (Ok payload) ∷ [] })) }
         ensures err { OnErr result (self.new ≡ self.old) }
     {
         let payload = Bytes::copy_from_slice(self.alloc, &[KEXINIT])?;
@@ -107,7 +117,12 @@ impl PlainKex {
 
     // The answer to a payload that ends the exchange or not, which is told.
     fn stepped(&mut self, payload: &[u8], done: bool) -> Result<KexStep, WireError>
-        ensures ok { IfOk result (λ step. (Ok step ≡ plain_answer (Some done)) × (self.new ≡ record self.old { both = not done; calls = self.old.calls ++ Stepped payload.now (Ok step) ∷ [] })) }
+        ensures ok { IfOk result (λ step. (Ok step ≡ plain_answer (Some done))
+            × (self.new ≡ record self.old {
+              both = not done;
+              calls =
+                  self.old.calls ++ Stepped payload.now (Ok step) ∷ [];
+            })) }
         ensures err { OnErr result (self.new ≡ self.old) }
     {
         let step = self.answered(done)?;
@@ -122,7 +137,11 @@ impl PlainKex {
 
     // The refusal of a payload that is out of turn, which is told.
     fn refuse(&mut self, payload: &[u8]) -> Result<PlainKexError, WireError>
-        ensures ok { IfOk result (λ error. (error ≡ Unexpected) × (self.new ≡ record self.old { calls = self.old.calls ++ Stepped payload.now (Err error) ∷ [] })) }
+        ensures ok { IfOk result (λ error. (error ≡ Unexpected)
+            × (self.new ≡ record self.old {
+              calls =
+                  self.old.calls ++ Stepped payload.now (Err error) ∷ [];
+            })) }
         ensures err { OnErr result (self.new ≡ self.old) }
     {
         let error = PlainKexError::Unexpected;
@@ -162,11 +181,13 @@ impl Kex for PlainKex {
     }
 
     fn step(&mut self, payload: &[u8]) -> Result<KexStep, KexFault<PlainKexError>>
-        ensures told { TellsStep (Some self.old.calls) (Some self.new.calls) (Stepped payload.now) result }
+        ensures told { TellsStep (Some self.old.calls) (Some self.new.calls) (Stepped payload.now)
+            result }
         ensures frames { IfOk result (λ step. All IsOfTransport step.frames) }
         ensures repeats { self.new.repeatable ≡ self.old.repeatable }
         ensures owed { IsOwed (plain_answer (plain_turn self.old.both payload.now)) result }
-        ensures both { OnOk result (self.new.both ≡ plain_both self.old.both (plain_turn self.old.both payload.now)) }
+        ensures both { OnOk result (self.new.both ≡ plain_both self.old.both
+            (plain_turn self.old.both payload.now)) }
         ensures err { OnErr result (self.new.both ≡ self.old.both) }
     {
         let Some(done) = self.turn(payload) else {

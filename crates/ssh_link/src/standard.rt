@@ -49,7 +49,8 @@ impl<R: Read> Source for StdSource<R> {
         ensures later { self.old.faults ≤ self.new.faults }
         ensures quiet { OnOk result (self.new.faults ≡ self.old.faults) }
         ensures counts { OnErr result (self.new.faults ≡ one_more self.old.faults) }
-        ensures bytes { ReadConsumes (R.remaining self.old.inner) (R.remaining self.new.inner) result buf.new }
+        ensures bytes { ReadConsumes (R.remaining self.old.inner) (R.remaining self.new.inner)
+            result buf.new }
     {
         match self.reader.read(buf) {
             Ok(count) => Ok(count),
@@ -101,7 +102,8 @@ impl<W: Write> Sink for StdSink<W> {
         ensures later { self.old.faults ≤ self.new.faults }
         ensures quiet { OnOk result (self.new.faults ≡ self.old.faults) }
         ensures counts { OnErr result (self.new.faults ≡ one_more self.old.faults) }
-        ensures bytes { WriteAppends (W.contents self.old.inner) (W.contents self.new.inner) result piece.now }
+        ensures bytes { WriteAppends (W.contents self.old.inner) (W.contents self.new.inner) result
+            piece.now }
     {
         match self.writer.write(piece) {
             Ok(0) if !piece.is_empty() => {

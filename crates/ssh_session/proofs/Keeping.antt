@@ -1,4 +1,5 @@
--- What was sent on the channels stays what has to be sent, by calls of the table and by commands (RFC
+-- What was sent on the channels stays what has to be sent, by calls of the table and by commands
+-- (RFC
 -- 4254 section 5).
 use Rattle.std.proofs.Common.{◌≡◌, ◌==◌, ℕ, List, [], ◌∷◌, Bool}
 use Rattle.std.proofs.Common.{true, false, Option, Some, None}
@@ -56,7 +57,8 @@ ComesKept past (Fails fault) = Unit {0}
 
 -- ---- calls of the table
 
-pub op_on : (past : List TraceEntry) (o : Op) (w : World) → IsFair o w.channels.lines → is_idle o ≡ true
+pub op_on : (past : List TraceEntry) (o : Op) (w : World) → IsFair o w.channels.lines
+    → is_idle o ≡ true
     → ((k : ℕ) → IsReserved w.channels.lines k → IsReserved (does o w.channels.lines) k)
     → Kept past w → Kept past (lined (does o) w)
 op_on past o w fair idle reserved k = record {

@@ -34,8 +34,8 @@ pub enum RunError<HE> {
     /// that the handler's answer asks for would have more than 2^32 - 1 bytes.
     Encoding(WireError),
     /// A request of authentication names another service than `ssh-connection`, an open or a
-    /// confirmation has a packet size of 0, a confirmation is for no open of this side that waits, a
-    /// refusal is for an open that was agreed to, or the session is spent.
+    /// confirmation has a packet size of 0, a confirmation is for no open of this side that waits,
+    /// a refusal is for an open that was agreed to, or the session is spent.
     Inconsistent,
     /// The blob of a key or a certificate in a request does not fit its layout, or a signature
     /// does not: always `KeyError::Blob`.

@@ -1,7 +1,9 @@
 -- Errors that a `?` passes on.
-use Rattle.std.proofs.Common.{◌≡◌, ◌↔◌, true, false, Result, Ok, Err, IfErr, IsErrAnd, sym, subst, true≢false}
+use Rattle.std.proofs.Common.{◌≡◌, ◌↔◌, true, false, Result, Ok, Err, IfErr, IsErrAnd, sym, subst}
+use Rattle.std.proofs.Common.{true≢false}
 
-pub passed_on : {T E : Type 0} (r : Result T E) (why : E) (P : E → Type 0) → IsErrAnd r (λ e. e ≡ why) → P why → IfErr r P
+pub passed_on : {T E : Type 0} (r : Result T E) (why : E) (P : E → Type 0)
+    → IsErrAnd r (λ e. e ≡ why) → P why → IfErr r P
 passed_on (Ok x) why P is holds = tt
 passed_on (Err e) why P is holds = subst P (sym is) holds
 

@@ -1,5 +1,6 @@
 -- The fields that messages are made of (RFC 4251 section 5).
-use Rattle.std.specs.Prelude.{◌≡◌, ◌+◌, ◌<◌, ◌^◌, ◌==◌, ◌⊎◌, ℕ, Bool, not, List, [], ◌∷◌, ◌++◌, length, take, IsUtf8}
+use Rattle.std.specs.Prelude.{◌≡◌, ◌+◌, ◌<◌, ◌^◌, ◌==◌, ◌⊎◌, ℕ, Bool, not, List, [], ◌∷◌, ◌++◌}
+use Rattle.std.specs.Prelude.{length, take, IsUtf8}
 use Rattle.std.specs.Int.{w32, w64, to_be_bytes, from_be_bytes}
 use Rattle.ssh_wire.specs.declared.error.WireError.{WireError}
 use Rattle.ssh_wire.specs.declared.error.WireError.TheVariants as error
@@ -59,7 +60,8 @@ IsShort Text bytes = IsCutShort bytes
 
 -- a whole string comes first, and it is not UTF-8
 abbrev pub IsNoText : List ℕ → Type 0
-IsNoText bytes = (text rest : List ℕ) × (length text < 2 ^ 32) × (bytes ≡ string text ++ rest) × (IsUtf8 text → ⊥)
+IsNoText bytes = (text rest : List ℕ) × (length text < 2 ^ 32) × (bytes ≡ string text ++ rest)
+    × (IsUtf8 text → ⊥)
 
 -- the bytes do not begin with this field, for this reason
 abbrev pub Misfits : Field → List ℕ → WireError → Type 0
@@ -76,14 +78,16 @@ Values (field ∷ fields) = Value field × Values fields
 abbrev pub SpellsAll : (fields : List Field) → Values fields → List ℕ → List ℕ → Type 0
 SpellsAll [] values bytes rest = bytes ≡ rest
 SpellsAll (field ∷ fields) values bytes rest =
-    (piece after : List ℕ) × Spells field values.0 piece × (bytes ≡ piece ++ after) × SpellsAll fields values.1 after rest
+    (piece after : List ℕ) × Spells field values.0 piece × (bytes ≡ piece ++ after)
+    × SpellsAll fields values.1 after rest
 
 -- the first of these fields that does not fit, for this reason
 abbrev pub MisfitsAll : List Field → List ℕ → WireError → Type 0
 MisfitsAll [] bytes why = ⊥
 MisfitsAll (field ∷ fields) bytes why =
     Misfits field bytes why
-    ⊎ ((value : Value field) × (piece after : List ℕ) × Spells field value piece × (bytes ≡ piece ++ after) × MisfitsAll fields after why)
+    ⊎ ((value : Value field) × (piece after : List ℕ) × Spells field value piece
+    × (bytes ≡ piece ++ after) × MisfitsAll fields after why)
 
 -- the bytes are these fields and nothing else
 abbrev pub SpellsWhole : (fields : List Field) → Values fields → List ℕ → Type 0
@@ -94,4 +98,5 @@ abbrev pub MisfitsWhole : List Field → List ℕ → WireError → Type 0
 MisfitsWhole [] bytes why = (bytes ≡ [] → ⊥) × (why ≡ error.Trailing (length bytes))
 MisfitsWhole (field ∷ fields) bytes why =
     Misfits field bytes why
-    ⊎ ((value : Value field) × (piece after : List ℕ) × Spells field value piece × (bytes ≡ piece ++ after) × MisfitsWhole fields after why)
+    ⊎ ((value : Value field) × (piece after : List ℕ) × Spells field value piece
+    × (bytes ≡ piece ++ after) × MisfitsWhole fields after why)

@@ -1,8 +1,9 @@
--- The messages of SSH, each with its number and the fields after it (RFC 4250 section 4.1.2). A message that its reader does not read
--- to the end has the fields here that come first.
+-- The messages of SSH, each with its number and the fields after it (RFC 4250 section 4.1.2). A
+-- message that its reader does not read to the end has the fields here that come first.
 use Rattle.std.specs.Prelude.{◌<◌, ◌^◌, ℕ, List, [], ◌∷◌, ◌++◌, length, if◌then◌else◌, IsUtf8}
 use Rattle.std.specs.Int.{w64, to_be_bytes}
-use Rattle.ssh_wire.specs.Field.{Field, Byte, Flag, Number, Long, Bytes, Text, Value, Values, number, string}
+use Rattle.ssh_wire.specs.Field.{Field, Byte, Flag, Number, Long, Bytes, Text, Value, Values}
+use Rattle.ssh_wire.specs.Field.{number, string}
 
 pub record Message : Type 0 where
   pub number : ℕ
@@ -21,7 +22,8 @@ spelling Text text = string text
 abbrev pub spellings : (fields : List Field) → Values fields → List ℕ
 spellings [] values = []
 spellings (field ∷ []) values = spelling field values.0
-spellings (field ∷ next ∷ fields) values = spelling field values.0 ++ spellings (next ∷ fields) values.1
+spellings (field ∷ next ∷ fields) values =
+    spelling field values.0 ++ spellings (next ∷ fields) values.1
 
 -- the payload of a message that says this
 abbrev pub written : (message : Message) → Values message.fields → List ℕ
@@ -57,7 +59,8 @@ service_request = record { number = 5; fields = Text ∷ [] }
 abbrev pub service_accept : Message
 service_accept = record { number = 6; fields = Text ∷ [] }
 
--- an exchange of keys begins with this number; the numbers 20 to 49 are the exchange's own (section 7)
+-- an exchange of keys begins with this number; the numbers 20 to 49 are the exchange's own (section
+-- 7)
 abbrev pub kexinit : ℕ
 kexinit = 20
 
@@ -83,7 +86,8 @@ userauth_banner = record { number = 53; fields = Text ∷ Text ∷ [] }
 abbrev pub userauth_pk_ok : Message
 userauth_pk_ok = record { number = 60; fields = Text ∷ Bytes ∷ [] }
 
--- string name, string instruction, string language, uint32 count of prompts, and then the prompts (RFC 4256 section 3.2)
+-- string name, string instruction, string language, uint32 count of prompts, and then the prompts
+-- (RFC 4256 section 3.2)
 abbrev pub userauth_info_request : Message
 userauth_info_request = record { number = 60; fields = Text ∷ Text ∷ Text ∷ Number ∷ [] }
 
@@ -113,12 +117,13 @@ forward_success = record { number = 81; fields = Number ∷ [] }
 abbrev pub request_failure : Message
 request_failure = record { number = 82; fields = [] }
 
--- string type, uint32 sender channel, uint32 initial window size, uint32 maximum packet size, and then the type's own fields
--- (section 5.1)
+-- string type, uint32 sender channel, uint32 initial window size, uint32 maximum packet size, and
+-- then the type's own fields (section 5.1)
 abbrev pub channel_open : Message
 channel_open = record { number = 90; fields = Text ∷ Number ∷ Number ∷ Number ∷ [] }
 
--- uint32 recipient channel, uint32 sender channel, uint32 initial window size, uint32 maximum packet size (section 5.1)
+-- uint32 recipient channel, uint32 sender channel, uint32 initial window size, uint32 maximum
+-- packet size (section 5.1)
 abbrev pub channel_open_confirmation : Message
 channel_open_confirmation = record { number = 91; fields = Number ∷ Number ∷ Number ∷ Number ∷ [] }
 
@@ -145,7 +150,8 @@ channel_eof = record { number = 96; fields = Number ∷ [] }
 abbrev pub channel_close : Message
 channel_close = record { number = 97; fields = Number ∷ [] }
 
--- uint32 recipient channel, string type, boolean want reply, and then the type's own fields (section 5.4)
+-- uint32 recipient channel, string type, boolean want reply, and then the type's own fields
+-- (section 5.4)
 abbrev pub channel_request : Message
 channel_request = record { number = 98; fields = Number ∷ Text ∷ Flag ∷ [] }
 

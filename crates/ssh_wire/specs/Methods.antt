@@ -1,5 +1,7 @@
--- The authentication methods, their names and lists of them (RFC 4252 sections 5, 7, 8 and 9; RFC 4256; RFC 4462).
-use Rattle.std.specs.Prelude.{◌≡◌, ℕ, Bool, not, List, [], ◌∷◌, ◌++◌, filter, filter_map, find, map, bytes_eq, codes, Option}
+-- The authentication methods, their names and lists of them (RFC 4252 sections 5, 7, 8 and 9; RFC
+-- 4256; RFC 4462).
+use Rattle.std.specs.Prelude.{◌≡◌, ℕ, Bool, not, List, [], ◌∷◌, ◌++◌, filter, filter_map, find, map}
+use Rattle.std.specs.Prelude.{bytes_eq, codes, Option}
 use Rattle.std.specs.Cmp.{IsEquivalence}
 use Rattle.std.specs.Cmp.Lexicographic.{pointwise, lists_equiv, on_texts_equal}
 use Rattle.std.specs.List.{list_any, IsDistinct}
@@ -21,7 +23,8 @@ IsNoMethod name = (method : MethodKind) → method_name method ≡ name → ⊥
 
 -- the first five, which a server can offer
 abbrev pub server_methods : List MethodKind
-server_methods = kind.None ∷ kind.Password ∷ kind.PublicKey ∷ kind.HostBased ∷ kind.KeyboardInteractive ∷ []
+server_methods =
+    kind.None ∷ kind.Password ∷ kind.PublicKey ∷ kind.HostBased ∷ kind.KeyboardInteractive ∷ []
 
 -- all six, which a client can try
 abbrev pub all_methods : List MethodKind

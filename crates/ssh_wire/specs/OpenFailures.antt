@@ -1,4 +1,5 @@
--- The codes of the reasons not to open a channel (RFC 4254 section 5.1), and the descriptions that this server gives.
+-- The codes of the reasons not to open a channel (RFC 4254 section 5.1), and the descriptions that
+-- this server gives.
 use Rattle.std.specs.Prelude.{ℕ, List, codes}
 use Rattle.ssh_wire.specs.declared.open_failure.ChannelOpenFailure.{ChannelOpenFailure}
 use Rattle.ssh_wire.specs.declared.open_failure.ChannelOpenFailure.TheVariants as reason

@@ -21,4 +21,5 @@ abbrev pub are_same : List (Pty × ℕ) → List (Pty × ℕ) → Bool
 are_same modes others = pointwise is_same modes others
 
 pub are_same-laws : IsEquivalence are_same
-are_same-laws = lists_equiv (and_equiv (on_equiv (λ mode. mode.0) is_same_mode-laws) (on_equiv (λ mode. mode.1) nat_eq_equiv))
+are_same-laws = lists_equiv (and_equiv (on_equiv (λ mode. mode.0) is_same_mode-laws)
+    (on_equiv (λ mode. mode.1) nat_eq_equiv))

@@ -2,7 +2,8 @@
 ghost use Rattle.std.specs.Prelude.{◌≡◌, ◌⊎◌, ℕ, List, [], ◌∷◌, Some, IfOk, IfErr, OnOk, OnErr};
 ghost use Rattle.ssh_wire.specs.Field.{SpellsWhole, MisfitsAll, MisfitsWhole, Text as TextField};
 ghost use Rattle.ssh_wire.specs.Reading.{MovesOn, ReadsAll};
-ghost use Rattle.ssh_wire.specs.Open.{tcpip_fields, x11, direct_streamlocal, forwarded_streamlocal, type_named, SpellsType, MisfitsType};
+ghost use Rattle.ssh_wire.specs.Open.{tcpip_fields, x11, direct_streamlocal, forwarded_streamlocal};
+ghost use Rattle.ssh_wire.specs.Open.{type_named, SpellsType, MisfitsType};
 ghost use Rattle.ssh_wire.specs.declared.error.WireError.TheVariants.{NoMemory};
 
 use crate::{Reader, Text, WireError};
@@ -60,8 +61,15 @@ pub struct StreamLocalChannelInfo {
 impl TcpChannelInfo {
     /// Reads two addresses, each with its port; what follows stays unread (RFC 4254 section 7.2).
     pub fn decode(alloc: Global, r: &mut Reader<'_>) -> Result<TcpChannelInfo, WireError>
-        ensures ok { IfOk result (λ info. ReadsAll tcpip_fields r.old r.new (info.host_to_connect, (info.port_to_connect, (info.originator_address, (info.originator_port, tt))))) }
-        ensures misfit { IfErr result (λ why. (why ≡ NoMemory) ⊎ MisfitsAll tcpip_fields r.old.left why) }
+        ensures ok { IfOk result (λ info. ReadsAll tcpip_fields r.old r.new (
+          info.host_to_connect,
+          (
+            info.port_to_connect,
+            (info.originator_address, (info.originator_port, tt)),
+          ),
+        )) }
+        ensures misfit { IfErr result (λ why. (why ≡ NoMemory)
+            ⊎ MisfitsAll tcpip_fields r.old.left why) }
         ensures err { OnErr result (r.new ≡ r.old) }
     {
         let mut ahead = r.ahead();
@@ -83,8 +91,10 @@ impl TcpChannelInfo {
 impl StreamLocalChannelInfo {
     /// Reads a path; what follows stays unread (OpenSSH PROTOCOL section 2.4).
     pub fn decode(alloc: Global, r: &mut Reader<'_>) -> Result<StreamLocalChannelInfo, WireError>
-        ensures ok { IfOk result (λ info. ReadsAll (TextField ∷ []) r.old r.new (info.socket_path, tt)) }
-        ensures misfit { IfErr result (λ why. (why ≡ NoMemory) ⊎ MisfitsAll (TextField ∷ []) r.old.left why) }
+        ensures ok { IfOk result (λ info. ReadsAll (TextField ∷ []) r.old r.new
+            (info.socket_path, tt)) }
+        ensures misfit { IfErr result (λ why. (why ≡ NoMemory)
+            ⊎ MisfitsAll (TextField ∷ []) r.old.left why) }
         ensures err { OnErr result (r.new ≡ r.old) }
     {
         let mut ahead = r.ahead();
@@ -111,9 +121,16 @@ fn whole_x11(alloc: Global, r: &mut Reader<'_>) -> Result<ChannelType, WireError
 
 /// Reads the fields of a TCP connection, and their end.
 fn whole_tcpip(alloc: Global, r: &mut Reader<'_>) -> Result<TcpChannelInfo, WireError>
-    ensures ok { IfOk result (λ info. SpellsWhole tcpip_fields (info.host_to_connect, (info.port_to_connect, (info.originator_address, (info.originator_port, tt)))) r.old.left) }
+    ensures ok { IfOk result (λ info. SpellsWhole tcpip_fields (
+      info.host_to_connect,
+      (
+        info.port_to_connect,
+        (info.originator_address, (info.originator_port, tt)),
+      ),
+    ) r.old.left) }
     ensures moves { OnOk result ((r.new.left ≡ []) × MovesOn r.old r.new) }
-    ensures misfit { IfErr result (λ why. (why ≡ NoMemory) ⊎ MisfitsWhole tcpip_fields r.old.left why) }
+    ensures misfit { IfErr result (λ why. (why ≡ NoMemory)
+        ⊎ MisfitsWhole tcpip_fields r.old.left why) }
 {
     let info = TcpChannelInfo::decode(alloc, r)?;
     r.end()?;
@@ -125,9 +142,11 @@ fn whole_direct_streamlocal(
     alloc: Global,
     r: &mut Reader<'_>,
 ) -> Result<StreamLocalChannelInfo, WireError>
-    ensures ok { IfOk result (λ info. (text : List ℕ) × (n : ℕ) × SpellsWhole direct_streamlocal.fields (info.socket_path, (text, (n, tt))) r.old.left) }
+    ensures ok { IfOk result (λ info. (text : List ℕ) × (n : ℕ)
+        × SpellsWhole direct_streamlocal.fields (info.socket_path, (text, (n, tt))) r.old.left) }
     ensures moves { OnOk result ((r.new.left ≡ []) × MovesOn r.old r.new) }
-    ensures misfit { IfErr result (λ why. (why ≡ NoMemory) ⊎ MisfitsWhole direct_streamlocal.fields r.old.left why) }
+    ensures misfit { IfErr result (λ why. (why ≡ NoMemory)
+        ⊎ MisfitsWhole direct_streamlocal.fields r.old.left why) }
 {
     let info = StreamLocalChannelInfo::decode(alloc, r)?;
     r.text()?;
@@ -141,9 +160,11 @@ fn whole_forwarded_streamlocal(
     alloc: Global,
     r: &mut Reader<'_>,
 ) -> Result<StreamLocalChannelInfo, WireError>
-    ensures ok { IfOk result (λ info. (text : List ℕ) × SpellsWhole forwarded_streamlocal.fields (info.socket_path, (text, tt)) r.old.left) }
+    ensures ok { IfOk result (λ info. (text : List ℕ)
+        × SpellsWhole forwarded_streamlocal.fields (info.socket_path, (text, tt)) r.old.left) }
     ensures moves { OnOk result ((r.new.left ≡ []) × MovesOn r.old r.new) }
-    ensures misfit { IfErr result (λ why. (why ≡ NoMemory) ⊎ MisfitsWhole forwarded_streamlocal.fields r.old.left why) }
+    ensures misfit { IfErr result (λ why. (why ≡ NoMemory)
+        ⊎ MisfitsWhole forwarded_streamlocal.fields r.old.left why) }
 {
     let info = StreamLocalChannelInfo::decode(alloc, r)?;
     r.text()?;
@@ -158,9 +179,11 @@ impl ChannelType {
         name: &str,
         r: &mut Reader<'_>,
     ) -> Result<ChannelType, WireError>
-        ensures ok { IfOk result (λ typ. SpellsType (type_named name.now) name.now typ r.old.left r.new.left) }
+        ensures ok { IfOk result (λ typ. SpellsType (type_named name.now) name.now typ r.old.left
+            r.new.left) }
         ensures moves { OnOk result (MovesOn r.old r.new) }
-        ensures misfit { IfErr result (λ why. (why ≡ NoMemory) ⊎ MisfitsType (type_named name.now) r.old.left why) }
+        ensures misfit { IfErr result (λ why. (why ≡ NoMemory)
+            ⊎ MisfitsType (type_named name.now) r.old.left why) }
     {
         match name {
             "session" => {

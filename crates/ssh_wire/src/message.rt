@@ -99,6 +99,7 @@ pub const CHANNEL_FAILURE: u8 = 100;
 /// A message as it is written, of values that its fields can carry, is read as these values and to
 /// its end.
 pub fn written_is_read()
-    ensures { (message : Message) (values : Values message.fields) → AreCarried message.fields values
+    ensures { (message : Message) (values : Values message.fields)
+        → AreCarried message.fields values
         → SpellsWhole message.fields values (drop 1 (written message values)) }
 {}

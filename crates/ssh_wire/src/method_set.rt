@@ -1,7 +1,8 @@
 // A set of authentication methods in order.
 ghost use Rattle.std.specs.Prelude.{◌≡◌, ◌<◌, ◌^◌, false, [], ◌∷◌, ◌++◌, length, map, IfOk, IfErr};
 ghost use Rattle.ssh_wire.specs.Names.{joined};
-ghost use Rattle.ssh_wire.specs.Methods.{method_name, without, pushed, pushed_all, named, has, all_methods, server_methods, NoDoubles};
+ghost use Rattle.ssh_wire.specs.Methods.{method_name, without, pushed, pushed_all, named, has};
+ghost use Rattle.ssh_wire.specs.Methods.{all_methods, server_methods, NoDoubles};
 ghost use Rattle.ssh_wire.specs.declared.error.WireError.TheVariants.{NoMemory};
 
 use crate::{MethodKind, NameList, Text, WireError};

@@ -1,8 +1,10 @@
 // The messages that open a channel, confirm one, and refuse one.
-ghost use Rattle.std.specs.Prelude.{◌≡◌, ◌≢◌, ◌⊎◌, ◌↔◌, ◌<◌, ◌≤◌, ◌^◌, ◌++◌, ℕ, List, length, codes, IfOk, IfErr, OnOk, OnErr, IsErrOf};
+ghost use Rattle.std.specs.Prelude.{◌≡◌, ◌≢◌, ◌⊎◌, ◌↔◌, ◌<◌, ◌≤◌, ◌^◌, ◌++◌, ℕ, List, length};
+ghost use Rattle.std.specs.Prelude.{codes, IfOk, IfErr, OnOk, OnErr, IsErrOf};
 ghost use Rattle.ssh_wire.specs.Reading.{MovesOn};
 ghost use Rattle.ssh_wire.specs.OneReading.{SaysOne, HasOneReason, NeverBoth};
-ghost use Rattle.ssh_wire.specs.Open.{SpellsOpen, MisfitsOpen, SpellsConfirmation, MisfitsConfirmation, open_failure};
+ghost use Rattle.ssh_wire.specs.Open.{SpellsOpen, MisfitsOpen, SpellsConfirmation};
+ghost use Rattle.ssh_wire.specs.Open.{MisfitsConfirmation, open_failure};
 ghost use Rattle.ssh_wire.specs.declared.error.WireError.TheVariants.{NoMemory, TooLong};
 ghost use Rattle.ssh_wire.specs.declared.error.LayoutError.TheVariants.{Wire};
 
@@ -59,7 +61,8 @@ impl OpenChannelMessage {
     /// payload, with no length before it (RFC 4254 section 5.1). `TooLong` exactly where the
     /// description is longer than 2^32 - 1 bytes, and no other error but `NoMemory`.
     pub fn fail(&self, out: &mut Vec<u8>, reason: u8, message: &[u8]) -> Result<(), WireError>
-        ensures ok { OnOk result (out.new.items ≡ out.old.items ++ open_failure self.now.recipient_channel reason message.now (codes "en")) }
+        ensures ok { OnOk result (out.new.items ≡ out.old.items
+            ++ open_failure self.now.recipient_channel reason message.now (codes "en")) }
         ensures too_long { IsErrOf result WireError.TooLong ↔ (2 ^ 32 ≤ length message.now) }
         ensures errors { IfErr result (λ e. (e ≡ TooLong) ⊎ (e ≡ NoMemory)) }
         ensures err { OnErr result (out.new.items ≡ out.old.items) }
@@ -79,7 +82,9 @@ impl OpenChannelMessage {
     /// Appends the refusal of a type that is not known: `fail` with the reason 3 and its text.
     /// The only error is `NoMemory`.
     pub fn unknown_type(&self, out: &mut Vec<u8>) -> Result<(), WireError>
-        ensures ok { OnOk result (out.new.items ≡ out.old.items ++ open_failure self.now.recipient_channel 3 (codes "Unknown channel type") (codes "en")) }
+        ensures ok { OnOk result (out.new.items ≡ out.old.items
+            ++ open_failure self.now.recipient_channel 3 (codes "Unknown channel type")
+            (codes "en")) }
         ensures memory { IfErr result (λ e. e ≡ NoMemory) }
         ensures err { OnErr result (out.new.items ≡ out.old.items) }
     {
@@ -89,7 +94,8 @@ impl OpenChannelMessage {
     /// Appends the fields of the refusal, or its first ones where there is no memory for all.
     fn put_failure(&self, out: &mut Vec<u8>, reason: u8, message: &[u8]) -> Result<(), WireError>
         requires { length message.now < 2 ^ 32 }
-        ensures ok { OnOk result (out.new.items ≡ out.old.items ++ open_failure self.now.recipient_channel reason message.now (codes "en")) }
+        ensures ok { OnOk result (out.new.items ≡ out.old.items
+            ++ open_failure self.now.recipient_channel reason message.now (codes "en")) }
         ensures memory { IfErr result (λ e. e ≡ NoMemory) }
         ensures grown { (more : List ℕ) × (out.new.items ≡ out.old.items ++ more) }
     {

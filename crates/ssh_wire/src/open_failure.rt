@@ -27,7 +27,8 @@ impl ChannelOpenFailure {
     /// The reason that has this code. There is none outside 1 to 4.
     pub fn from_u32(code: u32) -> Option<ChannelOpenFailure>
         ensures code { IfSome result (λ reason. open_failure_code reason ≡ code) }
-        ensures known { (reason : ChannelOpenFailure) → open_failure_code reason ≡ code → result ≡ Some reason }
+        ensures known { (reason : ChannelOpenFailure) → open_failure_code reason ≡ code
+            → result ≡ Some reason }
     {
         match code {
             1 => Some(ChannelOpenFailure::AdministrativelyProhibited),

@@ -135,7 +135,8 @@ impl Pty {
     /// the standard does not name.
     pub fn from_u8(code: u8) -> Option<Pty>
         ensures code { IfSome result (λ pty. opcode pty ≡ code) }
-        ensures known { (pty : Pty) → (pty ≡ Pty.TTY_OP_END → ⊥) → opcode pty ≡ code → result ≡ Some pty }
+        ensures known { (pty : Pty) → (pty ≡ Pty.TTY_OP_END → ⊥) → opcode pty ≡ code
+            → result ≡ Some pty }
         ensures end { result ≡ Some Pty.TTY_OP_END → ⊥ }
     {
         Some(match code {

@@ -1,5 +1,6 @@
 // A cursor over the bytes of a message.
-ghost use Rattle.std.specs.Prelude.{◌≡◌, ◌≢◌, ◌+◌, ◌<◌, [], length, IfOk, IfErr, OnOk, OnErr, IsOk, ◌↔◌};
+ghost use Rattle.std.specs.Prelude.{◌≡◌, ◌≢◌, ◌+◌, ◌<◌, [], length, IfOk, IfErr, OnOk, OnErr, IsOk};
+ghost use Rattle.std.specs.Prelude.{◌↔◌};
 ghost use Rattle.ssh_wire.specs.Field.{Byte, Number, Long, Bytes, Text, Misfits};
 ghost use Rattle.ssh_wire.specs.Reading.{Passes, Reads};
 ghost use Rattle.ssh_wire.specs.declared.error.WireError.TheVariants.{Trailing};
@@ -40,7 +41,8 @@ impl<'a> Reader<'a> {
 
     /// Moves past that many bytes.
     fn take(&mut self, count: usize) -> Result<&'a [u8], WireError>
-        ensures ok { IfOk result (λ piece. Passes self.old self.new piece.now × (length piece.now ≡ count)) }
+        ensures ok { IfOk result (λ piece. Passes self.old self.new piece.now
+            × (length piece.now ≡ count)) }
         ensures short { IfErr result (λ e. (e ≡ WireError.Short) × (length self.old.left < count)) }
         ensures err { OnErr result (self.new ≡ self.old) }
     {

@@ -44,7 +44,8 @@ impl Sig {
     /// The signal that has this name. A name of the standard's takes no memory.
     pub fn from_name(alloc: Global, name: &str) -> Result<Sig, WireError>
         ensures name { IfOk result (λ sig. signal_name sig ≡ name.now) }
-        ensures standard { (sig : Sig) → IsStandard sig → signal_name sig ≡ name.now → result ≡ Ok sig }
+        ensures standard { (sig : Sig) → IsStandard sig → signal_name sig ≡ name.now
+            → result ≡ Ok sig }
         ensures memory { IfErr result (λ e. e ≡ NoMemory) }
     {
         Ok(match name {

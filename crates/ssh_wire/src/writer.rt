@@ -1,5 +1,6 @@
 // The writers of the fields of a message.
-ghost use Rattle.std.specs.Prelude.{◌≡◌, ◌^◌, ◌≤◌, ◌⊎◌, ◌↔◌, ◌++◌, [], ◌∷◌, length, OnOk, OnErr, IfErr, IsErrOf};
+ghost use Rattle.std.specs.Prelude.{◌≡◌, ◌^◌, ◌≤◌, ◌⊎◌, ◌↔◌, ◌++◌, [], ◌∷◌, length, OnOk, OnErr};
+ghost use Rattle.std.specs.Prelude.{IfErr, IsErrOf};
 ghost use Rattle.std.specs.Int.{w64, to_be_bytes};
 ghost use Rattle.ssh_wire.specs.Field.{number, string};
 ghost use Rattle.ssh_wire.specs.declared.error.WireError.TheVariants.{TooLong, NoMemory};

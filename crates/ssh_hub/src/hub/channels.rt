@@ -1,8 +1,10 @@
 // The calls on one channel.
 ghost use Rattle.std.specs.Prelude.{◌≡◌, IfOk, IfErr, OnErr};
 ghost use Rattle.ssh_hub.specs.Step.{act};
-ghost use Rattle.ssh_hub.specs.declared.history.HubCall.TheVariants.{ReserveBytes, ReleaseBytes, GrantBytes};
-ghost use Rattle.ssh_hub.specs.declared.history.HubCall.TheVariants.{MakeReady, DeliverMsg, ReceiveMsg};
+ghost use Rattle.ssh_hub.specs.declared.history.HubCall.TheVariants.{ReserveBytes, ReleaseBytes};
+ghost use Rattle.ssh_hub.specs.declared.history.HubCall.TheVariants.{GrantBytes};
+ghost use Rattle.ssh_hub.specs.declared.history.HubCall.TheVariants.{MakeReady, DeliverMsg};
+ghost use Rattle.ssh_hub.specs.declared.history.HubCall.TheVariants.{ReceiveMsg};
 ghost use Rattle.ssh_hub.specs.declared.history.HubCall.TheVariants.{LookAt, ClaimChannel};
 ghost use Rattle.ssh_hub.specs.declared.history.HubReply.TheVariants.{Done, Reserved, Delivered};
 ghost use Rattle.ssh_hub.specs.declared.history.HubReply.TheVariants.{HasReceived, Saw, Claimed};
@@ -18,7 +20,8 @@ use std::alloc::AllocError;
 impl Hub {
     // Takes up to `want` of what is left of the channel for the seat.
     pub fn reserve(&mut self, by: u64, channel: ChannelId, want: u32) -> Result<Reserve, AllocError>
-        ensures ok { IfOk result (λ r. act self.old by (ReserveBytes channel want) ≡ (self.new, Reserved r)) }
+        ensures ok { IfOk result (λ r. act self.old by (ReserveBytes channel want)
+            ≡ (self.new, Reserved r)) }
         ensures err { OnErr result (self.new ≡ self.old) }
     {
         if let Some(at) = self.ended {
@@ -47,7 +50,8 @@ impl Hub {
         window: u32,
         packet: u32,
     ) -> Result<(), AllocError>
-        ensures ok { IfOk result (λ _. act self.old by (MakeReady channel window packet) ≡ (self.new, Done)) }
+        ensures ok { IfOk result (λ _. act self.old by (MakeReady channel window packet)
+            ≡ (self.new, Done)) }
         ensures err { OnErr result (self.new ≡ self.old) }
     {
         let _ = by;
@@ -81,7 +85,8 @@ impl Hub {
         channel: ChannelId,
         msg: ChannelMsg,
     ) -> Result<Deliver, (ChannelMsg, AllocError)>
-        ensures ok { IfOk result (λ r. act self.old by (DeliverMsg channel msg) ≡ (self.new, Delivered r)) }
+        ensures ok { IfOk result (λ r. act self.old by (DeliverMsg channel msg)
+            ≡ (self.new, Delivered r)) }
         ensures back { IfErr result (λ e. e.0 ≡ msg) }
         ensures err { OnErr result (self.new ≡ self.old) }
     {

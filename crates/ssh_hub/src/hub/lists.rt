@@ -2,7 +2,8 @@
 ghost use Rattle.std.specs.Prelude.{◌≡◌, ◌+◌, ◌<◌, ◌^◌, IfOk, IfErr, OnErr};
 ghost use Rattle.ssh_hub.specs.Step.{act};
 ghost use Rattle.ssh_hub.specs.Lists.{data_channel, close_channel, spent_on};
-ghost use Rattle.ssh_hub.specs.declared.history.HubCall.TheVariants.{PutCommand, PutAnswer, TakeNext};
+ghost use Rattle.ssh_hub.specs.declared.history.HubCall.TheVariants.{PutCommand, PutAnswer};
+ghost use Rattle.ssh_hub.specs.declared.history.HubCall.TheVariants.{TakeNext};
 ghost use Rattle.ssh_hub.specs.declared.history.HubReply.TheVariants.{WasPut, ReplyWasPut, Took};
 
 use super::Hub;
@@ -60,7 +61,8 @@ impl Hub {
         wanted: bool,
     ) -> Result<Put, (Command, AllocError)>
         requires { self.old.tickets + 1 < 2 ^ 64 }
-        ensures ok { IfOk result (λ r. act self.old by (PutCommand msg spend wanted) ≡ (self.new, WasPut r)) }
+        ensures ok { IfOk result (λ r. act self.old by (PutCommand msg spend wanted)
+            ≡ (self.new, WasPut r)) }
         ensures back { IfErr result (λ e. e.0 ≡ msg) }
         ensures err { OnErr result (self.new ≡ self.old) }
     {
@@ -93,7 +95,8 @@ impl Hub {
         answer: OpenAnswer,
     ) -> Result<PutReply, (OpenAnswer, AllocError)>
         requires { self.old.tickets + 1 < 2 ^ 64 }
-        ensures ok { IfOk result (λ r. act self.old by (PutAnswer answer) ≡ (self.new, ReplyWasPut r)) }
+        ensures ok { IfOk result (λ r. act self.old by (PutAnswer answer)
+            ≡ (self.new, ReplyWasPut r)) }
         ensures back { IfErr result (λ e. e.0 ≡ answer) }
         ensures err { OnErr result (self.new ≡ self.old) }
     {

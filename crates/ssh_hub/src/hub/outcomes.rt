@@ -2,7 +2,8 @@
 ghost use Rattle.std.specs.Prelude.{◌≡◌, OnOk, OnErr, IfOk};
 ghost use Rattle.ssh_hub.specs.Step.{act};
 ghost use Rattle.ssh_hub.specs.Outcomes.{outcomes_after, refusals_after, channels_after, closed_by};
-ghost use Rattle.ssh_hub.specs.declared.history.HubCall.TheVariants.{AnswerTicket, TakeOutcome, AskRefusal};
+ghost use Rattle.ssh_hub.specs.declared.history.HubCall.TheVariants.{AnswerTicket, TakeOutcome};
+ghost use Rattle.ssh_hub.specs.declared.history.HubCall.TheVariants.{AskRefusal};
 ghost use Rattle.ssh_hub.specs.declared.history.HubReply.TheVariants.{Done, OutcomeIs, RefusalIs};
 ghost use Rattle.ssh_link.specs.declared.outcome.CommandOutcome.TheVariants.{Refused, Opened};
 
@@ -20,7 +21,8 @@ fn keep_outcome(
     due: Due,
     outcome: CommandOutcome,
 ) -> Result<(), AllocError>
-    ensures ok { OnOk result (outcomes.new.entries ≡ outcomes_after outcomes.old.entries due outcome) }
+    ensures ok { OnOk result (outcomes.new.entries
+        ≡ outcomes_after outcomes.old.entries due outcome) }
     ensures err { OnErr result (outcomes.new.entries ≡ outcomes.old.entries) }
 {
     if !due.wanted {
@@ -40,8 +42,10 @@ fn keep_refused(
     due: Due,
     why: Refusal,
 ) -> Result<(), AllocError>
-    ensures refusals { OnOk result (refusals.new.entries ≡ refusals_after refusals.old.entries due (Refused why)) }
-    ensures outcomes { OnOk result (outcomes.new.entries ≡ outcomes_after outcomes.old.entries due (Refused why)) }
+    ensures refusals { OnOk result (refusals.new.entries
+        ≡ refusals_after refusals.old.entries due (Refused why)) }
+    ensures outcomes { OnOk result (outcomes.new.entries
+        ≡ outcomes_after outcomes.old.entries due (Refused why)) }
     ensures no_refusals { OnErr result (refusals.new.entries ≡ refusals.old.entries) }
     ensures no_outcome { OnErr result (outcomes.new.entries ≡ outcomes.old.entries) }
 {
@@ -71,8 +75,10 @@ fn keep_opened(
     due: Due,
     channel: ChannelId,
 ) -> Result<(), AllocError>
-    ensures channels { OnOk result (channels.new.entries ≡ channels_after channels.old.entries due (Opened channel)) }
-    ensures outcomes { OnOk result (outcomes.new.entries ≡ outcomes_after outcomes.old.entries due (Opened channel)) }
+    ensures channels { OnOk result (channels.new.entries
+        ≡ channels_after channels.old.entries due (Opened channel)) }
+    ensures outcomes { OnOk result (outcomes.new.entries
+        ≡ outcomes_after outcomes.old.entries due (Opened channel)) }
     ensures no_channels { OnErr result (channels.new.entries ≡ channels.old.entries) }
     ensures no_outcome { OnErr result (outcomes.new.entries ≡ outcomes.old.entries) }
 {
@@ -111,7 +117,8 @@ impl Hub {
         ticket: u64,
         outcome: CommandOutcome,
     ) -> Result<(), AllocError>
-        ensures ok { IfOk result (λ _. act self.old by (AnswerTicket ticket outcome) ≡ (self.new, Done)) }
+        ensures ok { IfOk result (λ _. act self.old by (AnswerTicket ticket outcome)
+            ≡ (self.new, Done)) }
         ensures err { OnErr result (self.new ≡ self.old) }
     {
         let _ = by;

@@ -1,9 +1,12 @@
 // The answers of the peer to requests of this side, the end of the hub, and the numbers of seats.
 ghost use Rattle.std.specs.Prelude.{◌≡◌, ◌+◌, ◌<◌, ◌^◌, IfOk, OnErr};
 ghost use Rattle.ssh_hub.specs.Step.{act};
-ghost use Rattle.ssh_hub.specs.declared.history.HubCall.TheVariants.{DrawSlot, AnswerSlot, TakeSlotAnswer};
-ghost use Rattle.ssh_hub.specs.declared.history.HubCall.TheVariants.{EndHub, AskEnded, Nudge, SplitSeat};
-ghost use Rattle.ssh_hub.specs.declared.history.HubReply.TheVariants.{Done, SlotIs, SlotAnswerIs, EndedAt, SeatIs};
+ghost use Rattle.ssh_hub.specs.declared.history.HubCall.TheVariants.{DrawSlot, AnswerSlot};
+ghost use Rattle.ssh_hub.specs.declared.history.HubCall.TheVariants.{TakeSlotAnswer};
+ghost use Rattle.ssh_hub.specs.declared.history.HubCall.TheVariants.{EndHub, AskEnded, Nudge};
+ghost use Rattle.ssh_hub.specs.declared.history.HubCall.TheVariants.{SplitSeat};
+ghost use Rattle.ssh_hub.specs.declared.history.HubReply.TheVariants.{Done, SlotIs, SlotAnswerIs};
+ghost use Rattle.ssh_hub.specs.declared.history.HubReply.TheVariants.{EndedAt, SeatIs};
 
 use super::Hub;
 use crate::answers::SlotAnswer;

@@ -2,8 +2,10 @@
 ghost use Rattle.std.specs.Prelude.{◌≡◌, ◌<◌, IfOk, IfErr, OnErr};
 ghost use Rattle.ssh_hub.specs.Words.{IsSeatOf, HasCalled, HasLearned};
 ghost use Rattle.ssh_hub.specs.declared.answers.HandleError.TheVariants.{NoMemory};
-ghost use Rattle.ssh_hub.specs.declared.history.HubCall.TheVariants.{ReserveBytes, ReleaseBytes, GrantBytes};
-ghost use Rattle.ssh_hub.specs.declared.history.HubCall.TheVariants.{MakeReady, DeliverMsg, ReceiveMsg};
+ghost use Rattle.ssh_hub.specs.declared.history.HubCall.TheVariants.{ReserveBytes, ReleaseBytes};
+ghost use Rattle.ssh_hub.specs.declared.history.HubCall.TheVariants.{GrantBytes};
+ghost use Rattle.ssh_hub.specs.declared.history.HubCall.TheVariants.{MakeReady, DeliverMsg};
+ghost use Rattle.ssh_hub.specs.declared.history.HubCall.TheVariants.{ReceiveMsg};
 ghost use Rattle.ssh_hub.specs.declared.history.HubCall.TheVariants.{LookAt, ClaimChannel};
 ghost use Rattle.ssh_hub.specs.declared.history.HubReply.TheVariants.{Done, Reserved, Delivered};
 ghost use Rattle.ssh_hub.specs.declared.history.HubReply.TheVariants.{HasReceived, Saw, Claimed};
@@ -18,8 +20,8 @@ use std::sync::Wait;
 
 #[tactic(auto, using(crate::proofs::Made::makes_later, crate::proofs::Made::learns_still))]
 impl HubLock {
-    /// Takes up to `want` of the bytes that are left of the channel for the seat. After `NoMemory`, the
-    /// only error, the hub is unchanged.
+    /// Takes up to `want` of the bytes that are left of the channel for the seat. After `NoMemory`,
+    /// the only error, the hub is unchanged.
     pub fn reserve<R: Wait>(
         &self,
         rt: &R,
@@ -30,7 +32,8 @@ impl HubLock {
         requires seat { IsSeatOf self.now seat.old }
         requires some { 0 < want }
         ensures seat { IsSeatOf self.now seat.new }
-        ensures call { IfOk result (λ r. HasCalled seat.old (ReserveBytes channel want) (Reserved r) seat.new) }
+        ensures call { IfOk result (λ r. HasCalled seat.old (ReserveBytes channel want) (Reserved r)
+            seat.new) }
         ensures memory { IfErr result (λ e. e ≡ NoMemory) }
         ensures no_call { OnErr result (HasLearned seat.old seat.new) }
     {
@@ -64,8 +67,9 @@ impl HubLock {
         );
     }
 
-    /// The channel is there, the peer takes `window` bytes, and `packet` bytes of data in one message.
-    /// Its inbox and its claim stay. After `NoMemory`, the only error, the hub is unchanged.
+    /// The channel is there, the peer takes `window` bytes, and `packet` bytes of data in one
+    /// message. Its inbox and its claim stay. After `NoMemory`, the only error, the hub is
+    /// unchanged.
     pub fn ready<R: Wait>(
         &self,
         rt: &R,
@@ -76,7 +80,8 @@ impl HubLock {
     ) -> Result<(), HandleError>
         requires { IsSeatOf self.now seat.old }
         ensures seat { IsSeatOf self.now seat.new }
-        ensures call { IfOk result (λ _. HasCalled seat.old (MakeReady channel window packet) Done seat.new) }
+        ensures call { IfOk result (λ _. HasCalled seat.old (MakeReady channel window packet) Done
+            seat.new) }
         ensures memory { IfErr result (λ e. e ≡ NoMemory) }
         ensures no_call { OnErr result (HasLearned seat.old seat.new) }
     {
@@ -94,8 +99,8 @@ impl HubLock {
         Ok(answer)
     }
 
-    /// The peer takes `amount` bytes more. What is left and what is reserved stay below 2^32 together,
-    /// and a channel that is closed or not ready gets nothing.
+    /// The peer takes `amount` bytes more. What is left and what is reserved stay below 2^32
+    /// together, and a channel that is closed or not ready gets nothing.
     pub fn grant<R: Wait>(&self, rt: &R, seat: &mut Seat, channel: ChannelId, amount: u32)
         requires { IsSeatOf self.now seat.old }
         ensures seat { IsSeatOf self.now seat.new }
@@ -111,8 +116,8 @@ impl HubLock {
         );
     }
 
-    /// Puts the message into the inbox of the channel; a close closes the channel. After `NoMemory`,
-    /// the only error, the hub is unchanged and the message comes back.
+    /// Puts the message into the inbox of the channel; a close closes the channel. After
+    /// `NoMemory`, the only error, the hub is unchanged and the message comes back.
     pub fn deliver<R: Wait>(
         &self,
         rt: &R,
@@ -122,7 +127,8 @@ impl HubLock {
     ) -> Result<Deliver, (ChannelMsg, HandleError)>
         requires { IsSeatOf self.now seat.old }
         ensures seat { IsSeatOf self.now seat.new }
-        ensures call { IfOk result (λ r. HasCalled seat.old (DeliverMsg channel msg) (Delivered r) seat.new) }
+        ensures call { IfOk result (λ r. HasCalled seat.old (DeliverMsg channel msg) (Delivered r)
+            seat.new) }
         ensures back { IfErr result (λ e. e.0 ≡ msg) }
         ensures memory { IfErr result (λ e. e.1 ≡ NoMemory) }
         ensures no_call { OnErr result (HasLearned seat.old seat.new) }

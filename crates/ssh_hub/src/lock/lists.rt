@@ -2,7 +2,8 @@
 ghost use Rattle.std.specs.Prelude.{◌≡◌, IfOk, IfErr, OnErr};
 ghost use Rattle.ssh_hub.specs.Words.{IsSeatOf, HasCalled, HasLearned};
 ghost use Rattle.ssh_hub.specs.declared.answers.HandleError.TheVariants.{NoMemory};
-ghost use Rattle.ssh_hub.specs.declared.history.HubCall.TheVariants.{PutCommand, PutAnswer, TakeNext};
+ghost use Rattle.ssh_hub.specs.declared.history.HubCall.TheVariants.{PutCommand, PutAnswer};
+ghost use Rattle.ssh_hub.specs.declared.history.HubCall.TheVariants.{TakeNext};
 ghost use Rattle.ssh_hub.specs.declared.history.HubReply.TheVariants.{WasPut, ReplyWasPut, Took};
 
 use super::{HubLock, Seat};
@@ -14,9 +15,9 @@ use std::sync::Wait;
 
 #[tactic(auto, using(crate::proofs::Made::makes_later, crate::proofs::Made::learns_still))]
 impl HubLock {
-    /// Puts the command behind those that wait. One with data spends up to `spend` of the bytes that
-    /// the seat has reserved of its channel. With `wanted` its outcome is kept. After `NoMemory`, the
-    /// only error, the hub is unchanged and the command comes back.
+    /// Puts the command behind those that wait. One with data spends up to `spend` of the bytes
+    /// that the seat has reserved of its channel. With `wanted` its outcome is kept. After
+    /// `NoMemory`, the only error, the hub is unchanged and the command comes back.
     pub fn put<R: Wait>(
         &self,
         rt: &R,
@@ -27,7 +28,8 @@ impl HubLock {
     ) -> Result<Put, (Command, HandleError)>
         requires { IsSeatOf self.now seat.old }
         ensures seat { IsSeatOf self.now seat.new }
-        ensures call { IfOk result (λ r. HasCalled seat.old (PutCommand msg spend wanted) (WasPut r) seat.new) }
+        ensures call { IfOk result (λ r. HasCalled seat.old (PutCommand msg spend wanted) (WasPut r)
+            seat.new) }
         ensures back { IfErr result (λ e. e.0 ≡ msg) }
         ensures memory { IfErr result (λ e. e.1 ≡ NoMemory) }
         ensures no_call { OnErr result (HasLearned seat.old seat.new) }
@@ -51,8 +53,8 @@ impl HubLock {
         }
     }
 
-    /// Puts the answer to an open of the peer behind those that wait, of which there are at most 64.
-    /// After `NoMemory`, the only error, the hub is unchanged and the answer comes back.
+    /// Puts the answer to an open of the peer behind those that wait, of which there are at most
+    /// 64. After `NoMemory`, the only error, the hub is unchanged and the answer comes back.
     pub fn put_reply<R: Wait>(
         &self,
         rt: &R,
@@ -61,7 +63,8 @@ impl HubLock {
     ) -> Result<PutReply, (OpenAnswer, HandleError)>
         requires { IsSeatOf self.now seat.old }
         ensures seat { IsSeatOf self.now seat.new }
-        ensures call { IfOk result (λ r. HasCalled seat.old (PutAnswer answer) (ReplyWasPut r) seat.new) }
+        ensures call { IfOk result (λ r. HasCalled seat.old (PutAnswer answer) (ReplyWasPut r)
+            seat.new) }
         ensures back { IfErr result (λ e. e.0 ≡ answer) }
         ensures memory { IfErr result (λ e. e.1 ≡ NoMemory) }
         ensures no_call { OnErr result (HasLearned seat.old seat.new) }
@@ -85,8 +88,8 @@ impl HubLock {
         }
     }
 
-    /// Takes the first reply where asked for, or else the first command where asked for. What was taken
-    /// before it is not answered any more.
+    /// Takes the first reply where asked for, or else the first command where asked for. What was
+    /// taken before it is not answered any more.
     pub fn take<R: Wait>(
         &self,
         rt: &R,

@@ -2,7 +2,8 @@
 ghost use Rattle.std.specs.Prelude.{◌≡◌, ◌<◌, [], IfOk, IfErr, OnErr};
 ghost use Rattle.ssh_hub.specs.Rule.{newcomer};
 ghost use Rattle.ssh_hub.specs.History.{newest};
-ghost use Rattle.ssh_hub.specs.Words.{view_of, number_of, config_of, IsSeatOf, IsNew, HasCalled, Meets};
+ghost use Rattle.ssh_hub.specs.Words.{view_of, number_of, config_of, IsSeatOf, IsNew, HasCalled};
+ghost use Rattle.ssh_hub.specs.Words.{Meets};
 ghost use Rattle.ssh_hub.specs.declared.answers.HandleError.TheVariants.{NoMemory};
 ghost use Rattle.ssh_hub.specs.declared.history.HubCall.TheVariants.{SplitSeat};
 ghost use Rattle.ssh_hub.specs.declared.history.HubReply.TheVariants.{SeatIs};
@@ -46,7 +47,8 @@ impl HubLock {
     pub fn split<R: Wait>(&self, rt: &R, seat: &mut Seat) -> Result<Seat, HandleError>
         requires { IsSeatOf self.now seat.old }
         ensures seat { IsSeatOf self.now seat.new }
-        ensures call { IfOk result (λ made. HasCalled seat.old SplitSeat (SeatIs (number_of made)) seat.new) }
+        ensures call { IfOk result (λ made. HasCalled seat.old SplitSeat (SeatIs (number_of made))
+            seat.new) }
         ensures made { IfOk result (λ made. IsSeatOf self.now made) }
         ensures new { IfOk result (λ made. IsNew (view_of seat.new) (view_of made)) }
         ensures memory { IfErr result (λ e. e ≡ NoMemory) }

@@ -2,7 +2,8 @@
 ghost use Rattle.std.specs.Prelude.{◌≡◌, IfOk, IfErr, OnErr};
 ghost use Rattle.ssh_hub.specs.Words.{IsSeatOf, HasCalled, HasLearned};
 ghost use Rattle.ssh_hub.specs.declared.answers.HandleError.TheVariants.{NoMemory};
-ghost use Rattle.ssh_hub.specs.declared.history.HubCall.TheVariants.{AnswerTicket, TakeOutcome, AskRefusal};
+ghost use Rattle.ssh_hub.specs.declared.history.HubCall.TheVariants.{AnswerTicket, TakeOutcome};
+ghost use Rattle.ssh_hub.specs.declared.history.HubCall.TheVariants.{AskRefusal};
 ghost use Rattle.ssh_hub.specs.declared.history.HubReply.TheVariants.{Done, OutcomeIs, RefusalIs};
 
 use super::{HubLock, Seat};
@@ -13,8 +14,9 @@ use std::sync::Wait;
 
 #[tactic(auto, using(crate::proofs::Made::makes_later, crate::proofs::Made::learns_still))]
 impl HubLock {
-    /// What came of the command or reply with this ticket. It does nothing where that is not what was
-    /// taken last, or was answered before. After `NoMemory`, the only error, the hub is unchanged.
+    /// What came of the command or reply with this ticket. It does nothing where that is not what
+    /// was taken last, or was answered before. After `NoMemory`, the only error, the hub is
+    /// unchanged.
     pub fn answer<R: Wait>(
         &self,
         rt: &R,
@@ -24,7 +26,8 @@ impl HubLock {
     ) -> Result<(), HandleError>
         requires { IsSeatOf self.now seat.old }
         ensures seat { IsSeatOf self.now seat.new }
-        ensures call { IfOk result (λ _. HasCalled seat.old (AnswerTicket ticket outcome) Done seat.new) }
+        ensures call { IfOk result (λ _. HasCalled seat.old (AnswerTicket ticket outcome) Done
+            seat.new) }
         ensures memory { IfErr result (λ e. e ≡ NoMemory) }
         ensures no_call { OnErr result (HasLearned seat.old seat.new) }
     {

@@ -2,9 +2,11 @@
 ghost use Rattle.std.specs.Prelude.{◌≡◌, IfOk, IfErr, OnErr};
 ghost use Rattle.ssh_hub.specs.Words.{IsSeatOf, HasCalled, HasLearned};
 ghost use Rattle.ssh_hub.specs.declared.answers.HandleError.TheVariants.{NoMemory};
-ghost use Rattle.ssh_hub.specs.declared.history.HubCall.TheVariants.{DrawSlot, AnswerSlot, TakeSlotAnswer};
+ghost use Rattle.ssh_hub.specs.declared.history.HubCall.TheVariants.{DrawSlot, AnswerSlot};
+ghost use Rattle.ssh_hub.specs.declared.history.HubCall.TheVariants.{TakeSlotAnswer};
 ghost use Rattle.ssh_hub.specs.declared.history.HubCall.TheVariants.{EndHub, AskEnded, Nudge};
-ghost use Rattle.ssh_hub.specs.declared.history.HubReply.TheVariants.{Done, SlotIs, SlotAnswerIs, EndedAt};
+ghost use Rattle.ssh_hub.specs.declared.history.HubReply.TheVariants.{Done, SlotIs, SlotAnswerIs};
+ghost use Rattle.ssh_hub.specs.declared.history.HubReply.TheVariants.{EndedAt};
 
 use super::{HubLock, Seat};
 use crate::answers::{HandleError, SlotAnswer};
@@ -13,8 +15,8 @@ use std::sync::Wait;
 
 #[tactic(auto, using(crate::proofs::Made::makes_later, crate::proofs::Made::learns_still))]
 impl HubLock {
-    /// The next slot, from 1, with room for its answer. After `NoMemory`, the only error, the hub is
-    /// unchanged.
+    /// The next slot, from 1, with room for its answer. After `NoMemory`, the only error, the hub
+    /// is unchanged.
     pub fn slot<R: Wait>(&self, rt: &R, seat: &mut Seat) -> Result<u64, HandleError>
         requires { IsSeatOf self.now seat.old }
         ensures seat { IsSeatOf self.now seat.new }

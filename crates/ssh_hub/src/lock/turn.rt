@@ -6,7 +6,8 @@ ghost use Rattle.ssh_hub.specs.Step.{opening};
 ghost use Rattle.ssh_hub.specs.History.{IsLegal};
 ghost use Rattle.ssh_hub.specs.Rule.{written, drawn_by, HasTurn, AtRest, stays_seated};
 ghost use Rattle.ssh_hub.specs.declared.history.Stage.TheVariants.{Idle};
-ghost use Rattle.ssh_hub.specs.Words.{IsIdle, IsInside, IsInTurn, IsOfSame, IsSameSeat, Learns, Makes, Stays};
+ghost use Rattle.ssh_hub.specs.Words.{IsIdle, IsInside, IsInTurn, IsOfSame, IsSameSeat, Learns};
+ghost use Rattle.ssh_hub.specs.Words.{Makes, Stays};
 ghost use Rattle.ssh_hub.specs.Words.{hub_seen, newest_of, IsAnswered, IsServed, IsFresh};
 
 use super::{HubLock, Place};
@@ -72,7 +73,8 @@ impl HubLock {
             × HasTurn place.old.me.0.stage
             × (place.old.me.1 ≡ (0, None) ∷ []) }
         requires hub { hub ≡ hub_seen place.old }
-        ensures { IsOfSame place.old place.new × (place.new.me ≡ (record place.old.me.0 { stage = Idle }, [])) }
+        ensures { IsOfSame place.old place.new × (place.new.me
+            ≡ (record place.old.me.0 { stage = Idle }, [])) }
     {
         let shared = &self.table.shared;
         let _none = shared.exchange(place, 0, Some(hub));
@@ -80,7 +82,8 @@ impl HubLock {
         shared.wake_all(SERVING);
     }
 
-    // Commits the entry, which the call picks from what it passes, and leaves. Its place comes back.
+    // Commits the entry, which the call picks from what it passes, and leaves. Its place comes
+    // back.
     pub(super) fn finish<E: Event, C, P>(
         &self,
         place: &mut Place,
@@ -110,7 +113,8 @@ impl HubLock {
     pub(super) fn give_up(&self, place: &mut Place, hub: Hub)
         requires place { IsInTurn self.now place.old }
         requires hub { hub ≡ hub_seen place.old }
-        ensures place { IsOfSame place.old place.new × IsSameSeat place.old.me.0 place.new.me.0 × AtRest place.new.me }
+        ensures place { IsOfSame place.old place.new × IsSameSeat place.old.me.0 place.new.me.0
+            × AtRest place.new.me }
         ensures newest { newest_of place.new ≡ newest_of place.old }
         ensures stays { Stays place.old.me.0 place.new.me.0 }
     {

@@ -1,4 +1,5 @@
-use Rattle.ssh_wire.proofs.OpensOnce.{spells_confirmation_once, misfits_confirmation_once, misfits_confirmation_not_spells}
+use Rattle.ssh_wire.proofs.OpensOnce.{spells_confirmation_once, misfits_confirmation_once}
+use Rattle.ssh_wire.proofs.OpensOnce.{misfits_confirmation_not_spells}
 use Rattle.ssh_wire.proofs.open.one_confirmation.Goals as goal
 
 pub returns-clause-value : goal.returns-clause-value

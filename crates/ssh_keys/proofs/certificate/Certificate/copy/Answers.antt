@@ -6,9 +6,11 @@ use Rattle.ssh_keys.proofs.certificate.Certificate.copy.Goals as goal
 
 pub returns-in_err-copy-4-clause-memory : goal.returns-in_err-copy-4-clause-memory
 returns-in_err-copy-4-clause-memory c =
-    passed_on c.from_residual-in_err-copy-4.result c.in_err-copy-4.field-0.0 (λ e. e ≡ NoMemory) c.from_residual-in_err-copy-4.ensures.1
+    passed_on c.from_residual-in_err-copy-4.result c.in_err-copy-4.field-0.0 (λ e. e ≡ NoMemory)
+    c.from_residual-in_err-copy-4.ensures.1
     c.in_err-copy-4.ensures.memory
 
 pub returns-in_err-clone-6-clause-memory : goal.returns-in_err-clone-6-clause-memory
 returns-in_err-clone-6-clause-memory c =
-    passed_on c.from_residual-in_err-clone-6.result NoMemory (λ e. e ≡ NoMemory) c.from_residual-in_err-clone-6.ensures.1 refl
+    passed_on c.from_residual-in_err-clone-6.result NoMemory (λ e. e ≡ NoMemory)
+    c.from_residual-in_err-clone-6.ensures.1 refl

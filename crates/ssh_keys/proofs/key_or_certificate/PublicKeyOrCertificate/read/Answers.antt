@@ -14,6 +14,11 @@ returns-in_err-decode-in-Some-new_certificate-clause-refused c =
     let r = c.from_residual-in_err-decode-in-Some-new_certificate.result in
     let failed = c.in_err-decode-in-Some-new_certificate in
     mapped r (FailsCertificate blob) (FailsOffer c.args.pubkey_algo.now blob)
-    (passed_on r failed.field-0.0 (λ e. (e ≡ NoMemory) ⊎ FailsCertificate blob e) c.from_residual-in_err-decode-in-Some-new_certificate.ensures.1
+    (passed_on r failed.field-0.0 (λ e. (e ≡ NoMemory) ⊎ FailsCertificate blob e)
+    c.from_residual-in_err-decode-in-Some-new_certificate.ensures.1
     failed.ensures.refused)
-    (λ e fails. inr (inr (c.in-Some-new_certificate.field-0, c.in-Some-new_certificate.ensures, fails)))
+    (λ e fails. inr (inr (
+      c.in-Some-new_certificate.field-0,
+      c.in-Some-new_certificate.ensures,
+      fails,
+    )))

@@ -5,5 +5,11 @@ use Rattle.ssh_keys.proofs.table_verifier.TableVerifierVerifier.verify.Given as 
 
 abbrev pub invariant-loop-accepted : goal.invariant-loop-accepted
 invariant-loop-accepted l =
-    let wanted : AcceptedSignature = record { key = l.key; algorithm = l.algorithm; message = l.message; signature = l.signature } in
+    let wanted : AcceptedSignature = record {
+      key = l.key;
+      algorithm = l.algorithm;
+      message =
+          l.message;
+      signature = l.signature;
+    } in
     (k : ℕ) → k < l.accepted-index → get_or l.accepted-items k wanted ≡ wanted → ⊥

@@ -9,7 +9,8 @@ pub returns-in_err-extensions-clause-refused : goal.returns-in_err-extensions-cl
 returns-in_err-extensions-clause-refused c =
     let why = c.in_err-extensions.field-0.0 in
     let start = c.args.r.now in
-    from_field c.from_residual-in_err-extensions.result why (LacksFields option_fields start.left) c.from_residual-in_err-extensions.ensures.1
+    from_field c.from_residual-in_err-extensions.result why (LacksFields option_fields start.left)
+    c.from_residual-in_err-extensions.ensures.1
     (lacking option_fields start.left why
     (no_extensions start c.bytes.new.self c.in_ok-critical_options.critical_options.now why
     c.in_ok-critical_options.ensures.ok c.in_err-extensions.ensures.misfit))
@@ -18,7 +19,10 @@ pub returns-in_err-reserved-clause-refused : goal.returns-in_err-reserved-clause
 returns-in_err-reserved-clause-refused c =
     let why = c.in_err-reserved.field-0.0 in
     let start = c.args.r.now in
-    from_field c.from_residual-in_err-reserved.result why (LacksFields option_fields start.left) c.from_residual-in_err-reserved.ensures.1
+    from_field c.from_residual-in_err-reserved.result why (LacksFields option_fields start.left)
+    c.from_residual-in_err-reserved.ensures.1
     (lacking option_fields start.left why
-    (no_reserved start c.bytes.new.self c.bytes-2.new.self c.in_ok-critical_options.critical_options.now c.in_ok-extensions.extensions.now why
-    c.in_ok-critical_options.ensures.ok c.in_ok-extensions.ensures.ok c.in_err-reserved.ensures.misfit))
+    (no_reserved start c.bytes.new.self c.bytes-2.new.self
+    c.in_ok-critical_options.critical_options.now c.in_ok-extensions.extensions.now why
+    c.in_ok-critical_options.ensures.ok c.in_ok-extensions.ensures.ok
+    c.in_err-reserved.ensures.misfit))

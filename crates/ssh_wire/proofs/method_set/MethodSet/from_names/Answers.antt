@@ -10,11 +10,13 @@ loop-name-preserved c =
     let place = c.loop-name.name-index in
     elim c.match-parse.branch [
       | in-Ok w ↦ rw (w.methods-is, w.push.ensures)
-          (pushed_all-named names place c.name-item.result w.in-Ok.method c.loop-name.methods c.loop-name-test.true
+          (pushed_all-named names place c.name-item.result w.in-Ok.method c.loop-name.methods
+          c.loop-name-test.true
           (w.in-Ok.ensures.value ∙ c.as_str.ensures ∙ c.name-item.is)
           ∙ c.loop-name.invariant)
       | in_default w ↦ rw w.methods-is
-          (pushed_all-unknown names place c.name-item.result c.loop-name.methods c.loop-name-test.true
+          (pushed_all-unknown names place c.name-item.result c.loop-name.methods
+          c.loop-name-test.true
           (subst IsNoMethod (c.as_str.ensures ∙ c.name-item.is) w.in_default.ensures.value)
           ∙ c.loop-name.invariant)
     ]

@@ -8,7 +8,8 @@ use Rattle.ssh_wire.proofs.method_set.MethodSet.remove.Goals.{then-ne, else-ne}
 
 pub append-requires : goal.append-requires
 append-requires c = rw c.loop-kind.invariant
-    (has-without c.args.method _ c.loop-kind.kind-index _ c.as_slice-kind-items.ensures.distinct c.loop-kind-test.true)
+    (has-without c.args.method _ c.loop-kind.kind-index _ c.as_slice-kind-items.ensures.distinct
+    c.loop-kind-test.true)
 
 pub loop-kind-preserved : goal.loop-kind-preserved
 loop-kind-preserved c =
@@ -19,8 +20,10 @@ loop-kind-preserved c =
       | then-ne w ↦ w.left-is
           ∙ w.append.ensures
           ∙ ap (λ before. before ++ next ∷ []) c.loop-kind.invariant
-          ∙ sym (without-kept c.args.method methods place kind.None c.loop-kind-test.true (differs_true the_type _ _ (sym w.if-ne.ensures)))
+          ∙ sym (without-kept c.args.method methods place kind.None c.loop-kind-test.true
+          (differs_true the_type _ _ (sym w.if-ne.ensures)))
       | else-ne w ↦ w.left-is
           ∙ c.loop-kind.invariant
-          ∙ sym (without-left_out c.args.method methods place kind.None c.loop-kind-test.true (differs_false the_type (search rules) _ _ (sym w.if-ne.ensures)))
+          ∙ sym (without-left_out c.args.method methods place kind.None c.loop-kind-test.true
+          (differs_false the_type (search rules) _ _ (sym w.if-ne.ensures)))
     ]

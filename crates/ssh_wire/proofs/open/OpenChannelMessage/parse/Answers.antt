@@ -11,11 +11,15 @@ pub returns-in_err-recipient_maximum_packet_size-clause-misfit :
     goal.returns-in_err-recipient_maximum_packet_size-clause-misfit
 returns-in_err-recipient_maximum_packet_size-clause-misfit c =
     let why = c.in_err-recipient_maximum_packet_size.field-0.0 in
-    passed_on c.from_residual-in_err-recipient_maximum_packet_size.result (Wire why) (λ e. (e ≡ Wire NoMemory) ⊎ MisfitsOpen c.args.r.now.left e)
+    passed_on c.from_residual-in_err-recipient_maximum_packet_size.result (Wire why)
+    (λ e. (e ≡ Wire NoMemory) ⊎ MisfitsOpen c.args.r.now.left e)
     c.from_residual-in_err-recipient_maximum_packet_size.ensures.1
-    (inr (inl (no_packet_size c.args.r.now c.ahead-ahead.result c.text.new.self c.u32.new.self c.u32-2.new.self
-    c.in_ok-name.name.now c.in_ok-recipient_channel.recipient_channel c.in_ok-recipient_window_size.recipient_window_size why
-    c.ahead-ahead.ensures c.in_ok-name.ensures.ok c.in_ok-recipient_channel.ensures.ok c.in_ok-recipient_window_size.ensures.ok
+    (inr (inl (no_packet_size c.args.r.now c.ahead-ahead.result c.text.new.self c.u32.new.self
+    c.u32-2.new.self
+    c.in_ok-name.name.now c.in_ok-recipient_channel.recipient_channel
+    c.in_ok-recipient_window_size.recipient_window_size why
+    c.ahead-ahead.ensures c.in_ok-name.ensures.ok c.in_ok-recipient_channel.ensures.ok
+    c.in_ok-recipient_window_size.ensures.ok
     c.in_err-recipient_maximum_packet_size.ensures.misfit)))
 
 pub returns-then-recipient_maximum_packet_size-eq0-clause-misfit :
@@ -31,10 +35,13 @@ returns-then-recipient_maximum_packet_size-eq0-clause-misfit c =
       sender,
       window,
       after,
-      subst (λ n. Leads name sender window n start after) c.if-recipient_maximum_packet_size-eq0.true
-          (leads c.args.r.now c.ahead-ahead.result c.text.new.self c.u32.new.self c.u32-2.new.self c.u32-3.new.self
+      subst (λ n. Leads name sender window n start after)
+          c.if-recipient_maximum_packet_size-eq0.true
+          (leads c.args.r.now c.ahead-ahead.result c.text.new.self c.u32.new.self c.u32-2.new.self
+          c.u32-3.new.self
           name sender window c.in_ok-recipient_maximum_packet_size.recipient_maximum_packet_size
-          c.ahead-ahead.ensures c.in_ok-name.ensures.ok c.in_ok-recipient_channel.ensures.ok c.in_ok-recipient_window_size.ensures.ok
+          c.ahead-ahead.ensures c.in_ok-name.ensures.ok c.in_ok-recipient_channel.ensures.ok
+          c.in_ok-recipient_window_size.ensures.ok
           c.in_ok-recipient_maximum_packet_size.ensures.ok),
     )
 
@@ -45,7 +52,8 @@ returns-in_err-typ-clause-misfit c =
     let sender = c.in_ok-recipient_channel.recipient_channel in
     let window = c.in_ok-recipient_window_size.recipient_window_size in
     let size = c.in_ok-recipient_maximum_packet_size.recipient_maximum_packet_size in
-    passed_on c.from_residual-in_err-typ.result (Wire why) (λ e. (e ≡ Wire NoMemory) ⊎ MisfitsOpen c.args.r.now.left e)
+    passed_on c.from_residual-in_err-typ.result (Wire why)
+    (λ e. (e ≡ Wire NoMemory) ⊎ MisfitsOpen c.args.r.now.left e)
     c.from_residual-in_err-typ.ensures.1
     (elim c.in_err-typ.ensures.misfit [
       | inl memory ↦ inl (ap Wire memory)
@@ -55,8 +63,10 @@ returns-in_err-typ-clause-misfit c =
         window,
         size,
         c.u32-3.new.self.left,
-        leads c.args.r.now c.ahead-ahead.result c.text.new.self c.u32.new.self c.u32-2.new.self c.u32-3.new.self name sender window size
-            c.ahead-ahead.ensures c.in_ok-name.ensures.ok c.in_ok-recipient_channel.ensures.ok c.in_ok-recipient_window_size.ensures.ok
+        leads c.args.r.now c.ahead-ahead.result c.text.new.self c.u32.new.self c.u32-2.new.self
+            c.u32-3.new.self name sender window size
+            c.ahead-ahead.ensures c.in_ok-name.ensures.ok c.in_ok-recipient_channel.ensures.ok
+            c.in_ok-recipient_window_size.ensures.ok
             c.in_ok-recipient_maximum_packet_size.ensures.ok,
         c.if-recipient_maximum_packet_size-eq0.false,
         misfit,
