@@ -12,9 +12,9 @@ use Rattle.ssh_channels.specs.Entry.{more_may_come, close_may_come}
 use Rattle.ssh_channels.specs.Lines.{Lines, find, turns, leaves, closes, settles}
 use Rattle.ssh_channels.specs.Lines.{where_found, at, takes_data, takes_eof}
 use Rattle.ssh_channels.specs.Lines.{takes_close, peer_closes, takes_grant, takes_in, wants}
-use Rattle.ssh_channels.specs.Lines.{confirms, fails}
+use Rattle.ssh_channels.specs.Lines.{confirms, fails, says}
 use Rattle.ssh_channels.specs.Room.{coming, having, adjust_out}
-use Rattle.ssh_channels.specs.Layout.{close_frame}
+use Rattle.ssh_channels.specs.Layout.{bare_frame, close_frame}
 use Rattle.ssh_channels.proofs.Listed.{find_other, without_other, found_number}
 
 -- on a number that is no channel's there is none after it either
@@ -123,6 +123,11 @@ pub wants_absent : (n m : ℕ) (wanted : Bool) (l : Lines) → IsAbsent n l
     → IsAbsent n (wants m wanted l)
 wants_absent n m wanted l h = at_absent n m _ l
     (λ e apart. turned_absent n (record e { wants_reply = wanted }) e [] l apart refl h) h
+
+pub says_absent : (n m message : ℕ) (l : Lines) → IsAbsent n l → IsAbsent n (says m message l)
+says_absent n m message l h = at_absent n m _ l
+    (λ e apart. chosen_absent e.confirmed n _ _
+    (turned_absent n e e (bare_frame message e.number e.peer ∷ []) l apart refl h) h) h
 
 pub confirmed_absent : (n m peer window limit : ℕ) (l : Lines) → IsAbsent n l
     → IsAbsent n (confirms m peer window limit l)

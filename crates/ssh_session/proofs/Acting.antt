@@ -1,15 +1,17 @@
 -- Laws of rows, by their acts: what each turn of the world and each command keeps, a row keeps.
-use Rattle.std.proofs.Common.{ℕ, ◌+◌, List, [], ◌∷◌, map}
+use Rattle.std.proofs.Common.{ℕ, ◌+◌, Bool, List, [], ◌∷◌, map}
 use Rattle.ssh_link.specs.declared.command.Command.{Command}
 use Rattle.ssh_link.specs.declared.link.TraceEntry.{TraceEntry}
 use Rattle.ssh_link.specs.declared.link.TraceEntry.TheVariants.{Noticed, Sent}
 use Rattle.ssh_link.specs.declared.outcome.CommandOutcome.{CommandOutcome}
 use Rattle.ssh_link.specs.declared.outcome.CommandOutcome.TheVariants.{Accepted, Opened, Refused}
+use Rattle.ssh_auth.specs.declared.question.Judged.{Judged}
 use Rattle.ssh_auth.specs.declared.question.Lent.{Lent}
 use Rattle.ssh_auth.specs.declared.question.Question.{Question}
-use Rattle.ssh_auth.specs.declared.question.Question.TheVariants.{Lends}
-use Rattle.ssh_auth.specs.Plan.{Plan, Finish, Ask, Tell, Answer, after}
-use Rattle.ssh_session.specs.Acts.{Act, Notes, Calls, Adjusts_by, Turns, Is_over, Stops, tell_all}
+use Rattle.ssh_auth.specs.declared.question.Question.TheVariants.{Lends, Judges}
+use Rattle.ssh_auth.specs.Plan.{Plan, Finish, Ask, Tell, Answer, Judgement, after}
+use Rattle.ssh_session.specs.Acts.{Act, Notes, Calls, Judges_by, Adjusts_by, Turns, Is_over}
+use Rattle.ssh_session.specs.Acts.{Stops, tell_all}
 use Rattle.ssh_session.specs.Acts.{tell_done, done, done_all, acts}
 use Rattle.ssh_session.specs.Effect.{Effect, Does, Unbuilt, effect}
 use Rattle.ssh_session.specs.Outcome.{Outcome, Goes, Ends, Fails, Not_built}
@@ -45,6 +47,8 @@ pub record Law : Type 1 where
   pub goes : (w : World) → holds w → comes (Goes w)
   pub lends : (lent : Lent) (commands : List Command) → such (Lends lent) commands
       → AllBuilt built commands
+  pub judges : (judged : Judged) (answer : Judgement) → such (Judges judged) answer
+      → AllBuilt built answer.commands
   pub keeps : (w : World) (command : Command) → holds w → built command → EffectComes comes holds
       (effect w command)
 
@@ -54,6 +58,8 @@ abbrev pub ActsCome : (law : Law) → List Act → World → Type 0
 ActsCome law [] w = Unit {0}
 ActsCome law (Notes notice ∷ later) w = ActsCome law later w
 ActsCome law (Calls lent ∷ later) w = (world : World) → law.holds world → ActsCome law later world
+ActsCome law (Judges_by judged by ∷ later) w = (granted : Bool) (world : World)
+    → law.holds world → law.holds (by granted world) × ActsCome law later (by granted world)
 ActsCome law (Adjusts_by channel current by ∷ later) w = (window : ℕ) → law.holds (by window w)
     × ActsCome law later (by window w)
 ActsCome law (Turns by ∷ later) w = law.holds (by w) × ActsCome law later (by w)
@@ -103,6 +109,11 @@ acts_come law (Notes notice ∷ later) w h k = acts_come law later w h k
 acts_come law (Calls lent ∷ later) w h k = λ commands s.
     all_come law 0 commands w (acts later) h (law.lends lent commands s)
     (λ world t. acts_come law later world t (k world t))
+acts_come law (Judges_by judged by ∷ later) w h k = λ answer s.
+    all_come law 0 answer.commands w (λ world. acts later (by answer.granted world)) h
+    (law.judges judged answer s)
+    (λ world t. acts_come law later (by answer.granted world) (k answer.granted world t).0
+    (k answer.granted world t).1)
 acts_come law (Adjusts_by channel current by ∷ later) w h k = λ window s.
     acts_come law later (by window w) (k window).0 (k window).1
 acts_come law (Turns by ∷ later) w h k = acts_come law later (by w) k.0 k.1

@@ -1,6 +1,6 @@
 -- The rows are plans in which nothing of the connection comes before an answer that accepts a user.
 use Rattle.std.proofs.Common.{⊎_elim, ◌≡◌, ◌≤◌, ◌⊎◌, ℕ, List, [], ◌∷◌, ◌++◌, Option, Some, None}
-use Rattle.std.proofs.Common.{Bool, true, false, refl, sym, ap, subst, inl, inr, arith}
+use Rattle.std.proofs.Common.{Bool, true, false, refl, sym, ◌∙◌, ap, subst, inl, inr, arith}
 use Rattle.std.specs.Prelude.{bytes_eq, codes, if◌then◌else◌, drop, Result, Ok, Err}
 use Rattle.ssh_wire.specs.declared.error.WireError.{WireError}
 use Rattle.ssh_wire.specs.Field.{number, string}
@@ -39,7 +39,7 @@ use Rattle.ssh_session.specs.Acts.{done, acts}
 use Rattle.ssh_session.specs.Authorised.{IsRequestOf, IsProvenRequest, IsOfChannel}
 use Rattle.ssh_session.specs.Effect.{Effect, Unbuilt, refuses, effect, refused_or, no_sending}
 use Rattle.ssh_session.specs.Effect.{no_closing, no_open, done_by, no_user, lacks, opens_need}
-use Rattle.ssh_session.specs.Effect.{opens, opens_or_not}
+use Rattle.ssh_session.specs.Effect.{opens, opens_or_not, needs, Established, no_established}
 use Rattle.ssh_session.specs.OwnOpens.{OwnOpen, asking}
 use Rattle.ssh_session.specs.Gate.{gate_of, IsRequesting}
 use Rattle.ssh_session.specs.Layout.{at_once, held, service_accept, banner, too_many_attempts}
@@ -57,6 +57,7 @@ use Rattle.ssh_session.proofs.Guards.{plan_accepted}
 use Rattle.ssh_session.proofs.FairVerdicts.{IsLow, IsFairReply, IsFair, method_fair}
 use Rattle.ssh_session.proofs.FairVerdicts.{responded_fair, asks_weak, begun_named}
 use Rattle.ssh_session.proofs.FairVerdicts.{prompt_named}
+use Rattle.ssh_wire.specs.declared.channel_id.ChannelId.{ChannelId}
 
 -- ---- frames of no channel
 
@@ -363,6 +364,17 @@ opening_refused named w (Some asked) h =
           (no_user_yet named w.user.state h.0),
     )
 
+-- nothing is said on a channel that is not there
+unestablished : (named : List ℕ → Type 0) (w : World) (commanded : Commanded)
+    (channel : ChannelId) → needs commanded ≡ Established channel → IsClear named w →
+    ((why : Refusal) × (effect w commanded ≡ refuses why w)) ⊎ (effect w commanded ≡ Unbuilt)
+unestablished named w commanded channel is h =
+    inl (
+      UnknownChannel,
+      ap (λ n. refused_or (lacks w n) w (done_by w commanded)) is
+          ∙ ap (λ es. refused_or (no_established (find channel.0 es)) w (done_by w commanded)) h.1,
+    )
+
 -- where there is neither a channel nor an open, each command is refused or not built
 refused : (named : List ℕ → Type 0) (w : World) (commanded : Commanded) → IsClear named w →
     ((why : Refusal) × (effect w commanded ≡ refuses why w)) ⊎ (effect w commanded ≡ Unbuilt)
@@ -390,6 +402,16 @@ refused named w (command.Close channel) h =
       ap (λ es. refused_or (no_closing (find channel.0 es)) w
           (done_by w (command.Close channel))) h.1,
     )
+refused named w (command.ChannelSuccess channel) h =
+    unestablished named w (command.ChannelSuccess channel) channel refl h
+refused named w (command.ChannelFailure channel) h =
+    unestablished named w (command.ChannelFailure channel) channel refl h
+refused named w (command.XonXoff channel client_can_do) h =
+    unestablished named w (command.XonXoff channel client_can_do) channel refl h
+refused named w (command.ExitStatus channel status) h =
+    unestablished named w (command.ExitStatus channel status) channel refl h
+refused named w (command.ExitSignal channel signal core message language) h =
+    unestablished named w (command.ExitSignal channel signal core message language) channel refl h
 refused named w (command.Answer answer) h =
     let none : opening_of answer.channel.0 w ≡ None = rw h.2 refl in
     inl (UnknownOpen, ap (λ o. refused_or (no_open o) w (done_by w (command.Answer answer))) none)

@@ -42,51 +42,22 @@ use Rattle.ssh_session.specs.Rows.{row, open_acts, turns_first}
 use Rattle.ssh_session.specs.Run.{Turn, Run, Owes, OwesKind, calls_of, finish_input, handed_on}
 use Rattle.ssh_session.specs.Run.{entries, is_there}
 use Rattle.ssh_session.specs.World.{Settings, World, circumstances, opening_world}
-use Rattle.ssh_session.proofs.Acting.{PlanComes}
 use Rattle.ssh_session.proofs.Accepting.{AllWalk, run_walks, last_walks}
-use Rattle.ssh_session.proofs.Answering.{Covered, CoveredOnce, Left, Allowed, kind_covered}
-use Rattle.ssh_session.proofs.Answering.{input_allowed}
-use Rattle.ssh_session.proofs.Answers.{unsent}
+use Rattle.ssh_session.proofs.Answering.{CoveredOnce, Left, kind_covered}
+use Rattle.ssh_session.proofs.Answers.{answers_on, asks_open}
 use Rattle.ssh_session.proofs.Books.{owed_kept, nothing_kept}
 use Rattle.ssh_session.proofs.Calling.{turn_called}
-use Rattle.ssh_session.proofs.Counting.{left_through, Within, within_both, within_rest}
-use Rattle.ssh_session.proofs.Counting.{through_one, within_few, walks_within, follows_covered}
+use Rattle.ssh_session.proofs.Counting.{Covered, Allowed, input_allowed, returned, left_through}
+use Rattle.ssh_session.proofs.Counting.{Within, within_both, within_rest, within_first, through_one}
+use Rattle.ssh_session.proofs.Counting.{within_few, walks_within, follows_covered}
+use Rattle.ssh_session.proofs.Emptied.{told_comes, comes_of, owed_emptied, nothing_left}
 use Rattle.ssh_session.proofs.Guards.{Walks}
 use Rattle.ssh_session.proofs.Keeping.{Kept}
-use Rattle.ssh_session.proofs.Settled.{Anything}
+use Rattle.ssh_session.proofs.Measures.{how_many_same}
+use Rattle.ssh_session.proofs.Measuring.{owing}
 use Rattle.ssh_session.proofs.Telling.{SendsNone, kind_silent}
 
 -- ---- an open in whose input no callback is made
-
--- this holds of what comes of a plan once these are told
-told_comes : (comes : Outcome → Type 0) (entries : List TraceEntry) (outcome : Outcome) →
-    comes outcome → PlanComes Anything comes (tell_all entries (Finish outcome))
-told_comes comes [] outcome h = h
-told_comes comes (entry ∷ entries) outcome h = told_comes comes entries outcome h
-
-comes_of : {E : Type 0} (comes : Outcome → Type 0) (plan : Plan Outcome) (events : List (Event E ⊥))
-    (outcome : Outcome) → PlanComes Anything comes plan → Follows plan events outcome →
-    comes outcome
-comes_of comes plan [] outcome h f = subst (PlanComes Anything comes) f h
-comes_of comes (Finish other) (event ∷ events) outcome h f = absurd f
-comes_of comes (Ask question next) (event ∷ events) outcome h f =
-    comes_of comes (next f.0) events outcome (h f.0 tt) f.2
-comes_of comes (Tell entry next) (event ∷ events) outcome h f = comes_of comes next events outcome h
-    f.1
-
--- after an input nothing is left to be handed on
-abbrev IsEmptied : Outcome → Type 0
-IsEmptied (Goes w) = w.channels.lines.written ≡ []
-IsEmptied _ = Unit {0}
-
-emptied : (plan : Plan Outcome) → PlanComes Anything IsEmptied (after plan finish_input)
-emptied (Finish (Goes w)) =
-    told_comes IsEmptied (map Sent w.channels.lines.written) (Goes (handed_on w)) refl
-emptied (Finish (Ends w)) =
-    told_comes IsEmptied (map Sent w.channels.lines.written) (Ends (handed_on w)) tt
-emptied (Finish (Fails fault)) = tt
-emptied (Ask question next) = λ answer s. emptied (next answer)
-emptied (Tell entry next) = emptied next
 
 -- a callback is made
 abbrev IsLent : Question → Type 0
@@ -276,30 +247,32 @@ finished_uncalled (Fails fault) events h = told_uncalled [] (Fails fault) events
 
 called_allowed : {E : Type 0} (number left : ℕ) (plan : Plan Outcome) (events : List (Event E ⊥)) →
     SendsNone plan → CoveredOnce number left plan → Walks (after plan finish_input) events →
-    is_none (calls_in events) ≡ false → Allowed number left (after plan finish_input)
+    is_none (calls_in events) ≡ false → Allowed (answers_on number) left (after plan finish_input)
 called_allowed number left (Finish outcome) events s c h called =
     absurd (let none = finished_uncalled outcome events h in cc)
 called_allowed number left (Ask question next) events s c h called =
-    input_allowed number left (Ask question next) s c
+    input_allowed (answers_on number) left (Ask question next) s c
 called_allowed number left (Tell entry next) events s c h called =
-    input_allowed number left (Tell entry next) s c
+    input_allowed (answers_on number) left (Tell entry next) s c
 
 other_false : (a b : Bool) → (a && b) ≡ false → a ≡ true → b ≡ false
 other_false true b h is = h
 other_false false b h is = absurd (cc)
 
 allowed_step : {E : Type 0} (number left : ℕ) (turn : Turn E) (first : Plan Outcome) →
-    ((is_open turn.input.kind ≡ true) × CoveredOnce number left first) ⊎ Covered number left first →
+    ((is_open turn.input.kind ≡ true) × CoveredOnce number left first)
+    ⊎ Covered (answers_on number) left first →
     SendsNone first → Walks (after first finish_input) turn.events → is_uncalled turn ≡ false →
-    Allowed number left (after first finish_input)
+    Allowed (answers_on number) left (after first finish_input)
 allowed_step number left turn first (inl c) s walks is =
     called_allowed number left first turn.events s c.1 walks
     (other_false (is_open turn.input.kind) (is_none (calls_of turn)) is c.0)
-allowed_step number left turn first (inr c) s walks is = input_allowed number left first s c
+allowed_step number left turn first (inr c) s walks is =
+    input_allowed (answers_on number) left first s c
 
 turn_allowed : {E : Type 0} (accepts : Acceptance) (number left : ℕ) (w : World) (turn : Turn E)
     (plan : Plan Outcome) → Owes accepts w turn.input plan → Left number left w →
-    Walks plan turn.events → is_uncalled turn ≡ false → Allowed number left plan
+    Walks plan turn.events → is_uncalled turn ≡ false → Allowed (answers_on number) left plan
 turn_allowed accepts number left w turn plan o h walks is =
     rw o.2 (allowed_step number left turn o.0
     (kind_covered accepts number left w turn.input.moment turn.input.kind o.0 o.1 h)
@@ -309,17 +282,18 @@ turn_allowed accepts number left w turn plan o h walks is =
 turn_within : {E : Type 0} (uncalled : Bool) (accepts : Acceptance) (number left : ℕ) (w : World)
     (turn : Turn E) (plan : Plan Outcome) → is_uncalled turn ≡ uncalled →
     Owes accepts w turn.input plan → Left number left w → Walks plan turn.events →
-    Within number left (cond uncalled [] turn.events)
+    Within (answers_on number) left (cond uncalled [] turn.events)
 turn_within true accepts number left w turn plan is o h walks = tt
 turn_within false accepts number left w turn plan is o h walks =
-    walks_within number left plan turn.events
+    walks_within (answers_on number) left plan turn.events
     (turn_allowed accepts number left w turn plan o h walks is) walks
 
 turn_covered : {E : Type 0} (uncalled : Bool) (accepts : Acceptance) (number left : ℕ) (w : World)
     (turn : Turn E) (plan : Plan Outcome) (mid : World) → is_uncalled turn ≡ uncalled →
     Owes accepts w turn.input plan → Left number left w → Walks plan turn.events →
     Follows plan turn.events (Goes mid) → mid.channels.lines.written ≡ [] →
-    unsent number mid ≤ left_through number left (cond uncalled [] turn.events)
+    owing (answers_on number) mid
+    ≤ left_through (answers_on number) left (cond uncalled [] turn.events)
 turn_covered {E} true accepts number left w turn plan mid is o h walks f emptied =
     let u = turn_uncalled accepts w turn plan o h.none is in
     let same = uncalled_same w u.0 turn.events mid u.1
@@ -327,25 +301,19 @@ turn_covered {E} true accepts number left w turn plan mid is o h walks f emptied
     let most = h.covered in
     rw (emptied, same) (omega (arith, most))
 turn_covered false accepts number left w turn plan mid is o h walks f emptied =
-    follows_covered number left plan turn.events mid
+    follows_covered (answers_on number) left plan turn.events mid
     (turn_allowed accepts number left w turn plan o h walks is) f
-
-owed_emptied : {E : Type 0} (accepts : Acceptance) (w : World) (turn : Turn E) (plan : Plan Outcome)
-    (mid : World) → Owes accepts w turn.input plan → Follows plan turn.events (Goes mid) →
-    mid.channels.lines.written ≡ []
-owed_emptied {E} accepts w turn plan mid o f =
-    comes_of IsEmptied plan turn.events (Goes mid)
-    (subst (PlanComes Anything IsEmptied) (sym o.2) (emptied o.0)) f
 
 turns_within : {E : Type 0} (accepts : Acceptance) (number left : ℕ) (past : List TraceEntry)
     (turns : List (Turn E)) (w : World) → AllWalk accepts w turns → Kept past w →
-    w.channels.lines.written ≡ [] → left ≤ 1 → unsent number w ≤ left →
-    Within number left (called_events turns)
+    w.channels.lines.written ≡ [] → left ≤ 1 → owing (answers_on number) w ≤ left →
+    Within (answers_on number) left (called_events turns)
 turns_within accepts number left past [] w all k none one l = tt
 turns_within accepts number left past (turn ∷ turns) w (plan, owes, walks, inl last) k none one l =
     let h : Left number left w = record { none = none; waiting = k.waiting; one = one; covered = l }
     in
-    within_both number left (cond (is_uncalled turn) [] turn.events) (called_events turns)
+    within_both (answers_on number) left (cond (is_uncalled turn) [] turn.events)
+    (called_events turns)
     (turn_within (is_uncalled turn) accepts number left w turn plan refl owes h walks)
     (rw last tt)
 turns_within accepts number left past (turn ∷ turns) w (plan, owes, walks, inr next) k none one l =
@@ -354,17 +322,14 @@ turns_within accepts number left past (turn ∷ turns) w (plan, owes, walks, inr
     let events = cond (is_uncalled turn) [] turn.events in
     let mid = next.0 in
     let emptied = owed_emptied accepts w turn plan mid owes next.1 in
-    within_both number left events (called_events turns)
+    within_both (answers_on number) left events (called_events turns)
     (turn_within (is_uncalled turn) accepts number left w turn plan refl owes h walks)
-    (turns_within accepts number (left_through number left events) (past ++ entries turn) turns mid
-    next.2 (owed_kept accepts past w turn plan mid owes next.1 k) emptied
-    (through_one number left events one)
+    (turns_within accepts number (left_through (answers_on number) left events)
+    (past ++ entries turn) turns mid next.2
+    (owed_kept accepts past w turn plan mid owes next.1 k) emptied
+    (through_one (answers_on number) left events one)
     (turn_covered (is_uncalled turn) accepts number left w turn plan mid refl owes h walks next.1
     emptied))
-
-nothing_left : {A : Type 0} (xs : List A) (y : A) (ys : List A) → xs ++ y ∷ ys ≡ [] → ⊥
-nothing_left [] y ys h = cc
-nothing_left (x ∷ xs) y ys h = cc
 
 turns_few : {E : Type 0} (accepts : Acceptance) (turns : List (Turn E)) (w : World) →
     AllWalk accepts w turns → w.channels.lines.written ≡ [] →
@@ -386,20 +351,44 @@ turns_few accepts (t ∷ turns) w (plan, owes, walks, inr next) none (b ∷ befo
     turns_few accepts turns next.0 next.2 (owed_emptied accepts w t plan next.0 owes next.1) before
     after turn rest uncalled
 
+-- the callback of an open of the number returned where the question about it was answered
+returned_same : {E : Type 0} (number : ℕ) (event : Event E ⊥) →
+    returned (asks_open number) event ≡ open_returned_on number event
+returned_same number (Called call) = refl
+returned_same number (Stepped (kex.Begun answer)) = refl
+returned_same number (Stepped (kex.Stepped payload answer)) = refl
+returned_same number (Told entry) = refl
+
+few_answers : {E : Type 0} (number left : ℕ) (events : List (Event E ⊥)) →
+    Within (answers_on number) left events → how_many (sends (is_answer_on number)) events
+    ≤ left + how_many (open_returned_on number) events
+few_answers number left events h =
+    let few : how_many (sends (is_answer_on number)) events
+    + left_through (answers_on number) left events
+    ≤ left + how_many (returned (asks_open number)) events =
+    within_few (answers_on number) left events h in
+    let same = how_many_same (returned (asks_open number)) (open_returned_on number) events
+    (returned_same number) in
+    omega (arith, few, same)
+
 -- while no callback of an open of the number returns, at most one answer is sent on it
 span_one : {E : Type 0} (number : ℕ) (past span more : List (Event E ⊥)) →
-    Within number 0 (past ++ (span ++ more)) → how_many (open_returned_on number) span ≡ 0 →
+    Within (answers_on number) 0 (past ++ (span ++ more)) →
+    how_many (open_returned_on number) span ≡ 0 →
     how_many (sends (is_answer_on number)) span ≤ 1
 span_one number past span more h none =
-    let left = left_through number 0 past in
-    let few = within_few number left span more (within_rest number 0 past (span ++ more) h) in
-    let one = through_one number 0 past (omega arith) in
+    let left = left_through (answers_on number) 0 past in
+    let few = few_answers number left span (within_first (answers_on number) left span more
+    (within_rest (answers_on number) 0 past (span ++ more) h)) in
+    let one = through_one (answers_on number) 0 past (omega arith) in
     omega (arith, few, one, none)
 
 past_few : {E : Type 0} (number : ℕ) (past more : List (Event E ⊥)) →
-    Within number 0 (past ++ more) →
+    Within (answers_on number) 0 (past ++ more) →
     how_many (sends (is_answer_on number)) past ≤ how_many (open_returned_on number) past
-past_few number past more h = let few = within_few number 0 past more h in omega (arith, few)
+past_few number past more h =
+    let few = few_answers number 0 past (within_first (answers_on number) 0 past more h) in
+    omega (arith, few)
 
 turns_called : {E : Type 0} (accepts : Acceptance) (turns : List (Turn E)) (w : World) →
     AllWalk accepts w turns → (before after : List (Turn E)) (turn : Turn E) →
@@ -428,7 +417,8 @@ pub answered : {E : Type 0} (accepts : Acceptance) (settings : Settings) (turns 
 answered accepts settings turns world count max last rose result run closes =
     let all = run_walks accepts (opening_world settings) turns world (option_to_list last) run
     (last_walks accepts world count max last rose result closes) in
-    let within : (number : ℕ) → Within number 0 (called_events (turns ++ option_to_list last)) =
+    let within : (number : ℕ) →
+    Within (answers_on number) 0 (called_events (turns ++ option_to_list last)) =
     λ number. turns_within accepts number 0 [] (turns ++ option_to_list last)
     (opening_world settings) all (nothing_kept settings) refl (omega arith) (omega arith) in
     record {
@@ -439,7 +429,8 @@ answered accepts settings turns world count max last rose result run closes =
           turns_few accepts (turns ++ option_to_list last) (opening_world settings) all refl before
           after turn is uncalled;
       after_call = λ past more is number.
-          past_few number past more (subst (Within number 0) is (within number));
+          past_few number past more (subst (Within (answers_on number) 0) is (within number));
       one_each = λ past span more is number none.
-          span_one number past span more (subst (Within number 0) is (within number)) none;
+          span_one number past span more (subst (Within (answers_on number) 0) is (within number))
+          none;
     }

@@ -57,7 +57,7 @@ use Rattle.ssh_session.specs.declared.messages.Spoken.TheVariants as spoken
 use Rattle.ssh_session.specs.declared.state.EncryptedState.{EncryptedState}
 use Rattle.ssh_session.specs.declared.state.EncryptedState.TheVariants.{WaitingAuthRequest}
 use Rattle.ssh_session.specs.Acts.{Act, Notes, Calls, Adjusts_by, Turns, Is_over, Stops, tell_all}
-use Rattle.ssh_session.specs.Acts.{tell_done, done, done_all, acts}
+use Rattle.ssh_session.specs.Acts.{tell_done, done, done_all, acts, Judges_by}
 use Rattle.ssh_session.specs.Answered.{how_many, is_open, open_returned, open_asked, open_of, sends}
 use Rattle.ssh_session.specs.Effect.{Effect, Does, Unbuilt, effect}
 use Rattle.ssh_session.specs.Gate.{gate_of}
@@ -152,6 +152,11 @@ acts_beside (Calls lent ∷ later) w h = (
   h.0,
   λ commands. all_beside 0 commands w (acts later) (λ world. acts_beside later world h.1),
 )
+acts_beside (Judges_by judged by ∷ later) w h = (
+  refl,
+  λ answer. all_beside 0 answer.commands w (λ world. acts later (by answer.granted world))
+      (λ world. acts_beside later (by answer.granted world) h),
+)
 acts_beside (Adjusts_by channel current by ∷ later) w h = (
   refl,
   λ window. acts_beside later (by window w) h,
@@ -203,7 +208,10 @@ spoken_beside w (spoken.Close channel) =
 spoken_beside w (spoken.Wants channel wanted) = tt
 spoken_beside w (spoken.Failed channel reason) =
     failure_beside (is_there w channel.0) (is_waiting w channel.0) channel reason
-spoken_beside w spoken.Unbuilt = tt
+spoken_beside w (spoken.Asks channel wanted message happening) = (refl, tt)
+spoken_beside w (spoken.AsksForAgent channel wanted) = tt
+spoken_beside w (spoken.AsksUnknown channel wanted) = tt
+spoken_beside w spoken.Inconsistent = tt
 
 -- what is said is no open of the peer's
 abbrev pub IsBesideOpen : Said → Type 0

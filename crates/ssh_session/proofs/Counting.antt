@@ -1,54 +1,165 @@
--- How many answers were sent on a number, and how many callbacks of its opens returned, event by
--- event (RFC 4254 section 5.1).
-use Rattle.std.proofs.Common.{◌≡◌, ◌≤◌, ◌+◌, ◌-◌, ℕ, List, [], ◌∷◌, ◌++◌, Bool, true, false, cond}
-use Rattle.std.proofs.Common.{Some}
+-- How many frames that a measure counts are sent, event by event: no more than may come (RFC 4254
+-- section 5).
+use Rattle.std.proofs.Common.{◌≡◌, ◌≤◌, ◌+◌, ◌-◌, ℕ, List, [], ◌∷◌, ◌++◌, map, Bool, true, false}
+use Rattle.std.proofs.Common.{cond, Option, Some, None}
 use Rattle.std.proofs.Common.{refl, sym, ap, subst, inl, inr, arith}
+use Rattle.ssh_link.specs.Frames.{Frame}
 use Rattle.ssh_link.specs.declared.link.TraceEntry.{TraceEntry}
 use Rattle.ssh_link.specs.declared.link.TraceEntry.TheVariants.{Sent}
 use Rattle.ssh_auth.specs.declared.question.Question.{Question}
-use Rattle.ssh_auth.specs.Plan.{Plan, Finish, Ask, Tell, Event, Told, asked_in, Follows}
+use Rattle.ssh_auth.specs.Plan.{Plan, Finish, Ask, Tell, Answer, Event, Told, asked_in, Follows}
+use Rattle.ssh_auth.specs.Plan.{after}
 use Rattle.ssh_auth.proofs.Back.{asked_so, refused_so}
-use Rattle.ssh_channels.specs.Sent.{is_tagged}
-use Rattle.ssh_session.specs.Answered.{how_many, is_answer_on, sends, open_returned_on}
-use Rattle.ssh_session.specs.Outcome.{Outcome, Goes}
+use Rattle.ssh_session.specs.Acts.{tell_all}
+use Rattle.ssh_session.specs.Answered.{how_many, sends}
+use Rattle.ssh_session.specs.Outcome.{Outcome, Goes, Ends, Fails}
+use Rattle.ssh_session.specs.Run.{finish_input, handed_on}
 use Rattle.ssh_session.specs.World.{World}
-use Rattle.ssh_session.proofs.Answers.{unsent, one_if}
-use Rattle.ssh_session.proofs.Answering.{asks_open, asked_more, is_told_on, told_more, Allowed}
-use Rattle.ssh_session.proofs.Calling.{asked_open, asked_silent}
+use Rattle.ssh_session.proofs.Acting.{PlanComes}
+use Rattle.ssh_session.proofs.Calling.{asked_silent}
 use Rattle.ssh_session.proofs.Guards.{Walks}
+use Rattle.ssh_session.proofs.Measures.{Measure, one_if}
+use Rattle.ssh_session.proofs.Measuring.{owing, ComesUpTo}
+use Rattle.ssh_session.proofs.Settled.{Anything}
+use Rattle.ssh_session.proofs.Telling.{IsUnsent, SendsNone}
+
+-- ---- plans
+
+-- so many may be sent from then on, where this was asked: one, where it makes one
+abbrev pub asked_more : Measure → (left : ℕ) → Question → ℕ
+asked_more of left question = cond (of.asks question) 1 left
+
+-- and where this was told: one less, where it was such a frame
+abbrev pub is_told : (such : Frame → Bool) → TraceEntry → Bool
+is_told such (Sent frame) = such frame
+is_told such _ = false
+
+abbrev pub told_more : Measure → (left : ℕ) → TraceEntry → ℕ
+told_more of left entry = cond (is_told of.such entry) (left - 1) left
+
+-- where so many may be sent, and one from each question on that makes one, what may still come is
+-- covered
+abbrev pub Covered : Measure → (left : ℕ) → Plan Outcome → Type 0
+Covered of left (Finish (Goes w)) = owing of w ≤ left
+Covered of left (Finish (Ends w)) = owing of w ≤ left
+Covered of left (Finish (Fails fault)) = Unit {0}
+Covered of left (Ask question next) = (answer : Answer question)
+    → Covered of (asked_more of left question) (next answer)
+Covered of left (Tell entry next) = Covered of left next
+
+pub still_low : (b : Bool) (k left : ℕ) → k ≤ left → left ≤ 1 → k ≤ cond b 1 left
+still_low true k left h l = omega (arith, h, l)
+still_low false k left h l = h
+
+pub still_one : (b : Bool) (left : ℕ) → left ≤ 1 → cond b 1 left ≤ 1
+still_one true left l = omega arith
+still_one false left l = l
+
+pub covered : (of : Measure) (k left : ℕ) (plan : Plan Outcome) → k ≤ left → left ≤ 1 →
+    PlanComes Anything (ComesUpTo of k) plan → Covered of left plan
+covered of k left (Finish (Goes w)) l one h = omega (arith, l, h)
+covered of k left (Finish (Ends w)) l one h = omega (arith, l, h)
+covered of k left (Finish (Fails fault)) l one h = tt
+covered of k left (Ask question next) l one h = λ answer.
+    covered of k (asked_more of left question) (next answer)
+    (still_low (of.asks question) k left l one)
+    (still_one (of.asks question) left one) (h answer tt)
+covered of k left (Tell entry next) l one h = covered of k left next l one h
+
+-- whatever is answered, no more frames are sent than are left, and no more may come in the world
+-- that it comes to
+abbrev pub Allowed : Measure → (left : ℕ) → Plan Outcome → Type 0
+Allowed of left (Finish (Goes w)) = owing of w ≤ left
+Allowed of left (Finish _) = Unit {0}
+Allowed of left (Ask question next) = (answer : Answer question)
+    → Allowed of (asked_more of left question) (next answer)
+Allowed of left (Tell entry next) = (one_if (is_told of.such entry) ≤ left)
+    × Allowed of (told_more of left entry) next
+
+frame_step : (b : Bool) (of : Measure) (left n rest : ℕ) (frame : Frame) (next : Plan Outcome) →
+    of.such frame ≡ b → cond b (n + 1) n + rest ≤ left →
+    ((l : ℕ) → n + rest ≤ l → Allowed of l next) → Allowed of left (Tell (Sent frame) next)
+frame_step true of left n rest frame next is l h =
+    rw is (omega (arith, l), h (left - 1) (omega (arith, l)))
+frame_step false of left n rest frame next is l h = rw is (omega arith, h left l)
+
+frames_allowed : (of : Measure) (left rest : ℕ) (frames : List Frame) (next : Plan Outcome) →
+    how_many of.such frames + rest ≤ left → ((l : ℕ) → rest ≤ l → Allowed of l next) →
+    Allowed of left (tell_all (map Sent frames) next)
+frames_allowed of left rest [] next l h = h left (omega (arith, l))
+frames_allowed of left rest (frame ∷ frames) next l h =
+    frame_step (of.such frame) of left (how_many of.such frames) rest frame
+    (tell_all (map Sent frames) next) refl l
+    (λ m e. frames_allowed of m rest frames next e h)
+
+finished_allowed : (of : Measure) (left : ℕ) (outcome : Outcome) →
+    Covered of left (Finish outcome) → Allowed of left (finish_input outcome)
+finished_allowed of left (Goes w) h =
+    let rest = of.due w.channels.lines.entries + of.waiting w.channels.opens in
+    frames_allowed of left rest w.channels.lines.written (Finish (Goes (handed_on w)))
+    (omega (arith, h)) (λ l e. omega (arith, e))
+finished_allowed of left (Ends w) h =
+    let rest = of.due w.channels.lines.entries + of.waiting w.channels.opens in
+    frames_allowed of left rest w.channels.lines.written (Finish (Ends (handed_on w)))
+    (omega (arith, h)) (λ l e. tt)
+finished_allowed of left (Fails fault) h = tt
+
+unsent_told : (such : Frame → Bool) (entry : TraceEntry) → IsUnsent entry →
+    is_told such entry ≡ false
+unsent_told such (Sent frame) h = absurd h
+unsent_told such _ h = refl
+
+pub input_allowed : (of : Measure) (left : ℕ) (plan : Plan Outcome) → SendsNone plan →
+    Covered of left plan → Allowed of left (after plan finish_input)
+input_allowed of left (Finish outcome) s h = finished_allowed of left outcome h
+input_allowed of left (Ask question next) s h = λ answer.
+    input_allowed of (asked_more of left question) (next answer) (s answer) (h answer)
+input_allowed of left (Tell entry next) s h =
+    let same = unsent_told of.such entry s.0 in
+    rw same (omega arith, input_allowed of left next s.1 h)
 
 -- ---- events
 
--- so many answers may be sent on the number after an event: one less after an answer, and one after
--- the callback of an open of it returned
-abbrev pub left_after : {E : Type 0} → (number left : ℕ) → Event E ⊥ → ℕ
-left_after number left event = cond (sends (is_answer_on number) event) (left - 1)
-    (cond (open_returned_on number event) 1 left)
+-- a question of this kind was answered
+abbrev pub asks_in : (asks : Question → Bool) → Option Question → Bool
+asks_in asks None = false
+asks_in asks (Some question) = asks question
+
+abbrev pub returned : {E : Type 0} → (asks : Question → Bool) → Event E ⊥ → Bool
+returned asks event = asks_in asks (asked_in event)
+
+-- so many may be sent after an event: one less after such a frame, and one after a question that
+-- makes one
+abbrev pub left_after : {E : Type 0} → Measure → (left : ℕ) → Event E ⊥ → ℕ
+left_after of left event = cond (sends of.such event) (left - 1)
+    (cond (returned of.asks event) 1 left)
 
 -- and after these events
-abbrev pub left_through : {E : Type 0} → (number left : ℕ) → List (Event E ⊥) → ℕ
-left_through number left [] = left
-left_through number left (event ∷ events) = left_through number (left_after number left event)
-    events
+abbrev pub left_through : {E : Type 0} → Measure → (left : ℕ) → List (Event E ⊥) → ℕ
+left_through of left [] = left
+left_through of left (event ∷ events) = left_through of (left_after of left event) events
 
--- each answer among these events may be sent
-abbrev pub Within : {E : Type 0} → (number left : ℕ) → List (Event E ⊥) → Type 0
-Within number left [] = Unit {0}
-Within number left (event ∷ events) = (one_if (sends (is_answer_on number) event) ≤ left)
-    × Within number (left_after number left event) events
+-- each of these frames that is sent may be
+abbrev pub Within : {E : Type 0} → Measure → (left : ℕ) → List (Event E ⊥) → Type 0
+Within of left [] = Unit {0}
+Within of left (event ∷ events) = (one_if (sends of.such event) ≤ left)
+    × Within of (left_after of left event) events
 
-pub within_both : {E : Type 0} (number left : ℕ) (xs ys : List (Event E ⊥)) →
-    Within number left xs → Within number (left_through number left xs) ys →
-    Within number left (xs ++ ys)
-within_both number left [] ys h k = k
-within_both number left (x ∷ xs) ys h k =
-    (h.0, within_both number (left_after number left x) xs ys h.1 k)
+pub within_both : {E : Type 0} (of : Measure) (left : ℕ) (xs ys : List (Event E ⊥)) →
+    Within of left xs → Within of (left_through of left xs) ys → Within of left (xs ++ ys)
+within_both of left [] ys h k = k
+within_both of left (x ∷ xs) ys h k = (h.0, within_both of (left_after of left x) xs ys h.1 k)
 
-pub within_rest : {E : Type 0} (number left : ℕ) (past more : List (Event E ⊥)) →
-    Within number left (past ++ more) → Within number (left_through number left past) more
-within_rest number left [] more h = h
-within_rest number left (x ∷ past) more h =
-    within_rest number (left_after number left x) past more h.1
+pub within_rest : {E : Type 0} (of : Measure) (left : ℕ) (past more : List (Event E ⊥)) →
+    Within of left (past ++ more) → Within of (left_through of left past) more
+within_rest of left [] more h = h
+within_rest of left (x ∷ past) more h = within_rest of (left_after of left x) past more h.1
+
+pub within_first : {E : Type 0} (of : Measure) (left : ℕ) (past more : List (Event E ⊥)) →
+    Within of left (past ++ more) → Within of left past
+within_first of left [] more h = tt
+within_first of left (x ∷ past) more h =
+    (h.0, within_first of (left_after of left x) past more h.1)
 
 after_one : (s r : Bool) (left : ℕ) → left ≤ 1 → cond s (left - 1) (cond r 1 left) ≤ 1
 after_one true r left h = omega (arith, h)
@@ -56,81 +167,80 @@ after_one false true left h = omega arith
 after_one false false left h = h
 
 -- it is never more than one
-pub through_one : {E : Type 0} (number left : ℕ) (events : List (Event E ⊥)) → left ≤ 1 →
-    left_through number left events ≤ 1
-through_one number left [] h = h
-through_one number left (x ∷ events) h =
-    through_one number (left_after number left x) events
-    (after_one (sends (is_answer_on number) x) (open_returned_on number x) left h)
+pub through_one : {E : Type 0} (of : Measure) (left : ℕ) (events : List (Event E ⊥)) → left ≤ 1 →
+    left_through of left events ≤ 1
+through_one of left [] h = h
+through_one of left (x ∷ events) h =
+    through_one of (left_after of left x) events
+    (after_one (sends of.such x) (returned of.asks x) left h)
 
-few_step : (s r : Bool) (left n c : ℕ) → one_if s ≤ left →
-    n ≤ cond s (left - 1) (cond r 1 left) + c → cond s (n + 1) n ≤ left + cond r (c + 1) c
-few_step true true left n c h k = omega (arith, h, k)
-few_step true false left n c h k = omega (arith, h, k)
-few_step false true left n c h k = omega (arith, k)
-few_step false false left n c h k = k
+few_step : (s r : Bool) (left n t c : ℕ) → one_if s ≤ left →
+    n + t ≤ cond s (left - 1) (cond r 1 left) + c →
+    cond s (n + 1) n + t ≤ left + cond r (c + 1) c
+few_step true true left n t c h k = omega (arith, h, k)
+few_step true false left n t c h k = omega (arith, h, k)
+few_step false true left n t c h k = omega (arith, k)
+few_step false false left n t c h k = k
 
--- so no more are sent than are left, and one for each callback that returns
-pub within_few : {E : Type 0} (number left : ℕ) (events more : List (Event E ⊥)) →
-    Within number left (events ++ more) → how_many (sends (is_answer_on number)) events
-    ≤ left + how_many (open_returned_on number) events
-within_few number left [] more h = omega arith
-within_few number left (x ∷ events) more h =
-    few_step (sends (is_answer_on number) x) (open_returned_on number x) left
-    (how_many (sends (is_answer_on number)) events) (how_many (open_returned_on number) events) h.0
-    (within_few number (left_after number left x) events more h.1)
+-- so no more are sent than are left, and one for each question that makes one, but for those that
+-- are left then
+pub within_few : {E : Type 0} (of : Measure) (left : ℕ) (events : List (Event E ⊥)) →
+    Within of left events → how_many (sends of.such) events + left_through of left events
+    ≤ left + how_many (returned of.asks) events
+within_few of left [] h = omega arith
+within_few of left (x ∷ events) h =
+    few_step (sends of.such x) (returned of.asks x) left
+    (how_many (sends of.such) events) (left_through of (left_after of left x) events)
+    (how_many (returned of.asks) events) h.0
+    (within_few of (left_after of left x) events h.1)
 
 -- ---- plans and their events
 
 -- an event in which this was asked sends nothing, and counts as the question does
-asked_counts : {E : Type 0} (number : ℕ) (event : Event E ⊥) (question : Question) →
+asked_counts : {E : Type 0} (of : Measure) (event : Event E ⊥) (question : Question) →
     asked_in event ≡ Some question →
-    (sends (is_answer_on number) event ≡ false)
-    × (open_returned_on number event ≡ asks_open number question)
-asked_counts number event question is = (
-  asked_silent (is_answer_on number) event question is,
-  ap (is_tagged number) (asked_open event question is),
-)
+    (sends of.such event ≡ false) × (returned of.asks event ≡ of.asks question)
+asked_counts of event question is =
+    (asked_silent of.such event question is, ap (asks_in of.asks) is)
 
-told_counts : (E : Type 0) (number : ℕ) (entry : TraceEntry) →
-    sends {E = E} (is_answer_on number) (Told entry) ≡ is_told_on number entry
-told_counts E number (Sent frame) = refl
-told_counts E number _ = refl
+told_counts : (E : Type 0) (such : Frame → Bool) (entry : TraceEntry) →
+    sends {E = E} such (Told entry) ≡ is_told such entry
+told_counts E such (Sent frame) = refl
+told_counts E such _ = refl
 
 -- an answered question
-asked_within : {E : Type 0} (number left : ℕ) (question : Question) (event : Event E ⊥)
+asked_within : {E : Type 0} (of : Measure) (left : ℕ) (question : Question) (event : Event E ⊥)
     (events : List (Event E ⊥)) → asked_in event ≡ Some question →
-    Within number (asked_more number left question) events → Within number left (event ∷ events)
-asked_within number left question event events is h =
-    let c = asked_counts number event question is in rw (c.0, c.1) (omega arith, h)
+    Within of (asked_more of left question) events → Within of left (event ∷ events)
+asked_within of left question event events is h =
+    let c = asked_counts of event question is in rw (c.0, c.1) (omega arith, h)
 
-pub walks_within : {E : Type 0} (number left : ℕ) (plan : Plan Outcome)
-    (events : List (Event E ⊥)) → Allowed number left plan → Walks plan events →
-    Within number left events
-walks_within number left plan [] h w = tt
-walks_within number left (Finish outcome) (event ∷ events) h w = absurd w
-walks_within number left (Ask question next) (event ∷ events) h (inl w) =
-    asked_within number left question event events (asked_so question w.0 event w.1)
-    (walks_within number (asked_more number left question) (next w.0) events (h w.0) w.2)
-walks_within number left (Ask question next) (event ∷ events) h (inr w) =
-    asked_within number left question event events (refused_so question w.0 event w.1)
-    (subst (Within number (asked_more number left question)) (sym w.2) tt)
-walks_within {E} number left (Tell entry next) (event ∷ events) h w =
-    subst (λ x. Within number left (x ∷ events)) (sym w.0)
-    (rw (told_counts E number entry)
-    (h.0, walks_within number (told_more number left entry) next events h.1 w.1))
+pub walks_within : {E : Type 0} (of : Measure) (left : ℕ) (plan : Plan Outcome)
+    (events : List (Event E ⊥)) → Allowed of left plan → Walks plan events → Within of left events
+walks_within of left plan [] h w = tt
+walks_within of left (Finish outcome) (event ∷ events) h w = absurd w
+walks_within of left (Ask question next) (event ∷ events) h (inl w) =
+    asked_within of left question event events (asked_so question w.0 event w.1)
+    (walks_within of (asked_more of left question) (next w.0) events (h w.0) w.2)
+walks_within of left (Ask question next) (event ∷ events) h (inr w) =
+    asked_within of left question event events (refused_so question w.0 event w.1)
+    (subst (Within of (asked_more of left question)) (sym w.2) tt)
+walks_within {E} of left (Tell entry next) (event ∷ events) h w =
+    subst (λ x. Within of left (x ∷ events)) (sym w.0)
+    (rw (told_counts E of.such entry)
+    (h.0, walks_within of (told_more of left entry) next events h.1 w.1))
 
--- what may still be answered in the world that it came to is covered
-pub follows_covered : {E : Type 0} (number left : ℕ) (plan : Plan Outcome)
-    (events : List (Event E ⊥)) (world : World) → Allowed number left plan →
-    Follows plan events (Goes world) → unsent number world ≤ left_through number left events
-follows_covered number left plan [] world h f = subst (Allowed number left) f h
-follows_covered number left (Finish other) (event ∷ events) world h f = absurd f
-follows_covered number left (Ask question next) (event ∷ events) world h f =
-    let c = asked_counts number event question (asked_so question f.0 event f.1) in
-    rw (c.0, c.1) (follows_covered number (asked_more number left question) (next f.0) events world
+-- what may still come in the world that it came to is covered
+pub follows_covered : {E : Type 0} (of : Measure) (left : ℕ) (plan : Plan Outcome)
+    (events : List (Event E ⊥)) (world : World) → Allowed of left plan →
+    Follows plan events (Goes world) → owing of world ≤ left_through of left events
+follows_covered of left plan [] world h f = subst (Allowed of left) f h
+follows_covered of left (Finish other) (event ∷ events) world h f = absurd f
+follows_covered of left (Ask question next) (event ∷ events) world h f =
+    let c = asked_counts of event question (asked_so question f.0 event f.1) in
+    rw (c.0, c.1) (follows_covered of (asked_more of left question) (next f.0) events world
     (h f.0) f.2)
-follows_covered {E} number left (Tell entry next) (event ∷ events) world h f =
-    subst (λ x. unsent number world ≤ left_through number left (x ∷ events)) (sym f.0)
-    (rw (told_counts E number entry)
-    (follows_covered number (told_more number left entry) next events world h.1 f.1))
+follows_covered {E} of left (Tell entry next) (event ∷ events) world h f =
+    subst (λ x. owing of world ≤ left_through of left (x ∷ events)) (sym f.0)
+    (rw (told_counts E of.such entry)
+    (follows_covered of (told_more of left entry) next events world h.1 f.1))

@@ -1,11 +1,12 @@
 -- What a command does, by what it needs.
 use Rattle.std.proofs.Common.{◌≡◌, ◌≤◌, ◌<◌, ◌∷◌, ℕ, List, [], length, true, false, Option, None}
-use Rattle.std.proofs.Common.{Result, Ok, Err, rules, refl, sym}
+use Rattle.std.proofs.Common.{Bool, Result, Ok, Err, rules, refl, sym}
 use Rattle.std.proofs.Common.{◌∙◌, ap, subst, arith}
 use Rattle.std.specs.Prelude.{◌^◌, option_to_list}
 use Rattle.std.specs.Result.{IsErrAnd}
 use Rattle.std.proofs.lemmas.Result.{err_from_is_err_and}
 use Rattle.ssh_wire.specs.declared.channel_id.ChannelId.{ChannelId}
+use Rattle.ssh_wire.specs.declared.sig.Sig.{Sig}
 use Rattle.ssh_link.specs.declared.command.Command.{Command}
 use Rattle.ssh_link.specs.declared.command.Command.TheVariants as command
 use Rattle.ssh_link.specs.declared.open_answer.OpenAnswer.{OpenAnswer}
@@ -63,15 +64,28 @@ module _ (w : World) where
       bytes → ⊥) →
       ((channel : ChannelId) → one ≡ command.Eof channel → ⊥) →
       ((channel : ChannelId) → one ≡ command.Close channel → ⊥) →
+      ((channel : ChannelId) → one ≡ command.ChannelSuccess channel → ⊥) →
+      ((channel : ChannelId) → one ≡ command.ChannelFailure channel → ⊥) →
+      ((channel : ChannelId) (can : Bool) → one ≡ command.XonXoff channel can → ⊥) →
+      ((channel : ChannelId) (status : ℕ) → one ≡ command.ExitStatus channel status → ⊥) →
+      ((channel : ChannelId) (signal : Sig) (core : Bool) (message language : List ℕ) → one
+      ≡ command.ExitSignal channel signal core message language → ⊥) →
       ((answer : OpenAnswer) → one ≡ command.Answer answer → ⊥) →
       lacks w (needs one) ≡ lacks w (opens_need (asking one))
-  needs_other (command.Data channel bytes) a b c d e = absurd (a channel bytes refl)
-  needs_other (command.ExtendedData channel code bytes) a b c d e =
+  needs_other (command.Data channel bytes) a b c d s f x y z e = absurd (a channel bytes refl)
+  needs_other (command.ExtendedData channel code bytes) a b c d s f x y z e =
       absurd (b channel code bytes refl)
-  needs_other (command.Eof channel) a b c d e = absurd (c channel refl)
-  needs_other (command.Close channel) a b c d e = absurd (d channel refl)
-  needs_other (command.Answer answer) a b c d e = absurd (e answer refl)
-  needs_other _ a b c d e = refl
+  needs_other (command.Eof channel) a b c d s f x y z e = absurd (c channel refl)
+  needs_other (command.Close channel) a b c d s f x y z e = absurd (d channel refl)
+  needs_other (command.ChannelSuccess channel) a b c d s f x y z e = absurd (s channel refl)
+  needs_other (command.ChannelFailure channel) a b c d s f x y z e = absurd (f channel refl)
+  needs_other (command.XonXoff channel can) a b c d s f x y z e = absurd (x channel can refl)
+  needs_other (command.ExitStatus channel status) a b c d s f x y z e =
+      absurd (y channel status refl)
+  needs_other (command.ExitSignal channel signal core message language) a b c d s f x y z e =
+      absurd (z channel signal core message language refl)
+  needs_other (command.Answer answer) a b c d s f x y z e = absurd (e answer refl)
+  needs_other _ a b c d s f x y z e = refl
 
   pub done_other : (one : Command) → ((channel : ChannelId) (bytes : List ℕ) → one
       ≡ command.Data channel bytes → ⊥) →
@@ -79,15 +93,28 @@ module _ (w : World) where
       bytes → ⊥) →
       ((channel : ChannelId) → one ≡ command.Eof channel → ⊥) →
       ((channel : ChannelId) → one ≡ command.Close channel → ⊥) →
+      ((channel : ChannelId) → one ≡ command.ChannelSuccess channel → ⊥) →
+      ((channel : ChannelId) → one ≡ command.ChannelFailure channel → ⊥) →
+      ((channel : ChannelId) (can : Bool) → one ≡ command.XonXoff channel can → ⊥) →
+      ((channel : ChannelId) (status : ℕ) → one ≡ command.ExitStatus channel status → ⊥) →
+      ((channel : ChannelId) (signal : Sig) (core : Bool) (message language : List ℕ) → one
+      ≡ command.ExitSignal channel signal core message language → ⊥) →
       ((answer : OpenAnswer) → one ≡ command.Answer answer → ⊥) →
       done_by w one ≡ opens_or_not (asking one) w
-  done_other (command.Data channel bytes) a b c d e = absurd (a channel bytes refl)
-  done_other (command.ExtendedData channel code bytes) a b c d e =
+  done_other (command.Data channel bytes) a b c d s f x y z e = absurd (a channel bytes refl)
+  done_other (command.ExtendedData channel code bytes) a b c d s f x y z e =
       absurd (b channel code bytes refl)
-  done_other (command.Eof channel) a b c d e = absurd (c channel refl)
-  done_other (command.Close channel) a b c d e = absurd (d channel refl)
-  done_other (command.Answer answer) a b c d e = absurd (e answer refl)
-  done_other _ a b c d e = refl
+  done_other (command.Eof channel) a b c d s f x y z e = absurd (c channel refl)
+  done_other (command.Close channel) a b c d s f x y z e = absurd (d channel refl)
+  done_other (command.ChannelSuccess channel) a b c d s f x y z e = absurd (s channel refl)
+  done_other (command.ChannelFailure channel) a b c d s f x y z e = absurd (f channel refl)
+  done_other (command.XonXoff channel can) a b c d s f x y z e = absurd (x channel can refl)
+  done_other (command.ExitStatus channel status) a b c d s f x y z e =
+      absurd (y channel status refl)
+  done_other (command.ExitSignal channel signal core message language) a b c d s f x y z e =
+      absurd (z channel signal core message language refl)
+  done_other (command.Answer answer) a b c d s f x y z e = absurd (e answer refl)
+  done_other _ a b c d s f x y z e = refl
 
 -- a payload that is too long is not sent
 pub too_long : (number : ℕ) (payload : List ℕ) (w : World) → 2 ^ 32 ≤ length payload →

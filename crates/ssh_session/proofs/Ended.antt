@@ -81,6 +81,7 @@ law = record {
   built = Any_command;
   goes = λ w h. tt;
   lends = λ lent commands s. any_built commands;
+  judges = λ judged answer s. any_built answer.commands;
   keeps = λ w command h b. no_end (effect w command);
 }
 
@@ -130,7 +131,10 @@ spoken_on w (spoken.Close channel) =
 spoken_on w (spoken.Wants channel wanted) = (tt, tt)
 spoken_on w (spoken.Failed channel reason) =
     failure_on w (is_there w channel.0) (is_waiting w channel.0) channel reason
-spoken_on w spoken.Unbuilt = tt
+spoken_on w (spoken.Asks channel wanted message happening) = (tt, λ world k. tt)
+spoken_on w (spoken.AsksForAgent channel wanted) = (tt, λ granted world k. (tt, tt))
+spoken_on w (spoken.AsksUnknown channel wanted) = (tt, (tt, tt))
+spoken_on w spoken.Inconsistent = tt
 
 -- no row but those two ends a run
 abbrev pub IsOther : Said → Type 0

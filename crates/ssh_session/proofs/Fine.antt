@@ -47,7 +47,7 @@ use Rattle.ssh_session.specs.declared.state.EncryptedState.TheVariants.{WaitingA
 use Rattle.ssh_session.specs.Acts.{acts}
 use Rattle.ssh_session.specs.Effect.{Effect, effect, lacks, needs, refused_or, done_by, answers}
 use Rattle.ssh_session.specs.Effect.{decides, fails_open, failure_of, is_too_long, opens_at}
-use Rattle.ssh_session.specs.Effect.{opens, opens_or_not}
+use Rattle.ssh_session.specs.Effect.{opens, opens_or_not, requests_on, refuses, accepts}
 use Rattle.ssh_session.specs.OwnOpens.{OwnOpen, asking, open_payload}
 use Rattle.ssh_session.specs.Gate.{gate_of}
 use Rattle.ssh_session.specs.Layout.{banner}
@@ -70,7 +70,7 @@ use Rattle.ssh_session.specs.Run.{OwesKind, command_row, is_there, is_waiting}
 use Rattle.ssh_session.specs.Valid.{AreValidMethodFields, AreValidFields, FitsLayout, HasNoPrompt}
 use Rattle.ssh_session.specs.Valid.{IsBuiltCommand, AreBuilt, IsFineAnswer, IsFineBanner}
 use Rattle.ssh_session.specs.Valid.{IsServed, IsValidKind}
-use Rattle.ssh_session.specs.World.{World, circumstances, waits_for, lined}
+use Rattle.ssh_session.specs.World.{World, circumstances, waits_for, lined, writes}
 use Rattle.ssh_session.proofs.Acting.{PlanComes, EffectComes, AllBuilt, Law, ActsCome, acts_come}
 use Rattle.ssh_session.proofs.Acting.{one_comes}
 use Rattle.ssh_session.proofs.LayoutsOnce.{confirmation_once}
@@ -78,6 +78,11 @@ use Rattle.ssh_session.proofs.FineVerdicts.{IsFineReply, IsFineVerdict, method_f
 use Rattle.ssh_session.proofs.Methods.{served, shortened}
 use Rattle.ssh_session.proofs.Responses.{IsRead, response_read}
 use Rattle.ssh_session.proofs.Settled.{on_come}
+use Rattle.ssh_session.specs.OwnRequests.{OwnRequest, request_payload, xon_xoff, exit_status}
+use Rattle.ssh_session.specs.OwnRequests.{exit_signal}
+use Rattle.ssh_channels.specs.Layout.{on_channel}
+use Rattle.ssh_link.specs.declared.outcome.Refusal.TheVariants.{TooLong}
+use Rattle.ssh_channels.specs.Entry.{Entry}
 
 -- no fault but want of memory
 abbrev pub IsNoFault : Outcome → Type 0
@@ -132,12 +137,31 @@ opens_or_not_built (Some asked) w built = opens_built asked w
     (is_too_long (open_payload asked 0 w.settings.config.window_size
     w.settings.config.maximum_packet_size)) refl
 
+requested_built : (long : Bool) (e : Option Entry) (channel : ChannelId) (asked : OwnRequest)
+    (w : World) → EffectComes IsNoFault Any_world
+    (if long then refuses TooLong w else requests_on e channel asked w)
+requested_built true e channel asked w = tt
+requested_built false None channel asked w = tt
+requested_built false (Some e) channel asked w = tt
+
 done_built : (w : World) (commanded : Commanded) → IsBuiltCommand commanded → EffectComes IsNoFault
     Any_world (done_by w commanded)
 done_built w (command.Data channel bytes) built = tt
 done_built w (command.ExtendedData channel code bytes) built = tt
 done_built w (command.Eof channel) built = tt
 done_built w (command.Close channel) built = tt
+done_built w (command.ChannelSuccess channel) built = tt
+done_built w (command.ChannelFailure channel) built = tt
+done_built w (command.XonXoff channel client_can_do) built =
+    requested_built (is_too_long (request_payload 0 (xon_xoff client_can_do)))
+    (find channel.0 w.channels.lines.entries) channel (xon_xoff client_can_do) w
+done_built w (command.ExitStatus channel status) built =
+    requested_built (is_too_long (request_payload 0 (exit_status status)))
+    (find channel.0 w.channels.lines.entries) channel (exit_status status) w
+done_built w (command.ExitSignal channel signal core message language) built =
+    let asked = exit_signal signal core message language in
+    requested_built (is_too_long (request_payload 0 asked))
+    (find channel.0 w.channels.lines.entries) channel asked w
 done_built w (command.Answer answer) built = answered_built answer (opening_of answer.channel.0 w) w
 done_built w other built = opens_or_not_built (asking other) w built
 
@@ -163,6 +187,7 @@ law kind = record {
   built = IsBuiltCommand;
   goes = λ w h. tt;
   lends = λ lent commands s. fine_lends commands s;
+  judges = λ judged answer s. fine_lends answer.commands s;
   keeps = λ w commanded h b. effect_built w commanded b;
 }
 
@@ -307,7 +332,10 @@ spoken_fine kind w (spoken.Close channel) is =
 spoken_fine kind w (spoken.Wants channel wanted) is = (tt, tt)
 spoken_fine kind w (spoken.Failed channel reason) is =
     failure_fine kind w (is_there w channel.0) (is_waiting w channel.0) channel reason is
-spoken_fine kind w spoken.Unbuilt is = absurd is
+spoken_fine kind w (spoken.Asks channel wanted message happening) is = (tt, λ world k. tt)
+spoken_fine kind w (spoken.AsksForAgent channel wanted) is = (tt, λ granted world k. (tt, tt))
+spoken_fine kind w (spoken.AsksUnknown channel wanted) is = (tt, (tt, tt))
+spoken_fine kind w spoken.Inconsistent is = absurd is
 
 channel_fine : (kind : InputKind) (w : World) (moment : ℕ) (layout : Layout Spoken)
     (fields : List ℕ) (said : Said) → FitsLayout w layout fields

@@ -4,12 +4,13 @@
 use Rattle.std.proofs.Common.{◌≡◌, ◌==◌, ℕ, List, [], ◌∷◌, Bool}
 use Rattle.std.proofs.Common.{true, false, Option, Some, None}
 use Rattle.std.proofs.Common.{refl, sym, ◌∙◌, ap, subst, arith, append_assoc}
-use Rattle.std.specs.Prelude.{min, IfSome}
+use Rattle.std.specs.Prelude.{min, IfSome, if◌then◌else◌, cond}
 use Rattle.std.specs.List.{list_any}
 use Rattle.std.specs.Ordering.{nat_cmp}
 use Rattle.std.specs.BTreeMap.{is_at}
 use Rattle.std.proofs.lemmas.List.{append-nil}
 use Rattle.ssh_wire.specs.declared.open_failure.ChannelOpenFailure.{ChannelOpenFailure}
+use Rattle.ssh_wire.specs.declared.channel_id.ChannelId.{ChannelId}
 use Rattle.ssh_link.specs.Frames.{Frame}
 use Rattle.ssh_link.specs.declared.command.Command.{Command}
 use Rattle.ssh_link.specs.declared.command.Command.TheVariants as command
@@ -18,30 +19,35 @@ use Rattle.ssh_link.specs.declared.open_answer.OpenAnswer.{OpenAnswer}
 use Rattle.ssh_link.specs.declared.outcome.Refusal.{Refusal}
 use Rattle.ssh_channels.specs.declared.chunk.DataKind.TheVariants.{Plain, Extended}
 use Rattle.ssh_channels.specs.Calls.{Op, Send, Eof, Close, Drop_pending}
-use Rattle.ssh_channels.specs.Calls.{Stage, Open_next}
+use Rattle.ssh_channels.specs.Calls.{Stage, Open_next, Byte, Set_wants_reply}
 use Rattle.ssh_channels.specs.Does.{IsFair, is_idle, does}
 use Rattle.ssh_channels.specs.Entry.{Entry, IsDue, opened, asked}
-use Rattle.ssh_channels.specs.Layout.{chunk}
+use Rattle.ssh_channels.specs.Layout.{chunk, on_channel, bare_frame}
 use Rattle.ssh_channels.specs.Lines.{Lines, find, added, next_number, drops_pending}
-use Rattle.ssh_channels.specs.Lines.{asks, asks_next}
-use Rattle.ssh_channels.specs.Sent.{Each, Ledgered, may_go}
+use Rattle.ssh_channels.specs.Lines.{asks, asks_next, says, wants}
+use Rattle.ssh_channels.specs.Sent.{Each, Ledgered, may_go, is_beside}
 use Rattle.ssh_channels.proofs.Booked.{op_kept, opens_kept, asks_kept}
 use Rattle.ssh_channels.proofs.Dues.{all_sound, op_due}
 use Rattle.ssh_channels.proofs.Listed.{one_number, find_new, find_beside}
 use Rattle.ssh_session.specs.Effect.{Effect, effect, lacks, needs, refused_or, done_by, answers}
 use Rattle.ssh_session.specs.Effect.{decides, fails_open, failure_of, is_too_long, opens_at}
-use Rattle.ssh_session.specs.Effect.{opens, opens_or_not}
+use Rattle.ssh_session.specs.Effect.{opens, opens_or_not, requests_on, refuses, accepts}
 use Rattle.ssh_session.specs.OwnOpens.{OwnOpen, asking, open_payload}
 use Rattle.ssh_session.specs.Opening.{Opening}
 use Rattle.ssh_session.specs.Opens.{own, opening_of, answered}
 use Rattle.ssh_session.specs.Outcome.{Outcome, Goes, Ends, Fails}
-use Rattle.ssh_session.specs.World.{World, lined, writes}
+use Rattle.ssh_session.specs.World.{World, lined, writes, replies, wants_reply}
 use Rattle.ssh_session.proofs.Absent.{IsAbsent, data_absent, eof_absent, close_absent}
+use Rattle.ssh_session.proofs.Absent.{says_absent, wants_absent}
 use Rattle.ssh_session.proofs.Acting.{EffectComes}
 use Rattle.ssh_session.proofs.Pending.{IsReserved, data_pends, eof_pends, close_pends}
-use Rattle.ssh_session.proofs.Pending.{dropped_pending, next_apart}
+use Rattle.ssh_session.proofs.Pending.{dropped_pending, next_apart, says_pends, wants_pends}
 use Rattle.ssh_session.proofs.Waiting.{AllWaiting, found_waiting, still_waiting}
 use Rattle.ssh_session.proofs.Waiting.{removed_waiting}
+use Rattle.ssh_session.specs.OwnRequests.{OwnRequest, request_payload, xon_xoff, exit_status}
+use Rattle.ssh_session.specs.OwnRequests.{exit_signal}
+use Rattle.ssh_link.specs.declared.outcome.Refusal.TheVariants.{TooLong}
+use Rattle.ssh_wire.specs.Messages.{channel_success, channel_failure}
 
 -- after this trace the channels have sent what they have to, all that is due is framed, and opens
 -- wait on free numbers
@@ -243,6 +249,40 @@ opens_or_not_on past (Some asked) w k = opens_on past asked w
     (is_too_long (open_payload asked 0 w.settings.config.window_size
     w.settings.config.maximum_packet_size)) refl k
 
+-- the reply to a request is said, and wanted no longer
+replied_step : (past : List TraceEntry) (channel message : ℕ) (w : World) (wanted : Bool)
+    → is_beside (bare_frame message channel 0) ≡ true → wants_reply channel w.channels.lines
+    ≡ wanted → Kept past w → Kept past (lined (replies channel message) w)
+replied_step past channel message w true beside is k =
+    let lines = w.channels.lines in
+    let said = call_on past (Byte channel message) w beside refl
+    (λ n. says_absent n channel message lines) (says_pends channel message lines) k in
+    let v = lined (says channel message) w in
+    subst (λ b. Kept past (lined (λ l. cond b (wants channel false (says channel message l)) l) w))
+    (sym is)
+    (call_on past (Set_wants_reply channel false) v tt refl
+    (λ n. wants_absent n channel false v.channels.lines)
+    (wants_pends channel false v.channels.lines) said)
+replied_step past channel message w false beside is k =
+    subst (λ b. Kept past (lined (λ l. cond b (wants channel false (says channel message l)) l) w))
+    (sym is) k
+
+pub replied_on : (past : List TraceEntry) (channel message : ℕ) (w : World)
+    → is_beside (bare_frame message channel 0) ≡ true → Kept past w
+    → Kept past (lined (replies channel message) w)
+replied_on past channel message w beside k =
+    replied_step past channel message w (wants_reply channel w.channels.lines) beside refl k
+
+requested_on : (past : List TraceEntry) (long : Bool) (e : Option Entry) (channel : ChannelId)
+    (asked : OwnRequest) (w : World) → find channel.0 w.channels.lines.entries ≡ e → Kept past w
+    → EffectComes (ComesKept past) (Kept past)
+    (if long then refuses TooLong w else requests_on e channel asked w)
+requested_on past true e channel asked w is k = k
+requested_on past false None channel asked w is k = k
+requested_on past false (Some e) channel asked w is k =
+    op_on past (Stage (on_channel channel.0 (request_payload e.peer asked))) w (rw is refl) refl
+    (λ n h. h) k
+
 done_on : (past : List TraceEntry) (w : World) (commanded : Command) → Kept past w →
     EffectComes (ComesKept past) (Kept past) (done_by w commanded)
 done_on past w (command.Data channel bytes) k =
@@ -259,6 +299,20 @@ done_on past w (command.Eof channel) k =
 done_on past w (command.Close channel) k =
     call_on past (Close channel.0) w tt refl (λ n. close_absent n channel.0 w.channels.lines)
     (close_pends channel.0 w.channels.lines) k
+done_on past w (command.ChannelSuccess channel) k =
+    replied_on past channel.0 channel_success.number w refl k
+done_on past w (command.ChannelFailure channel) k =
+    replied_on past channel.0 channel_failure.number w refl k
+done_on past w (command.XonXoff channel client_can_do) k =
+    requested_on past (is_too_long (request_payload 0 (xon_xoff client_can_do)))
+    (find channel.0 w.channels.lines.entries) channel (xon_xoff client_can_do) w refl k
+done_on past w (command.ExitStatus channel status) k =
+    requested_on past (is_too_long (request_payload 0 (exit_status status)))
+    (find channel.0 w.channels.lines.entries) channel (exit_status status) w refl k
+done_on past w (command.ExitSignal channel signal core message language) k =
+    let asked = exit_signal signal core message language in
+    requested_on past (is_too_long (request_payload 0 asked))
+    (find channel.0 w.channels.lines.entries) channel asked w refl k
 done_on past w (command.Answer answer) k = answered_on past answer (opening_of answer.channel.0 w) w
     refl k
 done_on past w other k = opens_or_not_on past (asking other) w k

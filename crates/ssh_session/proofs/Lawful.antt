@@ -14,6 +14,7 @@ use Rattle.ssh_session.proofs.Answered.{answered}
 use Rattle.ssh_session.proofs.Books.{ledgered}
 use Rattle.ssh_session.proofs.Complete.{complete, link_fault}
 use Rattle.ssh_session.proofs.Ended.{ended}
+use Rattle.ssh_session.proofs.Replied.{replied}
 
 closed_ended : {E : Type 0} (accepts : Acceptance) (w : World) (count max : ℕ)
     (last : Option (Turn E)) (rose : Type 0)
@@ -38,6 +39,8 @@ lawful {E} accepts settings before after max result account =
       ledger = λ earlier later is. ledgered accepts settings account.turns account.world account.run
           earlier later is;
       answered = answered accepts settings account.turns account.world count max account.last rose
+          result account.run account.closes;
+      replied = replied accepts settings account.turns account.world count max account.last rose
           result account.run account.closes;
       complete = λ same valid. complete accepts account.world count max account.last before.faults
           after.faults result account.closes same valid;

@@ -24,7 +24,7 @@ use Rattle.ssh_channels.specs.Calls.{Set_wants_reply, Stage, Draw, Confirm, Fail
 use Rattle.ssh_channels.specs.Does.{does, coming_of}
 use Rattle.ssh_channels.specs.Entry.{IsDue, asked}
 use Rattle.ssh_channels.specs.Lines.{Lines, find, next_number, drawn, drops_pending}
-use Rattle.ssh_channels.specs.Lines.{confirms}
+use Rattle.ssh_channels.specs.Lines.{confirms, wants}
 use Rattle.ssh_channels.specs.Sent.{Each, Ledgered, may_go}
 use Rattle.ssh_channels.proofs.Booked.{op_kept, next_absent}
 use Rattle.ssh_channels.proofs.Dues.{all_sound, op_due}
@@ -50,9 +50,9 @@ use Rattle.ssh_session.specs.Rows.{spoken_acts, failure_acts, confirmation_acts}
 use Rattle.ssh_session.specs.Rows.{row, owed, greeting, greets, is_short, replied, concluded}
 use Rattle.ssh_session.specs.Rows.{asked_of, rejection_hold, moment_after}
 use Rattle.ssh_session.specs.Rows.{data_told, open_acts, turns_first, aims, served, lets_in}
-use Rattle.ssh_session.specs.Rows.{finishes}
+use Rattle.ssh_session.specs.Rows.{finishes, reply_of}
 use Rattle.ssh_session.specs.Run.{command_row}
-use Rattle.ssh_session.specs.World.{World, waits_for, lined}
+use Rattle.ssh_session.specs.World.{World, waits_for, lined, replies}
 use Rattle.ssh_session.proofs.Absent.{IsAbsent}
 use Rattle.ssh_session.proofs.Absent.{peer_close_absent, grant_absent, adjust_absent}
 use Rattle.ssh_session.proofs.Absent.{wants_absent, confirmed_absent, failed_absent}
@@ -66,7 +66,8 @@ use Rattle.ssh_session.proofs.Pending.{dropped_pending, next_apart}
 use Rattle.ssh_session.proofs.Waiting.{AllWaiting, still_waiting}
 use Rattle.ssh_session.proofs.Waiting.{inserted_waiting}
 use Rattle.ssh_session.proofs.Keeping.{ArePlain, ComesKept, Kept, call_on, effect_on, op_on}
-use Rattle.ssh_session.proofs.Keeping.{plain_kept, refusal_frame}
+use Rattle.ssh_session.proofs.Keeping.{plain_kept, refusal_frame, replied_on}
+use Rattle.ssh_wire.specs.Messages.{channel_success, channel_failure}
 
 abbrev Any_command : Command → Type 0
 Any_command command = Unit {0}
@@ -83,6 +84,7 @@ law past = record {
   built = Any_command;
   goes = λ w h. h;
   lends = λ lent commands s. any_built commands;
+  judges = λ judged answer s. any_built answer.commands;
   keeps = λ w command h b. effect_on past w command h;
 }
 
@@ -201,6 +203,17 @@ confirmation_on past w true message fair k =
     (subst (λ l. Kept past (lined (λ _. l) w)) same kept, λ world h. tt)
 confirmation_on past w false message fair k = tt
 
+wanted_on : (past : List TraceEntry) (channel : ℕ) (wanted : Bool) (w : World) → Kept past w
+    → Kept past (lined (wants channel wanted) w)
+wanted_on past channel wanted w k = call_on past (Set_wants_reply channel wanted) w tt refl
+    (λ n. wants_absent n channel wanted w.channels.lines)
+    (wants_pends channel wanted w.channels.lines) k
+
+replied_by : (past : List TraceEntry) (channel : ℕ) (granted : Bool) (w : World) → Kept past w
+    → Kept past (lined (replies channel (reply_of granted)) w)
+replied_by past channel true w k = replied_on past channel channel_success.number w refl k
+replied_by past channel false w k = replied_on past channel channel_failure.number w refl k
+
 spoken_on : (past : List TraceEntry) (w : World) (said : Spoken) → Kept past w
     → ActsCome (law past) (spoken_acts w said) w
 spoken_on past w spoken.Nothing k = tt
@@ -229,15 +242,19 @@ spoken_on past w (spoken.Close channel) k =
           (peer_close_pends channel.0 w.channels.lines) k,
       λ world h. tt,
     ))
-spoken_on past w (spoken.Wants channel wanted) k = (
-  call_on past (Set_wants_reply channel.0 wanted) w tt refl
-      (λ n. wants_absent n channel.0 wanted w.channels.lines)
-      (wants_pends channel.0 wanted w.channels.lines) k,
-  tt,
-)
+spoken_on past w (spoken.Wants channel wanted) k = (wanted_on past channel.0 wanted w k, tt)
 spoken_on past w (spoken.Failed channel reason) k =
     failure_on past w (is_there w channel.0) (is_waiting w channel.0) channel reason k
-spoken_on past w spoken.Unbuilt k = tt
+spoken_on past w (spoken.Asks channel wanted message happening) k =
+    (wanted_on past channel.0 wanted w k, λ world h. tt)
+spoken_on past w (spoken.AsksForAgent channel wanted) k = (
+  wanted_on past channel.0 wanted w k,
+  λ granted world h. (replied_by past channel.0 granted world h, tt),
+)
+spoken_on past w (spoken.AsksUnknown channel wanted) k =
+    let kept = wanted_on past channel.0 wanted w k in
+    (kept, (replied_by past channel.0 false (lined (wants channel.0 wanted) w) kept, tt))
+spoken_on past w spoken.Inconsistent k = tt
 
 owed_on : (past : List TraceEntry) (w : World) (said : Said) → IsFairSaid said → Kept past w
     → ActsCome (law past) (owed w said) w

@@ -13,7 +13,7 @@ use Rattle.ssh_channels.specs.Entry.{Entry, closes_now, flushed, flush_out, gran
 use Rattle.ssh_channels.specs.Entry.{more_may_come, close_may_come, all_framed}
 use Rattle.ssh_channels.specs.Lines.{Lines, find, settles, where_found, is_taken, next_number}
 use Rattle.ssh_channels.specs.Lines.{takes_data, takes_eof, takes_close, peer_closes, takes_grant}
-use Rattle.ssh_channels.specs.Lines.{takes_in, wants, confirms, fails, drawn}
+use Rattle.ssh_channels.specs.Lines.{takes_in, wants, says, confirms, fails, drawn}
 use Rattle.ssh_channels.proofs.Frees.{found_free}
 use Rattle.ssh_channels.proofs.Standing.{at_is}
 
@@ -165,6 +165,10 @@ adjust_pends m count target l = at_pends m (find m l.entries) _ l (λ e. refl)
 
 pub wants_pends : (m : ℕ) (wanted : Bool) (l : Lines) → (wants m wanted l).pending ≡ l.pending
 wants_pends m wanted l = at_pends m (find m l.entries) _ l (λ e. refl)
+
+pub says_pends : (m message : ℕ) (l : Lines) → (says m message l).pending ≡ l.pending
+says_pends m message l = at_pends m (find m l.entries) _ l
+    (λ e. chosen_pends e.confirmed _ _ l.pending refl refl)
 
 pub confirmed_pends : (m peer window limit : ℕ) (l : Lines)
     → (confirms m peer window limit l).pending ≡ l.pending

@@ -1,7 +1,7 @@
 -- What the code reads of a message is what its layout says.
 use Rattle.std.proofs.Common.{◌≡◌, ◌==◌, ◌∙◌, ℕ, List, [], false, refl, sym, ap, subst, inl, inr}
 use Rattle.std.proofs.Common.{length, rules}
-use Rattle.std.specs.Prelude.{IsErrAnd, Result, Err}
+use Rattle.std.specs.Prelude.{IsErrAnd, MatchResult, Result, Err}
 use Rattle.std.proofs.lemmas.Result.{err_from_is_err_and}
 use Rattle.ssh_wire.specs.declared.error.WireError.{WireError}
 use Rattle.ssh_wire.specs.declared.error.WireError.TheVariants as wire
@@ -32,6 +32,14 @@ misread_so layout bytes wire.Short h = h
 misread_so layout bytes wire.NotUtf8 h = h
 misread_so layout bytes (wire.Trailing left) h = h
 misread_so layout bytes wire.TooLong h = h
+
+-- fields that were read one after another do not fit
+pub misfit_at : {T : Type 0} (fits : T → Type 0) (misfits : WireError → Type 0) (why : WireError)
+    (result : Result T WireError) → IsErrAnd result (λ x. x ≡ why) → misfits why
+    → MatchResult result fits misfits
+misfit_at fits misfits why result h m =
+    let p = err_from_is_err_and result h in
+    subst (λ r. MatchResult r fits misfits) (sym (p.1 ∙ ap Err p.2)) m
 
 -- a field does not fit
 pub misread : {S : Type 0} (layout : Layout S) (bytes : List ℕ) (why : WireError)

@@ -351,6 +351,12 @@ settled_by plan rest a b world session (Ok tt) r h = settled tt plan (λ _ v. re
     session r h
 settled_by plan rest a b world session (Err e) r h = h
 
+-- a part of which a value is known
+pub of_value : {T E : Type 0} (value : T) (plan : Plan Outcome) (next : T → World → Plan Outcome)
+    (a b : Heard E) (session : Session) → Serves plan (λ (_ : Unit {0}). next value) a b session
+    (Ok tt) → Serves plan next a b session (Ok value)
+of_value value plan next a b session h = h
+
 -- ---- the end of an input
 
 -- what was owed is not finished, and no frame is handed on

@@ -31,7 +31,7 @@ use Rattle.ssh_session.specs.declared.state.EncryptedState.TheVariants.{WaitingA
 use Rattle.ssh_session.specs.Acts.{Act, acts}
 use Rattle.ssh_session.specs.Effect.{Effect, effect, lacks, needs, refused_or, done_by, answers}
 use Rattle.ssh_session.specs.Effect.{decides, fails_open, failure_of, is_too_long, opens_at}
-use Rattle.ssh_session.specs.Effect.{opens, opens_or_not}
+use Rattle.ssh_session.specs.Effect.{opens, opens_or_not, requests_on, refuses, accepts}
 use Rattle.ssh_session.specs.OwnOpens.{OwnOpen, asking, open_payload}
 use Rattle.ssh_session.specs.Opening.{Opening}
 use Rattle.ssh_session.specs.Types.{handling}
@@ -51,9 +51,13 @@ use Rattle.ssh_session.specs.Rows.{spoken_acts, failure_acts, confirmation_acts}
 use Rattle.ssh_session.specs.Rows.{row, owed, greets, is_short, replied, concluded, asked_of}
 use Rattle.ssh_session.specs.Rows.{on_entry, on_confirmed, data_told, open_acts}
 use Rattle.ssh_session.specs.Run.{OwesKind, Owes, command_row}
-use Rattle.ssh_session.specs.World.{World, Settings, waits_for, lined}
+use Rattle.ssh_session.specs.World.{World, Settings, waits_for, lined, writes}
 use Rattle.ssh_session.proofs.Acting.{PlanComes, EffectComes, AllBuilt, Law, ActsCome, acts_come}
 use Rattle.ssh_session.proofs.Acting.{one_comes, comes_then, input_comes}
+use Rattle.ssh_session.specs.OwnRequests.{OwnRequest, request_payload, xon_xoff, exit_status}
+use Rattle.ssh_session.specs.OwnRequests.{exit_signal}
+use Rattle.ssh_channels.specs.Layout.{on_channel}
+use Rattle.ssh_link.specs.declared.outcome.Refusal.TheVariants.{TooLong}
 
 abbrev pub IsSet : Settings → World → Type 0
 IsSet settings w = w.settings ≡ settings
@@ -68,7 +72,7 @@ ComesSet settings (Fails fault) = Unit {0}
 abbrev pub Anything : (question : Question) → Answer question → Type 0
 Anything question answer = Unit {0}
 
-abbrev Any_command : Command → Type 0
+abbrev pub Any_command : Command → Type 0
 Any_command command = Unit {0}
 
 -- ---- commands
@@ -116,12 +120,32 @@ opens_or_not_set settings (Some asked) w h = opens_set settings asked w
     (is_too_long (open_payload asked 0 w.settings.config.window_size
     w.settings.config.maximum_packet_size)) refl h
 
+requested_set : (settings : Settings) (long : Bool) (e : Option Entry) (channel : ChannelId)
+    (asked : OwnRequest) (w : World) → IsSet settings w
+    → EffectComes (ComesSet settings) (IsSet settings)
+    (if long then refuses TooLong w else requests_on e channel asked w)
+requested_set settings true e channel asked w h = h
+requested_set settings false None channel asked w h = h
+requested_set settings false (Some e) channel asked w h = h
+
 done_set : (settings : Settings) (w : World) (commanded : Command) → IsSet settings w →
     EffectComes (ComesSet settings) (IsSet settings) (done_by w commanded)
 done_set settings w (command.Data channel bytes) h = h
 done_set settings w (command.ExtendedData channel code bytes) h = h
 done_set settings w (command.Eof channel) h = h
 done_set settings w (command.Close channel) h = h
+done_set settings w (command.ChannelSuccess channel) h = h
+done_set settings w (command.ChannelFailure channel) h = h
+done_set settings w (command.XonXoff channel client_can_do) h =
+    requested_set settings (is_too_long (request_payload 0 (xon_xoff client_can_do)))
+    (find channel.0 w.channels.lines.entries) channel (xon_xoff client_can_do) w h
+done_set settings w (command.ExitStatus channel status) h =
+    requested_set settings (is_too_long (request_payload 0 (exit_status status)))
+    (find channel.0 w.channels.lines.entries) channel (exit_status status) w h
+done_set settings w (command.ExitSignal channel signal core message language) h =
+    let asked = exit_signal signal core message language in
+    requested_set settings (is_too_long (request_payload 0 asked))
+    (find channel.0 w.channels.lines.entries) channel asked w h
 done_set settings w (command.Answer answer) h = answers_set settings answer
     (opening_of answer.channel.0 w) w h
 done_set settings w other h = opens_or_not_set settings (asking other) w h
@@ -151,6 +175,7 @@ law settings = record {
   built = Any_command;
   goes = λ w h. h;
   lends = λ lent commands s. any_built commands;
+  judges = λ judged answer s. any_built answer.commands;
   keeps = λ w command h b. effect_set settings w command h;
 }
 
@@ -216,7 +241,10 @@ spoken_set settings w (spoken.Close channel) h =
 spoken_set settings w (spoken.Wants channel wanted) h = (h, tt)
 spoken_set settings w (spoken.Failed channel reason) h =
     failure_set settings w (is_there w channel.0) (is_waiting w channel.0) channel reason h
-spoken_set settings w spoken.Unbuilt h = tt
+spoken_set settings w (spoken.Asks channel wanted message happening) h = (h, λ world k. tt)
+spoken_set settings w (spoken.AsksForAgent channel wanted) h = (h, λ granted world k. (k, tt))
+spoken_set settings w (spoken.AsksUnknown channel wanted) h = (h, (h, tt))
+spoken_set settings w spoken.Inconsistent h = tt
 
 owed_set : (settings : Settings) (w : World) (said : Said) → IsSet settings w
     → ActsCome (law settings) (owed w said) w

@@ -36,7 +36,7 @@ use Rattle.ssh_auth.specs.Verdict.{verdict as verdict_on, response_verdict}
 use Rattle.ssh_session.specs.declared.state.EncryptedState.{EncryptedState}
 use Rattle.ssh_session.specs.declared.state.EncryptedState.TheVariants.{WaitingAuthRequest}
 use Rattle.ssh_session.specs.Acts.{Act, Notes, Calls, Adjusts_by, Turns, Is_over, Stops, tell_all}
-use Rattle.ssh_session.specs.Acts.{tell_done, done, done_all, acts}
+use Rattle.ssh_session.specs.Acts.{tell_done, done, done_all, acts, Judges_by}
 use Rattle.ssh_session.specs.Effect.{Effect, Does, Unbuilt, effect}
 use Rattle.ssh_session.specs.Outcome.{Outcome}
 use Rattle.ssh_session.specs.Reading.{Said, Service, Request, Response}
@@ -89,6 +89,9 @@ acts_send_none [] w = tt
 acts_send_none (Notes notice ∷ later) w = (tt, acts_send_none later w)
 acts_send_none (Calls lent ∷ later) w = λ commands. all_done 0 commands w (acts later)
     (acts_send_none later)
+acts_send_none (Judges_by judged by ∷ later) w = λ answer.
+    all_done 0 answer.commands w (λ world. acts later (by answer.granted world))
+    (λ world. acts_send_none later (by answer.granted world))
 acts_send_none (Adjusts_by channel current by ∷ later) w = λ window. acts_send_none later
     (by window w)
 acts_send_none (Turns by ∷ later) w = acts_send_none later (by w)

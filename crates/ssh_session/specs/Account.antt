@@ -17,6 +17,7 @@ use Rattle.ssh_session.specs.Answered.{Answered}
 use Rattle.ssh_session.specs.Authorised.{Authorised}
 use Rattle.ssh_session.specs.Ledger.{Ledgered_after}
 use Rattle.ssh_session.specs.Outcome.{Outcome, Goes, Ends}
+use Rattle.ssh_session.specs.Replied.{Replied}
 use Rattle.ssh_session.specs.Run.{Owes, Turn, Run, IsTaken, calls_of, entries}
 use Rattle.ssh_session.specs.Serve.{Refines, cause_of, IsCaused, may_stop}
 use Rattle.ssh_session.specs.Valid.{IsValid, IsComplete, IsEnding}
@@ -111,6 +112,8 @@ pub record Lawful {E : Type 0} {accepts : Acceptance} {settings : Settings} {bef
       → Ledgered_after accepts settings earlier
   -- an open of the peer's gets at most one answer, and none before its callback returned
   pub answered : Answered (account.turns ++ option_to_list account.last)
+  -- the peer gets no more replies to its requests on a channel than it wanted
+  pub replied : Replied (account.turns ++ option_to_list account.last)
   -- where no fault of the link rose and the last input was valid, it ends well, or memory or the
   -- limit of inputs ends it
   pub complete : after.faults ≡ before.faults → IfSome account.last (IsValid accepts account.world)

@@ -1,5 +1,5 @@
 -- What an input owes, as a list of acts, and the plan that they make.
-use Rattle.std.specs.Prelude.{ℕ, ◌+◌, List, [], ◌∷◌, map}
+use Rattle.std.specs.Prelude.{ℕ, ◌+◌, Bool, List, [], ◌∷◌, map}
 use Rattle.ssh_link.specs.declared.command.Command.{Command}
 use Rattle.ssh_link.specs.declared.link.TraceEntry.{TraceEntry}
 use Rattle.ssh_link.specs.declared.link.TraceEntry.TheVariants.{Noticed}
@@ -7,8 +7,9 @@ use Rattle.ssh_link.specs.declared.notice.Notice.{Notice}
 use Rattle.ssh_link.specs.declared.outcome.CommandOutcome.{CommandOutcome}
 use Rattle.ssh_link.specs.declared.outcome.CommandOutcome.TheVariants.{Accepted, Opened, Refused}
 use Rattle.ssh_wire.specs.declared.channel_id.ChannelId.{ChannelId}
+use Rattle.ssh_auth.specs.declared.question.Judged.{Judged}
 use Rattle.ssh_auth.specs.declared.question.Lent.{Lent}
-use Rattle.ssh_auth.specs.declared.question.Question.TheVariants.{Lends, Adjusts, Done}
+use Rattle.ssh_auth.specs.declared.question.Question.TheVariants.{Lends, Judges, Adjusts, Done}
 use Rattle.ssh_auth.specs.Plan.{Plan, Finish, Ask, Tell}
 use Rattle.ssh_session.specs.World.{World}
 use Rattle.ssh_session.specs.Effect.{Effect, Does, Unbuilt, effect}
@@ -19,6 +20,9 @@ pub data Act : Type 0 where
   Notes : (notice : Notice) → Act
   -- a callback is made, and the commands that it recorded are done
   Calls : (lent : Lent) → Act
+  -- the handler is asked whether this is granted, the commands that it recorded are done, and then
+  -- the world turns by its answer
+  Judges_by : (judged : Judged) → (by : (granted : Bool) → World → World) → Act
   -- the handler is asked how large a window is from now on, and the world turns by its answer
   Adjusts_by : (channel : ChannelId) → (current : ℕ) → (by : ℕ → World → World) → Act
   -- the world turns, and frames are written
@@ -55,6 +59,8 @@ abbrev pub acts : List Act → World → Plan Outcome
 acts [] w = Finish (Goes w)
 acts (Notes notice ∷ later) w = Tell (Noticed notice) (acts later w)
 acts (Calls lent ∷ later) w = Ask (Lends lent) (λ commands. done_all 0 commands w (acts later))
+acts (Judges_by judged by ∷ later) w = Ask (Judges judged) (λ judgement.
+    done_all 0 judgement.commands w (λ world. acts later (by judgement.granted world)))
 acts (Adjusts_by channel current by ∷ later) w = Ask (Adjusts channel current)
     (λ window. acts later (by window w))
 acts (Turns by ∷ later) w = acts later (by w)

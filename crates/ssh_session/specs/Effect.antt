@@ -4,6 +4,7 @@ use Rattle.std.specs.Prelude.{if◌then◌else◌, Bool, Option, Some, None}
 use Rattle.ssh_wire.specs.declared.channel_id.ChannelId.{ChannelId}
 use Rattle.ssh_wire.specs.declared.open_failure.ChannelOpenFailure.{ChannelOpenFailure}
 use Rattle.ssh_wire.specs.Open.{open_failure}
+use Rattle.ssh_wire.specs.Messages.{channel_success, channel_failure}
 use Rattle.ssh_wire.specs.OpenFailures.{open_failure_code, open_failure_text}
 use Rattle.ssh_link.specs.declared.command.Command.{Command}
 use Rattle.ssh_link.specs.declared.command.Command.TheVariants as command
@@ -18,7 +19,7 @@ use Rattle.ssh_link.specs.declared.outcome.Refusal.TheVariants.{NotConfirmed, Se
 use Rattle.ssh_link.specs.declared.outcome.Refusal.TheVariants.{NotAuthenticated, NumbersFull}
 use Rattle.ssh_channels.specs.declared.chunk.DataKind.TheVariants.{Plain, Extended}
 use Rattle.ssh_channels.specs.Entry.{Entry, opened}
-use Rattle.ssh_channels.specs.Layout.{chunk}
+use Rattle.ssh_channels.specs.Layout.{chunk, on_channel}
 use Rattle.ssh_channels.specs.Lines.{find, takes_data, takes_eof, takes_close, adds, drops_pending}
 use Rattle.ssh_channels.specs.Lines.{asks_next, next_number}
 use Rattle.ssh_session.specs.declared.state.EncryptedState.{EncryptedState}
@@ -27,13 +28,17 @@ use Rattle.ssh_session.specs.declared.state.EncryptedState.TheVariants.{Authenti
 use Rattle.ssh_session.specs.OwnOpens.{OwnOpen, asking, open_payload, open_frame}
 use Rattle.ssh_session.specs.Opening.{Opening}
 use Rattle.ssh_session.specs.Opens.{opening_of, answered, confirmation_frame, failure_frame}
-use Rattle.ssh_session.specs.World.{World, lined, writes}
+use Rattle.ssh_session.specs.OwnRequests.{OwnRequest, request_payload, xon_xoff, exit_status}
+use Rattle.ssh_session.specs.OwnRequests.{exit_signal}
+use Rattle.ssh_session.specs.World.{World, lined, writes, replies}
 
 -- what a command needs, to be done
 pub data Need : Type 0 where
   -- a channel on which more may be sent, or that may be closed (section 5.3)
   Sending : (channel : ChannelId) → Need
   Closing : (channel : ChannelId) → Need
+  -- a channel that both sides agreed to (section 5.4)
+  Established : (channel : ChannelId) → Need
   -- an open of the peer's that waits for its answer (section 5.1)
   Opening_of : (channel : ChannelId) → Need
   -- a user who was let in (RFC 4252 section 6)
@@ -52,6 +57,11 @@ needs (command.Data channel bytes) = Sending channel
 needs (command.ExtendedData channel code bytes) = Sending channel
 needs (command.Eof channel) = Sending channel
 needs (command.Close channel) = Closing channel
+needs (command.ChannelSuccess channel) = Established channel
+needs (command.ChannelFailure channel) = Established channel
+needs (command.XonXoff channel client_can_do) = Established channel
+needs (command.ExitStatus channel status) = Established channel
+needs (command.ExitSignal channel signal core message language) = Established channel
 needs (command.Answer answer) = Opening_of answer.channel
 needs other = opens_need (asking other)
 
@@ -70,6 +80,10 @@ abbrev pub no_closing : Option Entry → Option Refusal
 no_closing None = Some UnknownChannel
 no_closing (Some e) = not_usable e.confirmed e.close
 
+abbrev pub no_established : Option Entry → Option Refusal
+no_established None = Some UnknownChannel
+no_established (Some e) = not_usable e.confirmed false
+
 abbrev pub no_open : Option Opening → Option Refusal
 no_open None = Some UnknownOpen
 no_open (Some opening) = None
@@ -84,6 +98,7 @@ no_user _ = Some NotAuthenticated
 abbrev pub lacks : World → Need → Option Refusal
 lacks w (Sending channel) = no_sending (find channel.0 w.channels.lines.entries)
 lacks w (Closing channel) = no_closing (find channel.0 w.channels.lines.entries)
+lacks w (Established channel) = no_established (find channel.0 w.channels.lines.entries)
 lacks w (Opening_of channel) = no_open (opening_of channel.0 w)
 lacks w User = no_user w.user.state
 lacks w Nothing = None
@@ -164,6 +179,17 @@ abbrev pub opens_or_not : Option OwnOpen → World → Effect
 opens_or_not None w = Unbuilt
 opens_or_not (Some asked) w = opens asked w
 
+-- a request of this side's goes to the peer, and wants no reply (section 5.4)
+abbrev pub requests_on : Option Entry → (channel : ChannelId) → OwnRequest → World → Effect
+requests_on None channel asked w = accepts w
+requests_on (Some e) channel asked w =
+    accepts (writes (on_channel channel.0 (request_payload e.peer asked) ∷ []) w)
+
+abbrev pub requests : (channel : ChannelId) → OwnRequest → World → Effect
+requests channel asked w = if is_too_long (request_payload 0 asked)
+    then refuses TooLong w
+    else requests_on (find channel.0 w.channels.lines.entries) channel asked w
+
 -- a command that lacks nothing is done: one line a command
 abbrev pub done_by : World → Command → Effect
 done_by w (command.Data channel bytes) =
@@ -172,6 +198,14 @@ done_by w (command.ExtendedData channel code bytes) =
     accepts (lined (takes_data channel.0 (chunk (Extended code) bytes) false) w)
 done_by w (command.Eof channel) = accepts (lined (takes_eof channel.0) w)
 done_by w (command.Close channel) = accepts (lined (takes_close channel.0) w)
+done_by w (command.ChannelSuccess channel) =
+    accepts (lined (replies channel.0 channel_success.number) w)
+done_by w (command.ChannelFailure channel) =
+    accepts (lined (replies channel.0 channel_failure.number) w)
+done_by w (command.XonXoff channel client_can_do) = requests channel (xon_xoff client_can_do) w
+done_by w (command.ExitStatus channel status) = requests channel (exit_status status) w
+done_by w (command.ExitSignal channel signal core message language) =
+    requests channel (exit_signal signal core message language) w
 done_by w (command.Answer answer) = answers answer (opening_of answer.channel.0 w) w
 done_by w other = opens_or_not (asking other) w
 

@@ -11,6 +11,9 @@ pub mod Gate
 pub mod Reading
 pub mod Types
 pub mod OwnOpens
+pub mod OwnRequests
+pub mod ChannelRequests
+pub mod Terminal
 pub mod Rows
 pub mod Run
 pub mod Short
@@ -19,6 +22,7 @@ pub mod Failure
 pub mod Serve
 pub mod Authorised
 pub mod Answered
+pub mod Replied
 pub mod Ledger
 pub mod Valid
 pub mod Account

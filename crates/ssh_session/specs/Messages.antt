@@ -1,5 +1,5 @@
 -- What a message of channels says, by its layout: one line a message (RFC 4254 section 5).
-use Rattle.std.specs.Prelude.{ℕ, Bool, true, false, [], ◌∷◌, Option, Some, None}
+use Rattle.std.specs.Prelude.{ℕ, Bool, true, false, List, [], ◌∷◌, Option, Some, None}
 use Rattle.std.specs.Prelude.{◌==◌, if◌then◌else◌}
 use Rattle.ssh_wire.specs.Field.{Bytes, Number, Text}
 use Rattle.ssh_wire.specs.Messages.{channel_window_adjust, channel_close}
@@ -16,6 +16,7 @@ use Rattle.ssh_session.specs.declared.messages.ChannelMessage.{ChannelMessage}
 use Rattle.ssh_session.specs.declared.messages.ChannelMessage.TheVariants as message
 use Rattle.ssh_session.specs.declared.messages.Spoken.{Spoken}
 use Rattle.ssh_session.specs.declared.messages.Spoken.TheVariants as spoken
+use Rattle.ssh_session.specs.ChannelRequests.{request_named, asked_by}
 use Rattle.ssh_session.specs.Opens.{own}
 use Rattle.ssh_session.specs.Spelling.{Layout, Leaves, Whole, Fields}
 
@@ -77,15 +78,15 @@ tells message happening = Whole (Number ∷ []) (λ (channel, _).
 abbrev pub close : Layout Spoken
 close = Whole channel_close.fields (λ (channel, _). spoken.Close (own channel))
 
--- uint32 recipient channel, string request type, boolean want reply; on no channel nothing after
--- them is read (section 5.4), and what is asked for on a channel is not built
-abbrev pub request_on : (is_there wanted : Bool) → (channel : ℕ) → Layout Spoken
-request_on false wanted channel = Leaves (spoken.Wants (own channel) wanted)
-request_on true wanted channel = Leaves spoken.Unbuilt
+-- uint32 recipient channel, string request type, boolean want reply, and then the request's own
+-- fields; on no channel nothing after the flag is read (section 5.4)
+abbrev pub request_on : (is_there wanted : Bool) → (channel : ℕ) → (name : List ℕ) → Layout Spoken
+request_on false wanted channel name = Leaves (spoken.Wants (own channel) wanted)
+request_on true wanted channel name = asked_by (request_named name) (own channel) wanted
 
 abbrev pub request : (is_there : ℕ → Bool) → Layout Spoken
 request is_there = Fields channel_request.fields (λ (channel, (name, (wanted, _))).
-    request_on (is_there channel) wanted channel)
+    request_on (is_there channel) wanted channel name)
 
 -- one line a message
 abbrev pub message_layout : (is_there : ℕ → Bool) → ChannelMessage → Layout Spoken

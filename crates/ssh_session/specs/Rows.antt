@@ -3,6 +3,7 @@ use Rattle.std.specs.Prelude.{ℕ, ◌+◌, ◌-◌, ◌^◌, ◌==◌, min, nat
 use Rattle.std.specs.Prelude.{Bool, true, false, not, Option, Some, None, unwrap_or, if◌then◌else◌}
 use Rattle.std.specs.Prelude.{bytes_eq, codes}
 use Rattle.ssh_wire.specs.declared.error.WireError.TheVariants.{TooLong}
+use Rattle.ssh_wire.specs.Messages.{channel_success, channel_failure}
 use Rattle.ssh_wire.specs.declared.channel_id.ChannelId.{ChannelId}
 use Rattle.ssh_wire.specs.declared.open.OpenChannelMessage.{OpenChannelMessage}
 use Rattle.ssh_wire.specs.declared.open.ChannelOpenConfirmation.{ChannelOpenConfirmation}
@@ -17,6 +18,7 @@ use Rattle.ssh_auth.specs.declared.auth_step.AuthVerdict.TheVariants as verdict
 use Rattle.ssh_auth.specs.declared.question.Question.TheVariants.{Banner}
 use Rattle.ssh_auth.specs.declared.question.Happening.{Happening}
 use Rattle.ssh_auth.specs.declared.question.Happening.TheVariants as what
+use Rattle.ssh_auth.specs.declared.question.Judged.TheVariants as whether
 use Rattle.ssh_auth.specs.declared.question.OpenType.{OpenType}
 use Rattle.ssh_auth.specs.declared.question.Lent.TheVariants.{Succeeded, Opens, Happened}
 use Rattle.ssh_auth.specs.Plan.{Plan, Ask, after}
@@ -55,8 +57,9 @@ use Rattle.ssh_session.specs.Outcome.{Fault, Encoding, Inconsistent, Key, Unsupp
 use Rattle.ssh_session.specs.Outcome.{Channels_full, Not_built, Outcome}
 use Rattle.ssh_session.specs.Reading.{Said, Disconnect, Over_cap, Service, Request, Response, Open}
 use Rattle.ssh_session.specs.Reading.{Agreed, Channel, Unread, Unfit, Without_packets, Unbuilt}
-use Rattle.ssh_session.specs.World.{World, waits_for, lined, writes}
-use Rattle.ssh_session.specs.Acts.{Act, Notes, Calls, Adjusts_by, Turns, Is_over, Stops, acts}
+use Rattle.ssh_session.specs.World.{World, waits_for, lined, writes, replies}
+use Rattle.ssh_session.specs.Acts.{Act, Notes, Calls, Judges_by, Adjusts_by, Turns, Is_over}
+use Rattle.ssh_session.specs.Acts.{Stops, acts}
 
 -- ---- the service (RFC 4253 section 10)
 
@@ -284,6 +287,22 @@ failure_acts is_there true channel reason = Turns (lined (fails channel.0))
 failure_acts true false channel reason = Stops Inconsistent ∷ []
 failure_acts false false channel reason = []
 
+-- ---- requests of the peer's (section 5.4)
+
+-- a reply, by whether the request is granted
+abbrev pub reply_of : (granted : Bool) → ℕ
+reply_of true = channel_success.number
+reply_of false = channel_failure.number
+
+-- whether the peer's agent may be reached is for the handler to say, which is the reply where one
+-- is still wanted
+abbrev pub agent_acts : (channel : ChannelId) → (wanted : Bool) → List Act
+agent_acts channel wanted =
+    Turns (lined (wants channel.0 wanted))
+    ∷ Notes (notice.Channel channel (msg.AgentForward true))
+    ∷ Judges_by (whether.AgentRequest channel)
+    (λ granted. lined (replies channel.0 (reply_of granted))) ∷ []
+
 -- ---- messages of channels, by what they say
 
 abbrev pub spoken_acts : World → Spoken → List Act
@@ -300,9 +319,14 @@ spoken_acts w (spoken.Tells channel message happening) =
     on channel.0 w (λ e. told channel message happening)
 spoken_acts w (spoken.Close channel) = on channel.0 w (λ e.
     Turns (lined (peer_closes channel.0)) ∷ told channel msg.Close what.Close)
--- a channel that the peer has not agreed to keeps whether its last request wants a reply
+-- a channel keeps whether its last request wants a reply, also one that the peer has not agreed to
 spoken_acts w (spoken.Wants channel wanted) = Turns (lined (wants channel.0 wanted)) ∷ []
-spoken_acts w spoken.Unbuilt = Stops Not_built ∷ []
+spoken_acts w (spoken.Asks channel wanted message happening) =
+    Turns (lined (wants channel.0 wanted)) ∷ told channel message happening
+spoken_acts w (spoken.AsksForAgent channel wanted) = agent_acts channel wanted
+spoken_acts w (spoken.AsksUnknown channel wanted) =
+    Turns (lined (wants channel.0 wanted)) ∷ Turns (lined (replies channel.0 (reply_of false))) ∷ []
+spoken_acts w spoken.Inconsistent = Stops Inconsistent ∷ []
 
 -- ---- one line a row
 

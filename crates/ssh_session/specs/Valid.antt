@@ -81,9 +81,9 @@ abbrev pub HasNoPrompt : EncryptedState → Type 0
 HasNoPrompt (WaitingAuthRequest auth) = prompt_of auth ≡ None
 HasNoPrompt _ = Unit {0}
 
--- what it asks for is built, and it refuses no open that was agreed to
+-- its values are consistent, and it refuses no open that was agreed to
 abbrev pub IsServed : World → Spoken → Type 0
-IsServed w spoken.Unbuilt = ⊥
+IsServed w spoken.Inconsistent = ⊥
 IsServed w (spoken.Failed channel reason) = is_there w channel.0 ≡ false
 IsServed w _ = Unit {0}
 
@@ -95,7 +95,7 @@ FitsLayout w (Whole fields says) bytes = (values : Values fields) × SpellsWhole
 FitsLayout w (Fields fields next) bytes = (values : Values fields) × (rest : List ℕ)
     × SpellsAll fields values bytes rest × FitsLayout w (next values) rest
 
--- the fields fit their layout, and ask for what is built
+-- the fields fit their layout, and say what is served
 abbrev pub AreValidFields : Circumstances → World → Gate → List ℕ → Type 0
 AreValidFields given w gate.Nothing fields = Unit {0}
 AreValidFields given w gate.Ends fields = Unit {0}
@@ -130,6 +130,11 @@ IsBuiltCommand (command.Data channel bytes) = Unit {0}
 IsBuiltCommand (command.ExtendedData channel code bytes) = Unit {0}
 IsBuiltCommand (command.Eof channel) = Unit {0}
 IsBuiltCommand (command.Close channel) = Unit {0}
+IsBuiltCommand (command.ChannelSuccess channel) = Unit {0}
+IsBuiltCommand (command.ChannelFailure channel) = Unit {0}
+IsBuiltCommand (command.XonXoff channel client_can_do) = Unit {0}
+IsBuiltCommand (command.ExitStatus channel status) = Unit {0}
+IsBuiltCommand (command.ExitSignal channel signal core message language) = Unit {0}
 IsBuiltCommand (command.Answer answer) = Unit {0}
 IsBuiltCommand other = IsSome (asking other)
 

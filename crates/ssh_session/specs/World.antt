@@ -1,10 +1,11 @@
 -- The state of a session in the standard's terms. It is a record of the definitions alone: the code
 -- has what it needs of it, and the relation `Refines` ties the two.
-use Rattle.std.specs.Prelude.{ℕ, Bool, List, [], false}
+use Rattle.std.specs.Prelude.{◌&&◌, ℕ, Bool, List, [], false, cond}
 use Rattle.ssh_link.specs.Frames.{Frame}
 use Rattle.ssh_handler.specs.declared.config.Config.{Config}
 use Rattle.ssh_auth.specs.Publickey.{Acceptance, Circumstances}
-use Rattle.ssh_channels.specs.Lines.{Lines, no_lines, write}
+use Rattle.ssh_channels.specs.Does.{has}
+use Rattle.ssh_channels.specs.Lines.{Lines, no_lines, write, wants, says}
 use Rattle.ssh_session.specs.declared.state.EncryptedState.{EncryptedState}
 use Rattle.ssh_session.specs.declared.state.EncryptedState.TheVariants.{WaitingAuthServiceRequest}
 use Rattle.ssh_session.specs.Opening.{Opening}
@@ -66,6 +67,16 @@ waits_for state w = record w { user = record w.user { state = state } }
 -- the channels are these from now on
 abbrev pub lined : (Lines → Lines) → World → World
 lined change w = record w { channels = record w.channels { lines = change w.channels.lines } }
+
+-- the last request on the channel wants a reply, which goes to a channel that both sides agreed to
+abbrev pub wants_reply : (number : ℕ) → Lines → Bool
+wants_reply number = has (λ e. e.confirmed && e.wants_reply) number
+
+-- the reply that the last request on the channel wants, where it wants one; then it wants none
+-- (RFC 4254 section 5.4)
+abbrev pub replies : (number message : ℕ) → Lines → Lines
+replies number message l =
+    cond (wants_reply number l) (wants number false (says number message l)) l
 
 -- these frames are written
 abbrev pub writes : List Frame → World → World

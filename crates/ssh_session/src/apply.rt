@@ -46,7 +46,7 @@ impl Done {
 }
 
 /// Why a channel cannot be used: the peer has not confirmed it, or what is asked for was ended.
-fn unusable(confirmed: bool, ended: bool) -> Option<Refusal>
+pub(crate) fn unusable(confirmed: bool, ended: bool) -> Option<Refusal>
     ensures { result ≡ not_usable confirmed ended }
 {
     if !confirmed {
@@ -83,6 +83,11 @@ impl Session {
             Command::ExtendedData { channel, .. } => self.no_sending(*channel),
             Command::Eof { channel } => self.no_sending(*channel),
             Command::Close { channel } => self.no_closing(*channel),
+            Command::ChannelSuccess { channel } => self.not_established(*channel),
+            Command::ChannelFailure { channel } => self.not_established(*channel),
+            Command::XonXoff { channel, .. } => self.not_established(*channel),
+            Command::ExitStatus { channel, .. } => self.not_established(*channel),
+            Command::ExitSignal { channel, .. } => self.not_established(*channel),
             Command::Answer(answer) => self.no_open(answer.channel),
             other => self.no_opening(other),
         }
@@ -142,6 +147,23 @@ impl Session {
                 self.table.close(channel)?;
                 Ok(Done::accepted())
             }
+            Command::ChannelSuccess { channel } => self.reply_to(channel, true),
+            Command::ChannelFailure { channel } => self.reply_to(channel, false),
+            Command::XonXoff {
+                channel,
+                client_can_do,
+            } => self.xon_xoff(channel, client_can_do),
+            Command::ExitStatus {
+                channel,
+                exit_status,
+            } => self.exit_status(channel, exit_status),
+            Command::ExitSignal {
+                channel,
+                signal,
+                core_dumped,
+                error_message,
+                language,
+            } => self.exit_signal(channel, &signal, core_dumped, &error_message, &language),
             Command::Answer(answer) => self.answer_open(answer),
             other => {
                 let opened = self.do_open(&other);

@@ -1,18 +1,18 @@
 // What a session tells and asks, each in one place.
-ghost use Rattle.std.specs.Prelude.{◌≡◌, ◌∷◌, []};
+ghost use Rattle.std.specs.Prelude.{◌≡◌, ◌∷◌, [], Bool, Ok, Err, MatchResult};
 ghost use Rattle.ssh_link.specs.declared.link.TraceEntry.TheVariants.{Noticed};
-ghost use Rattle.ssh_auth.specs.declared.question.Question.TheVariants.{Lends};
-ghost use Rattle.ssh_auth.specs.Plan.{Plan, Tell};
+ghost use Rattle.ssh_auth.specs.declared.question.Question.TheVariants.{Lends, Judges};
+ghost use Rattle.ssh_auth.specs.Plan.{Plan, Ask, Tell};
 ghost use Rattle.ssh_session.specs.World.{World};
 ghost use Rattle.ssh_session.specs.Outcome.{Outcome};
-ghost use Rattle.ssh_session.specs.Acts.{Calls, Adjusts_by};
+ghost use Rattle.ssh_session.specs.Acts.{Calls, Adjusts_by, done_all};
 ghost use Rattle.ssh_session.specs.Rows.{told, aims};
 ghost use Rattle.ssh_session.specs.Heard.{AreSame};
 ghost use Rattle.ssh_session.specs.Serve.{Refines, Does, Serves, Puts, IsSuited, IsSamePeer, lends};
 
 use crate::outside::Outside;
 use crate::{RunError, Session};
-use ssh_auth::{Happening, Lent};
+use ssh_auth::{Happening, Judged, Lent};
 use ssh_handler::Commands;
 use ssh_link::{ChannelMsg, CommandList, Notice};
 use ssh_wire::ChannelId;
@@ -40,6 +40,26 @@ impl Session {
         let mut commands = self.lend();
         match outside.ask(lent, &mut commands) {
             Ok(()) => Ok(commands.into_list()),
+            Err(e) => Err(e),
+        }
+    }
+
+    /// Makes a callback that says whether something is granted, and answers that and the commands
+    /// that it recorded.
+    fn put_judged<O: Outside>(
+        &self,
+        outside: &mut O,
+        judged: Judged,
+    ) -> Result<(bool, CommandList), O::Error>
+        requires suits { IsSuited O.suits self.now }
+        ensures { MatchResult result
+            (λ given. Puts (Judges judged) (O.heard outside.old) (O.heard outside.new)
+            (Ok (record { granted = given.0; commands = given.1 })))
+            (λ e. Puts (Judges judged) (O.heard outside.old) (O.heard outside.new) (Err e)) }
+    {
+        let mut commands = self.lend();
+        match outside.judge(judged, &mut commands) {
+            Ok(granted) => Ok((granted, commands.into_list())),
             Err(e) => Err(e),
         }
     }
@@ -73,6 +93,30 @@ impl Session {
     {
         match self.put(outside, lent) {
             Ok(commands) => self.finish_commands(outside, commands),
+            Err(e) => Err(RunError::Handler(e)),
+        }
+    }
+
+    /// Makes a callback that says whether something is granted, and does the commands that it
+    /// recorded.
+    pub(crate) fn judge<O: Outside>(
+        &mut self,
+        outside: &mut O,
+        judged: Judged,
+    ) -> Result<bool, RunError<O::Error>>
+        requires suits { IsSuited O.suits self.old }
+        ensures does { (w : World) → Refines self.old w → (next : Bool → World → Plan Outcome) →
+            Serves (Ask (Judges judged) (λ judgement. done_all 0 judgement.commands w
+            (next judgement.granted))) next (O.heard outside.old) (O.heard outside.new) self.new
+            result }
+        ensures peer { IsSamePeer self.old self.new }
+        ensures same { AreSame (O.heard outside.old) (O.heard outside.new) }
+    {
+        match self.put_judged(outside, judged) {
+            Ok((granted, commands)) => match self.finish_commands(outside, commands) {
+                Ok(()) => Ok(granted),
+                Err(e) => Err(e),
+            },
             Err(e) => Err(RunError::Handler(e)),
         }
     }

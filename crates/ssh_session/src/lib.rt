@@ -22,13 +22,16 @@ mod once;
 mod opens;
 mod outside;
 mod own_opens;
+mod own_requests;
 mod peer_open;
 mod readers;
+mod replies;
 mod run;
 mod service;
 mod session;
 mod state;
 mod step;
+mod terminal;
 mod windows;
 
 pub use error::{Flow, RunError};

@@ -3,19 +3,28 @@ ghost use Rattle.std.specs.Prelude.{ℕ, List, [], ◌∷◌, IfOk, IfErr, Match
 ghost use Rattle.ssh_wire.specs.Field.{Bytes, Flag, Number, Text, SpellsAll, SpellsWhole};
 ghost use Rattle.ssh_wire.specs.Field.{Misfits, MisfitsAll, MisfitsWhole};
 ghost use Rattle.ssh_wire.specs.Reading.{Reads};
+ghost use Rattle.ssh_session.specs.ChannelRequests.{terminal, window_change, x11};
 
 use ssh_wire::{ChannelId, Reader, WireError};
 
-/// The name of the service that a SERVICE_REQUEST asks for (RFC 4253 section 10).
-pub(crate) fn read_service(fields: &[u8]) -> Result<&str, WireError>
+/// The end of a message.
+pub(crate) fn read_end(rest: &[u8]) -> Result<(), WireError>
     ensures { MatchResult result
-        (λ name. SpellsWhole (Text ∷ []) (name.now, tt) fields.now)
+        (λ _. SpellsWhole [] tt rest.now) (λ why. MisfitsWhole [] rest.now why) }
+{
+    Reader::new(rest).end()
+}
+
+/// A text and nothing else, as in a SERVICE_REQUEST (RFC 4253 section 10).
+pub(crate) fn read_text(fields: &[u8]) -> Result<&str, WireError>
+    ensures { MatchResult result
+        (λ text. SpellsWhole (Text ∷ []) (text.now, tt) fields.now)
         (λ why. MisfitsWhole (Text ∷ []) fields.now why) }
 {
     let mut reader = Reader::new(fields);
-    let name = reader.text()?;
+    let text = reader.text()?;
     reader.end()?;
-    Ok(name)
+    Ok(text)
 }
 
 /// The number at the head of these fields, and the fields behind it.
@@ -29,17 +38,17 @@ pub(crate) fn read_number(fields: &[u8]) -> Result<(u32, &[u8]), WireError>
     Ok((number, reader.rest()))
 }
 
-/// The description of a refusal and its language tag, of which nobody is told.
+/// Two texts, as the description of a refusal and its language tag.
 pub(crate) fn read_texts<'a>(rest: &'a [u8]) -> Result<(&'a str, &'a str), WireError>
     ensures { MatchResult result
         (λ texts. SpellsWhole (Text ∷ Text ∷ []) (texts.0.now, (texts.1.now, tt)) rest.now)
         (λ why. MisfitsWhole (Text ∷ Text ∷ []) rest.now why) }
 {
     let mut reader = Reader::new(rest);
-    let description = reader.text()?;
-    let language = reader.text()?;
+    let first = reader.text()?;
+    let second = reader.text()?;
     reader.end()?;
-    Ok((description, language))
+    Ok((first, second))
 }
 
 /// CHANNEL_WINDOW_ADJUST (RFC 4254 section 5.2): the channel, and how many bytes are granted.
@@ -87,19 +96,111 @@ fn read_flag(reader: &mut Reader<'_>) -> Result<bool, WireError>
     Ok(byte != 0)
 }
 
-/// CHANNEL_REQUEST (RFC 4254 section 5.4), as far as each request goes: the channel, and whether a
-/// reply is wanted.
-pub(crate) fn read_request(fields: &[u8]) -> Result<(ChannelId, bool), WireError>
+/// A CHANNEL_REQUEST as far as all are alike (RFC 4254 section 5.4).
+#[derive(Clone, Copy)]
+pub(crate) struct Request<'a> {
+    pub(crate) channel: ChannelId,
+    /// What is asked for.
+    pub(crate) name: &'a str,
+    /// Whether a reply is wanted.
+    pub(crate) wanted: bool,
+    /// The fields behind these.
+    pub(crate) rest: &'a [u8],
+}
+
+/// CHANNEL_REQUEST (RFC 4254 section 5.4), up to its own fields.
+pub(crate) fn read_request(fields: &[u8]) -> Result<Request<'_>, WireError>
     ensures { MatchResult result
-        (λ read. (name : List ℕ) × (rest : List ℕ)
-        × SpellsAll (Number ∷ Text ∷ Flag ∷ []) (read.0.0, (name, (read.1, tt))) fields.now rest)
+        (λ read. SpellsAll (Number ∷ Text ∷ Flag ∷ [])
+        (read.channel.0, (read.name.now, (read.wanted, tt))) fields.now read.rest.now)
         (λ why. MisfitsAll (Number ∷ Text ∷ Flag ∷ []) fields.now why) }
 {
     let mut reader = Reader::new(fields);
     let channel = reader.u32()?;
-    reader.text()?;
+    let name = reader.text()?;
     let wanted = read_flag(&mut reader)?;
-    Ok((ChannelId(channel), wanted))
+    Ok(Request {
+        channel: ChannelId(channel),
+        name,
+        wanted,
+        rest: reader.rest(),
+    })
+}
+
+/// The fields of a request for a terminal (RFC 4254 section 6.2); its modes are bytes still.
+#[derive(Clone, Copy)]
+pub(crate) struct Terminal<'a> {
+    pub(crate) term: &'a str,
+    pub(crate) col_width: u32,
+    pub(crate) row_height: u32,
+    pub(crate) pix_width: u32,
+    pub(crate) pix_height: u32,
+    pub(crate) modes: &'a [u8],
+}
+
+/// A request for a terminal, and the fields behind it.
+pub(crate) fn read_terminal(fields: &[u8]) -> Result<(Terminal<'_>, &[u8]), WireError>
+    ensures { MatchResult result
+        (λ read. SpellsAll terminal.fields (
+          read.0.term.now,
+          (
+            read.0.col_width,
+            (read.0.row_height, (read.0.pix_width, (read.0.pix_height, (read.0.modes.now, tt)))),
+          ),
+        )
+        fields.now read.1.now)
+        (λ why. MisfitsAll terminal.fields fields.now why) }
+{
+    let mut reader = Reader::new(fields);
+    let term = reader.text()?;
+    let col_width = reader.u32()?;
+    let row_height = reader.u32()?;
+    let pix_width = reader.u32()?;
+    let pix_height = reader.u32()?;
+    let modes = reader.bytes()?;
+    let terminal = Terminal {
+        term,
+        col_width,
+        row_height,
+        pix_width,
+        pix_height,
+        modes,
+    };
+    Ok((terminal, reader.rest()))
+}
+
+/// The new size of a terminal (RFC 4254 section 6.7): width and height in characters, and in
+/// pixels.
+pub(crate) fn read_size(fields: &[u8]) -> Result<(u32, u32, u32, u32), WireError>
+    ensures { MatchResult result
+        (λ size. SpellsWhole window_change.fields
+        (size.0, (size.1, (size.2, (size.3, tt)))) fields.now)
+        (λ why. MisfitsWhole window_change.fields fields.now why) }
+{
+    let mut reader = Reader::new(fields);
+    let columns = reader.u32()?;
+    let rows = reader.u32()?;
+    let width = reader.u32()?;
+    let height = reader.u32()?;
+    reader.end()?;
+    Ok((columns, rows, width, height))
+}
+
+/// A request to forward X11 (RFC 4254 section 6.3.1): whether for one connection alone, how X11
+/// authenticates and with what, and the screen.
+pub(crate) fn read_x11(fields: &[u8]) -> Result<(bool, &str, &str, u32), WireError>
+    ensures { MatchResult result
+        (λ read. SpellsWhole x11.fields
+        (read.0, (read.1.now, (read.2.now, (read.3, tt)))) fields.now)
+        (λ why. MisfitsWhole x11.fields fields.now why) }
+{
+    let mut reader = Reader::new(fields);
+    let single = read_flag(&mut reader)?;
+    let protocol = reader.text()?;
+    let cookie = reader.text()?;
+    let screen = reader.u32()?;
+    reader.end()?;
+    Ok((single, protocol, cookie, screen))
 }
 
 /// CHANNEL_DATA behind its channel (RFC 4254 section 5.2): the bytes.

@@ -79,8 +79,15 @@ pub enum Spoken {
     Close(ChannelId),
     /// A request where no channel is, and whether it wants a reply.
     Wants(ChannelId, bool),
-    /// It asks for what is not built.
-    Unbuilt,
+    /// A request on the channel, whether it wants a reply, and what the user of the channel and the
+    /// handler are told of it.
+    Asks(ChannelId, bool, ChannelMsg, Happening),
+    /// A request to reach the peer's agent, and whether it wants a reply.
+    AsksForAgent(ChannelId, bool),
+    /// A request that is not known, and whether it wants a reply.
+    AsksUnknown(ChannelId, bool),
+    /// Its fields fit, but one has a value that it cannot have.
+    Inconsistent,
 }
 
 /// A message of its channel alone, of which this is told.
@@ -163,7 +170,12 @@ impl Session {
                 self.want_reply(channel, wanted);
                 Ok(())
             }
-            Spoken::Unbuilt => Err(RunError::NotBuilt),
+            Spoken::Asks(channel, wanted, message, happening) => {
+                self.asked(outside, channel, wanted, message, happening)
+            }
+            Spoken::AsksForAgent(channel, wanted) => self.asked_for_agent(outside, channel, wanted),
+            Spoken::AsksUnknown(channel, wanted) => self.asked_unknown(channel, wanted),
+            Spoken::Inconsistent => Err(RunError::Inconsistent),
         }
     }
 

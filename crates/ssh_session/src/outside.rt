@@ -2,14 +2,14 @@
 ghost use Rattle.std.specs.Prelude.{◌≡◌, ◌<◌, ◌^◌, [], List, ℕ, length, drop};
 ghost use Rattle.ssh_link.specs.declared.link.TraceEntry.TheVariants.{Noticed, Answered, Sent};
 ghost use Rattle.ssh_handler.specs.declared.config.Config.{Config as ConfigOf};
-ghost use Rattle.ssh_auth.specs.Calls.{lent_call};
+ghost use Rattle.ssh_auth.specs.Calls.{lent_call, judged_call};
 ghost use Rattle.ssh_auth.specs.Serve.{IsNumbered};
 ghost use Rattle.ssh_auth.specs.declared.call.Call.TheVariants.{AuthenticationBanner, AdjustWindow};
 ghost use Rattle.ssh_auth.specs.declared.call.Call.TheVariants.{CommandDone};
 ghost use Rattle.ssh_session.specs.Heard.{Heard, Gives, Calls, AnswersRequest, AnswersResponse};
 
-use ssh_auth::{AuthError, AuthRequest, AuthStep, Lent, serve_request, serve_response};
-use ssh_handler::{Commands, Handler, ask};
+use ssh_auth::{AuthError, AuthRequest, AuthStep, Judged, Lent, serve_request, serve_response};
+use ssh_handler::{Commands, Handler, ask, judge};
 use ssh_keys::Verifier;
 use ssh_link::{CommandOutcome, Frame, Link, LinkFault, Notice};
 use ssh_wire::{ChannelId, Text};
@@ -75,6 +75,13 @@ pub(crate) trait Outside {
         requires suits { suits session.old.config session.old.remote_sshid }
         ensures { Calls (heard self.old) (heard self.new) result
             (lent_call lent result session.new.recorded) };
+
+    /// Makes a callback that is lent commands, and answers whether something is granted.
+    fn judge(&mut self, judged: Judged, session: &mut Commands<'_>) -> Result<bool, Self::Error>
+        requires fresh { session.old.recorded ≡ [] }
+        requires suits { suits session.old.config session.old.remote_sshid }
+        ensures { Calls (heard self.old) (heard self.new) result
+            (judged_call judged result session.new.recorded) };
 
     /// Asks how large the window of a channel is from now on.
     fn adjust_window(&mut self, channel: ChannelId, current: u32) -> Result<u32, Self::Error>
@@ -166,6 +173,10 @@ impl<'a, H: Handler, L: Link> Outside for Both<'a, H, L> {
 
     fn ask(&mut self, lent: Lent, session: &mut Commands<'_>) -> Result<(), H::Error> {
         ask(self.handler, lent, session)
+    }
+
+    fn judge(&mut self, judged: Judged, session: &mut Commands<'_>) -> Result<bool, H::Error> {
+        judge(self.handler, judged, session)
     }
 
     fn adjust_window(&mut self, channel: ChannelId, current: u32) -> Result<u32, H::Error> {

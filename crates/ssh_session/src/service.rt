@@ -11,7 +11,7 @@ ghost use Rattle.ssh_session.specs.Heard.{AreSame};
 ghost use Rattle.ssh_session.specs.Serve.{Refines, Serves, Completes, Turned};
 
 use crate::frames::{banner_frame, service_accept_frame};
-use crate::message::read_service;
+use crate::message::read_text;
 use crate::outside::Outside;
 use crate::state::EncryptedState;
 use crate::{Flow, RunError, Session};
@@ -31,7 +31,7 @@ impl Session {
             (O.heard outside.new) self.new result }
         ensures same { AreSame (O.heard outside.old) (O.heard outside.new) }
     {
-        let name = read_service(fields)?;
+        let name = read_text(fields)?;
         self.serve_service(outside, name)?;
         Ok(Flow::Continue)
     }

@@ -69,6 +69,36 @@ returns-in_ok-close-in-Close-clause-does g c = λ w r.
     c.accepted-in-Close.ensures (called (Close n) c.args.self.now c.close.new.self _ w tt
     c.in_ok-close-in-Close.ensures.table r)
 
+pub returns-in-ChannelSuccess-clause-does : goal.returns-in-ChannelSuccess-clause-does
+returns-in-ChannelSuccess-clause-does g c = λ w r.
+    subst (λ d. HasEffect d c.reply_to.new.self c.reply_to.result)
+    (sym (ap (done_by w) c.in-ChannelSuccess.is))
+    (c.reply_to.ensures.does w r)
+
+pub returns-in-ChannelFailure-clause-does : goal.returns-in-ChannelFailure-clause-does
+returns-in-ChannelFailure-clause-does g c = λ w r.
+    subst (λ d. HasEffect d c.reply_to-in-ChannelFailure.new.self
+    c.reply_to-in-ChannelFailure.result) (sym (ap (done_by w) c.in-ChannelFailure.is))
+    (c.reply_to-in-ChannelFailure.ensures.does w r)
+
+pub returns-in-XonXoff-clause-does : goal.returns-in-XonXoff-clause-does
+returns-in-XonXoff-clause-does g c = λ w r.
+    subst (λ d. HasEffect d c.xon_xoff.new.self c.xon_xoff.result)
+    (sym (ap (done_by w) c.in-XonXoff.is))
+    (c.xon_xoff.ensures.does w r)
+
+pub returns-in-ExitStatus-clause-does : goal.returns-in-ExitStatus-clause-does
+returns-in-ExitStatus-clause-does g c = λ w r.
+    subst (λ d. HasEffect d c.exit_status.new.self c.exit_status.result)
+    (sym (ap (done_by w) c.in-ExitStatus.is))
+    (c.exit_status.ensures.does w r)
+
+pub returns-in-ExitSignal-clause-does : goal.returns-in-ExitSignal-clause-does
+returns-in-ExitSignal-clause-does g c = λ w r.
+    subst (λ d. HasEffect d c.exit_signal.new.self c.exit_signal.result)
+    (sym (ap (done_by w) c.in-ExitSignal.is))
+    (c.exit_signal.ensures.does w r)
+
 pub returns-in-Answer-clause-does : goal.returns-in-Answer-clause-does
 returns-in-Answer-clause-does g c = λ w r.
     subst (λ d. HasEffect d c.answer_open.new.self c.answer_open.result)
@@ -77,5 +107,7 @@ returns-in-Answer-clause-does g c = λ w r.
 pub returns-in_default-clause-does : goal.returns-in_default-clause-does
 returns-in_default-clause-does g c = λ w r.
     rw (done_other w c.args.command c.in_default.not-Data c.in_default.not-ExtendedData
-    c.in_default.not-Eof c.in_default.not-Close c.in_default.not-Answer)
+    c.in_default.not-Eof c.in_default.not-Close c.in_default.not-ChannelSuccess
+    c.in_default.not-ChannelFailure c.in_default.not-XonXoff c.in_default.not-ExitStatus
+    c.in_default.not-ExitSignal c.in_default.not-Answer)
     (c.do_open-opened.ensures.does w r)

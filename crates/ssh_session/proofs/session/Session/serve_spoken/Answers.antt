@@ -1,7 +1,9 @@
 use Rattle.ssh_channels.specs.Lines.{wants}
 use Rattle.ssh_session.specs.Acts.{acts}
 use Rattle.ssh_session.specs.World.{lined}
-use Rattle.ssh_session.proofs.Serving.{serves_nothing}
+use Rattle.ssh_session.specs.declared.messages.Spoken.TheVariants.{AsksUnknown}
+use Rattle.ssh_session.specs.Rows.{spoken_acts}
+use Rattle.ssh_session.proofs.Serving.{serves_nothing, turned}
 use Rattle.ssh_session.proofs.session.Session.serve_spoken.Goals as goal
 
 pub returns-in-Nothing-clause-does : goal.returns-in-Nothing-clause-does
@@ -30,3 +32,16 @@ returns-in-Wants-clause-does g c = λ w r later.
     rw c.in-Wants.is (serves_nothing tt (λ (_ : Unit {0}). acts later) _
     (lined (wants c.in-Wants.channel.0 c.in-Wants.wanted) w) c.want_reply.new.self
     (c.want_reply.ensures.world w r))
+
+pub returns-in-Asks-clause-does : goal.returns-in-Asks-clause-does
+returns-in-Asks-clause-does g c = λ w r later. rw c.in-Asks.is (c.asked.ensures.does w r later)
+
+pub returns-in-AsksForAgent-clause-does : goal.returns-in-AsksForAgent-clause-does
+returns-in-AsksForAgent-clause-does g c = λ w r later.
+    rw c.in-AsksForAgent.is (c.asked_for_agent.ensures.does w r later)
+
+pub returns-in-AsksUnknown-clause-does : goal.returns-in-AsksUnknown-clause-does
+returns-in-AsksUnknown-clause-does g c = λ w r later.
+    rw c.in-AsksUnknown.is (turned (spoken_acts w
+    (AsksUnknown c.in-AsksUnknown.channel c.in-AsksUnknown.wanted)) w _ c.asked_unknown.new.self
+    c.asked_unknown.result (c.asked_unknown.ensures.does w r) later)
