@@ -15,6 +15,9 @@ use Rattle.ssh_script.specs.declared.answers.OpenVerdict.{OpenVerdict}
 use Rattle.ssh_script.specs.declared.answers.OpenVerdict.TheVariants as opens
 use Rattle.ssh_script.specs.declared.answers.DataVerdict.{DataVerdict}
 use Rattle.ssh_script.specs.declared.answers.DataVerdict.TheVariants.{Silent, Echo}
+use Rattle.ssh_script.specs.declared.answers.RequestVerdict.{RequestVerdict}
+use Rattle.ssh_script.specs.declared.answers.RequestVerdict.TheVariants as requests
+use Rattle.ssh_script.specs.declared.answers.Standing.{Standing}
 use Rattle.ssh_script.specs.declared.answers.Verdict.{Verdict}
 use Rattle.ssh_script.specs.declared.answers.Verdict.TheVariants.{Accept, Reject, Fail}
 use Rattle.ssh_script.specs.Played.{
@@ -28,6 +31,7 @@ use Rattle.ssh_script.specs.Played.{
   told_banner,
   told_opens,
   told_data,
+  told_requests,
   heading,
 }
 use Rattle.ssh_script.specs.Given.{told_input, told_moment}
@@ -107,11 +111,30 @@ told_data_once : (v w : DataVerdict) (xs ys : List (Call Failure))
     → told_data v ∷ xs ≡ told_data w ∷ ys → (v ≡ w) × (xs ≡ ys)
 told_data_once v w xs ys e = let a : told_data v ≡ told_data w = cc in (data_once v w a, cc)
 
+requests_once : (v w : RequestVerdict) → told_requests v ≡ told_requests w → v ≡ w
+requests_once requests.Success requests.Success e = refl
+requests_once requests.Success requests.Failure e = cc
+requests_once requests.Success requests.Silent e = cc
+requests_once requests.Failure requests.Success e = cc
+requests_once requests.Failure requests.Failure e = refl
+requests_once requests.Failure requests.Silent e = cc
+requests_once requests.Silent requests.Success e = cc
+requests_once requests.Silent requests.Failure e = cc
+requests_once requests.Silent requests.Silent e = refl
+
+told_requests_once : (v w : RequestVerdict) (xs ys : List (Call Failure))
+    → told_requests v ∷ xs ≡ told_requests w ∷ ys → (v ≡ w) × (xs ≡ ys)
+told_requests_once v w xs ys e =
+    let a : told_requests v ≡ told_requests w = cc in (requests_once v w a, cc)
+
+standing_same : (s t : Standing) → s.opens ≡ t.opens → s.incoming ≡ t.incoming
+    → s.requests ≡ t.requests → s ≡ t
+standing_same s t a b c = λ i. record { opens = a i; incoming = b i; requests = c i }
+
 queues_same : (q p : Queues) → q.none ≡ p.none → q.password ≡ p.password → q.offered ≡ p.offered →
     q.publickey ≡ p.publickey → q.certificate ≡ p.certificate → q.interactive ≡ p.interactive →
-    q.banners ≡ p.banners → q.banner ≡ p.banner → q.opens ≡ p.opens → q.incoming ≡ p.incoming →
-    q ≡ p
-queues_same q p a b c d e f g h j k =
+    q.banners ≡ p.banners → q.banner ≡ p.banner → q.standing ≡ p.standing → q ≡ p
+queues_same q p a b c d e f g h j =
     λ i. record {
       none = a i;
       password = b i;
@@ -121,8 +144,7 @@ queues_same q p a b c d e f g h j k =
       interactive = f i;
       banners = g i;
       banner = h i;
-      opens = j i;
-      incoming = k i;
+      standing = j i;
     }
 
 -- the answers are told once
@@ -137,9 +159,11 @@ heads q p xs ys e =
     let g = interactive_once q.interactive p.interactive _ _ f.1 in
     let h = banners_once q.banners p.banners _ _ g.1 in
     let j = banner_once q.banner p.banner _ _ h.1 in
-    let k = told_opens_once q.opens p.opens _ _ j.1 in
-    let l = told_data_once q.incoming p.incoming xs ys k.1 in
-    (queues_same q p a.0 b.0 c.0 d.0 f.0 g.0 h.0 j.0 k.0 l.0, l.1)
+    let k = told_opens_once q.standing.opens p.standing.opens _ _ j.1 in
+    let l = told_data_once q.standing.incoming p.standing.incoming _ _ k.1 in
+    let m = told_requests_once q.standing.requests p.standing.requests xs ys l.1 in
+    let n = standing_same q.standing p.standing k.0 l.0 m.0 in
+    (queues_same q p a.0 b.0 c.0 d.0 f.0 g.0 h.0 j.0 n, m.1)
 
 -- an entry's input, and the moment until which its frame is held
 input_in : Input → List TraceEntry → Input

@@ -3,7 +3,7 @@ use Rattle.std.proofs.Common.{◌≡◌, ℕ, ◌/◌, ◌%◌, List, [], ◌∷
 use Rattle.std.proofs.Common.{slice_index, Result, Ok, Err, refl, sym, ap, ◌∙◌, append_assoc}
 use Rattle.std.specs.Prelude.{OnOk}
 use Rattle.hex.specs.Hex.{encode_with, encode_lower, lower_digits}
-use Rattle.ssh_script.specs.CallLines.{hex_text}
+use Rattle.ssh_script.specs.Words.{hex_text}
 
 encode_joined : (digits front back : List ℕ) → encode_with digits (front ++ back)
     ≡ encode_with digits front ++ encode_with digits back

@@ -72,16 +72,16 @@ heard queues (ask.Admits admission) =
     )
 heard queues (ask.Lends lent) =
     inl (
-      lent_call lent (Ok done) (records queues.opens queues.incoming lent),
+      lent_call lent (Ok done) (records queues.standing lent),
       refl,
       ap question_of (lent_back Failure lent (Ok done)
-          (records queues.opens queues.incoming lent)),
+          (records queues.standing lent)),
     )
 heard queues (ask.Judges judged) =
     inl (
-      judged_call judged (Ok (grants judged)) [],
+      judged_call judged (Ok (grants queues.standing judged)) [],
       refl,
-      ap question_of (judged_back Failure judged (Ok (grants judged)) []),
+      ap question_of (judged_back Failure judged (Ok (grants queues.standing judged)) []),
     )
 heard queues (ask.Listens address port) = inl (
   call.TcpipForward address port port (Ok false) [],

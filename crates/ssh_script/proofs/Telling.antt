@@ -92,7 +92,7 @@ lost_tells old lost queues all more e = subst (λ b. AddsOrStops old (told_of b 
 pub tells_lent : (result : Result (Unit {0}) Failure) (lost lost' : Bool) (queues left : Queues)
     (all new : List Question) (lent : Lent) (recorded : List Command) → left_after queues all ≡ left
     →
-    records left.opens left.incoming lent ≡ recorded → OnOk result (new ≡ all ++ Lends lent ∷ []) →
+    records left.standing lent ≡ recorded → OnOk result (new ≡ all ++ Lends lent ∷ []) →
     OnOk result (lost' ≡ lost) → OnErr result (lost' ≡ true) →
     Tells (told_of lost queues all) (told_of lost' queues new) result
     (lent_call lent result recorded)

@@ -23,6 +23,8 @@ use Rattle.ssh_script.specs.declared.answers.OpenVerdict.{OpenVerdict}
 use Rattle.ssh_script.specs.declared.answers.OpenVerdict.TheVariants as open_verdict
 use Rattle.ssh_script.specs.declared.answers.DataVerdict.{DataVerdict}
 use Rattle.ssh_script.specs.declared.answers.DataVerdict.TheVariants as data_verdict
+use Rattle.ssh_script.specs.declared.answers.RequestVerdict.{RequestVerdict}
+use Rattle.ssh_script.specs.declared.answers.RequestVerdict.TheVariants as request_verdict
 use Rattle.ssh_script.specs.declared.answers.Verdict.{Verdict}
 use Rattle.ssh_script.specs.declared.answers.Verdict.TheVariants as verdict
 use Rattle.ssh_script.specs.declared.lines.Setting.{Setting}
@@ -199,6 +201,22 @@ data_verdict_form (Some one) = Whole (line.Setting (setting.AnswerData one))
 abbrev pub data_answer_form : List ℕ → Form
 data_answer_form word = data_verdict_form (data_verdict_of word)
 
+-- success, failure or silent
+abbrev pub request_verdict_of : List ℕ → Option RequestVerdict
+request_verdict_of word =
+    if bytes_eq word (codes "success") then Some request_verdict.Success
+    else if bytes_eq word (codes "failure") then Some request_verdict.Failure
+    else if bytes_eq word (codes "silent") then Some request_verdict.Silent
+    else None
+
+abbrev pub request_verdict_form : Option RequestVerdict → Form
+request_verdict_form None = No_form
+request_verdict_form (Some one) = Whole (line.Setting (setting.AnswerRequest one))
+
+-- answer request, and one of these
+abbrev pub request_form : List ℕ → Form
+request_form word = request_verdict_form (request_verdict_of word)
+
 -- answer, a name and a word
 abbrev pub answer_words : Option (List ℕ × List ℕ) → Form
 answer_words None = No_form
@@ -207,6 +225,7 @@ answer_words (Some parts) =
     else if bytes_eq parts.0 (codes "interactive") then interactive_form parts.1
     else if bytes_eq parts.0 (codes "open") then open_form parts.1
     else if bytes_eq parts.0 (codes "data") then data_answer_form parts.1
+    else if bytes_eq parts.0 (codes "request") then request_form parts.1
     else verdict_form parts.0 (verdict_of parts.1)
 
 abbrev pub answer_form : List ℕ → Form
@@ -294,6 +313,25 @@ eof_form rest = Of_small (λ channel. Whole (commands (command.Eof (own channel)
 abbrev pub close_form : List ℕ → Form
 close_form rest = Of_small (λ channel. Whole (commands (command.Close (own channel)))) rest
 
+-- success, and a channel; and failure, and a channel
+abbrev pub success_form : List ℕ → Form
+success_form rest =
+    Of_small (λ channel. Whole (commands (command.ChannelSuccess (own channel)))) rest
+
+abbrev pub failure_form : List ℕ → Form
+failure_form rest =
+    Of_small (λ channel. Whole (commands (command.ChannelFailure (own channel)))) rest
+
+-- status, a channel and the exit status of its program
+abbrev pub status_words : Option (List ℕ × List ℕ) → Form
+status_words None = No_form
+status_words (Some parts) =
+    Of_small (λ channel. Of_small (λ status.
+    Whole (commands (command.ExitStatus (own channel) status))) parts.1) parts.0
+
+abbrev pub status_form : List ℕ → Form
+status_form rest = status_words (cut rest)
+
 -- open, and the type of the channel
 abbrev pub own_open_form : List ℕ → Form
 own_open_form type =
@@ -325,6 +363,19 @@ reject_words (Some parts) =
 abbrev pub reject_form : List ℕ → Form
 reject_form rest = reject_words (cut rest)
 
+-- the name of a command, and what follows it
+abbrev pub command_form : List ℕ → List ℕ → Form
+command_form word rest =
+    if bytes_eq word (codes "data") then data_form rest
+    else if bytes_eq word (codes "ext") then ext_form rest
+    else if bytes_eq word (codes "eof") then eof_form rest
+    else if bytes_eq word (codes "close") then close_form rest
+    else if bytes_eq word (codes "success") then success_form rest
+    else if bytes_eq word (codes "failure") then failure_form rest
+    else if bytes_eq word (codes "status") then status_form rest
+    else if bytes_eq word (codes "open") then own_open_form rest
+    else No_form
+
 -- a word, and what follows it
 abbrev pub word_form : List ℕ → List ℕ → Form
 word_form word rest =
@@ -338,14 +389,9 @@ word_form word rest =
     else if bytes_eq word (codes "sign") then sign_form rest
     else if bytes_eq word (codes "at") then Of_number (λ moment. line.Input (input.At moment)) rest
     else if bytes_eq word (codes "recv") then Of_bytes (λ bytes. line.Input (input.Recv bytes)) rest
-    else if bytes_eq word (codes "data") then data_form rest
-    else if bytes_eq word (codes "ext") then ext_form rest
-    else if bytes_eq word (codes "eof") then eof_form rest
-    else if bytes_eq word (codes "close") then close_form rest
-    else if bytes_eq word (codes "open") then own_open_form rest
     else if bytes_eq word (codes "accept") then accept_form rest
     else if bytes_eq word (codes "reject") then reject_form rest
-    else No_form
+    else command_form word rest
 
 -- one word alone
 abbrev pub lone_form : List ℕ → Form

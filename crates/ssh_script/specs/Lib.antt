@@ -5,6 +5,8 @@ pub mod Queue
 pub mod Played
 pub mod Telling
 pub mod Given
+pub mod Words
+pub mod Happenings
 pub mod CallLines
 pub mod Print
 pub mod Scene

@@ -34,6 +34,9 @@ use Rattle.ssh_script.specs.declared.answers.InteractiveVerdict.TheVariants as i
 use Rattle.ssh_script.specs.declared.answers.OpenVerdict.{OpenVerdict}
 use Rattle.ssh_script.specs.declared.answers.DataVerdict.{DataVerdict}
 use Rattle.ssh_script.specs.declared.answers.DataVerdict.TheVariants.{Silent, Echo}
+use Rattle.ssh_script.specs.declared.answers.RequestVerdict.{RequestVerdict}
+use Rattle.ssh_script.specs.declared.answers.RequestVerdict.TheVariants as requested
+use Rattle.ssh_script.specs.declared.answers.Standing.{Standing}
 use Rattle.ssh_script.specs.declared.answers.Verdict.{Verdict}
 use Rattle.ssh_script.specs.declared.answers.Verdict.TheVariants as verdict
 use Rattle.ssh_script.specs.declared.script_handler.ScriptError.{ScriptError}
@@ -63,10 +66,8 @@ pub record Queues : Type 0 where
   pub banners : ℕ
   -- the banner that the later ones give
   pub banner : Option (List ℕ)
-  -- to all channels that the peer opens
-  pub opens : OpenVerdict
-  -- to data that come in on a channel
-  pub incoming : DataVerdict
+  -- those that stand for the whole run
+  pub standing : Standing
 
 -- as the code holds them
 abbrev pub queues_in : Answers → Queues
@@ -79,8 +80,7 @@ queues_in answers = record {
   interactive = answers.interactive.items;
   banners = answers.failing_banners;
   banner = answers.banner;
-  opens = answers.opens;
-  incoming = answers.incoming;
+  standing = answers.standing;
 }
 
 -- those after as many as were given
@@ -94,8 +94,7 @@ queues_from answers next banners = record {
   interactive = drop next.interactive answers.interactive.items;
   banners = banners;
   banner = answers.banner;
-  opens = answers.opens;
-  incoming = answers.incoming;
+  standing = answers.standing;
 }
 
 -- the next verdict, and this one where there is none
@@ -155,27 +154,44 @@ abbrev pub echoes : DataVerdict → ChannelId → List ℕ → List Command
 echoes Silent channel bytes = []
 echoes Echo channel bytes = command.Data channel bytes ∷ []
 
--- what a callback records of what happens on a channel: a request is answered by success
-abbrev pub replies : DataVerdict → ChannelId → Happening → List Command
-replies how channel (what.Confirmed packet window) = []
-replies how channel (what.Data bytes) = echoes how channel bytes
-replies how channel (what.ExtendedData code bytes) = []
-replies how channel what.Eof = []
-replies how channel what.Close = []
-replies how channel (what.WindowAdjusted new_size) = []
-replies how channel _ = command.ChannelSuccess channel ∷ []
+-- a request on a channel is answered, or not
+abbrev pub replies : RequestVerdict → ChannelId → List Command
+replies requested.Success channel = command.ChannelSuccess channel ∷ []
+replies requested.Failure channel = command.ChannelFailure channel ∷ []
+replies requested.Silent channel = []
+
+-- what a callback records of what happens on a channel: an answer to data, and to each request
+abbrev pub responses : Standing → ChannelId → Happening → List Command
+responses standing channel (what.Data bytes) = echoes standing.incoming channel bytes
+responses standing channel (what.PtyRequest term columns rows width height modes) =
+    replies standing.requests channel
+responses standing channel (what.X11Request single protocol cookie screen) =
+    replies standing.requests channel
+responses standing channel (what.EnvRequest name value) = replies standing.requests channel
+responses standing channel what.ShellRequest = replies standing.requests channel
+responses standing channel (what.ExecRequest bytes) = replies standing.requests channel
+responses standing channel (what.SubsystemRequest name) = replies standing.requests channel
+responses standing channel (what.WindowChangeRequest columns rows width height) =
+    replies standing.requests channel
+responses standing channel (what.Signal signal) = replies standing.requests channel
+responses standing channel _ = []
 
 -- what a callback records that answers nothing: of a channel that the peer opens, the answer
-abbrev pub records : OpenVerdict → DataVerdict → Lent → List Command
-records opens how Succeeded = []
-records opens how (Opens channel type) = recorded (open_answer opens channel)
-records opens how (Happened channel happening) = replies how channel happening
+abbrev pub records : Standing → Lent → List Command
+records standing Succeeded = []
+records standing (Opens channel type) = recorded (open_answer standing.opens channel)
+records standing (Happened channel happening) = responses standing channel happening
 
--- whether it is granted: the agent is reached, as for every request on a channel, and nothing is
--- forwarded
-abbrev pub grants : Judged → Bool
-grants (whether.AgentRequest channel) = true
-grants _ = false
+-- whether a request on a channel is granted that is answered so
+abbrev pub is_success : RequestVerdict → Bool
+is_success requested.Success = true
+is_success requested.Failure = false
+is_success requested.Silent = false
+
+-- whether it is granted: the agent is reached where requests succeed, and nothing is forwarded
+abbrev pub grants : Standing → Judged → Bool
+grants standing (whether.AgentRequest channel) = is_success standing.requests
+grants standing _ = false
 
 -- the call of a question, which is answered so; those of an exchange are put to no handler
 abbrev pub answered : Queues → Question → List (Call Failure)
@@ -184,8 +200,9 @@ answered queues question.Banner = call.AuthenticationBanner
 answered queues (question.Admits admission) = admission_call admission
     (interactive_answer (verdict_on queues admission)) ∷ []
 answered queues (question.Lends lent) =
-    lent_call lent (Ok tt) (records queues.opens queues.incoming lent) ∷ []
-answered queues (question.Judges judged) = judged_call judged (Ok (grants judged)) [] ∷ []
+    lent_call lent (Ok tt) (records queues.standing lent) ∷ []
+answered queues (question.Judges judged) =
+    judged_call judged (Ok (grants queues.standing judged)) [] ∷ []
 -- nobody listens, and the port is as it was
 answered queues (question.Listens address port) = call.TcpipForward address port port (Ok false) []
     ∷ []
@@ -218,8 +235,8 @@ IsAnswered queues (call ∷ calls) =
     (call ∷ [] ≡ answered queues (asked_of call)) × IsAnswered (after queues (asked_of call)) calls
 
 -- the answers as a handler tells them before its calls: a call for each queue, which names its
--- verdicts by their numbers, one for the number of banners that fail, one for the banner, one for
--- the opens, and one for data
+-- verdicts by their numbers, one for the number of banners that fail, one for the banner, and one
+-- each for opens, for data and for requests
 abbrev pub verdict_number : Verdict → ℕ
 verdict_number verdict.Accept = 0
 verdict_number verdict.Reject = 1
@@ -248,6 +265,9 @@ told_opens opens = call.ChannelOpenSession (own 0) (Ok tt) (recorded (open_answe
 abbrev pub told_data : DataVerdict → Call Failure
 told_data how = lent_call (Happened (own 0) (what.Data [])) (Ok tt) (echoes how (own 0) [])
 
+abbrev pub told_requests : RequestVerdict → Call Failure
+told_requests how = lent_call (Happened (own 0) what.ShellRequest) (Ok tt) (replies how (own 0))
+
 abbrev pub heading : Queues → List (Call Failure)
 heading queues =
     told_queue queues.none
@@ -258,8 +278,9 @@ heading queues =
     ∷ told_interactive queues.interactive
     ∷ told_banners queues.banners
     ∷ told_banner queues.banner
-    ∷ told_opens queues.opens
-    ∷ told_data queues.incoming
+    ∷ told_opens queues.standing.opens
+    ∷ told_data queues.standing.incoming
+    ∷ told_requests queues.standing.requests
     ∷ []
 
 -- what a handler tells that has these answers and was asked so; one that lost a question tells

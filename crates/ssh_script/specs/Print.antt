@@ -3,9 +3,7 @@ use Rattle.std.specs.Prelude.{ℕ, ◌+◌, List, [], ◌∷◌, ◌++◌, codes
 use Rattle.std.specs.Prelude.{Result, Ok, Err}
 use Rattle.std.specs.Fmt.{decimal}
 use Rattle.ssh_wire.specs.declared.channel_id.ChannelId.{ChannelId}
-use Rattle.ssh_wire.specs.OpenFailures.{open_failure_code}
 use Rattle.ssh_link.specs.declared.notice.ChannelMsg.{ChannelMsg}
-use Rattle.ssh_link.specs.declared.notice.ChannelMsg.TheVariants as msg
 use Rattle.ssh_link.specs.declared.notice.Notice.{Notice}
 use Rattle.ssh_link.specs.declared.notice.Notice.TheVariants as notice
 use Rattle.ssh_link.specs.declared.outcome.CommandOutcome.{CommandOutcome}
@@ -15,7 +13,9 @@ use Rattle.ssh_link.specs.declared.link.TraceEntry.TheVariants as entry
 use Rattle.ssh_auth.specs.declared.call.Call.{Call}
 use Rattle.ssh_session.specs.declared.error.RunError.{RunError}
 use Rattle.ssh_session.specs.declared.error.RunError.TheVariants as error
-use Rattle.ssh_script.specs.CallLines.{hex_text, flag_text, outcome_text, call_line}
+use Rattle.ssh_script.specs.Words.{hex_text, flag_text, outcome_text, named_text}
+use Rattle.ssh_script.specs.Happenings.{msg_words}
+use Rattle.ssh_script.specs.CallLines.{call_line}
 
 -- the number of a channel, and - for none
 abbrev pub channel_text : Option ChannelId → List ℕ
@@ -33,18 +33,9 @@ frame_line frame =
     ++ hold_text frame.hold_until
     ++ codes "\n"
 
--- what happened on a channel; no row tells of other messages
+-- what happened on a channel
 abbrev pub msg_text : ChannelMsg → List ℕ
-msg_text (msg.Open id packet window) =
-    codes " Open " ++ decimal id.0 ++ codes " " ++ decimal packet ++ codes " " ++ decimal window
-msg_text (msg.OpenFailure reason) = codes " OpenFailure " ++ decimal (open_failure_code reason)
-msg_text (msg.Data bytes) = codes " Data " ++ hex_text bytes
-msg_text (msg.ExtendedData bytes code) =
-    codes " ExtendedData " ++ hex_text bytes ++ codes " " ++ decimal code
-msg_text (msg.WindowAdjusted new_size) = codes " WindowAdjusted " ++ decimal new_size
-msg_text msg.Eof = codes " Eof"
-msg_text msg.Close = codes " Close"
-msg_text _ = codes " NotBuilt"
+msg_text happened = codes " " ++ named_text (msg_words happened)
 
 -- the port that the peer listens at
 abbrev pub port_text : Option ℕ → List ℕ

@@ -10,6 +10,8 @@ use Rattle.ssh_handler.specs.Settings.{standard_config}
 use Rattle.ssh_keys.specs.declared.table_verifier.AcceptedSignature.{AcceptedSignature}
 use Rattle.ssh_script.specs.declared.answers.OpenVerdict.TheVariants.{Accept}
 use Rattle.ssh_script.specs.declared.answers.DataVerdict.TheVariants.{Silent}
+use Rattle.ssh_script.specs.declared.answers.RequestVerdict.TheVariants.{Success}
+use Rattle.ssh_script.specs.declared.answers.Standing.{Standing}
 use Rattle.ssh_script.specs.declared.lines.Setting.{Setting}
 use Rattle.ssh_script.specs.declared.lines.Setting.TheVariants as setting
 use Rattle.ssh_script.specs.declared.lines.InputLine.{InputLine}
@@ -56,14 +58,17 @@ opening_scene = record {
     interactive = [];
     banners = 0;
     banner = None;
-    opens = Accept;
-    incoming = Silent;
+    standing = record { opens = Accept; incoming = Silent; requests = Success };
   };
   tickets = 0;
   inputs = [];
   moment = 0;
   stage = stage.Settings;
 }
+
+-- after a setting of the answers that stand for the whole run
+abbrev pub with_standing : Standing → Scene → Scene
+with_standing standing s = record s { queues = record s.queues { standing = standing } }
 
 -- after a setting; None where it is out of range
 abbrev pub set : Setting → Scene → Option Scene
@@ -100,9 +105,11 @@ set setting.FailBanner s = Some (record s
     { queues = record s.queues { banners = s.queues.banners + 1 } })
 set (setting.Banner text) s = Some (record s { queues = record s.queues { banner = Some text } })
 set (setting.AnswerOpen verdict) s =
-    Some (record s { queues = record s.queues { opens = verdict } })
+    Some (with_standing (record s.queues.standing { opens = verdict }) s)
 set (setting.AnswerData verdict) s =
-    Some (record s { queues = record s.queues { incoming = verdict } })
+    Some (with_standing (record s.queues.standing { incoming = verdict }) s)
+set (setting.AnswerRequest verdict) s =
+    Some (with_standing (record s.queues.standing { requests = verdict }) s)
 
 -- settings come before the first input line
 abbrev pub set_in : Stage → Setting → Scene → Option Scene

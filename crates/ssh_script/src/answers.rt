@@ -44,6 +44,28 @@ pub(crate) enum DataVerdict {
     Echo,
 }
 
+/// What a script answers to requests on a channel.
+#[derive(Clone, Copy, Debug, PartialEq, Eq)]
+pub(crate) enum RequestVerdict {
+    /// They succeeded.
+    Success,
+    /// They failed.
+    Failure,
+    /// Nothing.
+    Silent,
+}
+
+/// The answers of a script that stand for a whole run.
+#[derive(Clone, Copy)]
+pub(crate) struct Standing {
+    /// To all channels that the peer opens.
+    pub(crate) opens: OpenVerdict,
+    /// To data on a channel.
+    pub(crate) incoming: DataVerdict,
+    /// To requests on a channel.
+    pub(crate) requests: RequestVerdict,
+}
+
 /// The answers of a script, each list in order.
 #[derive(Drop)]
 pub(crate) struct Answers {
@@ -63,10 +85,8 @@ pub(crate) struct Answers {
     pub(crate) failing_banners: u64,
     /// The banner that the later ones give.
     pub(crate) banner: Option<Text>,
-    /// To all channels that the peer opens.
-    pub(crate) opens: OpenVerdict,
-    /// To data on a channel.
-    pub(crate) incoming: DataVerdict,
+    /// Those that stand for the whole run.
+    pub(crate) standing: Standing,
 }
 
 /// How many answers of each list were given.

@@ -1,24 +1,26 @@
-// How a callback is printed: its name, and its arguments.
-ghost use Rattle.std.specs.Prelude.{◌≡◌, ◌++◌, ◌∷◌, codes, map, flat_map, IfOk, OnOk};
+// How a callback or a notice is printed: its name, and its arguments.
+ghost use Rattle.std.specs.Prelude.{◌≡◌, ◌++◌, codes, map, flat_map, IfOk, OnOk};
 ghost use Rattle.std.specs.String.{string_bytes};
 ghost use Rattle.ssh_keys.specs.Keys.{key_blob};
-ghost use Rattle.ssh_script.specs.CallLines.{Number, hex_word, flag_text, mode_text, later_mode};
-ghost use Rattle.ssh_script.specs.CallLines.{modes_text, response_text, outcome_text, word_text};
-ghost use Rattle.ssh_script.specs.CallLines.{word_of, line_text};
+ghost use Rattle.ssh_script.specs.Words.{hex_word, flag_text, mode_text, later_mode, modes_text};
+ghost use Rattle.ssh_script.specs.Words.{response_text, outcome_text, word_text, word_of};
+ghost use Rattle.ssh_script.specs.Words.{named_by, named_text};
 
 use crate::print::{print_field, print_hex};
 use crate::print_notice::print_outcome;
 use bytes::Bytes;
 use ssh_keys::PublicKey;
 use ssh_link::CommandOutcome;
-use ssh_wire::{Blobs, ChannelId, Modes, Pty, Sig, Text};
+use ssh_wire::{Blobs, ChannelOpenFailure, Modes, Pty, Sig, Text};
 use std::alloc::{AllocError, Global};
 
-/// An argument of a callback, as it is printed.
+/// An argument of a callback, or a field of a notice, as it is printed.
 #[derive(Clone, Copy)]
 pub(crate) enum Argument<'a> {
     /// In decimal.
     Number(u64),
+    /// Its code.
+    Reason(ChannelOpenFailure),
     /// In hex, and `-` for none.
     Bytes(&'a Bytes),
     /// In hex, and `-` for an empty one.
@@ -37,6 +39,33 @@ pub(crate) enum Argument<'a> {
     Responses(&'a Option<Blobs>),
     /// As in the trace.
     Came(CommandOutcome),
+}
+
+/// What is printed of a callback or a notice.
+#[derive(Drop)]
+pub(crate) struct Said<'a> {
+    /// Its name.
+    pub(crate) name: &'static str,
+    /// Its arguments, in order.
+    pub(crate) arguments: Vec<Argument<'a>>,
+}
+
+/// This name, with these arguments.
+pub(crate) fn says<'a>(
+    alloc: Global,
+    name: &'static str,
+    arguments: &[Argument<'a>],
+) -> Result<Said<'a>, AllocError>
+    ensures { IfOk result (λ said. named_by said ≡ (name.now, map word_of arguments.now)) }
+{
+    let mut copies = Vec::new(alloc);
+    for argument in arguments {
+        copies.push(*argument)?;
+    }
+    Ok(Said {
+        name,
+        arguments: copies,
+    })
 }
 
 /// The blob of a key. One that was read from a payload has no field that is too long for it.
@@ -171,6 +200,7 @@ fn print_argument(
 {
     match argument {
         Argument::Number(number) => print_field(alloc, out, " ", *number),
+        Argument::Reason(reason) => print_field(alloc, out, " ", reason.code() as u64),
         Argument::Bytes(bytes) => print_word(alloc, out, bytes.as_slice()),
         Argument::Text(text) => print_word(alloc, out, text.as_str().as_bytes()),
         Argument::Key(key) => print_key(alloc, out, key),
@@ -184,7 +214,7 @@ fn print_argument(
 }
 
 /// Arguments one after another.
-fn print_arguments(
+pub(crate) fn print_arguments(
     alloc: Global,
     out: &mut String,
     arguments: &[Argument<'_>],
@@ -201,36 +231,11 @@ fn print_arguments(
     }
 }
 
-/// The line of a callback.
-pub(crate) fn print_line(
-    alloc: Global,
-    out: &mut String,
-    name: &str,
-    arguments: &[Argument<'_>],
-) -> Result<(), AllocError>
+/// A name and arguments.
+pub(crate) fn print_said(alloc: Global, out: &mut String, said: &Said<'_>) -> Result<(), AllocError>
     ensures { OnOk result (string_bytes out.new ≡ string_bytes out.old
-        ++ line_text name.now (map word_of arguments.now)) }
+        ++ named_text (named_by said.now)) }
 {
-    out.push_str("call ")?;
-    out.push_str(name)?;
-    print_arguments(alloc, out, arguments)?;
-    out.push_str("\n")
-}
-
-/// The line of a callback that is about a channel.
-pub(crate) fn print_on(
-    alloc: Global,
-    out: &mut String,
-    name: &str,
-    channel: ChannelId,
-    arguments: &[Argument<'_>],
-) -> Result<(), AllocError>
-    ensures { OnOk result (string_bytes out.new ≡ string_bytes out.old
-        ++ line_text name.now (Number channel.0 ∷ map word_of arguments.now)) }
-{
-    out.push_str("call ")?;
-    out.push_str(name)?;
-    print_field(alloc, out, " ", channel.0 as u64)?;
-    print_arguments(alloc, out, arguments)?;
-    out.push_str("\n")
+    out.push_str(said.name)?;
+    print_arguments(alloc, out, said.arguments.as_slice())
 }

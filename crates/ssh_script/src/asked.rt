@@ -2,15 +2,17 @@
 ghost use Rattle.std.specs.Prelude.{◌≡◌, [], ◌∷◌, ◌++◌, Ok, true, OnOk, OnErr, IfOk};
 ghost use Rattle.ssh_link.specs.Told.{Tells};
 ghost use Rattle.ssh_link.specs.declared.command.Command.TheVariants.{ChannelSuccess, Data};
+ghost use Rattle.ssh_link.specs.declared.command.Command.TheVariants.{ChannelFailure};
 ghost use Rattle.ssh_auth.specs.declared.call.Call.{Call};
 ghost use Rattle.ssh_auth.specs.declared.question.Happening.TheVariants as what;
 ghost use Rattle.ssh_auth.specs.declared.question.Lent.TheVariants.{Happened, Opens};
 ghost use Rattle.ssh_auth.specs.Calls.{admission_call, lent_call, judged_call};
-ghost use Rattle.ssh_script.specs.Played.{Failure, records, replies, echoes, grants};
+ghost use Rattle.ssh_script.specs.Played.{Failure, records, responses, replies, echoes, is_success};
+ghost use Rattle.ssh_script.specs.Played.{grants};
 ghost use Rattle.ssh_script.specs.Opens.{recorded};
 ghost use Rattle.ssh_script.specs.Telling.{told_by};
 
-use crate::answers::DataVerdict;
+use crate::answers::{DataVerdict, RequestVerdict};
 use crate::interactive::interactive_answer_of;
 use crate::made;
 use crate::script_handler::{ScriptError, ScriptHandler, open_answer_of, places_after, verdict_of};
@@ -80,6 +82,16 @@ fn answer_open(
     }
 }
 
+// Whether a request on a channel is granted that is answered so.
+pub(crate) fn is_success(verdict: RequestVerdict) -> bool
+    ensures { result ≡ is_success verdict }
+{
+    match verdict {
+        RequestVerdict::Success => true,
+        RequestVerdict::Failure | RequestVerdict::Silent => false,
+    }
+}
+
 // Records that a request on a channel succeeded.
 fn succeed(
     session: &mut Commands<'_>,
@@ -97,6 +109,45 @@ fn succeed(
             *lost = true;
             Err(RecordError::NoMemory)
         }
+    }
+}
+
+// Records that a request on a channel failed.
+fn fail(
+    session: &mut Commands<'_>,
+    lost: &mut bool,
+    channel: ChannelId,
+) -> Result<(), RecordError<ScriptError>>
+    requires fresh { session.old.recorded ≡ [] }
+    ensures recorded { OnOk result (session.new.recorded ≡ ChannelFailure channel ∷ []) }
+    ensures same { OnOk result (lost.new ≡ lost.old) }
+    ensures lost { OnErr result (lost.new ≡ true) }
+{
+    match session.channel_failure(channel) {
+        Ok(()) => Ok(()),
+        Err(_unrecorded) => {
+            *lost = true;
+            Err(RecordError::NoMemory)
+        }
+    }
+}
+
+// Records the answer to a request on a channel, where there is one.
+fn reply(
+    session: &mut Commands<'_>,
+    lost: &mut bool,
+    verdict: RequestVerdict,
+    channel: ChannelId,
+) -> Result<(), RecordError<ScriptError>>
+    requires fresh { session.old.recorded ≡ [] }
+    ensures recorded { OnOk result (session.new.recorded ≡ replies verdict channel) }
+    ensures same { OnOk result (lost.new ≡ lost.old) }
+    ensures lost { OnErr result (lost.new ≡ true) }
+{
+    match verdict {
+        RequestVerdict::Success => succeed(session, lost, channel),
+        RequestVerdict::Failure => fail(session, lost, channel),
+        RequestVerdict::Silent => Ok(()),
     }
 }
 
@@ -185,8 +236,7 @@ impl ScriptHandler {
         lent: Lent,
         session: &Commands<'_>,
     ) -> Result<(), RecordError<ScriptError>>
-        requires recorded { records self.old.answers.opens self.old.answers.incoming lent
-            ≡ session.now.recorded }
+        requires recorded { records self.old.answers.standing lent ≡ session.now.recorded }
         ensures { Tells (told_by self.old) (told_by self.new) result
             (lent_call lent result session.now.recorded) }
     {
@@ -200,7 +250,7 @@ impl ScriptHandler {
         happening: Happening,
         session: &Commands<'_>,
     ) -> Result<(), RecordError<ScriptError>>
-        requires quiet { replies self.old.answers.incoming channel happening ≡ [] }
+        requires quiet { responses self.old.answers.standing channel happening ≡ [] }
         requires fresh { session.now.recorded ≡ [] }
         ensures { Tells (told_by self.old) (told_by self.new) result
             (lent_call (Happened channel happening) result session.now.recorded) }
@@ -223,7 +273,7 @@ impl ScriptHandler {
             self.alloc,
             session,
             &mut self.lost,
-            self.answers.incoming,
+            self.answers.standing.incoming,
             channel,
             bytes,
         )?;
@@ -237,7 +287,7 @@ impl ScriptHandler {
         bytes: &[u8],
         session: &Commands<'_>,
     ) -> Result<(), RecordError<ScriptError>>
-        requires answered { echoes self.old.answers.incoming channel bytes.now
+        requires answered { echoes self.old.answers.standing.incoming channel bytes.now
             ≡ session.now.recorded }
         ensures { Tells (told_by self.old) (told_by self.new) result
             (lent_call (Happened channel (what.Data bytes.now)) result session.now.recorded) }
@@ -248,20 +298,21 @@ impl ScriptHandler {
         self.hears(Lent::Happened(channel, data), session)
     }
 
-    /// A request on a channel is answered by success.
-    pub(crate) fn succeeds(
+    /// A request on a channel is answered as the script says.
+    pub(crate) fn requested(
         &mut self,
         channel: ChannelId,
         happening: Happening,
         session: &mut Commands<'_>,
     ) -> Result<(), RecordError<ScriptError>>
-        requires request { replies self.old.answers.incoming channel happening
-            ≡ ChannelSuccess channel ∷ [] }
+        requires request { responses self.old.answers.standing channel happening
+            ≡ replies self.old.answers.standing.requests channel }
         requires fresh { session.old.recorded ≡ [] }
         ensures { Tells (told_by self.old) (told_by self.new) result
             (lent_call (Happened channel happening) result session.new.recorded) }
     {
-        succeed(session, &mut self.lost, channel)?;
+        let verdict = self.answers.standing.requests;
+        reply(session, &mut self.lost, verdict, channel)?;
         self.hears(Lent::Happened(channel, happening), session)
     }
 
@@ -278,7 +329,7 @@ impl ScriptHandler {
         ensures { Tells (told_by self.old) (told_by self.new) result
             (lent_call (Opens channel opening) result session.new.recorded) }
     {
-        let answer = open_answer_of(self.answers.opens, reply);
+        let answer = open_answer_of(self.answers.standing.opens, reply);
         answer_open(session, &mut self.lost, answer)?;
         self.hears(Lent::Opens(channel, opening), session)
     }
@@ -290,7 +341,7 @@ impl ScriptHandler {
         granted: bool,
         session: &Commands<'_>,
     ) -> Result<bool, RecordError<ScriptError>>
-        requires granted { grants judged ≡ granted }
+        requires granted { grants self.old.answers.standing judged ≡ granted }
         requires fresh { session.now.recorded ≡ [] }
         ensures { Tells (told_by self.old) (told_by self.new) result
             (judged_call judged result session.now.recorded) }

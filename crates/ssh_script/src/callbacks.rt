@@ -1,5 +1,5 @@
 // The callbacks of a script's handler once a user is authenticated.
-use crate::asked::keep;
+use crate::asked::{is_success, keep};
 use crate::made;
 use crate::script_handler::{ScriptError, ScriptHandler};
 use ssh_auth::{Happening, Judged, Lent, OpenType, Question};
@@ -7,27 +7,19 @@ use ssh_handler::{Commands, Handler, RecordError};
 use ssh_link::{ChannelOpenHandle, CommandOutcome};
 use ssh_wire::{ChannelId, Pty, Sig, Text};
 
+/// What a callback answers that answers nothing but an error.
+type Heard = Result<(), RecordError<ScriptError>>;
+
 impl Handler for ScriptHandler {
-    fn auth_succeeded(
-        &mut self,
-        session: &mut Commands<'_>,
-    ) -> Result<(), RecordError<ScriptError>> {
+    fn auth_succeeded(&mut self, session: &mut Commands<'_>) -> Heard {
         self.hears(Lent::Succeeded, session)
     }
 
-    fn channel_close(
-        &mut self,
-        channel: ChannelId,
-        session: &mut Commands<'_>,
-    ) -> Result<(), RecordError<ScriptError>> {
+    fn channel_close(&mut self, channel: ChannelId, session: &mut Commands<'_>) -> Heard {
         self.happens(channel, Happening::Close, session)
     }
 
-    fn channel_eof(
-        &mut self,
-        channel: ChannelId,
-        session: &mut Commands<'_>,
-    ) -> Result<(), RecordError<ScriptError>> {
+    fn channel_eof(&mut self, channel: ChannelId, session: &mut Commands<'_>) -> Heard {
         self.happens(channel, Happening::Eof, session)
     }
 
@@ -36,7 +28,7 @@ impl Handler for ScriptHandler {
         channel: ChannelId,
         reply: ChannelOpenHandle,
         session: &mut Commands<'_>,
-    ) -> Result<(), RecordError<ScriptError>> {
+    ) -> Heard {
         self.opens(channel, OpenType::Session, reply, session)
     }
 
@@ -47,7 +39,7 @@ impl Handler for ScriptHandler {
         originator_port: u32,
         reply: ChannelOpenHandle,
         session: &mut Commands<'_>,
-    ) -> Result<(), RecordError<ScriptError>> {
+    ) -> Heard {
         let Ok(opening) = made::x11_type(self.alloc, originator_address, originator_port) else {
             return self.loses_open(reply);
         };
@@ -63,7 +55,7 @@ impl Handler for ScriptHandler {
         originator_port: u32,
         reply: ChannelOpenHandle,
         session: &mut Commands<'_>,
-    ) -> Result<(), RecordError<ScriptError>> {
+    ) -> Heard {
         let Ok(opening) = made::direct_tcpip(
             self.alloc,
             host_to_connect,
@@ -85,7 +77,7 @@ impl Handler for ScriptHandler {
         originator_port: u32,
         reply: ChannelOpenHandle,
         session: &mut Commands<'_>,
-    ) -> Result<(), RecordError<ScriptError>> {
+    ) -> Heard {
         let Ok(opening) = made::forwarded_tcpip(
             self.alloc,
             host_to_connect,
@@ -104,7 +96,7 @@ impl Handler for ScriptHandler {
         socket_path: &str,
         reply: ChannelOpenHandle,
         session: &mut Commands<'_>,
-    ) -> Result<(), RecordError<ScriptError>> {
+    ) -> Heard {
         let Ok(opening) = made::direct_streamlocal(self.alloc, socket_path) else {
             return self.loses_open(reply);
         };
@@ -117,7 +109,7 @@ impl Handler for ScriptHandler {
         max_packet_size: u32,
         window_size: u32,
         session: &mut Commands<'_>,
-    ) -> Result<(), RecordError<ScriptError>> {
+    ) -> Heard {
         let confirmed = Happening::Confirmed {
             max_packet_size,
             window_size,
@@ -125,12 +117,7 @@ impl Handler for ScriptHandler {
         self.happens(id, confirmed, session)
     }
 
-    fn data(
-        &mut self,
-        channel: ChannelId,
-        bytes: &[u8],
-        session: &mut Commands<'_>,
-    ) -> Result<(), RecordError<ScriptError>> {
+    fn data(&mut self, channel: ChannelId, bytes: &[u8], session: &mut Commands<'_>) -> Heard {
         self.hears_data(channel, bytes, session)
     }
 
@@ -140,7 +127,7 @@ impl Handler for ScriptHandler {
         code: u32,
         bytes: &[u8],
         session: &mut Commands<'_>,
-    ) -> Result<(), RecordError<ScriptError>> {
+    ) -> Heard {
         let Ok(data) = made::extended_data(self.alloc, code, bytes) else {
             return self.loses();
         };
@@ -152,7 +139,7 @@ impl Handler for ScriptHandler {
         channel: ChannelId,
         new_size: u32,
         session: &mut Commands<'_>,
-    ) -> Result<(), RecordError<ScriptError>> {
+    ) -> Heard {
         self.happens(channel, Happening::WindowAdjusted { new_size }, session)
     }
 
@@ -176,13 +163,13 @@ impl Handler for ScriptHandler {
         pix_height: u32,
         modes: &[(Pty, u32)],
         session: &mut Commands<'_>,
-    ) -> Result<(), RecordError<ScriptError>> {
+    ) -> Heard {
         let Ok(request) = made::pty(
             self.alloc, term, col_width, row_height, pix_width, pix_height, modes,
         ) else {
             return self.loses();
         };
-        self.succeeds(channel, request, session)
+        self.requested(channel, request, session)
     }
 
     fn x11_request(
@@ -193,7 +180,7 @@ impl Handler for ScriptHandler {
         x11_auth_cookie: &str,
         x11_screen_number: u32,
         session: &mut Commands<'_>,
-    ) -> Result<(), RecordError<ScriptError>> {
+    ) -> Heard {
         let Ok(request) = made::x11(
             self.alloc,
             single_connection,
@@ -203,7 +190,7 @@ impl Handler for ScriptHandler {
         ) else {
             return self.loses();
         };
-        self.succeeds(channel, request, session)
+        self.requested(channel, request, session)
     }
 
     fn env_request(
@@ -212,19 +199,15 @@ impl Handler for ScriptHandler {
         variable_name: &str,
         variable_value: &str,
         session: &mut Commands<'_>,
-    ) -> Result<(), RecordError<ScriptError>> {
+    ) -> Heard {
         let Ok(request) = made::env(self.alloc, variable_name, variable_value) else {
             return self.loses();
         };
-        self.succeeds(channel, request, session)
+        self.requested(channel, request, session)
     }
 
-    fn shell_request(
-        &mut self,
-        channel: ChannelId,
-        session: &mut Commands<'_>,
-    ) -> Result<(), RecordError<ScriptError>> {
-        self.succeeds(channel, Happening::ShellRequest, session)
+    fn shell_request(&mut self, channel: ChannelId, session: &mut Commands<'_>) -> Heard {
+        self.requested(channel, Happening::ShellRequest, session)
     }
 
     fn exec_request(
@@ -232,11 +215,11 @@ impl Handler for ScriptHandler {
         channel: ChannelId,
         bytes: &[u8],
         session: &mut Commands<'_>,
-    ) -> Result<(), RecordError<ScriptError>> {
+    ) -> Heard {
         let Ok(request) = made::exec(self.alloc, bytes) else {
             return self.loses();
         };
-        self.succeeds(channel, request, session)
+        self.requested(channel, request, session)
     }
 
     fn subsystem_request(
@@ -244,11 +227,11 @@ impl Handler for ScriptHandler {
         channel: ChannelId,
         name: &str,
         session: &mut Commands<'_>,
-    ) -> Result<(), RecordError<ScriptError>> {
+    ) -> Heard {
         let Ok(request) = made::subsystem(self.alloc, name) else {
             return self.loses();
         };
-        self.succeeds(channel, request, session)
+        self.requested(channel, request, session)
     }
 
     fn window_change_request(
@@ -259,14 +242,14 @@ impl Handler for ScriptHandler {
         pix_width: u32,
         pix_height: u32,
         session: &mut Commands<'_>,
-    ) -> Result<(), RecordError<ScriptError>> {
+    ) -> Heard {
         let request = Happening::WindowChangeRequest {
             col_width,
             row_height,
             pix_width,
             pix_height,
         };
-        self.succeeds(channel, request, session)
+        self.requested(channel, request, session)
     }
 
     fn agent_request(
@@ -274,16 +257,12 @@ impl Handler for ScriptHandler {
         channel: ChannelId,
         session: &mut Commands<'_>,
     ) -> Result<bool, RecordError<ScriptError>> {
-        self.judges(Judged::AgentRequest { channel }, true, session)
+        let granted = is_success(self.answers.standing.requests);
+        self.judges(Judged::AgentRequest { channel }, granted, session)
     }
 
-    fn signal(
-        &mut self,
-        channel: ChannelId,
-        signal: Sig,
-        session: &mut Commands<'_>,
-    ) -> Result<(), RecordError<ScriptError>> {
-        self.succeeds(channel, Happening::Signal { signal }, session)
+    fn signal(&mut self, channel: ChannelId, signal: Sig, session: &mut Commands<'_>) -> Heard {
+        self.requested(channel, Happening::Signal { signal }, session)
     }
 
     fn tcpip_forward(
@@ -337,11 +316,7 @@ impl Handler for ScriptHandler {
         self.judges(judged, false, session)
     }
 
-    fn command_done(
-        &mut self,
-        place: usize,
-        outcome: CommandOutcome,
-    ) -> Result<(), RecordError<ScriptError>> {
+    fn command_done(&mut self, place: usize, outcome: CommandOutcome) -> Heard {
         keep(
             &mut self.asked,
             &mut self.lost,

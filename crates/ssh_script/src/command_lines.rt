@@ -1,7 +1,8 @@
 // How the lines of a script are written that bring a command, or the answer to an open of the peer.
 ghost use Rattle.std.specs.Prelude.{◌≡◌, IfOk};
 ghost use Rattle.ssh_script.specs.Grammar.{IsSmallIn, IsChannelIn, Fits, reason_of, data_form};
-ghost use Rattle.ssh_script.specs.Grammar.{ext_form, eof_form, close_form, own_open_form};
+ghost use Rattle.ssh_script.specs.Grammar.{ext_form, eof_form, close_form, success_form};
+ghost use Rattle.ssh_script.specs.Grammar.{failure_form, status_form, own_open_form, command_form};
 ghost use Rattle.ssh_script.specs.Grammar.{accept_form, reject_form};
 
 use crate::grammar::{bytes_in, number_in};
@@ -38,7 +39,7 @@ fn reason_in(code: u32) -> Option<ChannelOpenFailure>
 }
 
 /// The rest of a line `data`: a channel, and bytes.
-pub(crate) fn data_line(alloc: Global, rest: &str) -> Result<Option<Line>, AllocError>
+fn data_line(alloc: Global, rest: &str) -> Result<Option<Line>, AllocError>
     ensures { IfOk result (Fits (data_form rest.now)) }
 {
     let Some((number, digits)) = rest.split_once(' ') else {
@@ -55,7 +56,7 @@ pub(crate) fn data_line(alloc: Global, rest: &str) -> Result<Option<Line>, Alloc
 }
 
 /// The rest of a line `ext`: a channel, a data type code, and bytes.
-pub(crate) fn ext_line(alloc: Global, rest: &str) -> Result<Option<Line>, AllocError>
+fn ext_line(alloc: Global, rest: &str) -> Result<Option<Line>, AllocError>
     ensures { IfOk result (Fits (ext_form rest.now)) }
 {
     let Some((number, rest)) = rest.split_once(' ') else {
@@ -82,7 +83,7 @@ pub(crate) fn ext_line(alloc: Global, rest: &str) -> Result<Option<Line>, AllocE
 }
 
 /// The rest of a line `eof`: a channel.
-pub(crate) fn eof_line(alloc: Global, number: &str) -> Result<Option<Line>, AllocError>
+fn eof_line(alloc: Global, number: &str) -> Result<Option<Line>, AllocError>
     ensures { IfOk result (Fits (eof_form number.now)) }
 {
     let Some(channel) = channel_in(alloc, number)? else {
@@ -93,7 +94,7 @@ pub(crate) fn eof_line(alloc: Global, number: &str) -> Result<Option<Line>, Allo
 }
 
 /// The rest of a line `close`: a channel.
-pub(crate) fn close_line(alloc: Global, number: &str) -> Result<Option<Line>, AllocError>
+fn close_line(alloc: Global, number: &str) -> Result<Option<Line>, AllocError>
     ensures { IfOk result (Fits (close_form number.now)) }
 {
     let Some(channel) = channel_in(alloc, number)? else {
@@ -103,13 +104,76 @@ pub(crate) fn close_line(alloc: Global, number: &str) -> Result<Option<Line>, Al
     Ok(Some(Line::Input(InputLine::Command(command))))
 }
 
+/// The rest of a line `success`: a channel.
+fn success_line(alloc: Global, number: &str) -> Result<Option<Line>, AllocError>
+    ensures { IfOk result (Fits (success_form number.now)) }
+{
+    let Some(channel) = channel_in(alloc, number)? else {
+        return Ok(None);
+    };
+    let command = Command::ChannelSuccess { channel };
+    Ok(Some(Line::Input(InputLine::Command(command))))
+}
+
+/// The rest of a line `failure`: a channel.
+fn failure_line(alloc: Global, number: &str) -> Result<Option<Line>, AllocError>
+    ensures { IfOk result (Fits (failure_form number.now)) }
+{
+    let Some(channel) = channel_in(alloc, number)? else {
+        return Ok(None);
+    };
+    let command = Command::ChannelFailure { channel };
+    Ok(Some(Line::Input(InputLine::Command(command))))
+}
+
+/// The rest of a line `status`: a channel, and the exit status of its program.
+fn status_line(alloc: Global, rest: &str) -> Result<Option<Line>, AllocError>
+    ensures { IfOk result (Fits (status_form rest.now)) }
+{
+    let Some((number, digits)) = rest.split_once(' ') else {
+        return Ok(None);
+    };
+    let Some(channel) = channel_in(alloc, number)? else {
+        return Ok(None);
+    };
+    let Some(exit_status) = small_in(alloc, digits)? else {
+        return Ok(None);
+    };
+    let command = Command::ExitStatus {
+        channel,
+        exit_status,
+    };
+    Ok(Some(Line::Input(InputLine::Command(command))))
+}
+
 /// The rest of a line `open`: the type of the channel.
-pub(crate) fn own_open_line(word: &str) -> Option<Line>
+fn own_open_line(word: &str) -> Option<Line>
     ensures { Fits (own_open_form word.now) result }
 {
     match word {
         "session" => Some(Line::Input(InputLine::Command(Command::OpenSession))),
         _ => None,
+    }
+}
+
+/// A line of a command, by its name.
+pub(crate) fn command_line(
+    alloc: Global,
+    word: &str,
+    rest: &str,
+) -> Result<Option<Line>, AllocError>
+    ensures { IfOk result (Fits (command_form word.now rest.now)) }
+{
+    match word {
+        "data" => data_line(alloc, rest),
+        "ext" => ext_line(alloc, rest),
+        "eof" => eof_line(alloc, rest),
+        "close" => close_line(alloc, rest),
+        "success" => success_line(alloc, rest),
+        "failure" => failure_line(alloc, rest),
+        "status" => status_line(alloc, rest),
+        "open" => Ok(own_open_line(rest)),
+        _ => Ok(None),
     }
 }
 

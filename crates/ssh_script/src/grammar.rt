@@ -6,12 +6,10 @@ ghost use Rattle.ssh_script.specs.Grammar.{window_form, packet_form, answer_form
 ghost use Rattle.ssh_script.specs.Grammar.{lone_form, verdict_of, interactive_verdict_of};
 ghost use Rattle.ssh_script.specs.Grammar.{open_verdict_of, data_verdict_of, answer_to};
 ghost use Rattle.ssh_script.specs.Grammar.{verdict_form, banner_form, interactive_form, open_form};
-ghost use Rattle.ssh_script.specs.Grammar.{data_answer_form};
+ghost use Rattle.ssh_script.specs.Grammar.{data_answer_form, request_verdict_of, request_form};
 
-use crate::answers::{DataVerdict, InteractiveVerdict, OpenVerdict, Verdict};
-use crate::command_lines::{
-    accept_line, close_line, data_line, eof_line, ext_line, own_open_line, reject_line, small_in,
-};
+use crate::answers::{DataVerdict, InteractiveVerdict, OpenVerdict, RequestVerdict, Verdict};
+use crate::command_lines::{accept_line, command_line, reject_line, small_in};
 use crate::lines::{InputLine, Line, Setting};
 use bytes::Bytes;
 use hex::FromHexError;
@@ -217,6 +215,24 @@ fn data_answer_line(word: &str) -> Option<Line>
     Some(Line::Setting(Setting::AnswerData(verdict)))
 }
 
+fn request_verdict_in(word: &str) -> Option<RequestVerdict>
+    ensures { result ≡ request_verdict_of word.now }
+{
+    match word {
+        "success" => Some(RequestVerdict::Success),
+        "failure" => Some(RequestVerdict::Failure),
+        "silent" => Some(RequestVerdict::Silent),
+        _ => None,
+    }
+}
+
+fn request_line(word: &str) -> Option<Line>
+    ensures { Fits (request_form word.now) result }
+{
+    let verdict = request_verdict_in(word)?;
+    Some(Line::Setting(Setting::AnswerRequest(verdict)))
+}
+
 /// The rest of a line `answer`.
 fn answer_line(rest: &str) -> Option<Line>
     ensures { Fits (answer_form rest.now) result }
@@ -226,6 +242,7 @@ fn answer_line(rest: &str) -> Option<Line>
         Some(("interactive", word)) => interactive_line(word),
         Some(("open", word)) => open_line(word),
         Some(("data", word)) => data_answer_line(word),
+        Some(("request", word)) => request_line(word),
         Some((name, word)) => verdict_line(name, word),
         None => None,
     }
@@ -308,14 +325,9 @@ fn word_line(alloc: Global, word: &str, rest: &str) -> Result<Option<Line>, Allo
         "sign" => sign_line(alloc, rest),
         "at" => Ok(number_in(alloc, rest)?.map(|ms| Line::Input(InputLine::At(ms)))),
         "recv" => Ok(bytes_in(alloc, rest)?.map(|bytes| Line::Input(InputLine::Recv(bytes)))),
-        "data" => data_line(alloc, rest),
-        "ext" => ext_line(alloc, rest),
-        "eof" => eof_line(alloc, rest),
-        "close" => close_line(alloc, rest),
-        "open" => Ok(own_open_line(rest)),
         "accept" => accept_line(alloc, rest),
         "reject" => reject_line(alloc, rest),
-        _ => Ok(None),
+        _ => command_line(alloc, word, rest),
     }
 }
 

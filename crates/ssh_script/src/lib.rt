@@ -12,6 +12,7 @@ mod authentication;
 mod callbacks;
 mod command_lines;
 mod grammar;
+mod happenings;
 mod interactive;
 mod lines;
 mod made;

@@ -1,6 +1,6 @@
 // The lines of a script.
 
-use crate::answers::{DataVerdict, InteractiveVerdict, OpenVerdict, Verdict};
+use crate::answers::{DataVerdict, InteractiveVerdict, OpenVerdict, RequestVerdict, Verdict};
 use bytes::Bytes;
 use ssh_keys::AcceptedSignature;
 use ssh_link::{Command, OpenAnswer};
@@ -45,6 +45,8 @@ pub(crate) enum Setting {
     AnswerOpen(OpenVerdict),
     /// The answer to data on a channel; the last of these counts.
     AnswerData(DataVerdict),
+    /// The answer to requests on a channel; the last of these counts.
+    AnswerRequest(RequestVerdict),
 }
 
 /// What comes in.

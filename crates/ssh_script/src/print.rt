@@ -2,7 +2,7 @@
 ghost use Rattle.std.specs.Prelude.{◌≡◌, ◌++◌, ◌+◌, codes, OnOk};
 ghost use Rattle.std.specs.Fmt.{decimal};
 ghost use Rattle.std.specs.String.{string_bytes};
-ghost use Rattle.ssh_script.specs.CallLines.{hex_text};
+ghost use Rattle.ssh_script.specs.Words.{hex_text};
 ghost use Rattle.ssh_script.specs.Print.{channel_text, hold_text, frame_line, entry_lines};
 
 use crate::print_notice::{print_answer, print_notice};

@@ -1,29 +1,50 @@
 // How the callbacks of a run are printed, a line for each.
-ghost use Rattle.std.specs.Prelude.{◌≡◌, ◌++◌, ◌∷◌, [], flat_map, OnOk};
+ghost use Rattle.std.specs.Prelude.{◌≡◌, ◌++◌, ◌∷◌, [], map, flat_map, IfOk, OnOk};
 ghost use Rattle.std.specs.String.{string_bytes};
 ghost use Rattle.ssh_keys.specs.Algorithms.{algorithm_name};
 ghost use Rattle.ssh_keys.specs.Keys.{key_blob};
-ghost use Rattle.ssh_auth.specs.declared.question.Happening.TheVariants as what;
-ghost use Rattle.ssh_script.specs.CallLines.{Number, Hex, Name, line_text, admission_line};
-ghost use Rattle.ssh_script.specs.CallLines.{opened_line, happened_line, lent_line, judged_line};
-ghost use Rattle.ssh_script.specs.CallLines.{question_line};
+ghost use Rattle.ssh_script.specs.Words.{Hex, Name, named_by, word_of};
+ghost use Rattle.ssh_script.specs.CallLines.{line_text, line_on, admission_words, opened_words};
+ghost use Rattle.ssh_script.specs.CallLines.{lent_line, judged_words, question_line};
 
-use crate::argument::{Argument, print_line, print_on};
-use ssh_auth::{Admission, Happening, Judged, Lent, OpenType, Question};
+use crate::argument::{Argument, Said, print_arguments, says};
+use crate::happenings::happened_words;
+use crate::print::print_field;
+use ssh_auth::{Admission, Judged, Lent, OpenType, Question};
 use ssh_keys::{Algorithm, PublicKey};
-use ssh_wire::{ChannelId, Modes, Text};
+use ssh_wire::{ChannelId, Text};
 use std::alloc::{AllocError, Global};
 
+/// A user and a key, with the name of the algorithm by which it signs.
+fn key_words<'a>(
+    alloc: Global,
+    name: &'static str,
+    user: &'a Text,
+    key: &'a PublicKey,
+    algorithm: Algorithm,
+) -> Result<Said<'a>, AllocError>
+    ensures { IfOk result (λ said. named_by said ≡ (
+      name.now,
+      Hex user.now ∷ Hex (key_blob key.now)
+          ∷ Name (algorithm_name algorithm) ∷ [],
+    )) }
+{
+    let signs_by = Argument::Name(algorithm.as_str());
+    says(
+        alloc,
+        name,
+        &[Argument::Text(user), Argument::Key(key), signs_by],
+    )
+}
+
 /// A user asks to be let in; of a certificate its key id is printed.
-fn print_admission(alloc: Global, out: &mut String, admission: &Admission) -> Result<(), AllocError>
-    ensures { OnOk result (string_bytes out.new ≡ string_bytes out.old
-        ++ admission_line admission.now) }
+fn admission_words<'a>(alloc: Global, admission: &'a Admission) -> Result<Said<'a>, AllocError>
+    ensures { IfOk result (λ said. named_by said ≡ admission_words admission.now) }
 {
     match admission {
-        Admission::None { user } => print_line(alloc, out, "auth_none", &[Argument::Text(user)]),
-        Admission::Password { user, password } => print_line(
+        Admission::None { user } => says(alloc, "auth_none", &[Argument::Text(user)]),
+        Admission::Password { user, password } => says(
             alloc,
-            out,
             "auth_password",
             &[Argument::Text(user), Argument::Text(password)],
         ),
@@ -31,9 +52,8 @@ fn print_admission(alloc: Global, out: &mut String, admission: &Admission) -> Re
             user,
             public_key,
             algorithm,
-        } => print_user_key(
+        } => key_words(
             alloc,
-            out,
             "auth_publickey_offered",
             user,
             public_key,
@@ -43,10 +63,9 @@ fn print_admission(alloc: Global, out: &mut String, admission: &Admission) -> Re
             user,
             public_key,
             algorithm,
-        } => print_user_key(alloc, out, "auth_publickey", user, public_key, *algorithm),
-        Admission::OpensshCertificate { user, certificate } => print_line(
+        } => key_words(alloc, "auth_publickey", user, public_key, *algorithm),
+        Admission::OpensshCertificate { user, certificate } => says(
             alloc,
-            out,
             "auth_openssh_certificate",
             &[Argument::Text(user), Argument::Text(&certificate.key_id)],
         ),
@@ -54,9 +73,8 @@ fn print_admission(alloc: Global, out: &mut String, admission: &Admission) -> Re
             user,
             submethods,
             response,
-        } => print_line(
+        } => says(
             alloc,
-            out,
             "auth_keyboard_interactive",
             &[
                 Argument::Text(user),
@@ -67,271 +85,126 @@ fn print_admission(alloc: Global, out: &mut String, admission: &Admission) -> Re
     }
 }
 
-/// A user and a key, with the name of the algorithm by which it signs.
-fn print_user_key<'a>(
-    alloc: Global,
-    out: &mut String,
-    name: &str,
-    user: &'a Text,
-    key: &'a PublicKey,
-    algorithm: Algorithm,
-) -> Result<(), AllocError>
-    ensures { OnOk result (string_bytes out.new ≡ string_bytes out.old
-        ++ line_text name.now (Hex user.now ∷ Hex (key_blob key.now)
-        ∷ Name (algorithm_name algorithm) ∷ [])) }
-{
-    print_line(
-        alloc,
-        out,
-        name,
-        &[
-            Argument::Text(user),
-            Argument::Key(key),
-            Argument::Name(algorithm.as_str()),
-        ],
-    )
-}
-
-/// A connection of TCP/IP.
-fn print_tcpip<'a>(
-    alloc: Global,
-    out: &mut String,
-    name: &str,
-    channel: ChannelId,
-    host: &'a Text,
-    port: u32,
-    from: &'a Text,
-    from_port: u32,
-) -> Result<(), AllocError>
-    ensures { OnOk result (string_bytes out.new ≡ string_bytes out.old
-        ++ line_text name.now (Number channel.0 ∷ Hex host.now ∷ Number port ∷ Hex from.now
-        ∷ Number from_port ∷ [])) }
-{
-    print_on(
-        alloc,
-        out,
-        name,
-        channel,
-        &[
-            Argument::Text(host),
-            Argument::Number(port as u64),
-            Argument::Text(from),
-            Argument::Number(from_port as u64),
-        ],
-    )
-}
-
 /// The peer opens a channel.
-fn print_opened(
-    alloc: Global,
-    out: &mut String,
-    channel: ChannelId,
-    opening: &OpenType,
-) -> Result<(), AllocError>
-    ensures { OnOk result (string_bytes out.new ≡ string_bytes out.old ++ opened_line channel
-        opening.now) }
+fn opened_words<'a>(alloc: Global, opening: &'a OpenType) -> Result<Said<'a>, AllocError>
+    ensures { IfOk result (λ said. named_by said ≡ opened_words opening.now) }
 {
     match opening {
-        OpenType::Session => print_on(alloc, out, "channel_open_session", channel, &[]),
+        OpenType::Session => says(alloc, "channel_open_session", &[]),
         OpenType::X11 {
-            originator_address: from,
-            originator_port: port,
-        } => {
-            let from = [Argument::Text(from), Argument::Number(*port as u64)];
-            print_on(alloc, out, "channel_open_x11", channel, &from)
-        }
+            originator_address,
+            originator_port,
+        } => says(
+            alloc,
+            "channel_open_x11",
+            &[
+                Argument::Text(originator_address),
+                Argument::Number(*originator_port as u64),
+            ],
+        ),
         OpenType::DirectTcpip {
-            host_to_connect: host,
-            port_to_connect: port,
-            originator_address: from,
-            originator_port: from_port,
-        } => {
-            let name = "channel_open_direct_tcpip";
-            print_tcpip(alloc, out, name, channel, host, *port, from, *from_port)
-        }
+            host_to_connect,
+            port_to_connect,
+            originator_address,
+            originator_port,
+        } => says(
+            alloc,
+            "channel_open_direct_tcpip",
+            &[
+                Argument::Text(host_to_connect),
+                Argument::Number(*port_to_connect as u64),
+                Argument::Text(originator_address),
+                Argument::Number(*originator_port as u64),
+            ],
+        ),
         OpenType::ForwardedTcpip {
-            host_to_connect: host,
-            port_to_connect: port,
-            originator_address: from,
-            originator_port: from_port,
-        } => {
-            let name = "channel_open_forwarded_tcpip";
-            print_tcpip(alloc, out, name, channel, host, *port, from, *from_port)
-        }
-        OpenType::DirectStreamlocal { socket_path: path } => {
-            let name = "channel_open_direct_streamlocal";
-            print_on(alloc, out, name, channel, &[Argument::Text(path)])
-        }
+            host_to_connect,
+            port_to_connect,
+            originator_address,
+            originator_port,
+        } => says(
+            alloc,
+            "channel_open_forwarded_tcpip",
+            &[
+                Argument::Text(host_to_connect),
+                Argument::Number(*port_to_connect as u64),
+                Argument::Text(originator_address),
+                Argument::Number(*originator_port as u64),
+            ],
+        ),
+        OpenType::DirectStreamlocal { socket_path } => says(
+            alloc,
+            "channel_open_direct_streamlocal",
+            &[Argument::Text(socket_path)],
+        ),
     }
 }
 
-/// The sizes of a terminal, and what comes before them and behind.
-fn print_pty_request<'a>(
-    alloc: Global,
-    out: &mut String,
-    channel: ChannelId,
-    term: &'a Text,
-    sizes: (u32, u32, u32, u32),
-    modes: &'a Modes,
-) -> Result<(), AllocError>
-    ensures { OnOk result (string_bytes out.new ≡ string_bytes out.old ++ happened_line channel
-        (what.PtyRequest term.now sizes.0 sizes.1 sizes.2 sizes.3 modes.now)) }
+/// Something is to be granted.
+fn judged_words<'a>(alloc: Global, judged: &'a Judged) -> Result<Said<'a>, AllocError>
+    ensures { IfOk result (λ said. named_by said ≡ judged_words judged.now) }
 {
-    print_on(
-        alloc,
-        out,
-        "pty_request",
-        channel,
-        &[
-            Argument::Text(term),
-            Argument::Number(sizes.0 as u64),
-            Argument::Number(sizes.1 as u64),
-            Argument::Number(sizes.2 as u64),
-            Argument::Number(sizes.3 as u64),
-            Argument::Modes(modes),
-        ],
-    )
-}
-
-fn print_window_change_request(
-    alloc: Global,
-    out: &mut String,
-    channel: ChannelId,
-    sizes: (u32, u32, u32, u32),
-) -> Result<(), AllocError>
-    ensures { OnOk result (string_bytes out.new ≡ string_bytes out.old ++ happened_line channel
-        (what.WindowChangeRequest sizes.0 sizes.1 sizes.2 sizes.3)) }
-{
-    print_on(
-        alloc,
-        out,
-        "window_change_request",
-        channel,
-        &[
-            Argument::Number(sizes.0 as u64),
-            Argument::Number(sizes.1 as u64),
-            Argument::Number(sizes.2 as u64),
-            Argument::Number(sizes.3 as u64),
-        ],
-    )
-}
-
-fn print_x11_request<'a>(
-    alloc: Global,
-    out: &mut String,
-    channel: ChannelId,
-    single: bool,
-    protocol: &'a Text,
-    cookie: &'a Text,
-    screen: u32,
-) -> Result<(), AllocError>
-    ensures { OnOk result (string_bytes out.new ≡ string_bytes out.old ++ happened_line channel
-        (what.X11Request single protocol.now cookie.now screen)) }
-{
-    print_on(
-        alloc,
-        out,
-        "x11_request",
-        channel,
-        &[
-            Argument::Flag(single),
-            Argument::Text(protocol),
-            Argument::Text(cookie),
-            Argument::Number(screen as u64),
-        ],
-    )
-}
-
-/// Something happens on a channel.
-fn print_happened(
-    alloc: Global,
-    out: &mut String,
-    channel: ChannelId,
-    happening: &Happening,
-) -> Result<(), AllocError>
-    ensures { OnOk result (string_bytes out.new ≡ string_bytes out.old ++ happened_line channel
-        happening.now) }
-{
-    match happening {
-        Happening::Confirmed {
-            max_packet_size: packet,
-            window_size: window,
-        } => {
-            let sizes = [
-                Argument::Number(*packet as u64),
-                Argument::Number(*window as u64),
-            ];
-            print_on(alloc, out, "channel_open_confirmation", channel, &sizes)
+    match judged {
+        Judged::AgentRequest { channel } => says(
+            alloc,
+            "agent_request",
+            &[Argument::Number(channel.0 as u64)],
+        ),
+        Judged::CancelTcpipForward { address, port } => says(
+            alloc,
+            "cancel_tcpip_forward",
+            &[Argument::Text(address), Argument::Number(*port as u64)],
+        ),
+        Judged::StreamlocalForward { socket_path } => {
+            says(alloc, "streamlocal_forward", &[Argument::Text(socket_path)])
         }
-        Happening::Data { bytes } => {
-            print_on(alloc, out, "data", channel, &[Argument::Bytes(bytes)])
-        }
-        Happening::ExtendedData { code, bytes } => {
-            let data = [Argument::Number(*code as u64), Argument::Bytes(bytes)];
-            print_on(alloc, out, "extended_data", channel, &data)
-        }
-        Happening::Eof => print_on(alloc, out, "channel_eof", channel, &[]),
-        Happening::Close => print_on(alloc, out, "channel_close", channel, &[]),
-        Happening::WindowAdjusted { new_size } => {
-            let size = [Argument::Number(*new_size as u64)];
-            print_on(alloc, out, "window_adjusted", channel, &size)
-        }
-        Happening::PtyRequest {
-            term,
-            col_width,
-            row_height,
-            pix_width,
-            pix_height,
-            modes,
-        } => {
-            let sizes = (*col_width, *row_height, *pix_width, *pix_height);
-            print_pty_request(alloc, out, channel, term, sizes, modes)
-        }
-        Happening::X11Request {
-            single_connection: single,
-            x11_auth_protocol: protocol,
-            x11_auth_cookie: cookie,
-            x11_screen_number: screen,
-        } => print_x11_request(alloc, out, channel, *single, protocol, cookie, *screen),
-        Happening::EnvRequest {
-            variable_name: name,
-            variable_value: value,
-        } => {
-            let variable = [Argument::Text(name), Argument::Text(value)];
-            print_on(alloc, out, "env_request", channel, &variable)
-        }
-        Happening::ShellRequest => print_on(alloc, out, "shell_request", channel, &[]),
-        Happening::ExecRequest { bytes } => {
-            print_on(
-                alloc,
-                out,
-                "exec_request",
-                channel,
-                &[Argument::Bytes(bytes)],
-            )
-        }
-        Happening::SubsystemRequest { name } => {
-            print_on(
-                alloc,
-                out,
-                "subsystem_request",
-                channel,
-                &[Argument::Text(name)],
-            )
-        }
-        Happening::WindowChangeRequest {
-            col_width,
-            row_height,
-            pix_width,
-            pix_height,
-        } => {
-            let sizes = (*col_width, *row_height, *pix_width, *pix_height);
-            print_window_change_request(alloc, out, channel, sizes)
-        }
-        Happening::Signal { signal } => {
-            print_on(alloc, out, "signal", channel, &[Argument::Signal(signal)])
-        }
+        Judged::CancelStreamlocalForward { socket_path } => says(
+            alloc,
+            "cancel_streamlocal_forward",
+            &[Argument::Text(socket_path)],
+        ),
     }
+}
+
+/// The line of a callback with these arguments.
+fn print_line(
+    alloc: Global,
+    out: &mut String,
+    name: &str,
+    arguments: &[Argument<'_>],
+) -> Result<(), AllocError>
+    ensures { OnOk result (string_bytes out.new ≡ string_bytes out.old
+        ++ line_text (name.now, map word_of arguments.now)) }
+{
+    out.push_str("call ")?;
+    out.push_str(name)?;
+    print_arguments(alloc, out, arguments)?;
+    out.push_str("\n")
+}
+
+/// The line of a callback.
+fn print_call(alloc: Global, out: &mut String, said: &Said<'_>) -> Result<(), AllocError>
+    ensures { OnOk result (string_bytes out.new ≡ string_bytes out.old
+        ++ line_text (named_by said.now)) }
+{
+    print_line(alloc, out, said.name, said.arguments.as_slice())
+}
+
+/// The line of a callback that is about a channel.
+fn print_on(
+    alloc: Global,
+    out: &mut String,
+    channel: ChannelId,
+    said: &Said<'_>,
+) -> Result<(), AllocError>
+    ensures { OnOk result (string_bytes out.new ≡ string_bytes out.old
+        ++ line_on channel (named_by said.now)) }
+{
+    out.push_str("call ")?;
+    out.push_str(said.name)?;
+    print_field(alloc, out, " ", channel.0 as u64)?;
+    print_arguments(alloc, out, said.arguments.as_slice())?;
+    out.push_str("\n")
 }
 
 fn print_lent(alloc: Global, out: &mut String, lent: &Lent) -> Result<(), AllocError>
@@ -339,26 +212,13 @@ fn print_lent(alloc: Global, out: &mut String, lent: &Lent) -> Result<(), AllocE
 {
     match lent {
         Lent::Succeeded => print_line(alloc, out, "auth_succeeded", &[]),
-        Lent::Opens(channel, opening) => print_opened(alloc, out, *channel, opening),
-        Lent::Happened(channel, happening) => print_happened(alloc, out, *channel, happening),
-    }
-}
-
-fn print_judged(alloc: Global, out: &mut String, judged: &Judged) -> Result<(), AllocError>
-    ensures { OnOk result (string_bytes out.new ≡ string_bytes out.old ++ judged_line judged.now) }
-{
-    match judged {
-        Judged::AgentRequest { channel } => print_on(alloc, out, "agent_request", *channel, &[]),
-        Judged::CancelTcpipForward { address, port } => {
-            let listener = [Argument::Text(address), Argument::Number(*port as u64)];
-            print_line(alloc, out, "cancel_tcpip_forward", &listener)
+        Lent::Opens(channel, opening) => {
+            let said = opened_words(alloc, opening)?;
+            print_on(alloc, out, *channel, &said)
         }
-        Judged::StreamlocalForward { socket_path: path } => {
-            print_line(alloc, out, "streamlocal_forward", &[Argument::Text(path)])
-        }
-        Judged::CancelStreamlocalForward { socket_path: path } => {
-            let listener = [Argument::Text(path)];
-            print_line(alloc, out, "cancel_streamlocal_forward", &listener)
+        Lent::Happened(channel, happening) => {
+            let said = happened_words(alloc, happening)?;
+            print_on(alloc, out, *channel, &said)
         }
     }
 }
@@ -370,19 +230,30 @@ fn print_question(alloc: Global, out: &mut String, question: &Question) -> Resul
 {
     match question {
         Question::Banner => print_line(alloc, out, "authentication_banner", &[]),
-        Question::Admits(admission) => print_admission(alloc, out, admission),
+        Question::Admits(admission) => {
+            let said = admission_words(alloc, admission)?;
+            print_call(alloc, out, &said)
+        }
         Question::Lends(lent) => print_lent(alloc, out, lent),
-        Question::Judges(judged) => print_judged(alloc, out, judged),
+        Question::Judges(judged) => {
+            let said = judged_words(alloc, judged)?;
+            print_call(alloc, out, &said)
+        }
         Question::Listens { address, port } => print_line(
             alloc,
             out,
             "tcpip_forward",
             &[Argument::Text(address), Argument::Number(*port as u64)],
         ),
-        Question::Adjusts { channel, current } => {
-            let window = [Argument::Number(*current as u64)];
-            print_on(alloc, out, "adjust_window", *channel, &window)
-        }
+        Question::Adjusts { channel, current } => print_line(
+            alloc,
+            out,
+            "adjust_window",
+            &[
+                Argument::Number(channel.0 as u64),
+                Argument::Number(*current as u64),
+            ],
+        ),
         Question::Done { place, outcome } => print_line(
             alloc,
             out,

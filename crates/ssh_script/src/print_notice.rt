@@ -2,12 +2,13 @@
 ghost use Rattle.std.specs.Prelude.{◌≡◌, ◌++◌, codes, OnOk};
 ghost use Rattle.std.specs.Fmt.{decimal};
 ghost use Rattle.std.specs.String.{string_bytes};
-ghost use Rattle.ssh_script.specs.CallLines.{hex_text, flag_text, refusal_name, outcome_text};
+ghost use Rattle.ssh_script.specs.Words.{flag_text, refusal_name, outcome_text};
 ghost use Rattle.ssh_script.specs.Print.{msg_text, port_text, notice_text, notice_line};
 ghost use Rattle.ssh_script.specs.Print.{answer_line};
 
-use crate::argument::print_flag;
-use crate::print::{print_field, print_hex, print_id};
+use crate::argument::{print_flag, print_said};
+use crate::happenings::msg_words;
+use crate::print::{print_field, print_id};
 use ssh_link::{ChannelMsg, CommandOutcome, Notice, Refusal};
 use ssh_wire::ChannelId;
 use std::alloc::{AllocError, Global};
@@ -49,70 +50,13 @@ pub(crate) fn print_outcome(
     }
 }
 
-/// Data, behind a word.
-fn print_data(alloc: Global, out: &mut String, word: &str, bytes: &[u8]) -> Result<(), AllocError>
-    ensures { OnOk result (string_bytes out.new
-        ≡ string_bytes out.old ++ (word.now ++ hex_text bytes.now)) }
-{
-    out.push_str(word)?;
-    print_hex(alloc, out, bytes)
-}
-
-/// Data of another type, and their type.
-fn print_extended(
-    alloc: Global,
-    out: &mut String,
-    bytes: &[u8],
-    code: u32,
-) -> Result<(), AllocError>
-    ensures { OnOk result (string_bytes out.new ≡ string_bytes out.old
-        ++ (codes " ExtendedData " ++ hex_text bytes.now ++ codes " " ++ decimal code)) }
-{
-    print_data(alloc, out, " ExtendedData ", bytes)?;
-    print_field(alloc, out, " ", u64::from(code))
-}
-
-/// A channel that the peer confirmed: its number, and the peer's packet size and window.
-fn print_open(
-    alloc: Global,
-    out: &mut String,
-    id: ChannelId,
-    packet: u32,
-    window: u32,
-) -> Result<(), AllocError>
-    ensures { OnOk result (string_bytes out.new ≡ string_bytes out.old
-        ++ (codes " Open " ++ decimal id.0 ++ codes " " ++ decimal packet ++ codes " "
-        ++ decimal window)) }
-{
-    print_field(alloc, out, " Open ", u64::from(id.0))?;
-    print_field(alloc, out, " ", u64::from(packet))?;
-    print_field(alloc, out, " ", u64::from(window))
-}
-
 /// What happened on a channel.
 fn print_msg(alloc: Global, out: &mut String, msg: &ChannelMsg) -> Result<(), AllocError>
     ensures { OnOk result (string_bytes out.new ≡ string_bytes out.old ++ msg_text msg.now) }
 {
-    match msg {
-        ChannelMsg::Open {
-            id,
-            max_packet_size: packet,
-            window_size: window,
-        } => print_open(alloc, out, *id, *packet, *window),
-        ChannelMsg::OpenFailure(reason) => {
-            print_field(alloc, out, " OpenFailure ", u64::from(reason.code()))
-        }
-        ChannelMsg::Data { bytes } => print_data(alloc, out, " Data ", bytes.as_slice()),
-        ChannelMsg::ExtendedData { bytes, ext } => {
-            print_extended(alloc, out, bytes.as_slice(), *ext)
-        }
-        ChannelMsg::WindowAdjusted { new_size } => {
-            print_field(alloc, out, " WindowAdjusted ", u64::from(*new_size))
-        }
-        ChannelMsg::Eof => out.push_str(" Eof"),
-        ChannelMsg::Close => out.push_str(" Close"),
-        _ => out.push_str(" NotBuilt"),
-    }
+    let said = msg_words(alloc, msg)?;
+    out.push_str(" ")?;
+    print_said(alloc, out, &said)
 }
 
 fn print_port(alloc: Global, out: &mut String, port: Option<u32>) -> Result<(), AllocError>

@@ -7,7 +7,7 @@ ghost use Rattle.ssh_script.specs.Scene.{scene_of, seen, opening_scene, set, wit
 ghost use Rattle.ssh_script.specs.Scene.{with_ticket, after_input, taken, with_line, lines_of};
 ghost use Rattle.ssh_script.specs.Scene.{Gives};
 
-use crate::answers::{Answers, DataVerdict, OpenVerdict};
+use crate::answers::{Answers, DataVerdict, OpenVerdict, RequestVerdict, Standing};
 use crate::grammar::read_line;
 use crate::lines::{InputLine, Line, Setting};
 use crate::script::{Script, Stage};
@@ -39,8 +39,11 @@ impl Script {
                 interactive: Vec::new(alloc),
                 failing_banners: 0,
                 banner: None,
-                opens: OpenVerdict::Accept,
-                incoming: DataVerdict::Silent,
+                standing: Standing {
+                    opens: OpenVerdict::Accept,
+                    incoming: DataVerdict::Silent,
+                    requests: RequestVerdict::Success,
+                },
             },
             tickets: 0,
             inputs: Vec::new(alloc),
@@ -79,8 +82,9 @@ impl Script {
                 self.answers.failing_banners = more.ok_or(AllocError)?;
             }
             Setting::Banner(text) => self.answers.banner = Some(text),
-            Setting::AnswerOpen(verdict) => self.answers.opens = verdict,
-            Setting::AnswerData(verdict) => self.answers.incoming = verdict,
+            Setting::AnswerOpen(verdict) => self.answers.standing.opens = verdict,
+            Setting::AnswerData(verdict) => self.answers.standing.incoming = verdict,
+            Setting::AnswerRequest(verdict) => self.answers.standing.requests = verdict,
         }
         Ok(true)
     }

@@ -1,7 +1,7 @@
 use Rattle.std.proofs.Common.{take, ◌++◌, ◌≡◌}
 use Rattle.std.specs.Prelude.{flat_map}
 use Rattle.std.specs.String.{string_bytes}
-use Rattle.ssh_script.specs.CallLines.{later_mode}
+use Rattle.ssh_script.specs.Words.{later_mode}
 use Rattle.ssh_script.proofs.argument.print_later_modes.Given as goal
 
 abbrev pub invariant-loop-mode : goal.invariant-loop-mode

@@ -1,7 +1,7 @@
 use Rattle.std.proofs.Common.{take, ◌++◌, ◌≡◌}
 use Rattle.std.specs.Prelude.{flat_map}
 use Rattle.std.specs.String.{string_bytes}
-use Rattle.ssh_script.specs.CallLines.{hex_word}
+use Rattle.ssh_script.specs.Words.{hex_word}
 use Rattle.ssh_script.proofs.argument.print_responses.Given as goal
 
 abbrev pub invariant-loop-text : goal.invariant-loop-text

@@ -1,7 +1,7 @@
 use Rattle.std.specs.Prelude.{codes}
 use Rattle.std.specs.Fmt.{decimal}
 use Rattle.std.proofs.Common.{◌++◌}
-use Rattle.ssh_script.specs.CallLines.{flag_text}
+use Rattle.ssh_script.specs.Words.{flag_text}
 use Rattle.ssh_script.proofs.Printing.{split_pieces}
 use Rattle.ssh_script.proofs.print_notice.print_cancelled.Goals as goal
 
