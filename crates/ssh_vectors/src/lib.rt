@@ -3,6 +3,8 @@
 #![tactic(auto)]
 
 #[cfg(test)]
+mod bad_lines;
+#[cfg(test)]
 mod calls;
 #[cfg(test)]
 mod channels;
@@ -17,7 +19,11 @@ mod opens;
 #[cfg(test)]
 mod prompts;
 #[cfg(test)]
+mod requests;
+#[cfg(test)]
 mod runs;
+#[cfg(test)]
+mod scripts;
 #[cfg(test)]
 mod sessions;
 #[cfg(test)]

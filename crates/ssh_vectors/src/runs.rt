@@ -1,5 +1,6 @@
 // Runs over links in memory, with handlers of the tests' own.
-use crate::handlers::{Naming, NoBanner, Open, Silent, Tired};
+use crate::handlers::{Naming, Tired};
+use crate::taking::{Habit, Taking};
 use bytes::Bytes;
 use ssh_handler::{Config, RecordError, Recorded};
 use ssh_keys::TableVerifier;
@@ -9,10 +10,34 @@ use std::alloc::Global;
 use std::test::Fail;
 
 // SERVICE_REQUEST for the service ssh-userauth.
-const SERVICE: &[u8] = b"\x05\x00\x00\x00\x0cssh-userauth";
+const SERVICE: &[u8] = b"\x05\0\0\0\x0cssh-userauth";
 
 // USERAUTH_REQUEST of alice by method none.
-const NONE: &[u8] = b"\x32\x00\x00\x00\x05alice\x00\x00\x00\x0essh-connection\x00\x00\x00\x04none";
+const NONE: &[u8] = b"\x32\0\0\0\x05alice\0\0\0\x0essh-connection\0\0\0\x04none";
+
+// USERAUTH_REQUEST of alice by method password.
+const PASSWORD: &[u8] =
+    b"\x32\0\0\0\x05alice\0\0\0\x0essh-connection\0\0\0\x08password\0\0\0\0\x05guest";
+
+// How a run or an input ends.
+#[derive(Clone, Copy, PartialEq, Eq)]
+enum End {
+    GoesOn,
+    Well,
+    LinkFault,
+    Tired,
+    Inconsistent,
+    Otherwise,
+}
+
+fn cause(error: &RunError<RecordError<Tired>>) -> End {
+    match error {
+        RunError::LinkFault => End::LinkFault,
+        RunError::Handler(RecordError::Inner(Tired)) => End::Tired,
+        RunError::Inconsistent => End::Inconsistent,
+        _ => End::Otherwise,
+    }
+}
 
 fn input(alloc: Global, payload: &[u8]) -> Result<Input, Fail> {
     Ok(Input {
@@ -21,156 +46,197 @@ fn input(alloc: Global, payload: &[u8]) -> Result<Input, Fail> {
     })
 }
 
-// A link with the service request, whose calls of these numbers fail.
-fn service_link(alloc: Global, fails: &[u64]) -> Result<MemoryLink, Fail> {
-    let mut inputs = Inputs::new(alloc);
-    inputs.push(input(alloc, SERVICE)?)?;
+// A link with these payloads, whose calls of these numbers fail.
+fn link(alloc: Global, payloads: &[&[u8]], fails: &[u64]) -> Result<MemoryLink, Fail> {
     let mut calls = Calls::new(alloc);
     for number in fails {
         calls.push(*number)?;
     }
+    let mut inputs = Inputs::new(alloc);
+    for payload in payloads {
+        inputs.push(input(alloc, *payload)?)?;
+    }
     Ok(MemoryLink::new(alloc, inputs, calls)?)
 }
 
-fn sent(link: &MemoryLink) -> usize {
-    let mut count = 0usize;
+// Whether the messages that went out have these numbers, none for a message without bytes.
+fn are_sent(link: &MemoryLink, wanted: &[Option<u8>]) -> bool {
+    let mut count: usize = 0;
     for entry in link.trace() {
-        if matches!(entry, TraceEntry::Sent(_)) {
+        if let TraceEntry::Sent(frame) = entry {
+            let (head, body) = frame.parts();
+            if wanted.get(count).copied() != Some(head.first().or(body.first()).copied()) {
+                return false;
+            }
             count = count.saturating_add(1);
         }
     }
-    count
+    count == wanted.len()
 }
+
+// A run over the link, and how it ends.
+fn run(alloc: Global, handler: &mut Recorded<Taking>, link: &mut MemoryLink) -> End {
+    let config = Config::standard();
+    let verifier = TableVerifier::new(alloc);
+    let answer = run_stream(alloc, &config, b"", b"", handler, &verifier, link, 10);
+    let end = match &answer {
+        Ok(()) => End::Well,
+        Err(error) => cause(error),
+    };
+    drop(answer);
+    end
+}
+
+// Whether a run whose link fails at this call ends so, and this goes out.
+fn fails_at(alloc: Global, call: u64, wanted: &[Option<u8>]) -> Result<bool, Fail> {
+    let mut link = link(alloc, &[SERVICE], &[call])?;
+    let before = link.faults();
+    let mut handler = Recorded::new(alloc, Taking::new(alloc, Habit::Quiet));
+    let end = run(alloc, &mut handler, &mut link);
+    drop(handler);
+    Ok(before == 0 && end == End::LinkFault && link.faults() == 1 && are_sent(&link, wanted))
+}
+
+// Call 1 takes the input, call 2 hands the frame on, call 3 takes the end.
+static FAILING: [(u64, &[Option<u8>]); 3] = [(1, &[]), (2, &[]), (3, &[Some(6)])];
 
 #[test]
 fn a_link_that_fails(rt: HostRuntime) -> Result<(), Fail> {
-    let alloc = rt.alloc();
-    let config = Config::standard();
-    let verifier = TableVerifier::new(alloc);
-    // Call 1 takes the input, call 2 hands the frame on, call 3 takes the end.
-    for (number, frames) in [(1u64, 0usize), (2, 0), (3, 1)] {
-        let mut link = service_link(alloc, &[number])?;
-        let mut handler = Recorded::new(alloc, Open);
-        assert_eq!(rt; link.faults(), 0);
-        let run = run_stream(
-            alloc,
-            &config,
-            b"",
-            b"",
-            &mut handler,
-            &verifier,
-            &mut link,
-            10,
-        );
-        assert!(rt; matches!(run, Err(RunError::LinkFault)));
-        assert_eq!(rt; link.faults(), 1);
-        assert_eq!(rt; sent(&link), frames);
+    for (call, wanted) in &FAILING {
+        assert!(rt; fails_at(rt.alloc(), *call, *wanted)?, "{call}");
     }
     Ok(())
+}
+
+// Whether a run ends so whose handler has no banner, after one call, and nothing goes out.
+fn fails_at_the_banner(alloc: Global, wanted: End) -> Result<bool, Fail> {
+    let mut link = link(alloc, &[SERVICE], &[])?;
+    let mut handler = Recorded::new(alloc, Taking::new(alloc, Habit::NoBanner));
+    let end = run(alloc, &mut handler, &mut link);
+    let calls = handler.calls().len();
+    drop(handler);
+    Ok(end == wanted && calls == 1 && are_sent(&link, &[]))
 }
 
 #[test]
 fn a_handler_that_fails(rt: HostRuntime) -> Result<(), Fail> {
-    let alloc = rt.alloc();
-    let config = Config::standard();
-    let verifier = TableVerifier::new(alloc);
-    let mut link = service_link(alloc, &[])?;
-    let mut handler = Recorded::new(alloc, NoBanner);
-    let run = run_stream(
-        alloc,
-        &config,
-        b"",
-        b"",
-        &mut handler,
-        &verifier,
-        &mut link,
-        10,
-    );
-    assert!(rt; matches!(run, Err(RunError::Handler(RecordError::Inner(Tired)))));
-    assert_eq!(rt; sent(&link), 0);
-    assert_eq!(rt; handler.calls().len(), 1);
+    assert!(rt; fails_at_the_banner(rt.alloc(), End::Tired)?);
     Ok(())
+}
+
+// A session with its outside.
+#[derive(Drop)]
+struct Side {
+    session: Session,
+    handler: Recorded<Taking>,
+    verifier: TableVerifier,
+    link: MemoryLink,
+}
+
+impl Side {
+    fn new(alloc: Global) -> Result<Side, Fail> {
+        let link = link(alloc, &[], &[])?;
+        Ok(Side {
+            session: Session::new(alloc, &Config::standard(), b"", b"SSH-2.0-test")?,
+            handler: Recorded::new(alloc, Taking::new(alloc, Habit::Quiet)),
+            verifier: TableVerifier::new(alloc),
+            link,
+        })
+    }
+
+    fn take(&mut self, input: Input) -> End {
+        let answer = self
+            .session
+            .step(&mut self.handler, &self.verifier, &mut self.link, input);
+        let end = match &answer {
+            Ok(Flow::Continue) => End::GoesOn,
+            Ok(Flow::Ended) => End::Well,
+            Err(error) => cause(error),
+        };
+        drop(answer);
+        end
+    }
+}
+
+// Whether the session ends so at this payload, and is then spent or not.
+fn ends(side: &mut Side, alloc: Global, payload: &[u8], end: End) -> Result<bool, Fail> {
+    let input = input(alloc, payload)?;
+    Ok(side.take(input) == end && side.session.spent() == (end != End::GoesOn))
+}
+
+// Whether a DISCONNECT ends the session, and no later input is served.
+fn is_spent(side: &mut Side, alloc: Global) -> Result<bool, Fail> {
+    Ok(
+        ends(side, alloc, SERVICE, End::GoesOn)?
+            && ends(side, alloc, b"\x01", End::Well)?
+            && ends(side, alloc, SERVICE, End::Inconsistent)?
+            && side.handler.calls().len() == 1
+            && are_sent(&side.link, &[Some(6)]),
+    )
 }
 
 #[test]
 fn a_session_that_is_spent(rt: HostRuntime) -> Result<(), Fail> {
-    let alloc = rt.alloc();
-    let config = Config::standard();
-    let verifier = TableVerifier::new(alloc);
-    let mut link = service_link(alloc, &[])?;
-    let mut handler = Recorded::new(alloc, Open);
-    let mut session = Session::new(alloc, &config, b"", b"SSH-2.0-test")?;
-    let first = session.step(&mut handler, &verifier, &mut link, input(alloc, SERVICE)?);
-    assert!(rt; matches!(first, Ok(Flow::Continue)));
-    let disconnect = session.step(&mut handler, &verifier, &mut link, input(alloc, b"\x01")?);
-    assert!(rt; matches!(disconnect, Ok(Flow::Ended)));
-    assert!(rt; session.spent());
-    let later = session.step(&mut handler, &verifier, &mut link, input(alloc, SERVICE)?);
-    assert!(rt; matches!(later, Err(RunError::Inconsistent)));
-    assert_eq!(rt; handler.calls().len(), 1);
-    assert_eq!(rt; sent(&link), 1);
+    let mut side = Side::new(rt.alloc())?;
+    let is_spent = is_spent(&mut side, rt.alloc())?;
+    drop(side);
+    assert!(rt; is_spent);
     Ok(())
 }
 
-#[test]
-fn a_silent_handler_lets_nobody_in(rt: HostRuntime) -> Result<(), Fail> {
-    let alloc = rt.alloc();
+// Whether such a run goes well, to a peer that says what its software is, and this goes out for the
+// service request and this request.
+fn answers(
+    alloc: Global,
+    handler: &mut Naming,
+    request: &[u8],
+    wanted: &[Option<u8>],
+) -> Result<bool, Fail> {
+    let mut link = link(alloc, &[SERVICE, request], &[])?;
     let config = Config::standard();
     let verifier = TableVerifier::new(alloc);
-    let mut inputs = Inputs::new(alloc);
-    inputs.push(input(alloc, SERVICE)?)?;
-    inputs.push(input(alloc, NONE)?)?;
-    let mut link = MemoryLink::new(alloc, inputs, Calls::new(alloc))?;
-    let run = run_stream(
-        alloc,
-        &config,
-        b"",
-        b"",
-        &mut Silent,
-        &verifier,
-        &mut link,
-        10,
-    );
-    assert!(rt; run.is_ok());
-    // SERVICE_ACCEPT, and FAILURE.
-    let mut numbers = Vec::new(alloc);
-    for entry in link.trace() {
-        if let TraceEntry::Sent(frame) = entry {
-            let (head, body) = frame.parts();
-            numbers.push(head.first().or(body.first()).copied())?;
-        }
-    }
-    assert_eq!(rt; numbers.as_slice(), [Some(6u8), Some(51)].as_slice());
+    let name = b"SSH-2.0-PuTTY";
+    let answer = run_stream(alloc, &config, b"", name, handler, &verifier, &mut link, 10);
+    let ended = answer.is_ok();
+    drop(answer);
+    Ok(ended && are_sent(&link, wanted))
+}
+
+// SERVICE_ACCEPT, no banner, and FAILURE.
+#[test]
+fn callbacks_that_are_not_written_let_nobody_in(rt: HostRuntime) -> Result<(), Fail> {
+    let mut handler = Naming::new(rt.alloc());
+    assert!(rt; answers(rt.alloc(), &mut handler, NONE, &[Some(6), Some(51)])?);
+    assert!(rt; handler.software().is_empty());
     Ok(())
+}
+
+// Whether a session of its own takes this input with such a handler.
+fn takes(alloc: Global, handler: &mut Naming, link: &mut MemoryLink, input: Input) -> bool {
+    let config = Config::standard();
+    let Ok(mut session) = Session::new(alloc, &config, b"", b"SSH-2.0-dropbear") else {
+        drop(input);
+        return false;
+    };
+    let verifier = TableVerifier::new(alloc);
+    let answer = session.step(handler, &verifier, link, input);
+    drop(session);
+    let goes_on = matches!(&answer, Ok(Flow::Continue));
+    drop(answer);
+    goes_on
+}
+
+fn goes_on(alloc: Global, handler: &mut Naming) -> Result<bool, Fail> {
+    let mut link = link(alloc, &[], &[])?;
+    let input = input(alloc, SERVICE)?;
+    Ok(takes(alloc, handler, &mut link, input))
 }
 
 #[test]
 fn a_handler_counts_on_the_line_of_its_peer(rt: HostRuntime) -> Result<(), Fail> {
-    let alloc = rt.alloc();
-    let config = Config::standard();
-    let verifier = TableVerifier::new(alloc);
-    let mut inputs = Inputs::new(alloc);
-    inputs.push(input(alloc, SERVICE)?)?;
-    inputs.push(input(alloc, NONE)?)?;
-    let mut link = MemoryLink::new(alloc, inputs, Calls::new(alloc))?;
-    let mut handler = Naming {
-        alloc,
-        software: Bytes::copy_from_slice(alloc, b"")?,
-    };
-    let run = run_stream(
-        alloc,
-        &config,
-        b"",
-        b"SSH-2.0-PuTTY",
-        &mut handler,
-        &verifier,
-        &mut link,
-        10,
-    );
-    assert!(rt; run.is_ok());
-    assert_eq!(rt; handler.software.as_slice(), b"PuTTY".as_slice());
-    let mut session = Session::new(alloc, &config, b"", b"SSH-2.0-dropbear")?;
-    let step = session.step(&mut handler, &verifier, &mut link, input(alloc, SERVICE)?);
-    assert!(rt; matches!(step, Ok(Flow::Continue)));
+    let mut handler = Naming::new(rt.alloc());
+    assert!(rt; answers(rt.alloc(), &mut handler, PASSWORD, &[Some(6), Some(52)])?);
+    assert!(rt; handler.software() == b"PuTTY".as_slice());
+    assert!(rt; goes_on(rt.alloc(), &mut handler)?);
     Ok(())
 }

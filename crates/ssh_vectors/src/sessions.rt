@@ -2,6 +2,7 @@
 mod ending;
 mod lent;
 mod many;
+mod requests;
 mod windows;
 
 use crate::taking::{Habit, Taking, Told};
@@ -34,7 +35,7 @@ enum Comes {
 }
 
 // How an input ends.
-#[derive(Clone, Copy, Debug, PartialEq, Eq)]
+#[derive(Clone, Copy, PartialEq, Eq)]
 enum Ends {
     GoesOn,
     Over,
@@ -67,20 +68,34 @@ struct Side {
     link: MemoryLink,
 }
 
-fn log_in(alloc: Global, window: u32, habit: Habit) -> Result<Side, Fail> {
+// A session before its first input, in windows of this size.
+fn session(alloc: Global, window: u32) -> Result<Session, Fail> {
     let mut config = Config::standard();
     config.window_size = window;
-    let mut side = Side {
+    Ok(Session::new(alloc, &config, b"", b"")?)
+}
+
+// The same with its outside.
+fn not_begun(alloc: Global, window: u32, habit: Habit) -> Result<Side, Fail> {
+    let link = MemoryLink::new(alloc, Inputs::new(alloc), Calls::new(alloc))?;
+    let session = session(alloc, window)?;
+    Ok(Side {
         alloc,
-        session: Session::new(alloc, &config, b"", b"")?,
+        session,
         handler: Taking::new(alloc, habit),
         verifier: TableVerifier::new(alloc),
-        link: MemoryLink::new(alloc, Inputs::new(alloc), Calls::new(alloc))?,
-    };
+        link,
+    })
+}
+
+// Whether it goes on with each request of the login.
+fn is_logged_in(side: &mut Side) -> Result<bool, Fail> {
     for payload in LOGIN {
-        let _end = give(&mut side, Comes::Payload(payload))?;
+        if give(side, Comes::Payload(payload))? != Ends::GoesOn {
+            return Ok(false);
+        }
     }
-    Ok(side)
+    Ok(true)
 }
 
 fn message_of_bytes(alloc: Global, channel: u32, count: usize, byte: u8) -> Result<Bytes, Fail> {
@@ -171,14 +186,20 @@ fn are_sent(side: &Side, skipped: usize, wanted: &[Sent]) -> Result<bool, Fail> 
     Ok(count == wanted.len())
 }
 
-// Whether the turns end so and put out these frames, and the handler is told so.
-fn holds(alloc: Global, row: Row) -> Result<bool, Fail> {
-    let mut side = log_in(alloc, row.window, row.habit)?;
-    for (input, end, wanted) in row.turns {
+// Whether the turns end so and put out these frames.
+fn puts_out(side: &mut Side, turns: &[(Comes, Ends, &[Sent])]) -> Result<bool, Fail> {
+    for (input, end, wanted) in turns {
         let skipped = side.link.trace().len();
-        if give(&mut side, *input)? != *end || !are_sent(&side, skipped, *wanted)? {
+        if give(side, *input)? != *end || !are_sent(side, skipped, *wanted)? {
             return Ok(false);
         }
     }
-    Ok(side.handler.told() == row.told)
+    Ok(true)
+}
+
+// Whether the turns behind the login are so, and the handler is told so.
+fn holds(alloc: Global, row: Row) -> Result<bool, Fail> {
+    let mut side = not_begun(alloc, row.window, row.habit)?;
+    let holds = is_logged_in(&mut side)? && puts_out(&mut side, row.turns)?;
+    Ok(holds && side.handler.told() == row.told)
 }

@@ -4,11 +4,11 @@ use bytes::Bytes;
 use ssh_auth::{Auth, AuthHandler, Unwritten};
 use ssh_handler::{Commands, Handler};
 use ssh_link::{ChannelOpenHandle, CommandOutcome};
-use ssh_wire::ChannelId;
+use ssh_wire::{ChannelId, Sig, Text};
 use std::alloc::Global;
 
 /// What a handler was told, the channel first. Of data their number of bytes and the first of them.
-#[derive(Clone, Copy, Debug, PartialEq, Eq)]
+#[derive(Clone, Copy, PartialEq, Eq)]
 pub(crate) enum Told {
     Open(u32),
     Data(u32, usize, Option<u8>),
@@ -27,7 +27,7 @@ pub(crate) enum Told {
 }
 
 /// What a session that is lent to a callback says of a channel, and of what it takes from outside.
-#[derive(Clone, Copy, Debug, PartialEq, Eq)]
+#[derive(Clone, Copy, PartialEq, Eq)]
 pub(crate) struct Lent {
     pub(crate) window: u32,
     pub(crate) packet: u32,
@@ -51,10 +51,12 @@ fn read_lent(channel: ChannelId, session: &Commands<'_>) -> Lent {
 }
 
 /// What a handler does of its own.
-#[derive(Clone, Copy, PartialEq, Eq)]
+#[derive(Clone, Copy)]
 pub(crate) enum Habit {
     /// It accepts opens.
     Quiet,
+    /// It fails where it is asked for a banner.
+    NoBanner,
     /// It sends data back as they came, extended data too.
     Echo,
     /// It records `hello`, an end of file and a close behind its answer to an open.
@@ -65,6 +67,14 @@ pub(crate) enum Habit {
     Aims(u32),
     /// It reads what it is lent in each callback of a channel.
     Reads,
+    /// Of a program that it is asked to run it tells that flow control may be the client's, that a
+    /// signal ended it, that data end and flow control may not be the client's any more, and closes
+    /// the channel; behind that it records an exit status.
+    Dying,
+    /// It grants the agent, but records a refusal first.
+    Doubting,
+    /// It grants the agent, but closes the channel first.
+    Leaving,
 }
 
 /// Such a handler. It lets everybody in.
@@ -90,7 +100,7 @@ impl Taking {
     }
 
     fn keep(&mut self, told: Told) -> Result<(), Tired> {
-        self.told.push(told).map_err(|_| Tired)
+        self.told.push(told).or(Err(Tired))
     }
 
     // The callback, and what it is lent, where that is its habit.
@@ -101,26 +111,52 @@ impl Taking {
         session: &Commands<'_>,
     ) -> Result<(), Tired> {
         self.keep(told)?;
-        if self.habit == Habit::Reads {
+        if matches!(self.habit, Habit::Reads) {
             self.keep(Told::Reads(channel.0, read_lent(channel, session)))?;
         }
         Ok(())
     }
-
-    fn copied(&self, bytes: &[u8]) -> Result<Bytes, Tired> {
-        Bytes::copy_from_slice(self.alloc, bytes).map_err(|_| Tired)
-    }
 }
 
-fn farewell(channel: ChannelId, hello: Bytes, session: &mut Commands<'_>) -> Result<(), Tired> {
-    session.data(channel, hello).map_err(|_| Tired)?;
-    session.eof(channel).map_err(|_| Tired)?;
-    session.close(channel).map_err(|_| Tired)
+fn copied(alloc: Global, bytes: &[u8]) -> Result<Bytes, Tired> {
+    Bytes::copy_from_slice(alloc, bytes).or(Err(Tired))
 }
 
-fn late(channel: ChannelId, hello: Bytes, session: &mut Commands<'_>) -> Result<(), Tired> {
-    session.eof(channel).map_err(|_| Tired)?;
-    session.data(channel, hello).map_err(|_| Tired)
+fn text(alloc: Global, text: &str) -> Result<Text, Tired> {
+    Text::new(alloc, text).or(Err(Tired))
+}
+
+fn farewell(alloc: Global, channel: ChannelId, session: &mut Commands<'_>) -> Result<(), Tired> {
+    session
+        .data(channel, copied(alloc, b"hello")?)
+        .or(Err(Tired))?;
+    session.eof(channel).or(Err(Tired))?;
+    session.close(channel).or(Err(Tired))
+}
+
+fn late(alloc: Global, channel: ChannelId, session: &mut Commands<'_>) -> Result<(), Tired> {
+    session.eof(channel).or(Err(Tired))?;
+    session
+        .data(channel, copied(alloc, b"hello")?)
+        .or(Err(Tired))
+}
+
+fn killed(alloc: Global, channel: ChannelId, session: &mut Commands<'_>) -> Result<(), Tired> {
+    let message = text(alloc, "out of memory")?;
+    let language = text(alloc, "en")?;
+    session
+        .exit_signal_request(channel, Sig::KILL, true, message, language)
+        .or(Err(Tired))
+}
+
+fn dying(alloc: Global, channel: ChannelId, session: &mut Commands<'_>) -> Result<(), Tired> {
+    session.channel_success(channel).or(Err(Tired))?;
+    session.xon_xoff_request(channel, true).or(Err(Tired))?;
+    killed(alloc, channel, session)?;
+    session.eof(channel).or(Err(Tired))?;
+    session.xon_xoff_request(channel, false).or(Err(Tired))?;
+    session.close(channel).or(Err(Tired))?;
+    session.exit_status_request(channel, 9).or(Err(Tired))
 }
 
 impl AuthHandler for Taking {
@@ -128,6 +164,13 @@ impl AuthHandler for Taking {
 
     fn untold(&mut self, _by: Unwritten) -> Result<(), Tired> {
         Ok(())
+    }
+
+    fn authentication_banner(&mut self) -> Result<Option<Text>, Tired> {
+        match self.habit {
+            Habit::NoBanner => Err(Tired),
+            _ => Ok(None),
+        }
     }
 
     fn auth_none(&mut self, _user: &str) -> Result<Auth, Tired> {
@@ -154,11 +197,11 @@ impl Handler for Taking {
         reply: ChannelOpenHandle,
         session: &mut Commands<'_>,
     ) -> Result<(), Tired> {
-        session.answer_open(reply.accept()).map_err(|_| Tired)?;
+        session.answer_open(reply.accept()).or(Err(Tired))?;
         self.hears(Told::Open(channel.0), channel, session)?;
         match self.habit {
-            Habit::Farewell => farewell(channel, self.copied(b"hello")?, session),
-            Habit::Late => late(channel, self.copied(b"hello")?, session),
+            Habit::Farewell => farewell(self.alloc, channel, session),
+            Habit::Late => late(self.alloc, channel, session),
             _ => Ok(()),
         }
     }
@@ -222,10 +265,9 @@ impl Handler for Taking {
     ) -> Result<(), Tired> {
         let told = Told::Data(channel.0, bytes.len(), bytes.first().copied());
         self.hears(told, channel, session)?;
-        if self.habit == Habit::Echo {
-            session
-                .data(channel, self.copied(bytes)?)
-                .map_err(|_| Tired)?;
+        if matches!(self.habit, Habit::Echo) {
+            let copy = copied(self.alloc, bytes)?;
+            session.data(channel, copy).or(Err(Tired))?;
         }
         Ok(())
     }
@@ -238,11 +280,9 @@ impl Handler for Taking {
         session: &mut Commands<'_>,
     ) -> Result<(), Tired> {
         self.keep(Told::Extended(channel.0, code, bytes.len(), bytes.first().copied()))?;
-        if self.habit == Habit::Echo {
-            let copy = self.copied(bytes)?;
-            session
-                .extended_data(channel, code, copy)
-                .map_err(|_| Tired)?;
+        if matches!(self.habit, Habit::Echo) {
+            let copy = copied(self.alloc, bytes)?;
+            session.extended_data(channel, code, copy).or(Err(Tired))?;
         }
         Ok(())
     }
@@ -262,6 +302,31 @@ impl Handler for Taking {
             Habit::Aims(window) => Ok(window),
             _ => Ok(current),
         }
+    }
+
+    fn exec_request(
+        &mut self,
+        channel: ChannelId,
+        _bytes: &[u8],
+        session: &mut Commands<'_>,
+    ) -> Result<(), Tired> {
+        match self.habit {
+            Habit::Dying => dying(self.alloc, channel, session),
+            _ => Ok(()),
+        }
+    }
+
+    fn agent_request(
+        &mut self,
+        channel: ChannelId,
+        session: &mut Commands<'_>,
+    ) -> Result<bool, Tired> {
+        match self.habit {
+            Habit::Doubting => session.channel_failure(channel).or(Err(Tired))?,
+            Habit::Leaving => session.close(channel).or(Err(Tired))?,
+            _ => {}
+        }
+        Ok(true)
     }
 
     fn command_done(&mut self, place: usize, outcome: CommandOutcome) -> Result<(), Tired> {

@@ -1,307 +1,277 @@
-// Scripts, and what the program writes for them.
+// Runs of the service, of authentication and of their end: scripts, and what the program writes.
 ghost use Rattle.std.specs.Prelude.{None};
 
+use crate::scripts::{Case, run, writes};
 use bytes::Bytes;
-use ssh_link::{Calls, IoFailed, MemorySink, MemorySource, Sink};
+use ssh_link::{Calls, IoFailed, MemorySource, Sink};
 use ssh_script::run_script;
 use std::alloc::Global;
-use std::process::Abort;
 use std::test::Fail;
 
 // The request for the service ssh-userauth.
 const SERVICE: &[u8] = b"recv 050000000c7373682d7573657261757468\n";
 
-/// A script, and what comes of it.
-#[derive(Drop)]
-pub(crate) struct Case {
-    /// The script.
-    pub script: &'static [u8],
-    /// The exit status of its run.
-    pub status: u8,
-    /// The bytes that the run writes.
-    pub written: &'static [u8],
-}
-
-fn calls(alloc: Global, numbers: &[u64]) -> Result<Calls, Fail> {
-    let mut calls = Calls::new(alloc);
-    for number in numbers {
-        calls.push(*number)?;
-    }
-    Ok(calls)
-}
-
-/// Runs a script; the reads and writes of these numbers fail.
-pub(crate) fn run(
-    alloc: Global,
-    words: &[&str],
-    script: &[u8],
-    failing_reads: &[u64],
-    failing_writes: &[u64],
-) -> Result<(u8, MemorySink), Fail> {
-    let script = Bytes::copy_from_slice(alloc, script)?;
-    let mut source = MemorySource::new(script, calls(alloc, failing_reads)?);
-    let mut sink = MemorySink::new(alloc, calls(alloc, failing_writes)?);
-    let status = run_script(alloc, words, &mut source, &mut sink);
-    Ok((status, sink))
-}
-
-/// Whether each script comes to what its case says.
-pub(crate) fn passes(rt: &impl Abort, alloc: Global, cases: &[Case]) -> Result<(), Fail> {
-    for case in cases {
-        let (status, sink) = run(alloc, &["run"], case.script, &[], &[])?;
-        assert_eq!(rt; status, case.status);
-        assert_eq!(rt; sink.bytes(), case.written);
-    }
-    Ok(())
-}
+static RUNS: [Case; 16] = [
+    Case {
+        shows: "a request for the service ssh-userauth; the last line needs no end",
+        script: b"recv 050000000c7373682d7573657261757468",
+        status: 0,
+        written: b"\
+            call authentication_banner\n\
+            input 1\n\
+            send - 060000000c7373682d7573657261757468\n\
+            input 2\nok\n",
+    },
+    Case {
+        shows: "a byte after the service",
+        script: b"recv 050000000c7373682d757365726175746800\n",
+        status: 1,
+        written: b"input 1\nerror Encoding\n",
+    },
+    Case {
+        shows: "a user is let in by method none",
+        script: b"\
+            answer none accept\n\
+            recv 050000000c7373682d7573657261757468\n\
+            recv 3200000005616c6963650000000e7373682d636f6e6e656374696f6e000000046e6f6e65\n",
+        status: 0,
+        written: b"\
+            call authentication_banner\n\
+            call auth_none 616c696365\n\
+            call auth_succeeded\n\
+            input 1\n\
+            send - 060000000c7373682d7573657261757468\n\
+            input 2\n\
+            send - 34\n\
+            input 3\nok\n",
+    },
+    Case {
+        shows: "a first request of method none has a hold of its own, from its moment on",
+        script: b"\
+            config reject-initial 10\n\
+            at 5000\n\
+            recv 050000000c7373682d7573657261757468\n\
+            recv 3200000005616c6963650000000e7373682d636f6e6e656374696f6e000000046e6f6e65\n",
+        status: 0,
+        written: b"\
+            call authentication_banner\n\
+            call auth_none 616c696365\n\
+            input 1\n\
+            send - 060000000c7373682d7573657261757468\n\
+            input 2\n\
+            send - 330000003170617373776f72642c7075626c69636b65792c686f737462617365642c6b6579\
+            626f6172642d696e74657261637469766500 hold 5010\n\
+            input 3\nok\n",
+    },
+    Case {
+        shows: "\
+            none by alice, a wrong password of hers, and none by bob, who has all methods again",
+        script: b"\
+            recv 050000000c7373682d7573657261757468\n\
+            recv 3200000005616c6963650000000e7373682d636f6e6e656374696f6e000000046e6f6e65\n\
+            recv 3200000005616c6963650000000e7373682d636f6e6e656374696f6e0000000870617373776f\
+            7264000000000577726f6e67\n\
+            recv 3200000003626f620000000e7373682d636f6e6e656374696f6e000000046e6f6e65\n",
+        status: 0,
+        written: b"\
+            call authentication_banner\n\
+            call auth_none 616c696365\n\
+            call auth_password 616c696365 77726f6e67\n\
+            call auth_none 626f62\n\
+            input 1\n\
+            send - 060000000c7373682d7573657261757468\n\
+            input 2\n\
+            send - 330000003170617373776f72642c7075626c69636b65792c686f737462617365642c6b6579\
+            626f6172642d696e74657261637469766500 hold 1000\n\
+            input 3\n\
+            send - 33000000287075626c69636b65792c686f737462617365642c6b6579626f6172642d696e74\
+            657261637469766500 hold 1000\n\
+            input 4\n\
+            send - 330000003170617373776f72642c7075626c69636b65792c686f737462617365642c6b6579\
+            626f6172642d696e74657261637469766500 hold 1000\n\
+            input 5\nok\n",
+    },
+    Case {
+        shows: "after three rejections a fourth request meets a cap of three",
+        script: b"\
+            config attempts 3\n\
+            recv 050000000c7373682d7573657261757468\n\
+            recv 3200000005616c6963650000000e7373682d636f6e6e656374696f6e000000046e6f6e65\n\
+            recv 3200000005616c6963650000000e7373682d636f6e6e656374696f6e0000000870617373776f\
+            7264000000000577726f6e67\n\
+            recv 3200000003626f620000000e7373682d636f6e6e656374696f6e000000046e6f6e65\n\
+            recv 32\n",
+        status: 0,
+        written: b"\
+            call authentication_banner\n\
+            call auth_none 616c696365\n\
+            call auth_password 616c696365 77726f6e67\n\
+            call auth_none 626f62\n\
+            input 1\n\
+            send - 060000000c7373682d7573657261757468\n\
+            input 2\n\
+            send - 330000003170617373776f72642c7075626c69636b65792c686f737462617365642c6b6579\
+            626f6172642d696e74657261637469766500 hold 1000\n\
+            input 3\n\
+            send - 33000000287075626c69636b65792c686f737462617365642c6b6579626f6172642d696e74\
+            657261637469766500 hold 1000\n\
+            input 4\n\
+            send - 330000003170617373776f72642c7075626c69636b65792c686f737462617365642c6b6579\
+            626f6172642d696e74657261637469766500 hold 1000\n\
+            input 5\n\
+            send - 010000000e00000020546f6f206d616e792061757468656e7469636174696f6e2061747465\
+            6d70747300000000\n\
+            ok\n",
+    },
+    Case {
+        shows: "after three rejections a fourth request is read under a cap of four",
+        script: b"\
+            config attempts 4\n\
+            recv 050000000c7373682d7573657261757468\n\
+            recv 3200000005616c6963650000000e7373682d636f6e6e656374696f6e000000046e6f6e65\n\
+            recv 3200000005616c6963650000000e7373682d636f6e6e656374696f6e0000000870617373776f\
+            7264000000000577726f6e67\n\
+            recv 3200000003626f620000000e7373682d636f6e6e656374696f6e000000046e6f6e65\n\
+            recv 32\n",
+        status: 1,
+        written: b"\
+            call authentication_banner\n\
+            call auth_none 616c696365\n\
+            call auth_password 616c696365 77726f6e67\n\
+            call auth_none 626f62\n\
+            input 1\n\
+            send - 060000000c7373682d7573657261757468\n\
+            input 2\n\
+            send - 330000003170617373776f72642c7075626c69636b65792c686f737462617365642c6b6579\
+            626f6172642d696e74657261637469766500 hold 1000\n\
+            input 3\n\
+            send - 33000000287075626c69636b65792c686f737462617365642c6b6579626f6172642d696e74\
+            657261637469766500 hold 1000\n\
+            input 4\n\
+            send - 330000003170617373776f72642c7075626c69636b65792c686f737462617365642c6b6579\
+            626f6172642d696e74657261637469766500 hold 1000\n\
+            input 5\nerror Encoding\n",
+    },
+    Case {
+        shows: "a change of password is refused unheard, and the password that follows is served",
+        script: b"\
+            config reject 0\n\
+            answer password accept\n\
+            recv 050000000c7373682d7573657261757468\n\
+            recv 3200000005616c6963650000000e7373682d636f6e6e656374696f6e0000000870617373776f\
+            726401000000036f6c64000000036e6577\n\
+            recv 3200000005616c6963650000000e7373682d636f6e6e656374696f6e0000000870617373776f\
+            726400000000057269676874\n",
+        status: 0,
+        written: b"\
+            call authentication_banner\n\
+            call auth_password 616c696365 7269676874\n\
+            call auth_succeeded\n\
+            input 1\n\
+            send - 060000000c7373682d7573657261757468\n\
+            input 2\n\
+            send - 330000002d6e6f6e652c7075626c69636b65792c686f737462617365642c6b6579626f6172\
+            642d696e74657261637469766500 hold 0\n\
+            input 3\n\
+            send - 34\n\
+            input 4\nok\n",
+    },
+    Case {
+        shows: "a method that no server has takes none away",
+        script: b"\
+            config reject 5\n\
+            answer password fail\n\
+            recv 050000000c7373682d7573657261757468\n\
+            at 7\n\
+            recv 3200000005616c6963650000000e7373682d636f6e6e656374696f6e00000003677373\n\
+            recv 3200000005616c6963650000000e7373682d636f6e6e656374696f6e0000000870617373776f\
+            726400000000057269676874\n",
+        status: 1,
+        written: b"\
+            call authentication_banner\n\
+            call auth_password 616c696365 7269676874\n\
+            input 1\n\
+            send - 060000000c7373682d7573657261757468\n\
+            input 2\n\
+            send - 33000000366e6f6e652c70617373776f72642c7075626c69636b65792c686f737462617365\
+            642c6b6579626f6172642d696e74657261637469766500 hold 12\n\
+            input 3\nerror Handler\n",
+    },
+    Case {
+        shows: "another service than ssh-connection",
+        script: b"\
+            recv 050000000c7373682d7573657261757468\n\
+            recv 3200000005616c6963650000000c7373682d7573657261757468000000046e6f6e65\n",
+        status: 1,
+        written: b"\
+            call authentication_banner\n\
+            input 1\n\
+            send - 060000000c7373682d7573657261757468\n\
+            input 2\nerror Inconsistent\n",
+    },
+    Case {
+        shows: "a byte after the password",
+        script: b"\
+            recv 050000000c7373682d7573657261757468\n\
+            recv 3200000005616c6963650000000e7373682d636f6e6e656374696f6e0000000870617373776f\
+            72640000000005726967687400\n",
+        status: 1,
+        written: b"\
+            call authentication_banner\n\
+            input 1\n\
+            send - 060000000c7373682d7573657261757468\n\
+            input 2\nerror Encoding\n",
+    },
+    Case {
+        shows: "no input is asked for past the limit",
+        script: b"inputs 1\nrecv 050000000c7373682d7573657261757468\n",
+        status: 1,
+        written: b"\
+            call authentication_banner\n\
+            input 1\n\
+            send - 060000000c7373682d7573657261757468\n\
+            error InputLimit\n",
+    },
+    Case {
+        shows: "the last limit counts; with 0 none is asked for",
+        script: b"inputs 1\ninputs 0\nrecv 050000000c7373682d7573657261757468\n",
+        status: 1,
+        written: b"error InputLimit\n",
+    },
+    Case {
+        shows: "the handler fails where it is asked for a banner",
+        script: b"answer banner fail\nrecv 050000000c7373682d7573657261757468\n",
+        status: 1,
+        written: b"call authentication_banner\ninput 1\nerror Handler\n",
+    },
+    Case {
+        shows: "the handler fails at a request of method none",
+        script: b"\
+            answer none fail\n\
+            recv 050000000c7373682d7573657261757468\n\
+            recv 3200000005616c6963650000000e7373682d636f6e6e656374696f6e000000046e6f6e65\n",
+        status: 1,
+        written: b"\
+            call authentication_banner\n\
+            call auth_none 616c696365\n\
+            input 1\n\
+            send - 060000000c7373682d7573657261757468\n\
+            input 2\nerror Handler\n",
+    },
+    Case {
+        shows: "comments of any bytes, empty lines, hex in both cases, and lines behind the end",
+        script: b"# any bytes: \xff\n\nsession -\nsession 00FFa0\nrecv -\nend\nat 7\nrecv 01\n",
+        status: 0,
+        written: b"input 1\ninput 2\nok\n",
+    },
+];
 
 #[test]
 fn runs(rt: HostRuntime) -> Result<(), Fail> {
-    let cases = [
-        Case {
-            script: b"recv 050000000c7373682d7573657261757468",
-            status: 0,
-            written: b"\
-                call authentication_banner\n\
-                input 1\n\
-                send - 060000000c7373682d7573657261757468\n\
-                input 2\nok\n",
-        },
-        Case {
-            script: b"recv 050000000c7373682d757365726175746800\n",
-            status: 1,
-            written: b"input 1\nerror Encoding\n",
-        },
-        Case {
-            script: b"\
-                answer none accept\n\
-                recv 050000000c7373682d7573657261757468\n\
-                recv 3200000005616c6963650000000e7373682d636f6e6e656374696f6e000000046e6f6e65\n",
-            status: 0,
-            written: b"\
-                call authentication_banner\n\
-                call auth_none 616c696365\n\
-                call auth_succeeded\n\
-                input 1\n\
-                send - 060000000c7373682d7573657261757468\n\
-                input 2\n\
-                send - 34\n\
-                input 3\nok\n",
-        },
-        Case {
-            script: b"\
-                config reject-initial 10\n\
-                at 5000\n\
-                recv 050000000c7373682d7573657261757468\n\
-                recv 3200000005616c6963650000000e7373682d636f6e6e656374696f6e000000046e6f6e65\n",
-            status: 0,
-            written: b"\
-                call authentication_banner\n\
-                call auth_none 616c696365\n\
-                input 1\n\
-                send - 060000000c7373682d7573657261757468\n\
-                input 2\n\
-                send - 330000003170617373776f72642c7075626c69636b65792c686f737462617365642c6b6579\
-                626f6172642d696e74657261637469766500 hold 5010\n\
-                input 3\nok\n",
-        },
-        // None by alice, a wrong password of hers, and none by bob, who has all methods again.
-        Case {
-            script: b"\
-                recv 050000000c7373682d7573657261757468\n\
-                recv 3200000005616c6963650000000e7373682d636f6e6e656374696f6e000000046e6f6e65\n\
-                recv 3200000005616c6963650000000e7373682d636f6e6e656374696f6e0000000870617373776f\
-                7264000000000577726f6e67\n\
-                recv 3200000003626f620000000e7373682d636f6e6e656374696f6e000000046e6f6e65\n",
-            status: 0,
-            written: b"\
-                call authentication_banner\n\
-                call auth_none 616c696365\n\
-                call auth_password 616c696365 77726f6e67\n\
-                call auth_none 626f62\n\
-                input 1\n\
-                send - 060000000c7373682d7573657261757468\n\
-                input 2\n\
-                send - 330000003170617373776f72642c7075626c69636b65792c686f737462617365642c6b6579\
-                626f6172642d696e74657261637469766500 hold 1000\n\
-                input 3\n\
-                send - 33000000287075626c69636b65792c686f737462617365642c6b6579626f6172642d696e74\
-                657261637469766500 hold 1000\n\
-                input 4\n\
-                send - 330000003170617373776f72642c7075626c69636b65792c686f737462617365642c6b6579\
-                626f6172642d696e74657261637469766500 hold 1000\n\
-                input 5\nok\n",
-        },
-        // Those are three rejections: a fourth request meets a cap of three.
-        Case {
-            script: b"\
-                config attempts 3\n\
-                recv 050000000c7373682d7573657261757468\n\
-                recv 3200000005616c6963650000000e7373682d636f6e6e656374696f6e000000046e6f6e65\n\
-                recv 3200000005616c6963650000000e7373682d636f6e6e656374696f6e0000000870617373776f\
-                7264000000000577726f6e67\n\
-                recv 3200000003626f620000000e7373682d636f6e6e656374696f6e000000046e6f6e65\n\
-                recv 32\n",
-            status: 0,
-            written: b"\
-                call authentication_banner\n\
-                call auth_none 616c696365\n\
-                call auth_password 616c696365 77726f6e67\n\
-                call auth_none 626f62\n\
-                input 1\n\
-                send - 060000000c7373682d7573657261757468\n\
-                input 2\n\
-                send - 330000003170617373776f72642c7075626c69636b65792c686f737462617365642c6b6579\
-                626f6172642d696e74657261637469766500 hold 1000\n\
-                input 3\n\
-                send - 33000000287075626c69636b65792c686f737462617365642c6b6579626f6172642d696e74\
-                657261637469766500 hold 1000\n\
-                input 4\n\
-                send - 330000003170617373776f72642c7075626c69636b65792c686f737462617365642c6b6579\
-                626f6172642d696e74657261637469766500 hold 1000\n\
-                input 5\n\
-                send - 010000000e00000020546f6f206d616e792061757468656e7469636174696f6e2061747465\
-                6d70747300000000\n\
-                ok\n",
-        },
-        // And a fourth request is read under a cap of four.
-        Case {
-            script: b"\
-                config attempts 4\n\
-                recv 050000000c7373682d7573657261757468\n\
-                recv 3200000005616c6963650000000e7373682d636f6e6e656374696f6e000000046e6f6e65\n\
-                recv 3200000005616c6963650000000e7373682d636f6e6e656374696f6e0000000870617373776f\
-                7264000000000577726f6e67\n\
-                recv 3200000003626f620000000e7373682d636f6e6e656374696f6e000000046e6f6e65\n\
-                recv 32\n",
-            status: 1,
-            written: b"\
-                call authentication_banner\n\
-                call auth_none 616c696365\n\
-                call auth_password 616c696365 77726f6e67\n\
-                call auth_none 626f62\n\
-                input 1\n\
-                send - 060000000c7373682d7573657261757468\n\
-                input 2\n\
-                send - 330000003170617373776f72642c7075626c69636b65792c686f737462617365642c6b6579\
-                626f6172642d696e74657261637469766500 hold 1000\n\
-                input 3\n\
-                send - 33000000287075626c69636b65792c686f737462617365642c6b6579626f6172642d696e74\
-                657261637469766500 hold 1000\n\
-                input 4\n\
-                send - 330000003170617373776f72642c7075626c69636b65792c686f737462617365642c6b6579\
-                626f6172642d696e74657261637469766500 hold 1000\n\
-                input 5\nerror Encoding\n",
-        },
-        // A change of password is refused unheard, and the password that follows is served.
-        Case {
-            script: b"\
-                config reject 0\n\
-                answer password accept\n\
-                recv 050000000c7373682d7573657261757468\n\
-                recv 3200000005616c6963650000000e7373682d636f6e6e656374696f6e0000000870617373776f\
-                726401000000036f6c64000000036e6577\n\
-                recv 3200000005616c6963650000000e7373682d636f6e6e656374696f6e0000000870617373776f\
-                726400000000057269676874\n",
-            status: 0,
-            written: b"\
-                call authentication_banner\n\
-                call auth_password 616c696365 7269676874\n\
-                call auth_succeeded\n\
-                input 1\n\
-                send - 060000000c7373682d7573657261757468\n\
-                input 2\n\
-                send - 330000002d6e6f6e652c7075626c69636b65792c686f737462617365642c6b6579626f6172\
-                642d696e74657261637469766500 hold 0\n\
-                input 3\n\
-                send - 34\n\
-                input 4\nok\n",
-        },
-        // A method that no server has takes none away.
-        Case {
-            script: b"\
-                config reject 5\n\
-                answer password fail\n\
-                recv 050000000c7373682d7573657261757468\n\
-                at 7\n\
-                recv 3200000005616c6963650000000e7373682d636f6e6e656374696f6e00000003677373\n\
-                recv 3200000005616c6963650000000e7373682d636f6e6e656374696f6e0000000870617373776f\
-                726400000000057269676874\n",
-            status: 1,
-            written: b"\
-                call authentication_banner\n\
-                call auth_password 616c696365 7269676874\n\
-                input 1\n\
-                send - 060000000c7373682d7573657261757468\n\
-                input 2\n\
-                send - 33000000366e6f6e652c70617373776f72642c7075626c69636b65792c686f737462617365\
-                642c6b6579626f6172642d696e74657261637469766500 hold 12\n\
-                input 3\nerror Handler\n",
-        },
-        // Another service than ssh-connection.
-        Case {
-            script: b"\
-                recv 050000000c7373682d7573657261757468\n\
-                recv 3200000005616c6963650000000c7373682d7573657261757468000000046e6f6e65\n",
-            status: 1,
-            written: b"\
-                call authentication_banner\n\
-                input 1\n\
-                send - 060000000c7373682d7573657261757468\n\
-                input 2\nerror Inconsistent\n",
-        },
-        // A byte after the password.
-        Case {
-            script: b"\
-                recv 050000000c7373682d7573657261757468\n\
-                recv 3200000005616c6963650000000e7373682d636f6e6e656374696f6e0000000870617373776f\
-                72640000000005726967687400\n",
-            status: 1,
-            written: b"\
-                call authentication_banner\n\
-                input 1\n\
-                send - 060000000c7373682d7573657261757468\n\
-                input 2\nerror Encoding\n",
-        },
-        Case {
-            script: b"inputs 1\nrecv 050000000c7373682d7573657261757468\n",
-            status: 1,
-            written: b"\
-                call authentication_banner\n\
-                input 1\n\
-                send - 060000000c7373682d7573657261757468\n\
-                error InputLimit\n",
-        },
-        Case {
-            script: b"inputs 1\ninputs 0\nrecv 050000000c7373682d7573657261757468\n",
-            status: 1,
-            written: b"error InputLimit\n",
-        },
-        Case {
-            script: b"answer banner fail\nrecv 050000000c7373682d7573657261757468\n",
-            status: 1,
-            written: b"call authentication_banner\ninput 1\nerror Handler\n",
-        },
-        Case {
-            script: b"\
-                answer none fail\n\
-                recv 050000000c7373682d7573657261757468\n\
-                recv 3200000005616c6963650000000e7373682d636f6e6e656374696f6e000000046e6f6e65\n",
-            status: 1,
-            written: b"\
-                call authentication_banner\n\
-                call auth_none 616c696365\n\
-                input 1\n\
-                send - 060000000c7373682d7573657261757468\n\
-                input 2\nerror Handler\n",
-        },
-        Case {
-            script: b"# any bytes: \xff\n\nsession -\nsession 00FFa0\nrecv -\nend\nat 7\nrecv 01\n",
-            status: 0,
-            written: b"input 1\ninput 2\nok\n",
-        },
-    ];
-    passes(&rt, rt.alloc(), &cases)
+    for case in &RUNS {
+        assert!(rt; case.holds(rt.alloc())?, "{}", case.shows);
+    }
+    Ok(())
 }
 
 // A wrong password of alice.
@@ -343,91 +313,73 @@ fn refusals(alloc: Global, read: usize) -> Result<Vec<u8>, Fail> {
     Ok(written)
 }
 
+// The cap in the settings, and how many wrong passwords are read under it.
+static CAPS: [(&[u8], usize); 3] = [
+    (b"", 10),
+    (b"config attempts 1\n", 1),
+    (b"config attempts 3\n", 3),
+];
+
+// Eleven wrong passwords, behind this setting.
+fn wrong_passwords(alloc: Global, setting: &[u8]) -> Result<Vec<u8>, Fail> {
+    let mut script = Vec::new(alloc);
+    script.extend_from_slice(setting)?;
+    script.extend_from_slice(SERVICE)?;
+    for _ in 0..11 {
+        script.extend_from_slice(WRONG_PASSWORD)?;
+    }
+    Ok(script)
+}
+
+// Whether so many wrong passwords are read under this setting.
+fn are_read(alloc: Global, setting: &[u8], read: usize) -> Result<bool, Fail> {
+    let script = wrong_passwords(alloc, setting)?;
+    let written = refusals(alloc, read)?;
+    writes(alloc, &["run"], script.as_slice(), 0, written.as_slice())
+}
+
 #[test]
 fn too_many_attempts(rt: HostRuntime) -> Result<(), Fail> {
-    let alloc = rt.alloc();
-    let limits: [(&[u8], usize); 3] = [
-        (b"", 10),
-        (b"config attempts 1\n", 1),
-        (b"config attempts 3\n", 3),
-    ];
-    for (limit, read) in limits {
-        let mut script = Vec::new(alloc);
-        script.extend_from_slice(limit)?;
-        script.extend_from_slice(SERVICE)?;
-        for _ in 0..11 {
-            script.extend_from_slice(WRONG_PASSWORD)?;
-        }
-        let (status, sink) = run(alloc, &["run"], script.as_slice(), &[], &[])?;
-        assert_eq!(rt; status, 0);
-        assert_eq!(rt; sink.bytes(), refusals(alloc, read)?.as_slice());
+    for (setting, read) in &CAPS {
+        assert!(rt; are_read(rt.alloc(), *setting, *read)?, "{read}");
     }
     Ok(())
 }
 
-#[test]
-fn bad_lines(rt: HostRuntime) -> Result<(), Fail> {
-    let scripts: [&[u8]; 18] = [
-        b"recv",
-        b"recv ",
-        b"recv 0",
-        b"recv 0g",
-        b"recv 00 ",
-        b"recv  00",
-        b"recv\t00",
-        b" ",
-        b"end ",
-        b"End",
-        b"inputs 01",
-        b"inputs +1",
-        b"inputs 18446744073709551616",
-        b"config accept 1",
-        b"answer none",
-        b"answer none hold",
-        b"answer banner accept",
-        b"at -1\r",
-    ];
-    for script in &scripts {
-        let (status, sink) = run(rt.alloc(), &["run"], *script, &[], &[])?;
-        assert_eq!(rt; status, 2);
-        assert_eq!(rt; sink.bytes(), b"bad line 1\n".as_slice());
-    }
-    Ok(())
-}
+static LATE_SETTING: Case = Case {
+    shows: "the first bad line is told: a setting behind an input line",
+    script: b"inputs 5\n# no input\n\nat 1\ninputs 5\nbad too\n",
+    status: 2,
+    written: b"bad line 5\n",
+};
 
 #[test]
 fn a_setting_after_an_input_line(rt: HostRuntime) -> Result<(), Fail> {
-    let script = b"inputs 5\n# no input\n\nat 1\ninputs 5\nbad too\n";
-    let (status, sink) = run(rt.alloc(), &["run"], script.as_slice(), &[], &[])?;
-    assert_eq!(rt; status, 2);
-    assert_eq!(rt; sink.bytes(), b"bad line 5\n".as_slice());
+    assert!(rt; LATE_SETTING.holds(rt.alloc())?, "{}", LATE_SETTING.shows);
     Ok(())
 }
 
-#[test]
-fn other_words(rt: HostRuntime) -> Result<(), Fail> {
-    let words: [&[&str]; 4] = [&[], &["run", "run"], &["Run"], &["threads", "2"]];
-    for words in &words {
-        let (status, sink) = run(rt.alloc(), *words, SERVICE, &[1], &[])?;
-        assert_eq!(rt; status, 2);
-        assert_eq!(rt;
-            sink.bytes(),
-            b"usage: ssh_script run | generate <n> | threads <n>\n".as_slice()
-        );
-    }
-    Ok(())
+// The reads and the writes that fail, the status, and what is written.
+static FAULTS: [(&[u64], &[u64], u8, &[u8]); 3] = [
+    (&[1], &[], 3, b"read fault\n"),
+    (&[2], &[], 3, b"read fault\n"),
+    (&[], &[1], 4, b""),
+];
+
+// Whether the service request comes to this where these reads and writes fail.
+fn fails(
+    alloc: Global,
+    (reads, writes, status, written): (&[u64], &[u64], u8, &[u8]),
+) -> Result<bool, Fail> {
+    let (ended, sink) = run(alloc, &["run"], SERVICE, reads, writes)?;
+    Ok(ended == status && sink.bytes() == written)
 }
 
 #[test]
 fn failing_sources_and_sinks(rt: HostRuntime) -> Result<(), Fail> {
-    for number in [1, 2] {
-        let (status, sink) = run(rt.alloc(), &["run"], SERVICE, &[number], &[])?;
-        assert_eq!(rt; status, 3);
-        assert_eq!(rt; sink.bytes(), b"read fault\n".as_slice());
+    for fault in &FAULTS {
+        assert!(rt; fails(rt.alloc(), *fault)?);
     }
-    let (status, sink) = run(rt.alloc(), &["run"], SERVICE, &[], &[1])?;
-    assert_eq!(rt; status, 4);
-    assert_eq!(rt; sink.bytes().len(), 0);
     Ok(())
 }
 
@@ -455,36 +407,42 @@ impl Sink for SlowSink {
     }
 }
 
-#[test]
-fn a_sink_that_fails_on_the_way(rt: HostRuntime) -> Result<(), Fail> {
-    let alloc = rt.alloc();
-    let mut source = MemorySource::new(Bytes::copy_from_slice(alloc, SERVICE)?, calls(alloc, &[])?);
+// The status of a run over such a sink, and what it has then.
+fn run_slowly(alloc: Global) -> Result<(u8, Vec<u8>), Fail> {
+    let mut source = MemorySource::new(Bytes::copy_from_slice(alloc, SERVICE)?, Calls::new(alloc));
     let mut sink = SlowSink {
         bytes: Vec::new(alloc),
         calls: 0,
         faults: 0,
     };
     let status = run_script(alloc, &["run"], &mut source, &mut sink);
-    assert_eq!(rt; status, 4);
-    assert_eq!(rt; sink.bytes.as_slice(), b"call authent".as_slice());
-    Ok(())
+    Ok((status, sink.bytes))
 }
 
 #[test]
-fn a_script_that_is_too_long(rt: HostRuntime) -> Result<(), Fail> {
-    let alloc = rt.alloc();
+fn a_sink_that_fails_on_the_way(rt: HostRuntime) -> Result<(), Fail> {
+    let (status, bytes) = run_slowly(rt.alloc())?;
+    assert!(rt; status == 4 && bytes.as_slice() == b"call authent".as_slice());
+    Ok(())
+}
+
+// A comment of 2^24 bytes.
+fn comment(alloc: Global) -> Result<Vec<u8>, Fail> {
     let mut script = Vec::new(alloc);
     for _ in 0..262144 {
         script.extend_from_slice(
             b"################################################################",
         )?;
     }
-    let (status, sink) = run(alloc, &["run"], script.as_slice(), &[], &[])?;
-    assert_eq!(rt; status, 0);
-    assert_eq!(rt; sink.bytes(), b"input 1\nok\n".as_slice());
+    Ok(script)
+}
+
+#[test]
+fn a_script_that_is_too_long(rt: HostRuntime) -> Result<(), Fail> {
+    let alloc = rt.alloc();
+    let mut script = comment(alloc)?;
+    assert!(rt; writes(alloc, &["run"], script.as_slice(), 0, b"input 1\nok\n")?);
     script.push(b'#')?;
-    let (status, sink) = run(alloc, &["run"], script.as_slice(), &[], &[])?;
-    assert_eq!(rt; status, 2);
-    assert_eq!(rt; sink.bytes(), b"script too long\n".as_slice());
+    assert!(rt; writes(alloc, &["run"], script.as_slice(), 2, b"script too long\n")?);
     Ok(())
 }

@@ -1,6 +1,5 @@
 // Channels that this side opens: what the peer answers (RFC 4254 section 5.1).
-use super::{Row, holds};
-use crate::transcripts::{Case, passes};
+use crate::scripts::{Case, Row};
 use std::test::Fail;
 
 static OPENS: [Row; 16] = [
@@ -358,39 +357,42 @@ static OPENS: [Row; 16] = [
 #[test]
 fn opens_of_this_side(rt: HostRuntime) -> Result<(), Fail> {
     for row in &OPENS {
-        assert!(rt; holds(rt.alloc(), *row)?, "{}", row.shows);
+        assert!(rt; row.holds(rt.alloc())?, "{}", row.shows);
     }
     Ok(())
 }
 
+static BEFORE_LOGIN: Case = Case {
+    shows: "nobody opens a channel before a user is let in",
+    script: b"\
+        answer none accept\n\
+        open session\n\
+        recv 050000000c7373682d7573657261757468\n\
+        open session\n\
+        recv 3200000005616c6963650000000e7373682d636f6e6e656374696f6e000000046e6f6e65\n\
+        open session\n",
+    status: 0,
+    written: b"\
+        call authentication_banner\n\
+        call auth_none 616c696365\n\
+        call auth_succeeded\n\
+        input 1\n\
+        done 1 refused NotAuthenticated\n\
+        input 2\n\
+        send - 060000000c7373682d7573657261757468\n\
+        input 3\n\
+        done 2 refused NotAuthenticated\n\
+        input 4\n\
+        send - 34\n\
+        input 5\n\
+        done 3 opened 2\n\
+        send 2 5a0000000773657373696f6e000000020020000000008000\n\
+        input 6\n\
+        ok\n",
+};
+
 #[test]
 fn nobody_opens_a_channel_before_a_user_is_let_in(rt: HostRuntime) -> Result<(), Fail> {
-    let cases = [Case {
-        script: b"\
-            answer none accept\n\
-            open session\n\
-            recv 050000000c7373682d7573657261757468\n\
-            open session\n\
-            recv 3200000005616c6963650000000e7373682d636f6e6e656374696f6e000000046e6f6e65\n\
-            open session\n",
-        status: 0,
-        written: b"\
-            call authentication_banner\n\
-            call auth_none 616c696365\n\
-            call auth_succeeded\n\
-            input 1\n\
-            done 1 refused NotAuthenticated\n\
-            input 2\n\
-            send - 060000000c7373682d7573657261757468\n\
-            input 3\n\
-            done 2 refused NotAuthenticated\n\
-            input 4\n\
-            send - 34\n\
-            input 5\n\
-            done 3 opened 2\n\
-            send 2 5a0000000773657373696f6e000000020020000000008000\n\
-            input 6\n\
-            ok\n",
-    }];
-    passes(&rt, rt.alloc(), &cases)
+    assert!(rt; BEFORE_LOGIN.holds(rt.alloc())?, "{}", BEFORE_LOGIN.shows);
+    Ok(())
 }

@@ -1,5 +1,5 @@
 // Channels of each type that the peer opens.
-use super::{Row, holds};
+use crate::scripts::Row;
 use std::test::Fail;
 
 static OPENS: [Row; 9] = [
@@ -216,7 +216,7 @@ static OPENS: [Row; 9] = [
 #[test]
 fn opens_of_the_peer(rt: HostRuntime) -> Result<(), Fail> {
     for row in &OPENS {
-        assert!(rt; holds(rt.alloc(), *row)?, "{}", row.shows);
+        assert!(rt; row.holds(rt.alloc())?, "{}", row.shows);
     }
     Ok(())
 }

@@ -1,5 +1,5 @@
 // Data and closes on channels that this side opens.
-use super::{Row, holds};
+use crate::scripts::Row;
 use std::test::Fail;
 
 static TRANSFERS: [Row; 5] = [
@@ -172,7 +172,7 @@ static TRANSFERS: [Row; 5] = [
 #[test]
 fn data_on_channels_of_this_side(rt: HostRuntime) -> Result<(), Fail> {
     for row in &TRANSFERS {
-        assert!(rt; holds(rt.alloc(), *row)?, "{}", row.shows);
+        assert!(rt; row.holds(rt.alloc())?, "{}", row.shows);
     }
     Ok(())
 }

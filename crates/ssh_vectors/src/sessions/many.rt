@@ -1,5 +1,5 @@
 // Several channels in one session.
-use super::{Comes, Ends, Row, Sent, Side, are_sent, give, holds, log_in};
+use super::{Comes, Ends, Row, Sent, Side, are_sent, give, holds, is_logged_in, not_begun};
 use crate::taking::{Habit, Taking, Told};
 use bytes::Bytes;
 use ssh_handler::Config;
@@ -94,20 +94,19 @@ fn channels_side_by_side(rt: HostRuntime) -> Result<(), Fail> {
     Ok(())
 }
 
-// A session with a hundred channels, which all have one number of the peer's and a window of 2.
-fn a_hundred(alloc: Global) -> Result<Side, Fail> {
-    let mut side = log_in(alloc, 2_097_152, Habit::Echo)?;
+// Whether a hundred channels are opened, which all have one number of the peer's and a window of 2.
+fn are_opened(side: &mut Side) -> Result<bool, Fail> {
     for _ in 0..100u32 {
-        let _end = give(
-            &mut side,
-            Comes::Payload(b"\x5a\0\0\0\x07session\0\0\0\x07\0\0\0\x02\0\0\x80\0"),
-        )?;
+        let open = b"\x5a\0\0\0\x07session\0\0\0\x07\0\0\0\x02\0\0\x80\0";
+        if give(side, Comes::Payload(open))? != Ends::GoesOn {
+            return Ok(false);
+        }
     }
-    Ok(side)
+    Ok(true)
 }
 
 // Whether a byte that comes on the channel puts out these frames.
-fn puts_out(side: &mut Side, channel: u32, byte: u8, wanted: &[Sent]) -> Result<bool, Fail> {
+fn byte_puts_out(side: &mut Side, channel: u32, byte: u8, wanted: &[Sent]) -> Result<bool, Fail> {
     let skipped = side.link.trace().len();
     let end = give(side, Comes::Bytes(channel, 1, byte))?;
     Ok(end == Ends::GoesOn && are_sent(side, skipped, wanted)?)
@@ -117,18 +116,35 @@ fn puts_out(side: &mut Side, channel: u32, byte: u8, wanted: &[Sent]) -> Result<
 fn echoes(side: &mut Side, channel: u32) -> Result<bool, Fail> {
     let first: Sent = (Some(channel), b"\x5e\0\0\0\x07\0\0\0\x01a");
     let second: Sent = (Some(channel), b"\x5e\0\0\0\x07\0\0\0\x01b");
-    if !puts_out(side, channel, b'a', &[first])? || !puts_out(side, channel, b'b', &[second])? {
+    if !byte_puts_out(side, channel, b'a', &[first])?
+        || !byte_puts_out(side, channel, b'b', &[second])?
+    {
         return Ok(false);
     }
-    puts_out(side, channel, b'c', &[])
+    byte_puts_out(side, channel, b'c', &[])
+}
+
+// Whether each of the hundred does so.
+fn all_echo(side: &mut Side) -> Result<bool, Fail> {
+    for channel in 2..102u32 {
+        if !echoes(side, channel)? {
+            return Ok(false);
+        }
+    }
+    Ok(true)
+}
+
+// Whether all that is so behind a login.
+fn hundred_echo(side: &mut Side) -> Result<bool, Fail> {
+    Ok(is_logged_in(side)? && are_opened(side)? && all_echo(side)?)
 }
 
 #[test]
 fn a_hundred_echoes(rt: HostRuntime) -> Result<(), Fail> {
-    let mut side = a_hundred(rt.alloc())?;
-    for channel in 2..102u32 {
-        assert!(rt; echoes(&mut side, channel)?, "{channel}");
-    }
+    let mut side = not_begun(rt.alloc(), 2_097_152, Habit::Echo)?;
+    let echo = hundred_echo(&mut side)?;
+    drop(side);
+    assert!(rt; echo);
     Ok(())
 }
 
@@ -181,29 +197,43 @@ fn payloads_sent(alloc: Global, trace: &[TraceEntry]) -> Result<Vec<u8>, Fail> {
     Ok(bytes)
 }
 
+// What goes out on channels in a run over these inputs; none where it does not end well.
+fn sent_in_all(alloc: Global, inputs: Inputs) -> Result<Option<Vec<u8>>, Fail> {
+    let mut link = MemoryLink::new(alloc, inputs, Calls::new(alloc))?;
+    let mut handler = Taking::new(alloc, Habit::Quiet);
+    let config = Config::standard();
+    let verifier = TableVerifier::new(alloc);
+    let run = run_stream(
+        alloc,
+        &config,
+        b"",
+        b"",
+        &mut handler,
+        &verifier,
+        &mut link,
+        20,
+    );
+    let well = run.is_ok();
+    drop(run);
+    drop(handler);
+    if !well {
+        return Ok(None);
+    }
+    Ok(Some(payloads_sent(alloc, link.trace())?))
+}
+
 // The command on channel 3 is set aside while data wait on channel 2.
 #[test]
 fn commands_wait_while_data_wait(rt: HostRuntime) -> Result<(), Fail> {
     let alloc = rt.alloc();
-    let mut link = MemoryLink::new(alloc, waiting_inputs(alloc)?, Calls::new(alloc))?;
-    let mut handler = Taking::new(alloc, Habit::Quiet);
-    let run = run_stream(
-        alloc,
-        &Config::standard(),
-        b"",
-        b"",
-        &mut handler,
-        &TableVerifier::new(alloc),
-        &mut link,
-        20,
-    );
-    assert!(rt; run.is_ok());
+    let sent = sent_in_all(alloc, waiting_inputs(alloc)?)?;
     let wanted: &[u8] = b"\
         \x5b\0\0\0\x2c\0\0\0\x02\0\x20\0\0\0\0\x80\0\
         \x5b\0\0\0\x2d\0\0\0\x03\0\x20\0\0\0\0\x80\0\
         \x5e\0\0\0\x2c\0\0\0\x03hel\
         \x5e\0\0\0\x2c\0\0\0\x02lo\
         \x5e\0\0\0\x2d\0\0\0\x04next";
-    assert_eq!(rt; payloads_sent(alloc, link.trace())?.as_slice(), wanted);
+    let bytes = sent.unwrap_or(Vec::new(alloc));
+    assert!(rt; bytes.as_slice() == wanted);
     Ok(())
 }

@@ -1,0 +1,124 @@
+// Lines that are no lines of a script.
+use crate::scripts::writes;
+use std::test::Fail;
+
+static BAD_LINES: [&[u8]; 86] = [
+    b"recv",
+    b"recv ",
+    b"recv 0",
+    b"recv 0g",
+    b"recv 00 ",
+    b"recv  00",
+    b"recv\t00",
+    b" ",
+    b"end ",
+    b"End",
+    b"inputs 01",
+    b"inputs +1",
+    b"inputs 18446744073709551616",
+    b"config accept 1",
+    b"answer none",
+    b"answer none hold",
+    b"answer banner accept",
+    b"at -1\r",
+    b"banner",
+    b"banner ",
+    b"banner 6",
+    b"banner ff",
+    b"banner 68 69",
+    b"answer interactive",
+    b"answer interactive Ask",
+    b"answer interactive ask ",
+    b"answer password ask",
+    b"data 2",
+    b"data 2 ",
+    b"data  61",
+    b"data 2 6",
+    b"data 4294967296 61",
+    b"data 02 61",
+    b"data x 61",
+    b"eof",
+    b"eof ",
+    b"eof 2 ",
+    b"eof 4294967296",
+    b"close -1",
+    b"close 2 2",
+    b"open",
+    b"open ",
+    b"open  session",
+    b"open session ",
+    b"open session 2",
+    b"open Session",
+    b"open x11",
+    b"accept",
+    b"accept 2 1",
+    b"reject 2",
+    b"reject 2 0",
+    b"reject 2 5",
+    b"answer open fail",
+    b"answer request",
+    b"answer request ",
+    b"answer request accept",
+    b"answer request Success",
+    b"answer request silent 2",
+    b"success",
+    b"success ",
+    b"success 02",
+    b"success 4294967296",
+    b"success 2 1",
+    b"failure",
+    b"failure -1",
+    b"failure 2 1",
+    b"status",
+    b"status 2",
+    b"status 2 ",
+    b"status 2 01",
+    b"status 2 4294967296",
+    b"status 4294967296 0",
+    b"status 2 -1",
+    b"status 2 0 0",
+    b"sign",
+    b"\
+        sign 0000000b7373682d6564323535313900000020111111111111111111111111111111111111111111\
+        1111111111111111111111",
+    b"\
+        sign 0000000b7373682d6564323535313900000020111111111111111111111111111111111111111111\
+        1111111111111111111111 ssh-ed25519 00",
+    b"\
+        sign 0000000b7373682d6564323535313900000020111111111111111111111111111111111111111111\
+        1111111111111111111111 ssh-ed25519 00 11 22",
+    b"\
+        sign 0000000b7373682d6564323535313900000020111111111111111111111111111111111111111111\
+        1111111111111111111111 ssh-ed25519-cert-v01@openssh.com 00 11",
+    b"\
+        sign 0000000b7373682d6564323535313900000020111111111111111111111111111111111111111111\
+        1111111111111111111111 ssh-dss 00 11",
+    b"\
+        sign 0000000b7373682d6564323535313900000020111111111111111111111111111111111111111111\
+        111111111111111111111100 ssh-ed25519 00 11",
+    b"sign - ssh-ed25519 00 11",
+    b"\
+        sign 0000000b7373682d6564323535313900000020111111111111111111111111111111111111111111\
+        1111111111111111111111 ssh-ed25519  00",
+    b"answer publickey",
+    b"answer offered hold",
+    b"answer certificate Accept",
+];
+
+#[test]
+fn bad_lines(rt: HostRuntime) -> Result<(), Fail> {
+    for (place, line) in BAD_LINES.iter().enumerate() {
+        assert!(rt;
+            writes(rt.alloc(), &["run"], *line, 2, b"bad line 1\n")?,
+            "{place}"
+        );
+    }
+    Ok(())
+}
+
+#[test]
+fn a_bad_line_behind_another(rt: HostRuntime) -> Result<(), Fail> {
+    let script = b"at 5\nbanner 68690a\n";
+    assert!(rt; writes(rt.alloc(), &["run"], script, 2, b"bad line 2\n")?);
+    Ok(())
+}
