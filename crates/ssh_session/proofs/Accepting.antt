@@ -19,7 +19,7 @@ use Rattle.ssh_session.specs.Run.{Turn, Run, Owes}
 use Rattle.ssh_session.specs.Serve.{Cause, Wants_memory, Link_failed, Limit_reached, Faulty}
 use Rattle.ssh_session.specs.Serve.{Refused_by, cause_of, IsCaused}
 use Rattle.ssh_session.specs.World.{Settings, World, circumstances, opening_world}
-use Rattle.ssh_session.proofs.Admitting.{owed_guarded}
+use Rattle.ssh_session.proofs.Admitted.{owed_guarded}
 use Rattle.ssh_session.proofs.Guards.{Guarded, IsBefore, IsClear, NamesLast, SomeAccepts, Walks}
 use Rattle.ssh_session.proofs.Guards.{input_guarded}
 use Rattle.ssh_session.proofs.Guards.{walks_guarded, follows_guarded, begins_walks, follows_walks}

@@ -1,5 +1,5 @@
 -- Laws of rows, by their acts: what each turn of the world and each command keeps, a row keeps.
-use Rattle.std.proofs.Common.{ℕ, ◌+◌, Bool, List, [], ◌∷◌, map}
+use Rattle.std.proofs.Common.{ℕ, ◌+◌, Bool, true, false, cond, List, [], ◌∷◌, map}
 use Rattle.ssh_link.specs.declared.command.Command.{Command}
 use Rattle.ssh_link.specs.declared.link.TraceEntry.{TraceEntry}
 use Rattle.ssh_link.specs.declared.link.TraceEntry.TheVariants.{Noticed, Sent}
@@ -8,14 +8,14 @@ use Rattle.ssh_link.specs.declared.outcome.CommandOutcome.TheVariants.{Accepted,
 use Rattle.ssh_auth.specs.declared.question.Judged.{Judged}
 use Rattle.ssh_auth.specs.declared.question.Lent.{Lent}
 use Rattle.ssh_auth.specs.declared.question.Question.{Question}
-use Rattle.ssh_auth.specs.declared.question.Question.TheVariants.{Lends, Judges}
-use Rattle.ssh_auth.specs.Plan.{Plan, Finish, Ask, Tell, Answer, Judgement, after}
-use Rattle.ssh_session.specs.Acts.{Act, Notes, Calls, Judges_by, Adjusts_by, Turns, Is_over}
-use Rattle.ssh_session.specs.Acts.{Stops, tell_all}
+use Rattle.ssh_auth.specs.declared.question.Question.TheVariants.{Lends, Judges, Listens}
+use Rattle.ssh_auth.specs.Plan.{Plan, Finish, Ask, Tell, Answer, Judgement, Listening, after}
+use Rattle.ssh_session.specs.Acts.{Act, Notes, Calls, Judges_by, Listens_by, Adjusts_by, Turns}
+use Rattle.ssh_session.specs.Acts.{Is_over, Stops, tell_all}
 use Rattle.ssh_session.specs.Acts.{tell_done, done, done_all, acts}
-use Rattle.ssh_session.specs.Effect.{Effect, Does, Unbuilt, effect}
-use Rattle.ssh_session.specs.Outcome.{Outcome, Goes, Ends, Fails, Not_built}
-use Rattle.ssh_session.specs.Run.{finish_input, handed_on}
+use Rattle.ssh_session.specs.Effect.{Effect, Does, effect}
+use Rattle.ssh_session.specs.Outcome.{Outcome, Goes, Ends, Fails}
+use Rattle.ssh_session.specs.Run.{finish_input, handed_on, goes_unless_ended}
 use Rattle.ssh_session.specs.World.{World}
 
 -- where each answer is such a one, this holds of what the plan comes to
@@ -26,10 +26,9 @@ PlanComes such comes (Ask question next) = (answer : Answer question) → such q
     → PlanComes such comes (next answer)
 PlanComes such comes (Tell entry next) = PlanComes such comes next
 
--- what a command leads to: such a world, or it may not be built
-abbrev pub EffectComes : (comes : Outcome → Type 0) → (holds : World → Type 0) → Effect → Type 0
-EffectComes comes holds (Does notices outcome world) = holds world
-EffectComes comes holds Unbuilt = comes (Fails Not_built)
+-- what a command leads to: such a world
+abbrev pub EffectComes : (holds : World → Type 0) → Effect → Type 0
+EffectComes holds (Does notices outcome world) = holds world
 
 -- each of these commands is such a one
 abbrev pub AllBuilt : (built : Command → Type 0) → List Command → Type 0
@@ -49,8 +48,10 @@ pub record Law : Type 1 where
       → AllBuilt built commands
   pub judges : (judged : Judged) (answer : Judgement) → such (Judges judged) answer
       → AllBuilt built answer.commands
-  pub keeps : (w : World) (command : Command) → holds w → built command → EffectComes comes holds
-      (effect w command)
+  pub listens : (address : List ℕ) (port : ℕ) (answer : Listening)
+      → such (Listens address port) answer → AllBuilt built answer.commands
+  pub keeps : (w : World) (command : Command) → holds w → built command
+      → EffectComes holds (effect w command)
 
 -- each turn of the world leads to such a world, from this one up to the first callback and from any
 -- such one after it; and the end, or a fault, is such an outcome
@@ -60,6 +61,9 @@ ActsCome law (Notes notice ∷ later) w = ActsCome law later w
 ActsCome law (Calls lent ∷ later) w = (world : World) → law.holds world → ActsCome law later world
 ActsCome law (Judges_by judged by ∷ later) w = (granted : Bool) (world : World)
     → law.holds world → law.holds (by granted world) × ActsCome law later (by granted world)
+ActsCome law (Listens_by address port by ∷ later) w = (granted : Bool) (bound : ℕ)
+    (world : World) → law.holds world
+    → law.holds (by granted bound world) × ActsCome law later (by granted bound world)
 ActsCome law (Adjusts_by channel current by ∷ later) w = (window : ℕ) → law.holds (by window w)
     × ActsCome law later (by window w)
 ActsCome law (Turns by ∷ later) w = law.holds (by w) × ActsCome law later (by w)
@@ -81,13 +85,12 @@ told_done law place (Refused why) next h = λ _ _. h
 
 -- one command, and then what follows
 pub one_comes : (law : Law) (does : Effect) (next : CommandOutcome → World → Plan Outcome)
-    → EffectComes law.comes law.holds does →
+    → EffectComes law.holds does →
     ((outcome : CommandOutcome) (world : World) → law.holds world → PlanComes law.such law.comes
     (next outcome world)) →
     PlanComes law.such law.comes (done does next)
 one_comes law (Does notices outcome world) next k h = tells_come law (map Noticed notices)
     (next outcome world) (h outcome world k)
-one_comes law Unbuilt next k h = k
 
 all_come : (law : Law) (place : ℕ) (commands : List Command) (w : World) (next : World
     → Plan Outcome) → law.holds w →
@@ -114,6 +117,12 @@ acts_come law (Judges_by judged by ∷ later) w h k = λ answer s.
     (law.judges judged answer s)
     (λ world t. acts_come law later (by answer.granted world) (k answer.granted world t).0
     (k answer.granted world t).1)
+acts_come law (Listens_by address port by ∷ later) w h k = λ answer s.
+    all_come law 0 answer.commands w
+    (λ world. acts later (by answer.granted answer.port world)) h
+    (law.listens address port answer s)
+    (λ world t. acts_come law later (by answer.granted answer.port world)
+    (k answer.granted answer.port world t).0 (k answer.granted answer.port world t).1)
 acts_come law (Adjusts_by channel current by ∷ later) w h k = λ window s.
     acts_come law later (by window w) (k window).0 (k window).1
 acts_come law (Turns by ∷ later) w h k = acts_come law later (by w) k.0 k.1
@@ -138,9 +147,16 @@ told_come : (such : (question : Question) → Answer question → Type 0) (comes
 told_come such comes [] next h = h
 told_come such comes (entry ∷ entries) next h = told_come such comes entries next h
 
+-- what holds of both ends of an input holds of the one that it comes to
+pub goes_or_ends : (comes : Outcome → Type 0) (w : World) (ended : Bool) → comes (Goes w)
+    → comes (Ends w) → comes (cond ended (Ends w) (Goes w))
+goes_or_ends comes w true g e = e
+goes_or_ends comes w false g e = g
+
 -- what frames that are handed on take nothing from
 abbrev pub IsPassedOn : (comes : Outcome → Type 0) → Type 0
-IsPassedOn comes = (w : World) → (comes (Goes w) → comes (Goes (handed_on w)))
+IsPassedOn comes = (w : World)
+    → (comes (Goes w) → comes (goes_unless_ended (handed_on w)))
     × (comes (Ends w) → comes (Ends (handed_on w)))
 
 finish_comes : (such : (question : Question) → Answer question → Type 0) (comes : Outcome → Type 0)

@@ -1,24 +1,18 @@
 -- The rows are plans in which nothing of the connection comes before an answer that accepts a user.
-use Rattle.std.proofs.Common.{⊎_elim, ◌≡◌, ◌≤◌, ◌⊎◌, ℕ, List, [], ◌∷◌, ◌++◌, Option, Some, None}
-use Rattle.std.proofs.Common.{Bool, true, false, refl, sym, ◌∙◌, ap, subst, inl, inr, arith}
+use Rattle.std.proofs.Common.{◌≡◌, ◌≤◌, ◌⊎◌, ℕ, List, [], ◌∷◌, ◌++◌, Option, Some, None}
+use Rattle.std.proofs.Common.{Bool, true, false, refl, sym, subst, inl, inr, arith}
 use Rattle.std.specs.Prelude.{bytes_eq, codes, if◌then◌else◌, drop, Result, Ok, Err}
 use Rattle.ssh_wire.specs.declared.error.WireError.{WireError}
 use Rattle.ssh_wire.specs.Field.{number, string}
 use Rattle.ssh_link.specs.Frames.{Frame}
-use Rattle.ssh_link.specs.declared.command.Command.{Command as Commanded}
-use Rattle.ssh_link.specs.declared.command.Command.TheVariants as command
 use Rattle.ssh_link.specs.declared.frame.InputKind.{InputKind}
-use Rattle.ssh_link.specs.declared.frame.InputKind.TheVariants.{Payload, Command, OpenReply, End}
-use Rattle.ssh_link.specs.declared.link.TraceEntry.TheVariants as traced
-use Rattle.ssh_link.specs.declared.outcome.Refusal.{Refusal}
-use Rattle.ssh_link.specs.declared.outcome.Refusal.TheVariants.{UnknownChannel, UnknownOpen}
-use Rattle.ssh_link.specs.declared.outcome.Refusal.TheVariants.{NotAuthenticated}
+use Rattle.ssh_link.specs.declared.frame.InputKind.TheVariants.{Payload}
 use Rattle.ssh_auth.specs.declared.auth_request.AuthRequest.{AuthRequest}
 use Rattle.ssh_auth.specs.declared.auth_step.AuthVerdict.TheVariants as verdict
 use Rattle.ssh_auth.specs.declared.question.Question.TheVariants.{Banner}
 use Rattle.ssh_auth.specs.Plan.{Plan, Finish, Ask, Tell, after}
 use Rattle.ssh_auth.specs.Proven.{IsProven}
-use Rattle.ssh_auth.specs.Publickey.{Acceptance, Circumstances}
+use Rattle.ssh_auth.specs.Publickey.{Circumstances}
 use Rattle.ssh_auth.specs.Request.{begun, prompt_of}
 use Rattle.ssh_auth.specs.Response.{Responded}
 use Rattle.ssh_auth.specs.Requested.{Requested as Asked, SaysRequest}
@@ -27,7 +21,6 @@ use Rattle.ssh_auth.specs.Verdict.{AuthOutcome, Replies, verdict as verdict_on, 
 use Rattle.ssh_auth.specs.Verdict.{response_verdict}
 use Rattle.ssh_auth.specs.Verdict as auth
 use Rattle.ssh_auth.proofs.Proving.{verdict_only}
-use Rattle.ssh_channels.specs.Lines.{find}
 use Rattle.ssh_session.specs.declared.gate.Gate.{Gate}
 use Rattle.ssh_session.specs.declared.gate.Gate.TheVariants as gate
 use Rattle.ssh_session.specs.declared.state.EncryptedState.{EncryptedState}
@@ -35,39 +28,33 @@ use Rattle.ssh_session.specs.declared.state.EncryptedState.TheVariants.{WaitingA
 use Rattle.ssh_session.specs.declared.state.EncryptedState.TheVariants.{WaitingAuthRequest}
 use Rattle.ssh_session.specs.declared.state.EncryptedState.TheVariants.{InitCompression}
 use Rattle.ssh_session.specs.declared.state.EncryptedState.TheVariants.{Authenticated}
-use Rattle.ssh_session.specs.Acts.{done, acts}
+use Rattle.ssh_session.specs.Acts.{acts}
 use Rattle.ssh_session.specs.Authorised.{IsRequestOf, IsProvenRequest, IsOfChannel}
-use Rattle.ssh_session.specs.Effect.{Effect, Unbuilt, refuses, effect, refused_or, no_sending}
-use Rattle.ssh_session.specs.Effect.{no_closing, no_open, done_by, no_user, lacks, opens_need}
-use Rattle.ssh_session.specs.Effect.{opens, opens_or_not, needs, Established, no_established}
-use Rattle.ssh_session.specs.OwnOpens.{OwnOpen, asking}
+use Rattle.ssh_session.specs.Effect.{opens, said}
 use Rattle.ssh_session.specs.Gate.{gate_of, IsRequesting}
 use Rattle.ssh_session.specs.Layout.{at_once, held, service_accept, banner, too_many_attempts}
-use Rattle.ssh_session.specs.Opens.{opening_of}
-use Rattle.ssh_session.specs.Outcome.{Outcome, Goes}
+use Rattle.ssh_session.specs.Outcome.{Outcome}
 use Rattle.ssh_session.specs.Reading.{Said, Says, Service, said_of}
 use Rattle.ssh_session.specs.Rows.{row, greeting, greets, is_short, concluded}
 use Rattle.ssh_session.specs.Rows.{asked_of, rejection_hold, moment_after}
-use Rattle.ssh_session.specs.Run.{OwesKind, command_row, is_there}
-use Rattle.ssh_session.specs.World.{World, circumstances}
-use Rattle.ssh_session.proofs.Gates.{IsLetIn, IsOfChannels, IsForRequest, is_userauth, is_response}
+use Rattle.ssh_session.specs.World.{World}
+use Rattle.ssh_session.proofs.Gates.{IsLetIn, IsOfConnection, IsForRequest, is_userauth, is_response}
 use Rattle.ssh_session.proofs.Gates.{is_for_request, is_let_in}
 use Rattle.ssh_session.proofs.Guards.{Accepts, AreLow, IsBefore, IsClear, NamesLast, Guarded}
 use Rattle.ssh_session.proofs.Guards.{plan_accepted}
 use Rattle.ssh_session.proofs.FairVerdicts.{IsLow, IsFairReply, IsFair, method_fair}
 use Rattle.ssh_session.proofs.FairVerdicts.{responded_fair, asks_weak, begun_named}
 use Rattle.ssh_session.proofs.FairVerdicts.{prompt_named}
-use Rattle.ssh_wire.specs.declared.channel_id.ChannelId.{ChannelId}
 
 -- ---- frames of no channel
 
-low_frame : (payload : List ℕ) (frame : Frame) → frame.payload ≡ payload → IsLow payload
+pub low_frame : (payload : List ℕ) (frame : Frame) → frame.payload ≡ payload → IsLow payload
     → IsOfChannel frame → ⊥
 low_frame payload frame is low h =
     let e : low.0 ≡ h.0 = let f = low.2 in let g = h.2 in cc in
     low.3 (subst (λ m. 90 ≤ m) (sym e) h.3)
 
-low_more : (xs ys : List Frame) → AreLow xs → AreLow ys → AreLow (xs ++ ys)
+pub low_more : (xs ys : List Frame) → AreLow xs → AreLow ys → AreLow (xs ++ ys)
 low_more [] ys h k = k
 low_more (x ∷ xs) ys h k = (h.0, low_more xs ys h.1 k)
 
@@ -82,7 +69,7 @@ before_unnamed named kind (WaitingAuthRequest auth) none h = λ principal is.
     inr (none, h principal is)
 before_unnamed named kind _ none h = absurd h
 
-unnamed : (named : List ℕ → Type 0) (kind : InputKind) (w : World)
+pub unnamed : (named : List ℕ → Type 0) (kind : InputKind) (w : World)
     → ((other : List ℕ) → IsRequestOf other kind → ⊥) →
     IsClear named w → IsClear (NamesLast named kind) w
 unnamed named kind w none clear = (
@@ -302,14 +289,14 @@ not_let_in named _ h is = is
 -- what a message of channels says is read only after an accepted authentication
 let_in_only : (given : Circumstances) (named : List ℕ → Type 0) (a : Type 0) (w : World)
     (payload : List ℕ) (at : Gate)
-    (plan : Plan Outcome) → gate_of w payload ≡ at → IsOfChannels at → IsClear named w
+    (plan : Plan Outcome) → gate_of w payload ≡ at → IsOfConnection at → IsClear named w
     → Guarded given named a (Payload payload) plan
 let_in_only given named a w payload at plan is of clear =
     absurd (not_let_in named w.user.state clear.0 (is_let_in w payload at is of))
 
-row_guarded : (given : Circumstances) (named : List ℕ → Type 0) (a : Type 0) (w : World)
+pub row_guarded : (given : Circumstances) (named : List ℕ → Type 0) (a : Type 0) (w : World)
     (moment : ℕ) (payload : List ℕ)
-    (said : Said) (at : Gate) → gate_of w payload ≡ at → Says given (is_there w) at (drop 1 payload)
+    (said : Said) (at : Gate) → gate_of w payload ≡ at → Says given w at (drop 1 payload)
     said → IsClear named w →
     Guarded given named a (Payload payload) (row w moment said)
 row_guarded given named a w moment payload said gate.Nothing is h clear =
@@ -340,129 +327,5 @@ row_guarded given named a w moment payload said gate.ChannelOpen is h clear =
     let_in_only given named a w payload gate.ChannelOpen (row w moment said) is tt clear
 row_guarded given named a w moment payload said gate.OpenConfirmation is h clear =
     let_in_only given named a w payload gate.OpenConfirmation (row w moment said) is tt clear
-row_guarded given named a w moment payload said (gate.Channel message) is h clear =
-    let_in_only given named a w payload (gate.Channel message) (row w moment said) is tt clear
-
--- ---- commands
-
-no_user_yet : (named : List ℕ → Type 0) (state : EncryptedState) → IsBefore named state
-    → no_user state ≡ Some NotAuthenticated
-no_user_yet named InitCompression h = absurd h
-no_user_yet named Authenticated h = absurd h
-no_user_yet named (WaitingAuthServiceRequest sent accepted) h = refl
-no_user_yet named (WaitingAuthRequest auth) h = refl
-
--- nothing is opened before a user was let in
-opening_refused : (named : List ℕ → Type 0) (w : World) (asked : Option OwnOpen) → IsClear named w
-    → ((why : Refusal) × (refused_or (lacks w (opens_need asked)) w (opens_or_not asked w)
-    ≡ refuses why w)) ⊎ (refused_or (lacks w (opens_need asked)) w (opens_or_not asked w) ≡ Unbuilt)
-opening_refused named w None h = inr refl
-opening_refused named w (Some asked) h =
-    inl (
-      NotAuthenticated,
-      ap (λ o. refused_or o w (opens asked w))
-          (no_user_yet named w.user.state h.0),
-    )
-
--- nothing is said on a channel that is not there
-unestablished : (named : List ℕ → Type 0) (w : World) (commanded : Commanded)
-    (channel : ChannelId) → needs commanded ≡ Established channel → IsClear named w →
-    ((why : Refusal) × (effect w commanded ≡ refuses why w)) ⊎ (effect w commanded ≡ Unbuilt)
-unestablished named w commanded channel is h =
-    inl (
-      UnknownChannel,
-      ap (λ n. refused_or (lacks w n) w (done_by w commanded)) is
-          ∙ ap (λ es. refused_or (no_established (find channel.0 es)) w (done_by w commanded)) h.1,
-    )
-
--- where there is neither a channel nor an open, each command is refused or not built
-refused : (named : List ℕ → Type 0) (w : World) (commanded : Commanded) → IsClear named w →
-    ((why : Refusal) × (effect w commanded ≡ refuses why w)) ⊎ (effect w commanded ≡ Unbuilt)
-refused named w (command.Data channel bytes) h =
-    inl (
-      UnknownChannel,
-      ap (λ es. refused_or (no_sending (find channel.0 es)) w
-          (done_by w (command.Data channel bytes))) h.1,
-    )
-refused named w (command.ExtendedData channel code bytes) h =
-    inl (
-      UnknownChannel,
-      ap (λ es. refused_or (no_sending (find channel.0 es)) w
-          (done_by w (command.ExtendedData channel code bytes))) h.1,
-    )
-refused named w (command.Eof channel) h =
-    inl (
-      UnknownChannel,
-      ap (λ es. refused_or (no_sending (find channel.0 es)) w
-          (done_by w (command.Eof channel))) h.1,
-    )
-refused named w (command.Close channel) h =
-    inl (
-      UnknownChannel,
-      ap (λ es. refused_or (no_closing (find channel.0 es)) w
-          (done_by w (command.Close channel))) h.1,
-    )
-refused named w (command.ChannelSuccess channel) h =
-    unestablished named w (command.ChannelSuccess channel) channel refl h
-refused named w (command.ChannelFailure channel) h =
-    unestablished named w (command.ChannelFailure channel) channel refl h
-refused named w (command.XonXoff channel client_can_do) h =
-    unestablished named w (command.XonXoff channel client_can_do) channel refl h
-refused named w (command.ExitStatus channel status) h =
-    unestablished named w (command.ExitStatus channel status) channel refl h
-refused named w (command.ExitSignal channel signal core message language) h =
-    unestablished named w (command.ExitSignal channel signal core message language) channel refl h
-refused named w (command.Answer answer) h =
-    let none : opening_of answer.channel.0 w ≡ None = rw h.2 refl in
-    inl (UnknownOpen, ap (λ o. refused_or (no_open o) w (done_by w (command.Answer answer))) none)
-refused named w other h = opening_refused named w (asking other) h
-
--- a command that comes before an accepted authentication does nothing
-command_guarded : (given : Circumstances) (named : List ℕ → Type 0) (a : Type 0) (kind : InputKind)
-    (w : World) (ticket : ℕ)
-    (commanded : Commanded) → ((other : List ℕ) → IsRequestOf other kind → ⊥) → IsClear named w →
-    Guarded given named a kind (command_row w ticket commanded)
-command_guarded given named a kind w ticket commanded none clear =
-    let plan : Effect → Plan Outcome = λ does.
-    done does (λ outcome world. Tell (traced.Answered ticket outcome) (Finish (Goes world))) in
-    ⊎_elim
-    (λ why. subst (λ does. Guarded given named a kind (plan does)) (sym why.1)
-    (λ n. absurd n, inr (unnamed named kind w none clear)))
-    (λ is. subst (λ does. Guarded given named a kind (plan does)) (sym is) tt)
-    (refused named w commanded clear)
-
--- ---- inputs
-
-clear_guarded : (accepts : Acceptance) (named : List ℕ → Type 0) (a : Type 0) (w : World)
-    (moment : ℕ) (kind : InputKind)
-    (plan : Plan Outcome) → OwesKind accepts w moment kind plan → IsClear named w →
-    Guarded (circumstances accepts w.settings moment) named a kind plan
-clear_guarded accepts named a w moment End plan o clear =
-    subst (Guarded (circumstances accepts w.settings moment) named a End) (sym o) (inr clear.3)
-clear_guarded accepts named a w moment (Command ticket commanded) plan o clear =
-    subst (Guarded (circumstances accepts w.settings moment) named a (Command ticket commanded))
-    (sym o)
-    (command_guarded (circumstances accepts w.settings moment) named a (Command ticket commanded) w
-    ticket commanded (λ other h. h) clear)
-clear_guarded accepts named a w moment (OpenReply ticket answer) plan o clear =
-    subst (Guarded (circumstances accepts w.settings moment) named a (OpenReply ticket answer))
-    (sym o)
-    (command_guarded (circumstances accepts w.settings moment) named a (OpenReply ticket answer) w
-    ticket (command.Answer answer)
-    (λ other h. h) clear)
-clear_guarded accepts named a w moment (Payload payload) plan o clear =
-    subst (Guarded (circumstances accepts w.settings moment) named a (Payload payload)) (sym o.2)
-    (row_guarded (circumstances accepts w.settings moment) named a w moment payload o.0
-    (gate_of w payload) refl o.1 clear)
-clear_guarded accepts named a w moment kind plan o clear =
-    subst (Guarded (circumstances accepts w.settings moment) named a kind) (sym o) tt
-
--- what an input owes is such a plan
-pub owed_guarded : (accepts : Acceptance) (named : List ℕ → Type 0) (a : Type 0) (w : World)
-    (moment : ℕ) (kind : InputKind)
-    (plan : Plan Outcome) → OwesKind accepts w moment kind plan → a ⊎ IsClear named w →
-    Guarded (circumstances accepts w.settings moment) named a kind plan
-owed_guarded accepts named a w moment kind plan o (inl x) =
-    plan_accepted (circumstances accepts w.settings moment) named a kind plan x
-owed_guarded accepts named a w moment kind plan o (inr clear) = clear_guarded accepts named a w
-    moment kind plan o clear
+row_guarded given named a w moment payload said (gate.Connection message) is h clear =
+    let_in_only given named a w payload (gate.Connection message) (row w moment said) is tt clear

@@ -40,13 +40,14 @@ use Rattle.ssh_session.specs.Reading.{Said, Nothing, Open, Unread, Unfit, Withou
 use Rattle.ssh_session.specs.Reading.{SaysOpen}
 use Rattle.ssh_session.specs.Rows.{row, open_acts, turns_first}
 use Rattle.ssh_session.specs.Run.{Turn, Run, Owes, OwesKind, calls_of, finish_input, handed_on}
-use Rattle.ssh_session.specs.Run.{entries, is_there}
-use Rattle.ssh_session.specs.World.{Settings, World, circumstances, opening_world}
+use Rattle.ssh_session.specs.Run.{entries, goes_unless_ended}
+use Rattle.ssh_session.proofs.Acting.{goes_or_ends}
+use Rattle.ssh_session.specs.World.{Settings, World, circumstances, hears, opening_world}
 use Rattle.ssh_session.proofs.Accepting.{AllWalk, run_walks, last_walks}
 use Rattle.ssh_session.proofs.Answering.{CoveredOnce, Left, kind_covered}
 use Rattle.ssh_session.proofs.Answers.{answers_on, asks_open}
 use Rattle.ssh_session.proofs.Books.{owed_kept, nothing_kept}
-use Rattle.ssh_session.proofs.Calling.{turn_called}
+use Rattle.ssh_session.proofs.Called.{turn_called}
 use Rattle.ssh_session.proofs.Counting.{Covered, Allowed, input_allowed, returned, left_through}
 use Rattle.ssh_session.proofs.Counting.{Within, within_both, within_rest, within_first, through_one}
 use Rattle.ssh_session.proofs.Counting.{within_few, walks_within, follows_covered}
@@ -108,7 +109,7 @@ nothing_uncalled w moment said none is = rw (is, none) (omega arith, refl)
 
 state_uncalled : (given : Circumstances) (w : World) (moment : ℕ) (fields : List ℕ) (said : Said)
     (state : EncryptedState) → w.channels.lines.written ≡ [] →
-    Says given (is_there w) (state_gate w.settings.config state 90) fields said →
+    Says given w (state_gate w.settings.config state 90) fields said →
     IsUncalled w (row w moment said)
 state_uncalled given w moment fields said (WaitingAuthServiceRequest sent accepted) none h =
     nothing_uncalled w moment said none h
@@ -121,20 +122,30 @@ state_uncalled given w moment fields said Authenticated none h =
 
 payload_uncalled : (given : Circumstances) (w : World) (moment : ℕ) (payload : List ℕ)
     (said : Said) → is_open (input.Payload payload) ≡ true → w.channels.lines.written ≡ [] →
-    Says given (is_there w) (gate_of w payload) (drop 1 payload) said →
+    Says given w (gate_of w payload) (drop 1 payload) said →
     IsUncalled w (row w moment said)
 payload_uncalled given w moment [] said is none h = absurd (cc)
 payload_uncalled given w moment (n ∷ fields) said is none h =
     let same : n ≡ 90 = eqb-true n 90 is in
     state_uncalled given w moment fields said w.user.state none
-    (subst (λ m. Says given (is_there w) (gate_of w (m ∷ fields)) fields said) same h)
+    (subst (λ m. Says given w (gate_of w (m ∷ fields)) fields said) same h)
+
+-- that the peer was heard changes no open
+uncalled_heard : (payload : List ℕ) (w : World) (plan : Plan Outcome)
+    → IsUncalled (hears payload w) plan → IsUncalled w plan
+uncalled_heard payload w (Finish (Goes v)) h = h
+uncalled_heard payload w (Finish (Ends v)) h = h
+uncalled_heard payload w (Finish (Fails fault)) h = h
+uncalled_heard payload w (Ask question next) h = h
+uncalled_heard payload w (Tell entry next) h = h
 
 kind_uncalled : (accepts : Acceptance) (w : World) (moment : ℕ) (kind : InputKind)
     (plan : Plan Outcome) → OwesKind accepts w moment kind plan → is_open kind ≡ true →
     w.channels.lines.written ≡ [] → IsUncalled w plan
 kind_uncalled accepts w moment (input.Payload payload) plan o is none =
-    rw o.2 (payload_uncalled (circumstances accepts w.settings moment) w moment payload o.0 is none
-    o.1)
+    let v = hears payload w in
+    rw o.2 (uncalled_heard payload w (row v moment o.0)
+    (payload_uncalled (circumstances accepts v.settings moment) v moment payload o.0 is none o.1))
 kind_uncalled accepts w moment kind plan o is none = absurd (cc)
 
 -- a callback is an event of its own
@@ -173,7 +184,8 @@ uncalled_few : {E : Type 0} (w : World) (plan : Plan Outcome) (events : List (Ev
     is_none (calls_in events) ≡ true → how_many (sends is_answer) events ≤ 1
 uncalled_few w plan [] u h none = omega arith
 uncalled_few w (Finish (Goes v)) (event ∷ events) u h none =
-    let few = frames_few v.channels.lines.written (Goes (handed_on v)) (event ∷ events) h in
+    let few = frames_few v.channels.lines.written (goes_unless_ended (handed_on v))
+    (event ∷ events) h in
     let most = u.0 in
     omega (arith, few, most)
 uncalled_few w (Finish (Ends v)) (event ∷ events) u h none = absurd u
@@ -195,7 +207,8 @@ uncalled_same : {E : Type 0} (w : World) (plan : Plan Outcome) (events : List (E
     is_none (calls_in events) ≡ true → world.channels.opens ≡ w.channels.opens
 uncalled_same w (Finish (Goes v)) events world u f none =
     comes_of (KeepsOpens w) (finish_input (Goes v)) events (Goes world)
-    (told_comes (KeepsOpens w) (map Sent v.channels.lines.written) (Goes (handed_on v)) u.1) f
+    (told_comes (KeepsOpens w) (map Sent v.channels.lines.written) (goes_unless_ended (handed_on v))
+    (goes_or_ends (KeepsOpens w) (handed_on v) v.disconnected u.1 tt)) f
 uncalled_same w (Finish (Ends v)) events world u f none = absurd u
 uncalled_same {E} w (Finish (Fails fault)) events world u f none =
     comes_of (λ outcome. KeepsOpens w outcome) (Finish (Fails fault)) events (Goes world) tt f
@@ -240,7 +253,7 @@ told_uncalled (entry ∷ entries) outcome (event ∷ events) h =
 finished_uncalled : {E : Type 0} (outcome : Outcome) (events : List (Event E ⊥)) →
     Walks (finish_input outcome) events → is_none (calls_in events) ≡ true
 finished_uncalled (Goes w) events h = told_uncalled (map Sent w.channels.lines.written)
-    (Goes (handed_on w)) events h
+    (goes_unless_ended (handed_on w)) events h
 finished_uncalled (Ends w) events h = told_uncalled (map Sent w.channels.lines.written)
     (Ends (handed_on w)) events h
 finished_uncalled (Fails fault) events h = told_uncalled [] (Fails fault) events h

@@ -27,17 +27,19 @@ use Rattle.ssh_session.specs.Opens.{own}
 use Rattle.ssh_session.specs.Outcome.{Outcome}
 use Rattle.ssh_session.specs.Reading.{Said, Open, Unread, Unfit, Without_packets, SaysOpen}
 use Rattle.ssh_session.specs.Rows.{row, open_acts, waits, asks_first}
-use Rattle.ssh_session.specs.Run.{OwesKind, command_row, is_there}
+use Rattle.ssh_session.specs.Run.{OwesKind, command_row}
 use Rattle.ssh_session.specs.Types.{handling, opening_by}
-use Rattle.ssh_session.specs.World.{World, circumstances}
+use Rattle.ssh_session.specs.Ticks.{keepalive_acts}
+use Rattle.ssh_session.specs.World.{World, circumstances, hears}
 use Rattle.ssh_session.proofs.Acting.{acts_come}
 use Rattle.ssh_session.proofs.Answers.{waiting, inserted_once, inserted_count, answers_on}
 use Rattle.ssh_session.proofs.Answers.{wants_owe}
 use Rattle.ssh_session.proofs.Calling.{IsBesideOpen, beside_at, read_open}
 use Rattle.ssh_session.proofs.Counting.{Covered, covered, still_one}
 use Rattle.ssh_session.proofs.Measures.{one_if, lines_owe}
-use Rattle.ssh_session.proofs.Measuring.{owing, law, OwesUpTo, RequestOwes, OfRead, of_read}
-use Rattle.ssh_session.proofs.Measuring.{lined_upto, same_lines, row_upto, command_upto}
+use Rattle.ssh_session.proofs.Measuring.{owing, law, OwesUpTo, RequestOwes}
+use Rattle.ssh_session.proofs.Measured.{OfRead, of_read, row_upto, command_upto, tick_upto}
+use Rattle.ssh_session.proofs.Measuring.{lined_upto, same_lines}
 use Rattle.ssh_session.proofs.Pending.{IsReserved}
 use Rattle.ssh_session.proofs.Waiting.{AllWaiting}
 
@@ -145,11 +147,21 @@ pub kind_covered : (accepts : Acceptance) (number left : ℕ) (w : World) (momen
     ((is_open kind ≡ true) × CoveredOnce number left plan) ⊎ Covered (answers_on number) left plan
 kind_covered accepts number left w moment input.End plan o h = rw o (inr h.covered)
 kind_covered accepts number left w moment (input.Payload payload) plan o h =
-    rw o.2 (payload_covered number left w moment payload o.0
-    (beside_at (circumstances accepts w.settings moment) (is_there w) (gate_of w payload)
-    (drop 1 payload) o.0 o.1) h)
+    let v = hears payload w in
+    rw o.2 (payload_covered number left v moment payload o.0
+    (beside_at (circumstances accepts v.settings moment) v (gate_of v payload) (drop 1 payload) o.0
+    o.1) (record {
+      none = h.none;
+      waiting = h.waiting;
+      one = h.one;
+      covered = h.covered;
+    }))
 kind_covered accepts number left w moment (input.Command ticket commanded) plan o h =
     rw o (inr (command_covered number left w ticket commanded h))
 kind_covered accepts number left w moment (input.OpenReply ticket answer) plan o h =
     rw o (inr (command_covered number left w ticket (command.Answer answer) h))
-kind_covered accepts number left w moment kind plan o h = rw o (inr tt)
+kind_covered accepts number left w moment input.KeepaliveTick plan o h =
+    rw o (inr (covered (answers_on number) left left (acts (keepalive_acts w) w) (omega arith) h.one
+    (tick_upto (answers_on number) left w h.covered)))
+kind_covered accepts number left w moment input.InactivityTick plan o h = rw o (inr tt)
+kind_covered accepts number left w moment input.RekeyTick plan o h = rw o (inr tt)

@@ -1,5 +1,5 @@
 -- After each input of a run each channel has sent what it has to.
-use Rattle.std.proofs.Common.{◌≡◌, ◌≢◌, ◌<◌, ℕ, List, [], ◌∷◌, ◌++◌, map, Bool, true}
+use Rattle.std.proofs.Common.{◌≡◌, ◌≢◌, ◌<◌, ℕ, List, [], ◌∷◌, ◌++◌, map, true}
 use Rattle.std.proofs.Common.{false, refl, sym, subst, arith}
 use Rattle.std.proofs.Common.{append_assoc}
 use Rattle.ssh_session.proofs.Reading.{full_packet}
@@ -25,15 +25,15 @@ use Rattle.ssh_session.specs.Gate.{gate_of}
 use Rattle.ssh_session.specs.Ledger.{Ledgered_after}
 use Rattle.ssh_session.specs.Outcome.{Outcome, Goes, Ends, Fails}
 use Rattle.ssh_session.specs.Reading.{Said, Service, Open, Agreed, SaysConfirmation, Unread}
-use Rattle.ssh_session.specs.Reading.{Channel, Without_packets}
+use Rattle.ssh_session.specs.Reading.{Connection, Without_packets}
 use Rattle.ssh_session.specs.Reading.{Unfit, Says, SaysOpen, said_of}
 use Rattle.ssh_session.specs.Run.{Turn, Turns, Run, Owes, OwesKind, handed_on, finish_input}
-use Rattle.ssh_session.specs.Run.{entries, is_there}
-use Rattle.ssh_session.specs.World.{Settings, World, circumstances, opening_world}
-use Rattle.ssh_session.proofs.Acting.{PlanComes}
-use Rattle.ssh_session.proofs.Keeping.{Kept, ComesKept}
+use Rattle.ssh_session.specs.Run.{entries, goes_unless_ended}
+use Rattle.ssh_session.specs.World.{Settings, World, circumstances, opening_world, hears}
+use Rattle.ssh_session.proofs.Acting.{PlanComes, goes_or_ends}
+use Rattle.ssh_session.proofs.Keeping.{Kept, ComesKept, beside_on}
 use Rattle.ssh_session.proofs.Ledger.{IsFairSaid, row_kept}
-use Rattle.ssh_session.proofs.Ledger.{command_kept}
+use Rattle.ssh_session.proofs.Ledger.{command_kept, tick_kept}
 use Rattle.ssh_session.proofs.Settled.{Anything}
 use Rattle.ssh_session.proofs.Telling.{IsUnsent, SendsNone, kind_silent}
 
@@ -82,11 +82,14 @@ books_told past (entry ∷ more) next h =
 finished_books : (past : List TraceEntry) (outcome : Outcome) → ComesKept past outcome
     → Books past (finish_input outcome)
 finished_books past (Goes w) k =
-    books_told past (map Sent w.channels.lines.written) (Finish (Goes (handed_on w))) (record {
+    let kept : Kept (past ++ map Sent w.channels.lines.written) (handed_on w) = record {
       ledger = hands_on_kept false w.channels.lines past k.ledger;
       due = k.due;
       waiting = k.waiting;
-    })
+    } in
+    books_told past (map Sent w.channels.lines.written) (Finish (goes_unless_ended (handed_on w)))
+    (goes_or_ends (λ o. Books (past ++ map Sent w.channels.lines.written) (Finish o)) (handed_on w)
+    w.disconnected kept tt)
 finished_books past (Ends w) k = books_told past (map Sent w.channels.lines.written)
     (Finish (Ends (handed_on w))) tt
 finished_books past (Fails fault) k = tt
@@ -157,20 +160,20 @@ read_fair : {S : Type 0} (says : S → Said) (read : Result S WireError)
 read_fair says (Ok value) h = h value
 read_fair says (Err why) h = tt
 
-fair_at : (given : Circumstances) (there : ℕ → Bool) (at : Gate) (fields : List ℕ) (said : Said)
-    → Says given there at fields said →
+fair_at : (given : Circumstances) (w : World) (at : Gate) (fields : List ℕ) (said : Said)
+    → Says given w at fields said →
     IsFairSaid said
-fair_at given there gate.Nothing fields said h = rw h tt
-fair_at given there gate.Ends fields said h = rw h tt
-fair_at given there gate.OverCap fields said h = rw h tt
-fair_at given there gate.NotBuilt fields said h = rw h tt
-fair_at given there gate.ServiceRequest fields said h = rw h.2 (read_fair Service h.0 (λ name. tt))
-fair_at given there gate.UserauthRequest fields said h = rw h.2 tt
-fair_at given there gate.InfoResponse fields said h = rw h.2 tt
-fair_at given there gate.ChannelOpen fields said h = open_fair fields said h
-fair_at given there gate.OpenConfirmation fields said h = confirmation_fair fields said h
-fair_at given there (gate.Channel message) fields said h =
-    rw h.2 (read_fair Channel h.0 (λ spoken. tt))
+fair_at given w gate.Nothing fields said h = rw h tt
+fair_at given w gate.Ends fields said h = rw h tt
+fair_at given w gate.OverCap fields said h = rw h tt
+fair_at given w gate.NotBuilt fields said h = rw h tt
+fair_at given w gate.ServiceRequest fields said h = rw h.2 (read_fair Service h.0 (λ name. tt))
+fair_at given w gate.UserauthRequest fields said h = rw h.2 tt
+fair_at given w gate.InfoResponse fields said h = rw h.2 tt
+fair_at given w gate.ChannelOpen fields said h = open_fair fields said h
+fair_at given w gate.OpenConfirmation fields said h = confirmation_fair fields said h
+fair_at given w (gate.Connection message) fields said h =
+    rw h.2 (read_fair Connection h.0 (λ spoken. tt))
 
 -- ---- inputs and runs
 
@@ -179,14 +182,17 @@ kind_kept : (accepts : Acceptance) (past : List TraceEntry) (w : World) (moment 
     OwesKind accepts w moment kind plan → Kept past w → PlanComes Anything (ComesKept past) plan
 kind_kept accepts past w moment input.End plan o k = rw o k
 kind_kept accepts past w moment (input.Payload payload) plan o k =
-    rw o.2 (row_kept past w moment o.0
-    (fair_at (circumstances accepts w.settings moment) (is_there w) (gate_of w payload)
-    (drop 1 payload) o.0 o.1) k)
+    let v = hears payload w in
+    rw o.2 (row_kept past v moment o.0
+    (fair_at (circumstances accepts v.settings moment) v (gate_of v payload) (drop 1 payload) o.0
+    o.1) (beside_on past w v refl k))
 kind_kept accepts past w moment (input.Command ticket commanded) plan o k =
     rw o (command_kept past w ticket commanded k)
 kind_kept accepts past w moment (input.OpenReply ticket answer) plan o k =
     rw o (command_kept past w ticket (command.Answer answer) k)
-kind_kept accepts past w moment kind plan o k = rw o tt
+kind_kept accepts past w moment input.KeepaliveTick plan o k = rw o (tick_kept past w k)
+kind_kept accepts past w moment input.InactivityTick plan o k = rw o tt
+kind_kept accepts past w moment input.RekeyTick plan o k = rw o tt
 
 pub owed_kept : {E : Type 0} (accepts : Acceptance) (past : List TraceEntry) (w : World)
     (turn : Turn E) (plan : Plan Outcome) (world : World) → Owes accepts w turn.input plan

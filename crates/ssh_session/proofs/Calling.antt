@@ -1,7 +1,7 @@
 -- The callback of an open is made in a CHANNEL_OPEN alone, and once (RFC 4254 section 5.1).
-use Rattle.std.proofs.Common.{◌≡◌, ◌⊎◌, ◌≤◌, ◌+◌, ℕ, List, [], ◌∷◌, map, Bool, true, false, cond}
+use Rattle.std.proofs.Common.{◌≡◌, ◌⊎◌, ◌+◌, ℕ, List, [], ◌∷◌, map, Bool, true, false}
 use Rattle.std.proofs.Common.{Option, Some, None, Result, Ok, Err}
-use Rattle.std.proofs.Common.{refl, sym, ◌∙◌, ap, inl, inr, arith}
+use Rattle.std.proofs.Common.{refl, sym, ◌∙◌, ap, inl, inr}
 use Rattle.std.specs.Prelude.{drop, length, bytes_eq, codes, if◌then◌else◌}
 use Rattle.ssh_wire.specs.declared.channel_id.ChannelId.{ChannelId}
 use Rattle.ssh_wire.specs.declared.error.WireError.{WireError}
@@ -43,7 +43,6 @@ use Rattle.ssh_auth.specs.Verdict.{AuthOutcome, proof, signed, permitted, method
 use Rattle.ssh_auth.specs.Verdict.{verdict as verdict_on, response_verdict}
 use Rattle.ssh_auth.specs.Verdict as verdicts
 use Rattle.ssh_auth.specs.Was.{asked_of}
-use Rattle.ssh_auth.proofs.Back.{asked_so, refused_so}
 use Rattle.ssh_channels.specs.declared.adjusted.Adjusted.{Adjusted}
 use Rattle.ssh_channels.specs.declared.adjusted.Adjusted.TheVariants.{Dropped, Kept, Granted}
 use Rattle.ssh_channels.specs.declared.chunk.Chunk.{Chunk}
@@ -57,9 +56,12 @@ use Rattle.ssh_session.specs.declared.messages.Spoken.TheVariants as spoken
 use Rattle.ssh_session.specs.declared.state.EncryptedState.{EncryptedState}
 use Rattle.ssh_session.specs.declared.state.EncryptedState.TheVariants.{WaitingAuthRequest}
 use Rattle.ssh_session.specs.Acts.{Act, Notes, Calls, Adjusts_by, Turns, Is_over, Stops, tell_all}
-use Rattle.ssh_session.specs.Acts.{tell_done, done, done_all, acts, Judges_by}
-use Rattle.ssh_session.specs.Answered.{how_many, is_open, open_returned, open_asked, open_of, sends}
-use Rattle.ssh_session.specs.Effect.{Effect, Does, Unbuilt, effect}
+use Rattle.ssh_session.specs.Acts.{tell_done, done, done_all, acts, Judges_by, Listens_by}
+use Rattle.ssh_session.specs.Answered.{is_open, open_asked, open_of, sends}
+use Rattle.ssh_session.specs.Effect.{Effect, Does, effect, said}
+use Rattle.ssh_session.specs.OwnMessages.{keepalive}
+use Rattle.ssh_session.specs.Ticks.{keepalive_acts, is_too_many, ticked}
+use Rattle.ssh_session.specs.Ticks as ticks
 use Rattle.ssh_session.specs.Gate.{gate_of}
 use Rattle.ssh_session.specs.declared.opens.Handling.{Handling}
 use Rattle.ssh_session.specs.declared.opens.Handling.TheVariants.{Asks, Unsupported, Unknown}
@@ -67,18 +69,17 @@ use Rattle.ssh_session.specs.Types.{handling, opening_by}
 use Rattle.ssh_wire.specs.declared.open.OpenChannelMessage.{OpenChannelMessage}
 use Rattle.ssh_wire.specs.declared.open.ChannelOpenConfirmation.{ChannelOpenConfirmation}
 use Rattle.ssh_wire.specs.declared.open_failure.ChannelOpenFailure.{ChannelOpenFailure}
-use Rattle.ssh_session.specs.Outcome.{Outcome, Goes, Ends, Fails}
+use Rattle.ssh_session.specs.Outcome.{Outcome, Goes, Ends, Fails, Keepalive_timeout}
 use Rattle.ssh_session.specs.Reading.{Said, Service, Request, Response, Open}
-use Rattle.ssh_session.specs.Reading.{Channel, Unfit, Without_packets, Says, SaysOpen, said_of}
+use Rattle.ssh_session.specs.Reading.{Connection, Unfit, Without_packets, Says, SaysOpen, said_of}
 use Rattle.ssh_session.specs.Reading.{Agreed, Unread, SaysConfirmation}
 use Rattle.ssh_session.specs.Rows.{row, owed, spoken_acts, open_acts, waits, greets, is_short}
 use Rattle.ssh_session.specs.Rows.{replied, concluded, asked_of as asked_at, data_told, on_entry}
 use Rattle.ssh_session.specs.Rows.{on_confirmed, failure_acts, confirmation_acts}
-use Rattle.ssh_session.specs.Run.{Turn, Owes, OwesKind, command_row, finish_input, is_there}
-use Rattle.ssh_session.specs.Run.{is_waiting}
-use Rattle.ssh_session.specs.World.{World, circumstances, waits_for}
+use Rattle.ssh_session.specs.Run.{OwesKind, command_row, finish_input, handed_on}
+use Rattle.ssh_session.specs.Run.{goes_unless_ended}
+use Rattle.ssh_session.specs.World.{World, circumstances, hears, waits_for, is_there, is_waiting}
 use Rattle.ssh_session.proofs.Gates.{is_channel_open}
-use Rattle.ssh_session.proofs.Guards.{Walks}
 
 -- ---- what an event asked
 
@@ -133,7 +134,6 @@ one_beside : (does : Effect) (next : CommandOutcome → World → Plan Outcome) 
     AsksOnly IsBeside (done does next)
 one_beside (Does notices outcome world) next h =
     tells_beside (map Noticed notices) (next outcome world) (h outcome world)
-one_beside Unbuilt next h = tt
 
 all_beside : (place : ℕ) (commands : List Command) (w : World) (next : World → Plan Outcome) →
     ((world : World) → AsksOnly IsBeside (next world)) →
@@ -156,6 +156,12 @@ acts_beside (Judges_by judged by ∷ later) w h = (
   refl,
   λ answer. all_beside 0 answer.commands w (λ world. acts later (by answer.granted world))
       (λ world. acts_beside later (by answer.granted world) h),
+)
+acts_beside (Listens_by address port by ∷ later) w h = (
+  refl,
+  λ answer. all_beside 0 answer.commands w
+      (λ world. acts later (by answer.granted answer.port world))
+      (λ world. acts_beside later (by answer.granted answer.port world) h),
 )
 acts_beside (Adjusts_by channel current by ∷ later) w h = (
   refl,
@@ -211,6 +217,11 @@ spoken_beside w (spoken.Failed channel reason) =
 spoken_beside w (spoken.Asks channel wanted message happening) = (refl, tt)
 spoken_beside w (spoken.AsksForAgent channel wanted) = tt
 spoken_beside w (spoken.AsksUnknown channel wanted) = tt
+spoken_beside w (spoken.AsksToForward wanted address port) = tt
+spoken_beside w (spoken.AsksGlobally wanted judged) = tt
+spoken_beside w (spoken.AsksGloballyUnknown wanted) = tt
+spoken_beside w (spoken.Settles None) = tt
+spoken_beside w (spoken.Settles (Some notice)) = tt
 spoken_beside w spoken.Inconsistent = tt
 
 -- what is said is no open of the peer's
@@ -222,7 +233,7 @@ owed_beside : (w : World) (said : Said) → IsBesideOpen said → ActsBeside (ow
 owed_beside w (Open message) beside = absurd beside
 owed_beside w (Agreed message) beside =
     confirmation_acts_beside (is_waiting w message.recipient_channel) message
-owed_beside w (Channel said) beside = spoken_beside w said
+owed_beside w (Connection said) beside = spoken_beside w said
 owed_beside w said beside = tt
 
 -- ---- verdicts
@@ -387,22 +398,22 @@ confirmation_beside fields (Unfit why) h = tt
 confirmation_beside fields _ h = absurd h
 
 -- an open is said at its gate alone
-pub beside_at : (given : Circumstances) (there : ℕ → Bool) (at : Gate) (fields : List ℕ)
-    (said : Said) → Says given there at fields said →
+pub beside_at : (given : Circumstances) (w : World) (at : Gate) (fields : List ℕ)
+    (said : Said) → Says given w at fields said →
     ((at ≡ gate.ChannelOpen) × SaysOpen fields said) ⊎ IsBesideOpen said
-beside_at given there gate.ChannelOpen fields said h = inl (refl, h)
-beside_at given there gate.Nothing fields said h = inr (rw h tt)
-beside_at given there gate.Ends fields said h = inr (rw h tt)
-beside_at given there gate.OverCap fields said h = inr (rw h tt)
-beside_at given there gate.NotBuilt fields said h = inr (rw h tt)
-beside_at given there gate.ServiceRequest fields said h =
+beside_at given w gate.ChannelOpen fields said h = inl (refl, h)
+beside_at given w gate.Nothing fields said h = inr (rw h tt)
+beside_at given w gate.Ends fields said h = inr (rw h tt)
+beside_at given w gate.OverCap fields said h = inr (rw h tt)
+beside_at given w gate.NotBuilt fields said h = inr (rw h tt)
+beside_at given w gate.ServiceRequest fields said h =
     inr (rw h.2 (read_beside Service h.0 (λ name. tt)))
-beside_at given there gate.UserauthRequest fields said h = inr (rw h.2 tt)
-beside_at given there gate.InfoResponse fields said h = inr (rw h.2 tt)
-beside_at given there gate.OpenConfirmation fields said h =
+beside_at given w gate.UserauthRequest fields said h = inr (rw h.2 tt)
+beside_at given w gate.InfoResponse fields said h = inr (rw h.2 tt)
+beside_at given w gate.OpenConfirmation fields said h =
     inr (confirmation_beside fields said h)
-beside_at given there (gate.Channel message) fields said h =
-    inr (rw h.2 (read_beside Channel h.0 (λ spoken. tt)))
+beside_at given w (gate.Connection message) fields said h =
+    inr (rw h.2 (read_beside Connection h.0 (λ spoken. tt)))
 
 -- a payload that is read as an open is a CHANNEL_OPEN
 pub read_open : (w : World) (payload : List ℕ) → gate_of w payload ≡ gate.ChannelOpen →
@@ -422,21 +433,32 @@ command_beside : (w : World) (ticket : ℕ) (commanded : Command) →
     AsksOnly IsBeside (command_row w ticket commanded)
 command_beside w ticket commanded = one_beside (effect w commanded) _ (λ outcome world. tt)
 
-kind_upto : (accepts : Acceptance) (w : World) (moment : ℕ) (kind : InputKind)
+tick_beside : (many : Bool) → ActsBeside (if many then Stops Keepalive_timeout ∷ []
+    else Turns (λ v. said keepalive (ticked v)) ∷ [])
+tick_beside true = tt
+tick_beside false = tt
+
+pub kind_upto : (accepts : Acceptance) (w : World) (moment : ℕ) (kind : InputKind)
     (plan : Plan Outcome) → OwesKind accepts w moment kind plan → AsksUpTo (is_open kind) plan
 kind_upto accepts w moment input.End plan o = rw o tt
 kind_upto accepts w moment (input.Payload payload) plan o =
-    rw o.2 (payload_upto w moment payload o.0
-    (beside_at (circumstances accepts w.settings moment) (is_there w) (gate_of w payload)
-    (drop 1 payload) o.0 o.1))
+    let v = hears payload w in
+    rw o.2 (payload_upto v moment payload o.0
+    (beside_at (circumstances accepts v.settings moment) v (gate_of v payload) (drop 1 payload) o.0
+    o.1))
 kind_upto accepts w moment (input.Command ticket commanded) plan o =
     rw o (command_beside w ticket commanded)
 kind_upto accepts w moment (input.OpenReply ticket answer) plan o =
     rw o (command_beside w ticket (command.Answer answer))
-kind_upto accepts w moment kind plan o = rw o tt
+kind_upto accepts w moment input.KeepaliveTick plan o =
+    rw o (acts_beside (keepalive_acts w) w
+    (tick_beside (is_too_many w.settings.config (ticks.one_more w.keepalives))))
+kind_upto accepts w moment input.InactivityTick plan o = rw o tt
+kind_upto accepts w moment input.RekeyTick plan o = rw o tt
 
 finish_beside : (outcome : Outcome) → AsksOnly IsBeside (finish_input outcome)
-finish_beside (Goes w) = tells_beside (map Sent w.channels.lines.written) _ tt
+finish_beside (Goes w) =
+    tells_beside (map Sent w.channels.lines.written) (Finish (goes_unless_ended (handed_on w))) tt
 finish_beside (Ends w) = tells_beside (map Sent w.channels.lines.written) _ tt
 finish_beside (Fails fault) = tt
 
@@ -446,49 +468,7 @@ input_once (Ask question next) h = λ answer.
     then_beside (next answer) finish_input (h answer) finish_beside
 input_once (Tell entry next) h = input_once next h
 
-input_upto : (b : Bool) (plan : Plan Outcome) → AsksUpTo b plan →
+pub input_upto : (b : Bool) (plan : Plan Outcome) → AsksUpTo b plan →
     AsksUpTo b (after plan finish_input)
 input_upto true plan h = input_once plan h
 input_upto false plan h = then_beside plan finish_input h finish_beside
-
--- ---- events
-
-beside_none : {E : Type 0} (plan : Plan Outcome) (events : List (Event E ⊥)) →
-    AsksOnly IsBeside plan → Walks plan events → how_many open_returned events ≡ 0
-beside_none plan [] h w = refl
-beside_none (Finish outcome) (event ∷ events) h w = absurd w
-beside_none (Ask question next) (event ∷ events) h (inl w) =
-    rw (asked_open event question (asked_so question w.0 event w.1), h.0)
-    (beside_none (next w.0) events (h.1 w.0) w.2)
-beside_none (Ask question next) (event ∷ events) h (inr w) =
-    rw (asked_open event question (refused_so question w.0 event w.1), h.0, w.2) refl
-beside_none (Tell entry next) (event ∷ events) h w = rw w.0 (beside_none next events h w.1)
-
-one_more : (b : Bool) (n : ℕ) → n ≡ 0 → cond b (n + 1) n ≤ 1
-one_more true n h = omega (arith, h)
-one_more false n h = omega (arith, h)
-
-once_one : {E : Type 0} (plan : Plan Outcome) (events : List (Event E ⊥)) → AsksOnce plan →
-    Walks plan events → how_many open_returned events ≤ 1
-once_one plan [] h w = omega arith
-once_one (Finish outcome) (event ∷ events) h w = absurd w
-once_one (Ask question next) (event ∷ events) h (inl w) =
-    one_more (open_returned event) (how_many open_returned events)
-    (beside_none (next w.0) events (h w.0) w.2)
-once_one (Ask question next) (event ∷ events) h (inr w) =
-    one_more (open_returned event) (how_many open_returned events) (ap (how_many open_returned) w.2)
-once_one (Tell entry next) (event ∷ events) h w = rw w.0 (once_one next events h w.1)
-
-upto_count : {E : Type 0} (b : Bool) (plan : Plan Outcome) (events : List (Event E ⊥)) →
-    AsksUpTo b plan → Walks plan events → how_many open_returned events ≤ (if b then 1 else 0)
-upto_count true plan events h w = once_one plan events h w
-upto_count false plan events h w = let none = beside_none plan events h w in omega (arith, none)
-
--- a CHANNEL_OPEN makes the callback of an open once at most, and another input never
-pub turn_called : {E : Type 0} (accepts : Acceptance) (w : World) (turn : Turn E)
-    (plan : Plan Outcome) → Owes accepts w turn.input plan → Walks plan turn.events →
-    how_many open_returned turn.events ≤ (if is_open turn.input.kind then 1 else 0)
-turn_called accepts w turn plan o walks =
-    upto_count (is_open turn.input.kind) plan turn.events
-    (rw o.2 (input_upto (is_open turn.input.kind) o.0
-    (kind_upto accepts w turn.input.moment turn.input.kind o.0 o.1))) walks

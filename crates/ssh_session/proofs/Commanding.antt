@@ -1,5 +1,5 @@
 -- Commands, from what they do to what is told of them.
-use Rattle.std.proofs.Common.{◌≡◌, ℕ, false, [], map, Result, Ok, Err, refl, sym, subst}
+use Rattle.std.proofs.Common.{◌≡◌, ℕ, map, Result, Ok, Err, refl, sym, subst}
 use Rattle.std.specs.Prelude.{option_to_list}
 use Rattle.ssh_link.specs.declared.link.TraceEntry.TheVariants.{Noticed}
 use Rattle.ssh_link.specs.declared.outcome.CommandOutcome.{CommandOutcome}
@@ -17,7 +17,7 @@ use Rattle.ssh_session.specs.Outcome.{Outcome}
 use Rattle.ssh_session.specs.Effect.{Effect}
 use Rattle.ssh_session.specs.Acts.{done, tell_all, tell_done}
 use Rattle.ssh_session.specs.Serve.{Refines, Serves, Puts, HasEffect}
-use Rattle.ssh_session.proofs.Serving.{asked, asked_in_vain, hears_nothing, served_both, starves}
+use Rattle.ssh_session.proofs.Serving.{asked, asked_in_vain, served_both, starves}
 
 told_done : {E : Type 0} (place : ℕ) (outcome : CommandOutcome) (next : Plan Outcome)
     (a b : Heard E) (w : World)
@@ -99,9 +99,6 @@ pub not_done : {T E : Type 0} (does : Effect) (next : CommandOutcome → World �
     Serves {T = T} (done does next) finish a a session' (Err e)
 not_done does next finish a session session' error.NoMemory h = starves (done does next) finish a
     session'
-not_done {T} does next finish a session session' error.NotBuilt h =
-    subst (λ d. Serves {T = T} (done d next) finish a a session' (Err error.NotBuilt)) (sym h)
-    ([], hears_nothing false a, refl)
 not_done does next finish a session session' error.LinkFault h = absurd h
 not_done does next finish a session session' error.InputLimit h = absurd h
 not_done does next finish a session session' (error.Encoding why) h = absurd h
@@ -110,3 +107,6 @@ not_done does next finish a session session' (error.Key why) h = absurd h
 not_done does next finish a session session' error.UnsupportedAuthMethod h = absurd h
 not_done does next finish a session session' (error.Handler e) h = absurd h
 not_done does next finish a session session' error.ChannelsFull h = absurd h
+not_done does next finish a session session' error.KeepaliveTimeout h = absurd h
+not_done does next finish a session session' error.InactivityTimeout h = absurd h
+not_done does next finish a session session' error.NotBuilt h = absurd h

@@ -18,11 +18,12 @@ use Rattle.ssh_session.specs.declared.error.RunError.TheVariants as error
 use Rattle.ssh_session.specs.Account.{Closes}
 use Rattle.ssh_session.specs.Outcome.{Fault, Encoding, Inconsistent, Key, Unsupported}
 use Rattle.ssh_session.specs.Outcome.{Channels_full, Not_built, Starved, Outcome, Fails}
-use Rattle.ssh_session.specs.Run.{Turn}
+use Rattle.ssh_session.specs.Outcome.{Keepalive_timeout, Inactivity_timeout}
+use Rattle.ssh_session.specs.Run.{Turn, handed_on}
 use Rattle.ssh_session.specs.Serve.{cause_of, IsCaused}
 use Rattle.ssh_session.specs.Valid.{IsFineAnswer, IsFineSo, AreFine, IsValid, IsComplete}
 use Rattle.ssh_session.specs.World.{World}
-use Rattle.ssh_session.proofs.Acting.{PlanComes, input_comes}
+use Rattle.ssh_session.proofs.Acting.{PlanComes, input_comes, goes_or_ends}
 use Rattle.ssh_session.proofs.Fine.{IsNoFault, kind_fine}
 
 -- what a call that is fine was answered, and the calls after it
@@ -33,12 +34,8 @@ fine_answer : {E : Type 0} (kind : InputKind) (question : Question) (answer : An
 fine_answer kind ask.Banner answer events h = h
 fine_answer {E} kind (ask.Admits admission) answer events h =
     (subst (IsFineSo {E = E} kind) (admitted_back E admission (Ok answer)) h.0, h.1)
-fine_answer {E} kind (ask.Lends lent) commands events h =
-    (subst (IsFineSo {E = E} kind) (lent_back E lent (Ok tt) commands) h.0, h.1)
-fine_answer {E} kind (ask.Judges judged) answer events h = (
-  subst (IsFineSo {E = E} kind) (judged_back E judged (Ok answer.granted) answer.commands) h.0,
-  h.1,
-)
+fine_answer kind (ask.Lends lent) commands events h = (tt, h.1)
+fine_answer kind (ask.Judges judged) answer events h = (tt, h.1)
 fine_answer kind (ask.Listens address port) answer events h = h
 fine_answer kind (ask.Adjusts channel current) answer events h = (tt, h.1)
 fine_answer kind (ask.Done place outcome) answer events h = (tt, h.1)
@@ -125,6 +122,10 @@ fine_error kind plan events rose (error.Handler e) none s fine h = fine_not_brok
     e fine h
 fine_error kind plan events rose error.ChannelsFull none s fine h =
     let k = follows_fine kind plan events Channels_full s fine h in cc
+fine_error kind plan events rose error.KeepaliveTimeout none s fine h =
+    let k = follows_fine kind plan events Keepalive_timeout s fine h in cc
+fine_error kind plan events rose error.InactivityTimeout none s fine h =
+    let k = follows_fine kind plan events Inactivity_timeout s fine h in cc
 fine_error kind plan events rose error.NotBuilt none s fine h =
     let k = follows_fine kind plan events Not_built s fine h in cc
 
@@ -140,7 +141,8 @@ closed_fine accepts w count max None rose (Err _) none v c = absurd c
 closed_fine accepts w count max (Some turn) rose (Err e) none v c =
     let o = c.2 in
     fine_error turn.input.kind o.0 turn.events rose e none
-    (rw o.1.2 (input_comes (IsFineAnswer turn.input.kind) IsNoFault o.1.0 (λ x. (λ y. y, λ y. y))
+    (rw o.1.2 (input_comes (IsFineAnswer turn.input.kind) IsNoFault o.1.0
+    (λ x. (λ y. goes_or_ends IsNoFault (handed_on x) x.disconnected tt tt, λ y. y))
     (kind_fine accepts w turn.input.moment turn.input.kind o.1.0 v.0 o.1.1))) v.1 o.2
 
 not_rose : (before after : ℕ) → after ≡ before → Rose before after → ⊥

@@ -13,9 +13,9 @@ use Rattle.ssh_auth.proofs.Back.{asked_so, refused_so}
 use Rattle.ssh_session.specs.Acts.{tell_all}
 use Rattle.ssh_session.specs.Answered.{how_many, sends}
 use Rattle.ssh_session.specs.Outcome.{Outcome, Goes, Ends, Fails}
-use Rattle.ssh_session.specs.Run.{finish_input, handed_on}
+use Rattle.ssh_session.specs.Run.{finish_input, handed_on, goes_unless_ended}
 use Rattle.ssh_session.specs.World.{World}
-use Rattle.ssh_session.proofs.Acting.{PlanComes}
+use Rattle.ssh_session.proofs.Acting.{PlanComes, goes_or_ends}
 use Rattle.ssh_session.proofs.Calling.{asked_silent}
 use Rattle.ssh_session.proofs.Guards.{Walks}
 use Rattle.ssh_session.proofs.Measures.{Measure, one_if}
@@ -96,8 +96,10 @@ finished_allowed : (of : Measure) (left : ℕ) (outcome : Outcome) →
     Covered of left (Finish outcome) → Allowed of left (finish_input outcome)
 finished_allowed of left (Goes w) h =
     let rest = of.due w.channels.lines.entries + of.waiting w.channels.opens in
-    frames_allowed of left rest w.channels.lines.written (Finish (Goes (handed_on w)))
-    (omega (arith, h)) (λ l e. omega (arith, e))
+    frames_allowed of left rest w.channels.lines.written (Finish (goes_unless_ended (handed_on w)))
+    (omega (arith, h))
+    (λ l e. goes_or_ends (λ o. Allowed of l (Finish o)) (handed_on w) w.disconnected
+    (omega (arith, e)) tt)
 finished_allowed of left (Ends w) h =
     let rest = of.due w.channels.lines.entries + of.waiting w.channels.opens in
     frames_allowed of left rest w.channels.lines.written (Finish (Ends (handed_on w)))

@@ -1,12 +1,16 @@
 -- What a command does, by what it needs.
 use Rattle.std.proofs.Common.{◌≡◌, ◌≤◌, ◌<◌, ◌∷◌, ℕ, List, [], length, true, false, Option, None}
 use Rattle.std.proofs.Common.{Bool, Result, Ok, Err, rules, refl, sym}
-use Rattle.std.proofs.Common.{◌∙◌, ap, subst, arith}
-use Rattle.std.specs.Prelude.{◌^◌, option_to_list}
+use Rattle.std.proofs.Common.{◌∙◌, ap, subst, arith, inl}
+use Rattle.std.specs.Prelude.{◌^◌, option_to_list, IfOk, IfErr}
+use Rattle.ssh_wire.specs.declared.error.WireError.{WireError}
+use Rattle.ssh_wire.specs.declared.error.WireError.TheVariants as wire
 use Rattle.std.specs.Result.{IsErrAnd}
 use Rattle.std.proofs.lemmas.Result.{err_from_is_err_and}
 use Rattle.ssh_wire.specs.declared.channel_id.ChannelId.{ChannelId}
 use Rattle.ssh_wire.specs.declared.sig.Sig.{Sig}
+use Rattle.ssh_wire.specs.declared.disconnect.Disconnect.{Disconnect}
+use Rattle.ssh_link.specs.declared.notice.ChannelMsg.{ChannelMsg}
 use Rattle.ssh_link.specs.declared.command.Command.{Command}
 use Rattle.ssh_link.specs.declared.command.Command.TheVariants as command
 use Rattle.ssh_link.specs.declared.open_answer.OpenAnswer.{OpenAnswer}
@@ -20,7 +24,8 @@ use Rattle.ssh_session.specs.declared.error.RunError.TheVariants.{NoMemory}
 use Rattle.ssh_session.specs.declared.session.Session.{Session}
 use Rattle.ssh_session.specs.Effect.{Effect, Does, effect, lacks, needs, done_by, accepts}
 use Rattle.ssh_session.specs.Effect.{refuses, refused_or, fails_open, is_too_long, opens_need}
-use Rattle.ssh_session.specs.Effect.{opens_or_not}
+use Rattle.ssh_session.specs.Effect.{opens_or_not, apart_needs, done_apart, refused_for, said, sends}
+use Rattle.ssh_session.specs.OwnMessages.{OwnMessage, IsUnbuilt}
 use Rattle.ssh_session.specs.OwnOpens.{asking}
 use Rattle.ssh_session.specs.Opens.{answered, failure_frame}
 use Rattle.ssh_session.specs.Serve.{Refines, HasEffect}
@@ -52,12 +57,12 @@ starved_effect does session e result h is =
     subst (HasEffect does session) (sym (p.1 ∙ ap Err (p.2 ∙ is))) tt
 
 -- why a command is refused
-pub refusing : (w : World) (one : Command) (why : Option Refusal) → lacks w (needs one) ≡ why →
-    effect w one ≡ refused_or why w (done_by w one)
+pub refusing : (w : World) (one : Command) (why : Option Refusal) →
+    refused_for w.disconnected w one ≡ why → effect w one ≡ refused_or why w (done_by w one)
 refusing w one why h = ap (λ o. refused_or o w (done_by w one)) h
 
 module _ (w : World) where
-  -- the other commands open a channel, or are not built
+  -- the other commands concern no channel that is there
   pub needs_other : (one : Command) → ((channel : ChannelId) (bytes : List ℕ) → one
       ≡ command.Data channel bytes → ⊥) →
       ((channel : ChannelId) (code : ℕ) (bytes : List ℕ) → one ≡ command.ExtendedData channel code
@@ -71,7 +76,7 @@ module _ (w : World) where
       ((channel : ChannelId) (signal : Sig) (core : Bool) (message language : List ℕ) → one
       ≡ command.ExitSignal channel signal core message language → ⊥) →
       ((answer : OpenAnswer) → one ≡ command.Answer answer → ⊥) →
-      lacks w (needs one) ≡ lacks w (opens_need (asking one))
+      lacks w (needs one) ≡ lacks w (apart_needs one)
   needs_other (command.Data channel bytes) a b c d s f x y z e = absurd (a channel bytes refl)
   needs_other (command.ExtendedData channel code bytes) a b c d s f x y z e =
       absurd (b channel code bytes refl)
@@ -100,7 +105,7 @@ module _ (w : World) where
       ((channel : ChannelId) (signal : Sig) (core : Bool) (message language : List ℕ) → one
       ≡ command.ExitSignal channel signal core message language → ⊥) →
       ((answer : OpenAnswer) → one ≡ command.Answer answer → ⊥) →
-      done_by w one ≡ opens_or_not (asking one) w
+      done_by w one ≡ done_apart w one
   done_other (command.Data channel bytes) a b c d s f x y z e = absurd (a channel bytes refl)
   done_other (command.ExtendedData channel code bytes) a b c d s f x y z e =
       absurd (b channel code bytes refl)
@@ -116,6 +121,45 @@ module _ (w : World) where
   done_other (command.Answer answer) a b c d s f x y z e = absurd (e answer refl)
   done_other _ a b c d s f x y z e = refl
 
+  -- .. and of these, the others open one
+  pub needs_open : (one : Command) → ((address : List ℕ) (port : ℕ) (reply : Option ℕ) → one
+      ≡ command.TcpipForward address port reply → ⊥) →
+      ((address : List ℕ) (port : ℕ) (reply : Option ℕ) → one
+      ≡ command.CancelTcpipForward address port reply → ⊥) →
+      ((channel : ChannelId) (message : ChannelMsg) → one ≡ command.ClientOnly channel message
+      → ⊥) →
+      lacks w (apart_needs one) ≡ lacks w (opens_need (asking one))
+  needs_open (command.TcpipForward address port reply) a b c = absurd (a address port reply refl)
+  needs_open (command.CancelTcpipForward address port reply) a b c =
+      absurd (b address port reply refl)
+  needs_open (command.ClientOnly channel message) a b c = absurd (c channel message refl)
+  needs_open _ a b c = refl
+
+  pub done_open : (one : Command) → ((address : List ℕ) (port : ℕ) (reply : Option ℕ) → one
+      ≡ command.TcpipForward address port reply → ⊥) →
+      ((address : List ℕ) (port : ℕ) (reply : Option ℕ) → one
+      ≡ command.CancelTcpipForward address port reply → ⊥) → (one ≡ command.Keepalive → ⊥) →
+      ((slot : ℕ) → one ≡ command.Ping slot → ⊥) → (one ≡ command.RequestSuccess → ⊥) →
+      (one ≡ command.RequestFailure → ⊥) →
+      ((always : Bool) (message language : List ℕ) → one ≡ command.Debug always message language
+      → ⊥) →
+      ((reason : Disconnect) (description language : List ℕ) → one
+      ≡ command.Disconnect reason description language → ⊥) →
+      done_apart w one ≡ opens_or_not (asking one) w
+  done_open (command.TcpipForward address port reply) a b c d e f g h =
+      absurd (a address port reply refl)
+  done_open (command.CancelTcpipForward address port reply) a b c d e f g h =
+      absurd (b address port reply refl)
+  done_open command.Keepalive a b c d e f g h = absurd (c refl)
+  done_open (command.Ping slot) a b c d e f g h = absurd (d slot refl)
+  done_open command.RequestSuccess a b c d e f g h = absurd (e refl)
+  done_open command.RequestFailure a b c d e f g h = absurd (f refl)
+  done_open (command.Debug always message language) a b c d e f g h =
+      absurd (g always message language refl)
+  done_open (command.Disconnect reason description language) a b c d e f g h =
+      absurd (h reason description language refl)
+  done_open _ a b c d e f g h = refl
+
 -- a payload that is too long is not sent
 pub too_long : (number : ℕ) (payload : List ℕ) (w : World) → 2 ^ 32 ≤ length payload →
     fails_open number payload w ≡ refuses TooLong w
@@ -129,3 +173,25 @@ short number payload w h =
     let k : length payload < 2 ^ 32 = omega arith in
     let t : is_too_long payload ≡ false = search rules in
     rw t refl
+
+-- a message that is too long is not sent
+pub unsent : (message : OwnMessage) (w : World) → 2 ^ 32 ≤ length message.payload →
+    sends message w ≡ refuses TooLong w
+unsent message w h = let t : is_too_long message.payload ≡ true = search rules in rw t refl
+
+pub sent : (message : OwnMessage) (w : World) → length message.payload < 2 ^ 32 →
+    sends message w ≡ accepts (said message w)
+sent message w h = let t : is_too_long message.payload ≡ false = search rules in rw t refl
+
+-- a payload that is short was built, or there was no memory
+pub kept_short : {V : Type 0} (items : V → List ℕ) (payload : List ℕ)
+    (result : Result V WireError) → length payload < 2 ^ 32 →
+    IfOk result (λ p. items p ≡ payload) →
+    IfOk result (λ p. (items p ≡ payload) × (length payload < 2 ^ 32))
+kept_short items payload (Ok p) short h = (h, short)
+kept_short items payload (Err e) short h = tt
+
+pub kept_unbuilt : {V : Type 0} (payload : List ℕ) (result : Result V WireError) →
+    IfErr result (λ e. e ≡ wire.NoMemory) → IfErr result (IsUnbuilt payload)
+kept_unbuilt payload (Ok p) h = tt
+kept_unbuilt payload (Err e) h = inl h

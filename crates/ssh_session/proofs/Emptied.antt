@@ -6,9 +6,9 @@ use Rattle.ssh_auth.specs.Plan.{Plan, Finish, Ask, Tell, Event, Follows, after}
 use Rattle.ssh_auth.specs.Publickey.{Acceptance}
 use Rattle.ssh_session.specs.Acts.{tell_all}
 use Rattle.ssh_session.specs.Outcome.{Outcome, Goes, Ends, Fails}
-use Rattle.ssh_session.specs.Run.{Turn, Owes, finish_input, handed_on}
+use Rattle.ssh_session.specs.Run.{Turn, Owes, finish_input, handed_on, goes_unless_ended}
 use Rattle.ssh_session.specs.World.{World}
-use Rattle.ssh_session.proofs.Acting.{PlanComes}
+use Rattle.ssh_session.proofs.Acting.{PlanComes, goes_or_ends}
 use Rattle.ssh_session.proofs.Settled.{Anything}
 
 -- this holds of what comes of a plan once these are told
@@ -34,7 +34,8 @@ IsEmptied _ = Unit {0}
 
 emptied : (plan : Plan Outcome) → PlanComes Anything IsEmptied (after plan finish_input)
 emptied (Finish (Goes w)) =
-    told_comes IsEmptied (map Sent w.channels.lines.written) (Goes (handed_on w)) refl
+    told_comes IsEmptied (map Sent w.channels.lines.written) (goes_unless_ended (handed_on w))
+    (goes_or_ends IsEmptied (handed_on w) w.disconnected refl tt)
 emptied (Finish (Ends w)) =
     told_comes IsEmptied (map Sent w.channels.lines.written) (Ends (handed_on w)) tt
 emptied (Finish (Fails fault)) = tt

@@ -1,216 +1,230 @@
 -- A run ends well only by an input that ends it.
-use Rattle.std.proofs.Common.{◌≡◌, ◌⊎◌, ℕ, List, [], ◌∷◌, Option, Some, None, Bool, true, false}
-use Rattle.std.proofs.Common.{refl, ◌∙◌, ap, subst, inl, inr}
-use Rattle.std.specs.Prelude.{drop, length, bytes_eq, codes, if◌then◌else◌, Result, Ok, Err}
+use Rattle.std.proofs.Common.{◌≡◌, ◌⊎◌, ℕ, List, [], ◌∷◌, Bool, true, false}
+use Rattle.std.proofs.Common.{refl, sym, ◌∙◌, subst, inl, inr, cond, map, ◌||◌, not}
+use Rattle.std.specs.List.{list_any}
+use Rattle.std.specs.Prelude.{drop, Result, Ok, Err}
 use Rattle.ssh_wire.specs.declared.error.WireError.{WireError}
 use Rattle.ssh_link.specs.declared.command.Command.{Command}
 use Rattle.ssh_link.specs.declared.command.Command.TheVariants as command
-use Rattle.ssh_link.specs.declared.frame.Input.{Input}
 use Rattle.ssh_link.specs.declared.frame.InputKind.{InputKind}
 use Rattle.ssh_link.specs.declared.frame.InputKind.TheVariants as input
-use Rattle.ssh_link.specs.declared.link.TraceEntry.TheVariants.{Answered}
-use Rattle.ssh_auth.specs.declared.auth_request.AuthRequest.{AuthRequest}
-use Rattle.ssh_auth.specs.declared.auth_step.AuthVerdict.TheVariants as verdict
-use Rattle.ssh_auth.specs.declared.question.Question.TheVariants.{Banner}
-use Rattle.ssh_auth.specs.Plan.{Plan, Finish, Ask, Tell, Event, Follows, after}
+use Rattle.ssh_link.specs.declared.link.TraceEntry.TheVariants.{Answered, Sent}
+use Rattle.ssh_auth.specs.declared.call.Call.{Call}
+use Rattle.ssh_auth.specs.declared.question.Question.{Question}
+use Rattle.ssh_auth.specs.declared.question.Question.TheVariants as ask
+use Rattle.ssh_auth.specs.Calls.{admission_call, lent_call, judged_call}
+use Rattle.ssh_auth.specs.Was.{was}
+use Rattle.ssh_auth.proofs.Back.{lent_back, judged_back}
+use Rattle.ssh_auth.specs.Plan.{Plan, Finish, Ask, Tell, Answer, Event, Follows, after, answered}
+use Rattle.ssh_auth.specs.Plan.{calls_in}
 use Rattle.ssh_auth.specs.Publickey.{Acceptance, Circumstances}
-use Rattle.ssh_auth.specs.Verdict.{AuthOutcome, Replies, verdict as verdict_on, response_verdict}
-use Rattle.ssh_auth.specs.Verdict as auth
-use Rattle.ssh_channels.specs.Does.{coming_of}
-use Rattle.ssh_channels.specs.Lines.{find, next_number, takes_in}
-use Rattle.ssh_channels.specs.declared.adjusted.Adjusted.{Adjusted}
-use Rattle.ssh_channels.specs.declared.adjusted.Adjusted.TheVariants.{Dropped, Kept, Granted}
-use Rattle.ssh_channels.specs.declared.chunk.Chunk.{Chunk}
-use Rattle.ssh_wire.specs.declared.channel_id.ChannelId.{ChannelId}
 use Rattle.ssh_session.specs.declared.gate.Gate.{Gate}
 use Rattle.ssh_session.specs.declared.gate.Gate.TheVariants as gate
-use Rattle.ssh_session.specs.declared.state.EncryptedState.{EncryptedState}
-use Rattle.ssh_session.specs.declared.state.EncryptedState.TheVariants.{WaitingAuthRequest}
 use Rattle.ssh_session.specs.Acts.{acts}
-use Rattle.ssh_session.specs.Effect.{Effect, Does, Unbuilt, effect}
+use Rattle.ssh_session.specs.Effect.{effect, done_by, done_apart, refused_for, said, sends}
+use Rattle.ssh_session.specs.Effect.{is_too_long}
+use Rattle.ssh_session.specs.OwnMessages.{OwnMessage, forward, cancel, keepalive, ping, debug}
+use Rattle.ssh_session.specs.OwnMessages.{disconnect}
+use Rattle.ssh_session.specs.OwnOpens.{asking}
+use Rattle.ssh_session.specs.Ticks.{keepalive_acts, inactivity_acts, ticked}
+use Rattle.ssh_wire.specs.Messages.{written, request_success, request_failure}
 use Rattle.ssh_session.specs.Gate.{gate_of}
-use Rattle.ssh_session.specs.Types.{handling}
-use Rattle.ssh_session.specs.declared.opens.Handling.{Handling}
-use Rattle.ssh_session.specs.declared.opens.Handling.TheVariants.{Asks, Unsupported, Unknown}
-use Rattle.ssh_wire.specs.declared.open.OpenChannelMessage.{OpenChannelMessage}
-use Rattle.ssh_wire.specs.declared.open.ChannelOpenConfirmation.{ChannelOpenConfirmation}
-use Rattle.ssh_wire.specs.declared.open_failure.ChannelOpenFailure.{ChannelOpenFailure}
 use Rattle.ssh_session.specs.Outcome.{Outcome, Goes, Ends, Fails, Not_built}
-use Rattle.ssh_session.specs.declared.messages.Spoken.{Spoken}
 use Rattle.ssh_session.specs.declared.messages.Spoken.TheVariants as spoken
-use Rattle.ssh_session.specs.Reading.{Said, Disconnect, Over_cap, Service, Request}
-use Rattle.ssh_session.specs.Reading.{Response, Open, Agreed, SaysConfirmation}
-use Rattle.ssh_session.specs.Reading.{Unread, Channel, Unfit, Without_packets, Says}
+use Rattle.ssh_session.specs.Reading.{Said, Service}
+use Rattle.ssh_session.specs.Reading.{Open, Agreed, SaysConfirmation}
+use Rattle.ssh_session.specs.Reading.{Unread, Connection, Unfit, Without_packets, Says}
 use Rattle.ssh_session.specs.Reading.{SaysOpen, said_of}
-use Rattle.ssh_session.specs.Reading as read
-use Rattle.ssh_session.specs.Rows.{spoken_acts, failure_acts, confirmation_acts}
-use Rattle.ssh_session.specs.Rows.{row, owed, greets, is_short, replied, concluded, asked_of}
-use Rattle.ssh_session.specs.Rows.{data_told, open_acts}
-use Rattle.ssh_session.specs.Run.{OwesKind, Owes, command_row, finish_input, is_there, is_waiting}
-use Rattle.ssh_session.specs.Valid.{IsEnding}
-use Rattle.ssh_session.specs.World.{World, circumstances, waits_for, lined}
+use Rattle.ssh_session.specs.Rows.{row}
+use Rattle.ssh_session.specs.Run.{OwesKind, Owes, Turn, Turns, Run, calls_of, command_row}
+use Rattle.ssh_session.specs.Run.{finish_input, handed_on, goes_unless_ended}
+use Rattle.ssh_session.specs.Valid.{IsEnding, IsEndingKind, disconnects, recorded_so}
+use Rattle.ssh_session.specs.Valid.{call_disconnects}
+use Rattle.ssh_session.specs.World.{World, circumstances}
 use Rattle.ssh_session.proofs.Gates.{is_disconnect}
-use Rattle.ssh_session.proofs.Acting.{PlanComes, EffectComes, AllBuilt, Law, ActsCome, acts_come}
+use Rattle.ssh_session.proofs.Acting.{PlanComes, EffectComes, AllBuilt, Law, acts_come}
 use Rattle.ssh_session.proofs.Acting.{one_comes, comes_then, input_comes}
-use Rattle.ssh_session.proofs.Settled.{Anything, on_come}
+use Rattle.ssh_session.proofs.Settled.{Anything}
+use Rattle.ssh_session.specs.World.{hears}
+use Rattle.ssh_session.proofs.Apart.{sent_comes, refused_comes, tick_comes}
+use Rattle.ssh_session.proofs.Beside.{done_beside, settles_beside, opens_or_not_beside, row_beside}
+use Rattle.ssh_session.proofs.Beside.{IsOther}
+use Rattle.ssh_session.proofs.Emptied.{told_comes, comes_of}
+
+-- ---- what ends no run
+
+-- no command of these ends the connection
+abbrev IsMild : Command → Type 0
+IsMild one = disconnects one ≡ false
+
+-- nor one of those that the answer holds
+abbrev IsMildAnswer : (question : Question) → Answer question → Type 0
+IsMildAnswer (ask.Lends lent) commands = AllBuilt IsMild commands
+IsMildAnswer (ask.Judges judged) answer = AllBuilt IsMild answer.commands
+IsMildAnswer (ask.Listens address port) answer = AllBuilt IsMild answer.commands
+IsMildAnswer question answer = Unit {0}
+
+-- the connection was not ended
+abbrev pub IsLive : World → Type 0
+IsLive w = w.disconnected ≡ false
 
 -- the run goes on, or a fault stops it
-abbrev pub IsNoEnd : Outcome → Type 0
+abbrev IsNoEnd : Outcome → Type 0
+IsNoEnd (Goes w) = IsLive w
 IsNoEnd (Ends w) = ⊥
-IsNoEnd _ = Unit {0}
+IsNoEnd (Fails fault) = Unit {0}
 
-abbrev Any_world : World → Type 0
-Any_world w = Unit {0}
+same_live : (w v : World) → v.settings ≡ w.settings → v.disconnected ≡ w.disconnected → IsLive w
+    → IsLive v
+same_live w v is ended h = ended ∙ h
 
-abbrev Any_command : Command → Type 0
-Any_command command = Unit {0}
+-- a message that does not end the connection
+said_live : (message : OwnMessage) (w : World) → message.ends ≡ false → IsLive w
+    → IsLive (said message w)
+said_live message w is h = rw (h, is) refl
 
-any_built : (commands : List Command) → AllBuilt Any_command commands
-any_built [] = tt
-any_built (command ∷ commands) = (tt, any_built commands)
+sent_live : (message : OwnMessage) (w : World) → message.ends ≡ false → IsLive w
+    → EffectComes IsLive (sends message w)
+sent_live message w is h = sent_comes IsLive message w h (said_live message w is h)
 
-no_end : (does : Effect) → EffectComes IsNoEnd Any_world does
-no_end (Does notices outcome world) = tt
-no_end Unbuilt = tt
+-- or one that does, and is too long
+long_live : (message : OwnMessage) (w : World) (long : Bool) → is_too_long message.payload ≡ long
+    → not long ≡ false → IsLive w → EffectComes IsLive (sends message w)
+long_live message w true is mild h = rw is h
+long_live message w false is mild h = absurd (cc)
+
+apart_live : (w : World) (one : Command) → IsMild one → IsLive w
+    → EffectComes IsLive (done_apart w one)
+apart_live w (command.TcpipForward address port reply) mild h =
+    sent_live (forward address port reply) w refl h
+apart_live w (command.CancelTcpipForward address port reply) mild h =
+    sent_live (cancel address port reply) w refl h
+apart_live w command.Keepalive mild h = sent_live keepalive w refl h
+apart_live w (command.Ping slot) mild h = sent_live (ping slot) w refl h
+apart_live w command.RequestSuccess mild h =
+    settles_beside IsLive same_live (written request_success tt) w h
+apart_live w command.RequestFailure mild h =
+    settles_beside IsLive same_live (written request_failure tt) w h
+apart_live w (command.Debug always text language) mild h =
+    sent_live (debug always text language) w refl h
+apart_live w (command.Disconnect reason description language) mild h =
+    let message = disconnect reason description language in
+    long_live message w (is_too_long message.payload) refl mild h
+apart_live w other mild h = opens_or_not_beside IsLive same_live (asking other) w h
+
+effect_live : (w : World) (one : Command) → IsMild one → IsLive w
+    → EffectComes IsLive (effect w one)
+effect_live w one mild h =
+    refused_comes IsLive (refused_for w.disconnected w one) w (done_by w one) h
+    (done_beside IsLive same_live w one h (apart_live w one mild h))
 
 abbrev law : Law
 law = record {
-  such = Anything;
+  such = IsMildAnswer;
   comes = IsNoEnd;
-  holds = Any_world;
-  built = Any_command;
-  goes = λ w h. tt;
-  lends = λ lent commands s. any_built commands;
-  judges = λ judged answer s. any_built answer.commands;
-  keeps = λ w command h b. no_end (effect w command);
+  holds = IsLive;
+  built = IsMild;
+  goes = λ w h. h;
+  lends = λ lent commands s. s;
+  judges = λ judged answer s. s;
+  listens = λ address port answer s. s;
+  keeps = λ w one h mild. effect_live w one mild h;
 }
 
--- ---- rows
+row_on : (w : World) (moment : ℕ) (said : Said) → IsOther said → IsLive w
+    → PlanComes IsMildAnswer IsNoEnd (row w moment said)
+row_on w moment said is h = row_beside law same_live (λ why. tt) w moment said is h
 
-told_on : (adjusted : Adjusted) (channel : ChannelId) (piece : Chunk) (target : ℕ) (w : World) →
-    ActsCome law (data_told adjusted channel piece target) w
-told_on Dropped channel piece target w = tt
-told_on Kept channel piece target w = λ world k. tt
-told_on (Granted amount) channel piece target w = λ window. (tt, λ world k. tt)
+command_on : (w : World) (ticket : ℕ) (one : Command) → IsMild one → IsLive w
+    → PlanComes IsMildAnswer IsNoEnd (command_row w ticket one)
+command_on w ticket one mild h =
+    one_comes law (effect w one) (λ outcome world. Tell (Answered ticket outcome)
+    (Finish (Goes world))) (effect_live w one mild h) (λ outcome world k. k)
 
-open_on : (number : Option ℕ) (message : OpenChannelMessage) (does : Handling) (w : World)
-    → ActsCome law (open_acts number message does) w
-open_on None message (Asks type) w = tt
-open_on None message Unsupported w = tt
-open_on None message Unknown w = tt
-open_on (Some number) message (Asks type) w = (tt, λ world k. tt)
-open_on (Some number) message Unsupported w = (tt, tt)
-open_on (Some number) message Unknown w = (tt, tt)
+tick_on : (w : World) → IsLive w → PlanComes IsMildAnswer IsNoEnd (acts (keepalive_acts w) w)
+tick_on w h =
+    acts_come law (keepalive_acts w) w h
+    (tick_comes law w tt (said_live keepalive (ticked w) refl h))
 
-failure_on : (w : World) (there waiting : Bool) (channel : ChannelId) (why : ChannelOpenFailure)
-    → ActsCome law (failure_acts there waiting channel why) w
-failure_on w there true channel why = (tt, tt)
-failure_on w true false channel why = tt
-failure_on w false false channel why = tt
+-- ---- what was answered
 
-confirmation_on : (w : World) (waiting : Bool) (message : ChannelOpenConfirmation)
-    → ActsCome law (confirmation_acts waiting message) w
-confirmation_on w true message = (tt, λ world k. tt)
-confirmation_on w false message = tt
+mild_step : (a b : Bool) → (a || b) ≡ false → (a ≡ false) × (b ≡ false)
+mild_step true b h = absurd (cc)
+mild_step false b h = (refl, h)
 
-spoken_on : (w : World) (said : Spoken) → ActsCome law (spoken_acts w said) w
-spoken_on w spoken.Nothing = tt
-spoken_on w (spoken.Grant channel amount) =
-    on_come law w (find channel.0 w.channels.lines.entries) _ (λ e. (tt, λ world k. tt))
-spoken_on w (spoken.Data channel piece) =
-    let came = coming_of (length piece.bytes) w.channels.target
-    (find channel.0 w.channels.lines.entries) in (
-      tt,
-      told_on came channel piece w.channels.target
-          (lined (takes_in channel.0 (length piece.bytes) w.channels.target) w),
+all_mild : (commands : List Command) → list_any disconnects commands ≡ false
+    → AllBuilt IsMild commands
+all_mild [] h = tt
+all_mild (one ∷ commands) h =
+    let both = mild_step (disconnects one) (list_any disconnects commands) h in
+    (both.0, all_mild commands both.1)
+
+-- no call of these recorded a command that ends the connection
+abbrev AreMild : {E : Type 0} → List (Call E) → Type 0
+AreMild calls = list_any call_disconnects calls ≡ false
+
+first_mild : {E : Type 0} (call : Call E) (calls : List (Call E)) → AreMild (call ∷ calls)
+    → (list_any disconnects (recorded_so (was call)) ≡ false) × AreMild calls
+first_mild call calls h = mild_step (call_disconnects call) (list_any call_disconnects calls) h
+
+mild_answer : {E : Type 0} (question : Question) (answer : Answer question)
+    (events : List (Event E ⊥)) → AreMild (calls_in (answered question answer ∷ events))
+    → IsMildAnswer question answer × AreMild (calls_in events)
+mild_answer ask.Banner answer events h = (tt, h)
+mild_answer {E} (ask.Admits admission) answer events h =
+    (tt, (first_mild {E = E} (admission_call admission (Ok answer)) (calls_in events) h).1)
+mild_answer {E} (ask.Lends lent) commands events h =
+    let both = first_mild {E = E} (lent_call lent (Ok tt) commands) (calls_in events) h in
+    let same = lent_back E lent (Ok tt) commands in (
+      all_mild commands (subst (λ x. list_any disconnects (recorded_so {E = E} x) ≡ false) same both.0),
+      both.1,
     )
-spoken_on w (spoken.Tells channel message happening) =
-    on_come law w (find channel.0 w.channels.lines.entries) _ (λ e. λ world k. tt)
-spoken_on w (spoken.Close channel) =
-    on_come law w (find channel.0 w.channels.lines.entries) _ (λ e. (tt, λ world k. tt))
-spoken_on w (spoken.Wants channel wanted) = (tt, tt)
-spoken_on w (spoken.Failed channel reason) =
-    failure_on w (is_there w channel.0) (is_waiting w channel.0) channel reason
-spoken_on w (spoken.Asks channel wanted message happening) = (tt, λ world k. tt)
-spoken_on w (spoken.AsksForAgent channel wanted) = (tt, λ granted world k. (tt, tt))
-spoken_on w (spoken.AsksUnknown channel wanted) = (tt, (tt, tt))
-spoken_on w spoken.Inconsistent = tt
-
--- no row but those two ends a run
-abbrev pub IsOther : Said → Type 0
-IsOther Disconnect = ⊥
-IsOther Over_cap = ⊥
-IsOther _ = Unit {0}
-
-owed_on : (w : World) (said : Said) → IsOther said → ActsCome law (owed w said) w
-owed_on w (Open message) is =
-    open_on (next_number w.channels.lines) message (handling message.typ) w
-owed_on w (Agreed message) is =
-    confirmation_on w (is_waiting w message.recipient_channel) message
-owed_on w Unread is = tt
-owed_on w (Channel said) is = spoken_on w said
-owed_on w Disconnect is = absurd is
-owed_on w Over_cap is = absurd is
-owed_on w (Unfit why) is = tt
-owed_on w Without_packets is = tt
-owed_on w read.Unbuilt is = tt
-owed_on w _ is = tt
-
-concluded_on : (w : World) (moment : ℕ) (requested : Bool) (outcome : AuthOutcome) →
-    PlanComes Anything IsNoEnd (concluded w moment requested outcome)
-concluded_on w moment requested (Replies reply verdict.Accepted state) =
-    acts_come law (replied w moment requested reply verdict.Accepted)
-    (waits_for (WaitingAuthRequest state) w) tt (tt, λ world k. tt)
-concluded_on w moment requested (Replies reply (verdict.Rejected none_method) state) = tt
-concluded_on w moment requested (Replies reply verdict.Continued state) = tt
-concluded_on w moment requested (auth.Fails fault) = tt
-
-asked_on : (state : EncryptedState) (next : AuthRequest → Plan AuthOutcome) (w : World) (moment : ℕ)
-    (requested : Bool) →
-    PlanComes Anything IsNoEnd (asked_of state
-    (λ auth. after (next auth) (concluded w moment requested)) (acts [] w))
-asked_on (WaitingAuthRequest auth) next w moment requested =
-    comes_then Anything IsNoEnd (next auth) (concluded w moment requested)
-    (concluded_on w moment requested)
-asked_on _ next w moment requested = tt
-
-greets_on : (w : World) (message : Option (List ℕ)) (short : Bool) → is_short message ≡ short →
-    PlanComes Anything IsNoEnd (acts (greets message) w)
-greets_on w message true is = rw is tt
-greets_on w message false is = rw is tt
-
-service_on : (w : World) (b : Bool) →
-    PlanComes Anything IsNoEnd (if b then Ask Banner (λ message. acts (greets message) w) else acts
-    [] w)
-service_on w true = λ message s. greets_on w message (is_short message) refl
-service_on w false = tt
-
-row_on : (w : World) (moment : ℕ) (said : Said) → IsOther said → PlanComes Anything IsNoEnd
-    (row w moment said)
-row_on w moment (Service name) is = service_on w (bytes_eq name (codes "ssh-userauth"))
-row_on w moment (Request asked) is = asked_on w.user.state (λ auth. verdict_on auth asked) w moment
-    true
-row_on w moment (Response responded) is = asked_on w.user.state
-    (λ auth. response_verdict auth responded) w moment w.user.requested
-row_on w moment said is = acts_come law (owed w said) w tt (owed_on w said is)
-
--- ---- inputs
+mild_answer {E} (ask.Judges judged) answer events h =
+    let both = first_mild {E = E} (judged_call judged (Ok answer.granted) answer.commands)
+    (calls_in events) h in
+    let same = judged_back E judged (Ok answer.granted) answer.commands in (
+      all_mild answer.commands
+          (subst (λ x. list_any disconnects (recorded_so {E = E} x) ≡ false) same both.0),
+      both.1,
+    )
+mild_answer {E} (ask.Listens address port) answer events h =
+    let both = mild_step (list_any disconnects answer.commands)
+    (list_any (call_disconnects {E = E}) (calls_in events)) h in
+    (all_mild answer.commands both.0, both.1)
+mild_answer (ask.Adjusts channel current) answer events h = (tt, h)
+mild_answer (ask.Done place outcome) answer events h = (tt, h)
+mild_answer ask.Begins answer events h = (tt, h)
+mild_answer (ask.Steps payload) answer events h = (tt, h)
 
 -- a plan that does not end is not come to an end
-never_ends : {E : Type 0} (plan : Plan Outcome) (events : List (Event E ⊥)) (world : World) →
-    PlanComes Anything IsNoEnd plan → Follows plan events (Ends world) → ⊥
-never_ends plan [] world k h = subst (PlanComes Anything IsNoEnd) h k
-never_ends (Finish other) (event ∷ events) world k h = h
-never_ends (Ask question next) (event ∷ events) world k h = never_ends (next h.0) events world
-    (k h.0 tt) h.2
-never_ends (Tell entry next) (event ∷ events) world k h = never_ends next events world k h.1
+never_ends : {E : Type 0} (plan : Plan Outcome) (events : List (Event E ⊥)) (world : World)
+    → PlanComes IsMildAnswer IsNoEnd plan → AreMild (calls_in events)
+    → Follows plan events (Ends world) → ⊥
+never_ends plan [] world k mild h = subst (PlanComes IsMildAnswer IsNoEnd) h k
+never_ends (Finish other) (event ∷ events) world k mild h = h
+never_ends {E} (Ask question next) (event ∷ events) world k mild h =
+    let both = mild_answer question h.0 events
+    (subst (λ e. AreMild {E = E} (calls_in (e ∷ events))) h.1 mild) in
+    never_ends (next h.0) events world (k h.0 both.0) both.1 h.2
+never_ends {E} (Tell entry next) (event ∷ events) world k mild h =
+    never_ends next events world k
+    (subst (λ e. AreMild {E = E} (calls_in (e ∷ events))) h.0 mild) h.1
 
-command_on : (w : World) (ticket : ℕ) (commanded : Command) → PlanComes Anything IsNoEnd
-    (command_row w ticket commanded)
-command_on w ticket commanded =
-    one_comes law (effect w commanded) (λ outcome world. Tell (Answered ticket outcome)
-    (Finish (Goes world)))
-    (no_end (effect w commanded)) (λ outcome world k. tt)
+live_goes : (b : Bool) (w : World) → w.disconnected ≡ b → b ≡ false
+    → IsNoEnd (cond b (Ends w) (Goes w))
+live_goes true w is h = absurd (cc)
+live_goes false w is h = is
+
+-- nor is the input that owes it
+input_on : {E : Type 0} (plan : Plan Outcome) (events : List (Event E ⊥)) (world : World)
+    → PlanComes IsMildAnswer IsNoEnd plan → AreMild (calls_in events)
+    → Follows (after plan finish_input) events (Ends world) → ⊥
+input_on plan events world k mild h =
+    never_ends (after plan finish_input) events world
+    (input_comes IsMildAnswer IsNoEnd plan
+    (λ v. (λ x. live_goes v.disconnected (handed_on v) refl x, λ x. x)) k) mild h
+
+-- ---- inputs
 
 -- what does not fit is no end
 open_said : (fields : List ℕ) (said : Said) → SaysOpen fields said → IsOther said
@@ -233,80 +247,114 @@ read_other says (Ok value) h = h value
 read_other says (Err why) h = tt
 
 -- what is said at a gate that ends no run ends none
-other_at : (given : Circumstances) (there : ℕ → Bool) (at : Gate) (fields : List ℕ) (said : Said)
-    → Says given there at fields said →
+other_at : (given : Circumstances) (w : World) (at : Gate) (fields : List ℕ) (said : Said)
+    → Says given w at fields said →
     (at ≡ gate.Ends) ⊎ ((at ≡ gate.OverCap) ⊎ IsOther said)
-other_at given there gate.Ends fields said h = inl refl
-other_at given there gate.OverCap fields said h = inr (inl refl)
-other_at given there gate.Nothing fields said h = inr (inr (rw h tt))
-other_at given there gate.NotBuilt fields said h = inr (inr (rw h tt))
-other_at given there gate.ServiceRequest fields said h =
+other_at given w gate.Ends fields said h = inl refl
+other_at given w gate.OverCap fields said h = inr (inl refl)
+other_at given w gate.Nothing fields said h = inr (inr (rw h tt))
+other_at given w gate.NotBuilt fields said h = inr (inr (rw h tt))
+other_at given w gate.ServiceRequest fields said h =
     inr (inr (rw h.2 (read_other Service h.0 (λ name. tt))))
-other_at given there gate.UserauthRequest fields said h = inr (inr (rw h.2 tt))
-other_at given there gate.InfoResponse fields said h = inr (inr (rw h.2 tt))
-other_at given there gate.ChannelOpen fields said h = inr (inr (open_said fields said h))
-other_at given there gate.OpenConfirmation fields said h =
+other_at given w gate.UserauthRequest fields said h = inr (inr (rw h.2 tt))
+other_at given w gate.InfoResponse fields said h = inr (inr (rw h.2 tt))
+other_at given w gate.ChannelOpen fields said h = inr (inr (open_said fields said h))
+other_at given w gate.OpenConfirmation fields said h =
     inr (inr (confirmation_said fields said h))
-other_at given there (gate.Channel message) fields said h =
-    inr (inr (rw h.2 (read_other Channel h.0 (λ spoken. tt))))
+other_at given w (gate.Connection message) fields said h =
+    inr (inr (rw h.2 (read_other Connection h.0 (λ spoken. tt))))
 
-ending_at : {E : Type 0} (given : Circumstances) (w : World) (moment : ℕ) (payload : List ℕ)
-    (said : Said) (events : List (Event E ⊥))
-    (world : World) → (gate_of w payload ≡ gate.Ends) ⊎ ((gate_of w payload ≡ gate.OverCap)
-    ⊎ IsOther said) →
-    Follows (after (row w moment said) finish_input) events (Ends world)
-    → IsEnding w (input.Payload payload)
-ending_at given w moment payload said events world (inl ends) f =
-    inl (drop 1 payload, is_disconnect w payload ends)
-ending_at given w moment payload said events world (inr (inl over)) f = inr over
-ending_at given w moment payload said events world (inr (inr other)) f =
-    absurd (never_ends (after (row w moment said) finish_input) events world
-    (input_comes Anything IsNoEnd (row w moment said) (λ v. (λ x. x, λ x. x))
-    (row_on w moment said other)) f)
+command_ends : {E : Type 0} (w : World) (ticket : ℕ) (one : Command) (events : List (Event E ⊥))
+    (world : World) (ends : Bool) → disconnects one ≡ ends → IsLive w → AreMild (calls_in events)
+    → Follows (after (command_row w ticket one) finish_input) events (Ends world)
+    → disconnects one ≡ true
+command_ends w ticket one events world true is live mild f = is
+command_ends w ticket one events world false is live mild f =
+    absurd (input_on (command_row w ticket one) events world (command_on w ticket one is live) mild
+    f)
 
-no_command_ends : {E : Type 0} (w : World) (ticket : ℕ) (commanded : Command)
-    (events : List (Event E ⊥)) (world : World) →
-    Follows (after (command_row w ticket commanded) finish_input) events (Ends world) → ⊥
-no_command_ends w ticket commanded events world f =
-    never_ends (after (command_row w ticket commanded) finish_input) events world
-    (input_comes Anything IsNoEnd (command_row w ticket commanded) (λ v. (λ x. x, λ x. x))
-    (command_on w ticket commanded)) f
-
--- a tick is a fault
-no_tick_ends : {E : Type 0} (w : World) (first plan : Plan Outcome) (events : List (Event E ⊥))
-    (world : World) →
-    first ≡ Finish (Fails Not_built) → plan ≡ after first finish_input
-    → Follows plan events (Ends world) → ⊥
-no_tick_ends w first plan events world is p f =
-    never_ends plan events world (rw (p, is) tt) f
+-- that the peer was heard changes no gate
+gate_heard : (payload : List ℕ) (w : World) → gate_of (hears payload w) payload ≡ gate_of w payload
+gate_heard [] w = refl
+gate_heard (n ∷ fields) w = refl
 
 kind_ends : {E : Type 0} (accepts : Acceptance) (w : World) (moment : ℕ) (kind : InputKind)
-    (first plan : Plan Outcome)
-    (events : List (Event E ⊥)) (world : World) → OwesKind accepts w moment kind first → plan
-    ≡ after first finish_input →
-    Follows plan events (Ends world) → IsEnding w kind
-kind_ends accepts w moment input.End first plan events world o p f = tt
-kind_ends {E} accepts w moment (input.Payload payload) first plan events world o p f =
-    ending_at (circumstances accepts w.settings moment) w moment payload o.0 events world
-    (other_at (circumstances accepts w.settings moment) (is_there w) (gate_of w payload)
-    (drop 1 payload) o.0 o.1)
-    (subst (λ q. Follows {E = E} {F = ⊥} q events (Ends world)) (p ∙ ap (λ q. after q finish_input)
-    o.2) f)
-kind_ends {E} accepts w moment (input.Command ticket commanded) first plan events world o p f =
-    absurd (no_command_ends w ticket commanded events world
-    (subst (λ q. Follows {E = E} {F = ⊥} q events (Ends world)) (p ∙ ap (λ q. after q finish_input)
-    o) f))
-kind_ends {E} accepts w moment (input.OpenReply ticket answer) first plan events world o p f =
-    absurd (no_command_ends w ticket (command.Answer answer) events world
-    (subst (λ q. Follows {E = E} {F = ⊥} q events (Ends world)) (p ∙ ap (λ q. after q finish_input)
-    o) f))
-kind_ends accepts w moment kind first plan events world o p f =
-    absurd (no_tick_ends w first plan events world o p f)
+    (first : Plan Outcome) (events : List (Event E ⊥)) (world : World)
+    → OwesKind accepts w moment kind first → IsLive w → AreMild (calls_in events)
+    → Follows (after first finish_input) events (Ends world) → IsEndingKind w kind
+kind_ends accepts w moment input.End first events world o live mild f = tt
+kind_ends {E} accepts w moment (input.Payload payload) first events world o live mild f =
+    let v = hears payload w in
+    elim (other_at (circumstances accepts v.settings moment) v (gate_of v payload)
+    (drop 1 payload) o.0 o.1) [
+      | inl ends ↦ inl (drop 1 payload, is_disconnect v payload ends)
+      | inr (inl over) ↦ inr (sym (gate_heard payload w) ∙ over)
+      | inr (inr other) ↦ absurd (input_on (row v moment o.0) events world
+          (row_on v moment o.0 other live) mild
+          (subst (λ q. Follows {E = E} {F = ⊥} (after q finish_input) events (Ends world)) o.2 f))
+    ]
+kind_ends {E} accepts w moment (input.Command ticket one) first events world o live mild f =
+    command_ends w ticket one events world (disconnects one) refl live mild
+    (subst (λ q. Follows {E = E} {F = ⊥} (after q finish_input) events (Ends world)) o f)
+kind_ends {E} accepts w moment (input.OpenReply ticket answer) first events world o live mild f =
+    absurd (input_on (command_row w ticket (command.Answer answer)) events world
+    (command_on w ticket (command.Answer answer) refl live) mild
+    (subst (λ q. Follows {E = E} {F = ⊥} (after q finish_input) events (Ends world)) o f))
+kind_ends {E} accepts w moment input.KeepaliveTick first events world o live mild f =
+    absurd (input_on (acts (keepalive_acts w) w) events world (tick_on w live) mild
+    (subst (λ q. Follows {E = E} {F = ⊥} (after q finish_input) events (Ends world)) o f))
+kind_ends {E} accepts w moment input.InactivityTick first events world o live mild f =
+    absurd (input_on (acts inactivity_acts w) events world tt mild
+    (subst (λ q. Follows {E = E} {F = ⊥} (after q finish_input) events (Ends world)) o f))
+kind_ends {E} accepts w moment input.RekeyTick first events world o live mild f =
+    absurd (input_on (Finish (Fails Not_built)) events world tt mild
+    (subst (λ q. Follows {E = E} {F = ⊥} (after q finish_input) events (Ends world)) o f))
+
+turn_ends : {E : Type 0} (accepts : Acceptance) (w : World) (turn : Turn E) (first : Plan Outcome)
+    (world : World) (recorded : Bool) → list_any call_disconnects (calls_of turn) ≡ recorded
+    → OwesKind accepts w turn.input.moment turn.input.kind first → IsLive w
+    → Follows (after first finish_input) turn.events (Ends world) → IsEnding w turn
+turn_ends accepts w turn first world true is o live f = inr is
+turn_ends accepts w turn first world false is o live f =
+    inl (kind_ends accepts w turn.input.moment turn.input.kind first turn.events world o live is f)
 
 -- an input by which a run ends well is one that ends it
-pub ended : {E : Type 0} (accepts : Acceptance) (w : World) (given : Input) (plan : Plan Outcome)
-    (events : List (Event E ⊥))
-    (world : World) → Owes accepts w given plan → Follows plan events (Ends world)
-    → IsEnding w given.kind
-ended accepts w given plan events world o f =
-    kind_ends accepts w given.moment given.kind o.0 plan events world o.1 o.2 f
+pub ended : {E : Type 0} (accepts : Acceptance) (w : World) (turn : Turn E) (plan : Plan Outcome)
+    (world : World) → Owes accepts w turn.input plan → IsLive w
+    → Follows plan turn.events (Ends world) → IsEnding w turn
+ended {E} accepts w turn plan world o live f =
+    turn_ends accepts w turn o.0 world (list_any call_disconnects (calls_of turn)) refl o.1 live
+    (subst (λ q. Follows {E = E} {F = ⊥} q turn.events (Ends world)) o.2 f)
+
+-- ---- a run that goes on
+
+-- in a world from which a run goes on the connection was not ended
+abbrev ComesLive : Outcome → Type 0
+ComesLive (Goes w) = IsLive w
+ComesLive _ = Unit {0}
+
+live_step : (b : Bool) (w : World) → w.disconnected ≡ b
+    → ComesLive (cond b (Ends w) (Goes w))
+live_step true w is = tt
+live_step false w is = is
+
+finished_live : (outcome : Outcome) → PlanComes Anything ComesLive (finish_input outcome)
+finished_live (Goes w) =
+    told_comes ComesLive (map Sent w.channels.lines.written) (goes_unless_ended (handed_on w))
+    (live_step w.disconnected (handed_on w) refl)
+finished_live (Ends w) =
+    told_comes ComesLive (map Sent w.channels.lines.written) (Ends (handed_on w)) tt
+finished_live (Fails fault) = tt
+
+turn_live : {E : Type 0} (accepts : Acceptance) (w : World) (turn : Turn E) (mid : World)
+    → Turns accepts w turn mid → IsLive mid
+turn_live {E} accepts w turn mid t =
+    comes_of ComesLive t.0 turn.events (Goes mid)
+    (subst (PlanComes Anything ComesLive) (sym t.1.2)
+    (comes_then Anything ComesLive t.1.0 finish_input finished_live)) t.2
+
+pub run_live : {E : Type 0} (accepts : Acceptance) (w : World) (turns : List (Turn E))
+    (world : World) → Run accepts w turns world → IsLive w → IsLive world
+run_live accepts w [] world run live = subst IsLive (sym run) live
+run_live accepts w (turn ∷ turns) world run live =
+    run_live accepts run.0 turns world run.2 (turn_live accepts w turn run.0 run.1)

@@ -1,19 +1,17 @@
 -- What the table has of a channel, where something is said on it (RFC 4254 section 5.4).
-use Rattle.std.proofs.Common.{◌≡◌, ◌≤◌, ◌<◌, ◌+◌, ◌&&◌, ◌∷◌, ◌++◌, ◌∙◌, ℕ, List, [], Bool, false}
+use Rattle.std.proofs.Common.{◌≡◌, ◌≤◌, ◌<◌, ◌+◌, ◌&&◌, ◌∷◌, ◌++◌, ◌∙◌, ℕ, List, [], false}
 use Rattle.std.proofs.Common.{true}
-use Rattle.std.proofs.Common.{Option, Some, None, length, rules, refl, sym, ap, subst, arith}
-use Rattle.std.proofs.Common.{append_assoc}
+use Rattle.std.proofs.Common.{Option, Some, None, length, rules, refl, sym, ap, arith}
 use Rattle.std.specs.Prelude.{◌^◌, if◌then◌else◌, cond}
 use Rattle.std.proofs.lemmas.List.{length-append}
 use Rattle.ssh_wire.specs.declared.channel_id.ChannelId.{ChannelId}
-use Rattle.ssh_wire.specs.Field.{Number}
 use Rattle.ssh_link.specs.declared.outcome.Refusal.{Refusal}
 use Rattle.ssh_link.specs.declared.outcome.Refusal.TheVariants.{UnknownChannel, TooLong}
 use Rattle.ssh_channels.specs.declared.params.ChannelParams.{ChannelParams}
 use Rattle.ssh_channels.specs.Does as standard
 use Rattle.ssh_channels.specs.Entry.{Entry}
 use Rattle.ssh_channels.specs.Layout.{on_channel}
-use Rattle.ssh_channels.specs.Lines.{Lines, find, wants, says}
+use Rattle.ssh_channels.specs.Lines.{find, wants, says}
 use Rattle.ssh_channels.specs.Table.{is_one, line_at}
 use Rattle.ssh_channels.proofs.Standing.{Found, found}
 use Rattle.ssh_session.specs.declared.session.Session.{Session}

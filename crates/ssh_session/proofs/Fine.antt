@@ -17,9 +17,8 @@ use Rattle.ssh_link.specs.declared.command.Command.{Command as Commanded}
 use Rattle.ssh_link.specs.declared.command.Command.TheVariants as command
 use Rattle.ssh_link.specs.declared.frame.InputKind.{InputKind}
 use Rattle.ssh_link.specs.declared.frame.InputKind.TheVariants.{Payload, Command, OpenReply, End}
+use Rattle.ssh_link.specs.declared.frame.InputKind.TheVariants.{KeepaliveTick}
 use Rattle.ssh_link.specs.declared.link.TraceEntry.TheVariants.{Answered}
-use Rattle.ssh_link.specs.declared.open_answer.OpenAnswer.{OpenAnswer}
-use Rattle.ssh_link.specs.declared.outcome.Refusal.{Refusal}
 use Rattle.ssh_auth.specs.declared.auth_request.AuthRequest.{AuthRequest}
 use Rattle.ssh_auth.specs.declared.auth_step.AuthVerdict.TheVariants as verdict
 use Rattle.ssh_auth.specs.declared.question.Question.TheVariants.{Banner}
@@ -30,7 +29,7 @@ use Rattle.ssh_auth.specs.Requested.{SaysRequest}
 use Rattle.ssh_auth.specs.Requested as asks
 use Rattle.ssh_auth.specs.Request.{begun, prompt_of}
 use Rattle.ssh_auth.specs.Response.{Responded, SaysResponses}
-use Rattle.ssh_auth.specs.Verdict.{AuthOutcome, Replies, verdict as verdict_on, method_verdict}
+use Rattle.ssh_auth.specs.Verdict.{AuthOutcome, Replies, verdict as verdict_on}
 use Rattle.ssh_auth.specs.Verdict.{response_verdict}
 use Rattle.ssh_auth.specs.Verdict as auth
 use Rattle.ssh_channels.specs.declared.adjusted.Adjusted.{Adjusted}
@@ -44,45 +43,40 @@ use Rattle.ssh_session.specs.declared.messages.Spoken.{Spoken}
 use Rattle.ssh_session.specs.declared.messages.Spoken.TheVariants as spoken
 use Rattle.ssh_session.specs.declared.state.EncryptedState.{EncryptedState}
 use Rattle.ssh_session.specs.declared.state.EncryptedState.TheVariants.{WaitingAuthRequest}
-use Rattle.ssh_session.specs.Acts.{acts}
-use Rattle.ssh_session.specs.Effect.{Effect, effect, lacks, needs, refused_or, done_by, answers}
-use Rattle.ssh_session.specs.Effect.{decides, fails_open, failure_of, is_too_long, opens_at}
-use Rattle.ssh_session.specs.Effect.{opens, opens_or_not, requests_on, refuses, accepts}
-use Rattle.ssh_session.specs.OwnOpens.{OwnOpen, asking, open_payload}
+use Rattle.ssh_session.specs.Acts.{acts, Turns}
+use Rattle.ssh_session.specs.Effect.{Effect, Does, effect, said}
 use Rattle.ssh_session.specs.Gate.{gate_of}
 use Rattle.ssh_session.specs.Layout.{banner}
-use Rattle.ssh_session.specs.Opening.{Opening}
 use Rattle.ssh_session.specs.Types.{handling}
 use Rattle.ssh_session.specs.declared.opens.Handling.{Handling}
 use Rattle.ssh_session.specs.declared.opens.Handling.TheVariants.{Asks, Unsupported, Unknown}
-use Rattle.ssh_session.specs.Opens.{opening_of}
 use Rattle.ssh_session.specs.Outcome.{Outcome, Goes, Fails, Starved}
 use Rattle.ssh_session.specs.Messages.{message_layout}
-use Rattle.ssh_session.specs.Reading.{Said, Open, Agreed, Unread, Service, Channel}
+use Rattle.ssh_session.specs.Reading.{Said, Open, Agreed, Unread, Service, Connection}
 use Rattle.ssh_session.specs.Reading.{SaysConfirmation}
 use Rattle.ssh_session.specs.Reading.{Without_packets}
 use Rattle.ssh_session.specs.Reading.{Unfit, Says, SaysOpen, ReadsAs, said_of, service}
-use Rattle.ssh_session.specs.Spelling.{Layout, Leaves, Whole, Fields, Spells}
+use Rattle.ssh_session.specs.Spelling.{Layout, Leaves, Rest, Whole, Fields, Spells}
 use Rattle.ssh_session.specs.Rows.{spoken_acts, agreed_acts, failure_acts}
 use Rattle.ssh_session.specs.Rows.{row, owed, greets, is_short, replied, concluded, asked_of}
 use Rattle.ssh_session.specs.Rows.{fault_of, data_told, open_acts}
-use Rattle.ssh_session.specs.Run.{OwesKind, command_row, is_there, is_waiting}
+use Rattle.ssh_session.specs.Run.{OwesKind, command_row}
+use Rattle.ssh_session.specs.World.{World, circumstances, hears, waits_for, lined, is_there}
+use Rattle.ssh_session.specs.World.{is_waiting}
 use Rattle.ssh_session.specs.Valid.{AreValidMethodFields, AreValidFields, FitsLayout, HasNoPrompt}
-use Rattle.ssh_session.specs.Valid.{IsBuiltCommand, AreBuilt, IsFineAnswer, IsFineBanner}
+use Rattle.ssh_session.specs.Valid.{IsFineAnswer, IsFineBanner}
 use Rattle.ssh_session.specs.Valid.{IsServed, IsValidKind}
-use Rattle.ssh_session.specs.World.{World, circumstances, waits_for, lined, writes}
-use Rattle.ssh_session.proofs.Acting.{PlanComes, EffectComes, AllBuilt, Law, ActsCome, acts_come}
+use Rattle.ssh_session.specs.World.{World, circumstances, waits_for, lined}
+use Rattle.ssh_session.proofs.Acting.{PlanComes, EffectComes, Law, ActsCome, acts_come}
 use Rattle.ssh_session.proofs.Acting.{one_comes}
 use Rattle.ssh_session.proofs.LayoutsOnce.{confirmation_once}
 use Rattle.ssh_session.proofs.FineVerdicts.{IsFineReply, IsFineVerdict, method_fine, responded_fine}
 use Rattle.ssh_session.proofs.Methods.{served, shortened}
 use Rattle.ssh_session.proofs.Responses.{IsRead, response_read}
-use Rattle.ssh_session.proofs.Settled.{on_come}
-use Rattle.ssh_session.specs.OwnRequests.{OwnRequest, request_payload, xon_xoff, exit_status}
-use Rattle.ssh_session.specs.OwnRequests.{exit_signal}
-use Rattle.ssh_channels.specs.Layout.{on_channel}
-use Rattle.ssh_link.specs.declared.outcome.Refusal.TheVariants.{TooLong}
-use Rattle.ssh_channels.specs.Entry.{Entry}
+use Rattle.ssh_session.proofs.Settled.{any_built, Any_command}
+use Rattle.ssh_session.proofs.Beside.{on_come}
+use Rattle.ssh_session.specs.OwnMessages.{keepalive}
+use Rattle.ssh_session.specs.Ticks.{ticked}
 
 -- no fault but want of memory
 abbrev pub IsNoFault : Outcome → Type 0
@@ -94,101 +88,21 @@ Any_world w = Unit {0}
 
 -- ---- commands
 
-built_all : (commands : List Commanded) → AreBuilt commands → AllBuilt IsBuiltCommand commands
-built_all [] h = tt
-built_all (command ∷ commands) h = (h.0, built_all commands h.1)
-
-failed_built : (number : ℕ) (payload : List ℕ) (w : World) (long : Bool) → is_too_long payload
-    ≡ long →
-    EffectComes IsNoFault Any_world (fails_open number payload w)
-failed_built number payload w true is = rw is tt
-failed_built number payload w false is = rw is tt
-
-decided_built : (number : ℕ) (opening : Opening) (reason : Option ChannelOpenFailure)
-    (texts : Option (List ℕ × List ℕ)) (w : World) →
-    EffectComes IsNoFault Any_world (decides number opening reason texts w)
-decided_built number opening None texts w = tt
-decided_built number opening (Some reason) texts w =
-    failed_built number (failure_of opening reason texts) w
-    (is_too_long (failure_of opening reason texts)) refl
-
-answered_built : (answer : OpenAnswer) (opening : Option Opening) (w : World)
-    → EffectComes IsNoFault Any_world (answers answer opening w)
-answered_built answer None w = tt
-answered_built answer (Some opening) w = decided_built answer.channel.0 opening answer.rejection
-    answer.texts w
-
-opened_built : (number : Option ℕ) (asked : OwnOpen) (w : World)
-    → EffectComes IsNoFault Any_world (opens_at number asked w)
-opened_built None asked w = tt
-opened_built (Some n) asked w = tt
-
-opens_built : (asked : OwnOpen) (w : World) (long : Bool)
-    → is_too_long (open_payload asked 0 w.settings.config.window_size
-    w.settings.config.maximum_packet_size) ≡ long
-    → EffectComes IsNoFault Any_world (opens asked w)
-opens_built asked w true is = rw is tt
-opens_built asked w false is = rw is (opened_built (next_number w.channels.lines) asked w)
-
-opens_or_not_built : (asked : Option OwnOpen) (w : World) → IsSome asked
-    → EffectComes IsNoFault Any_world (opens_or_not asked w)
-opens_or_not_built None w built = absurd (let e : false ≡ true = built in cc)
-opens_or_not_built (Some asked) w built = opens_built asked w
-    (is_too_long (open_payload asked 0 w.settings.config.window_size
-    w.settings.config.maximum_packet_size)) refl
-
-requested_built : (long : Bool) (e : Option Entry) (channel : ChannelId) (asked : OwnRequest)
-    (w : World) → EffectComes IsNoFault Any_world
-    (if long then refuses TooLong w else requests_on e channel asked w)
-requested_built true e channel asked w = tt
-requested_built false None channel asked w = tt
-requested_built false (Some e) channel asked w = tt
-
-done_built : (w : World) (commanded : Commanded) → IsBuiltCommand commanded → EffectComes IsNoFault
-    Any_world (done_by w commanded)
-done_built w (command.Data channel bytes) built = tt
-done_built w (command.ExtendedData channel code bytes) built = tt
-done_built w (command.Eof channel) built = tt
-done_built w (command.Close channel) built = tt
-done_built w (command.ChannelSuccess channel) built = tt
-done_built w (command.ChannelFailure channel) built = tt
-done_built w (command.XonXoff channel client_can_do) built =
-    requested_built (is_too_long (request_payload 0 (xon_xoff client_can_do)))
-    (find channel.0 w.channels.lines.entries) channel (xon_xoff client_can_do) w
-done_built w (command.ExitStatus channel status) built =
-    requested_built (is_too_long (request_payload 0 (exit_status status)))
-    (find channel.0 w.channels.lines.entries) channel (exit_status status) w
-done_built w (command.ExitSignal channel signal core message language) built =
-    let asked = exit_signal signal core message language in
-    requested_built (is_too_long (request_payload 0 asked))
-    (find channel.0 w.channels.lines.entries) channel asked w
-done_built w (command.Answer answer) built = answered_built answer (opening_of answer.channel.0 w) w
-done_built w other built = opens_or_not_built (asking other) w built
-
-refused_built : (why : Option Refusal) (w : World) (does : Effect) → EffectComes IsNoFault Any_world
-    does →
-    EffectComes IsNoFault Any_world (refused_or why w does)
-refused_built None w does h = h
-refused_built (Some why) w does h = tt
-
-pub effect_built : (w : World) (commanded : Commanded) → IsBuiltCommand commanded
-    → EffectComes IsNoFault Any_world (effect w commanded)
-effect_built w commanded built =
-    refused_built (lacks w (needs commanded)) w (done_by w commanded) (done_built w commanded built)
-
-pub fine_lends : (commands : List Commanded) → AreBuilt commands → AllBuilt IsBuiltCommand commands
-fine_lends commands h = built_all commands h
+-- a command leads to no fault
+any_effect : (does : Effect) → EffectComes Any_world does
+any_effect (Does notices outcome world) = tt
 
 abbrev law : InputKind → Law
 law kind = record {
   such = IsFineAnswer kind;
   comes = IsNoFault;
   holds = Any_world;
-  built = IsBuiltCommand;
+  built = Any_command;
   goes = λ w h. tt;
-  lends = λ lent commands s. fine_lends commands s;
-  judges = λ judged answer s. fine_lends answer.commands s;
-  keeps = λ w commanded h b. effect_built w commanded b;
+  lends = λ lent commands s. any_built commands;
+  judges = λ judged answer s. any_built answer.commands;
+  listens = λ address port answer s. any_built answer.commands;
+  keeps = λ w command h b. any_effect (effect w command);
 }
 
 -- ---- authentication
@@ -284,6 +198,7 @@ fits_read : (w : World) (layout : Layout Spoken) (bytes : List ℕ) (read : Resu
     → FitsLayout w layout bytes → Spells layout bytes read
     → (said : Spoken) × (read ≡ Ok said) × IsServed w said
 fits_read w (Leaves says) bytes read v h = (says, h, v)
+fits_read w (Rest says) bytes read v h = (says bytes, h, v)
 fits_read w (Whole fields says) bytes read v (inl h) =
     let once = spells_whole_once fields v.0 h.0 bytes v.1 h.1 in
     (says h.0, h.2, subst (λ x. IsServed w (says x)) once v.2)
@@ -335,11 +250,19 @@ spoken_fine kind w (spoken.Failed channel reason) is =
 spoken_fine kind w (spoken.Asks channel wanted message happening) is = (tt, λ world k. tt)
 spoken_fine kind w (spoken.AsksForAgent channel wanted) is = (tt, λ granted world k. (tt, tt))
 spoken_fine kind w (spoken.AsksUnknown channel wanted) is = (tt, (tt, tt))
+spoken_fine kind w (spoken.AsksToForward wanted address port) is = (
+  tt,
+  λ granted bound world k. (tt, tt),
+)
+spoken_fine kind w (spoken.AsksGlobally wanted judged) is = (tt, λ granted world k. (tt, tt))
+spoken_fine kind w (spoken.AsksGloballyUnknown wanted) is = (tt, (tt, tt))
+spoken_fine kind w (spoken.Settles None) is = (tt, tt)
+spoken_fine kind w (spoken.Settles (Some notice)) is = (tt, tt)
 spoken_fine kind w spoken.Inconsistent is = absurd is
 
 channel_fine : (kind : InputKind) (w : World) (moment : ℕ) (layout : Layout Spoken)
     (fields : List ℕ) (said : Said) → FitsLayout w layout fields
-    → ReadsAs Channel layout fields said → PlanComes (IsFineAnswer kind) IsNoFault (row w moment
+    → ReadsAs Connection layout fields said → PlanComes (IsFineAnswer kind) IsNoFault (row w moment
     said)
 channel_fine kind w moment layout fields said v h =
     let fits = fits_read w layout fields h.0 v h.1 in
@@ -398,7 +321,7 @@ named_fine kind w moment fields read v (inr h) =
 
 fields_fine : (given : Circumstances) (w : World) (moment : ℕ) (at : Gate) (payload : List ℕ)
     (said : Said) →
-    AreValidFields given w at (drop 1 payload) → Says given (is_there w) at (drop 1 payload) said →
+    AreValidFields given w at (drop 1 payload) → Says given w at (drop 1 payload) said →
     PlanComes (IsFineAnswer (Payload payload)) IsNoFault (row w moment said)
 fields_fine given w moment gate.Nothing payload said v h = rw h tt
 fields_fine given w moment gate.Ends payload said v h = rw h tt
@@ -418,20 +341,19 @@ fields_fine given w moment gate.ChannelOpen payload said v h = open_fine (Payloa
     moment (drop 1 payload) said v h
 fields_fine given w moment gate.OpenConfirmation payload said v h =
     confirmation_fine (Payload payload) given w moment (drop 1 payload) said v h
-fields_fine given w moment (gate.Channel message) payload said v h =
-    channel_fine (Payload payload) w moment (message_layout (is_there w) message) (drop 1 payload)
+fields_fine given w moment (gate.Connection message) payload said v h =
+    channel_fine (Payload payload) w moment (message_layout w message) (drop 1 payload)
     said v h
 fields_fine given w moment gate.NotBuilt payload said v h = absurd v
 
 -- ---- inputs
 
 command_fine : (kind : InputKind) (w : World) (ticket : ℕ) (commanded : Commanded)
-    → IsBuiltCommand commanded →
-    PlanComes (IsFineAnswer kind) IsNoFault (command_row w ticket commanded)
-command_fine kind w ticket commanded built =
+    → PlanComes (IsFineAnswer kind) IsNoFault (command_row w ticket commanded)
+command_fine kind w ticket commanded =
     one_comes (law kind) (effect w commanded) (λ outcome world. Tell (Answered ticket outcome)
     (Finish (Goes world)))
-    (effect_built w commanded built) (λ outcome world k. tt)
+    (any_effect (effect w commanded)) (λ outcome world k. tt)
 
 pub kind_fine : (accepts : Acceptance) (w : World) (moment : ℕ) (kind : InputKind)
     (plan : Plan Outcome) →
@@ -439,11 +361,15 @@ pub kind_fine : (accepts : Acceptance) (w : World) (moment : ℕ) (kind : InputK
     plan →
     PlanComes (IsFineAnswer kind) IsNoFault plan
 kind_fine accepts w moment End plan v o = rw o tt
-kind_fine accepts w moment (Payload payload) plan v o =
-    rw o.2 (fields_fine (circumstances accepts w.settings moment) w moment (gate_of w payload)
-    payload o.0 v o.1)
+kind_fine accepts w moment (Payload payload) plan valid o =
+    let v : World = hears payload w in
+    rw o.2 (fields_fine (circumstances accepts v.settings moment) v moment (gate_of v payload)
+    payload o.0 valid o.1)
 kind_fine accepts w moment (Command ticket commanded) plan v o =
-    rw o (command_fine (Command ticket commanded) w ticket commanded v)
+    rw o (command_fine (Command ticket commanded) w ticket commanded)
 kind_fine accepts w moment (OpenReply ticket answer) plan v o =
-    rw o (command_fine (OpenReply ticket answer) w ticket (command.Answer answer) tt)
+    rw o (command_fine (OpenReply ticket answer) w ticket (command.Answer answer))
+kind_fine accepts w moment KeepaliveTick plan v o =
+    rw (o, v) (acts_come (law KeepaliveTick) (Turns (λ v. said keepalive (ticked v)) ∷ []) w tt
+    (tt, tt))
 kind_fine accepts w moment _ plan v o = absurd v

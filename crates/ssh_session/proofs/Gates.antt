@@ -4,7 +4,7 @@ use Rattle.std.specs.Prelude.{◌==◌, ◌||◌, drop, if◌then◌else◌, Opt
 use Rattle.std.proofs.lemmas.Bool.{eqb-true}
 use Rattle.ssh_handler.specs.declared.config.Config.{Config}
 use Rattle.ssh_auth.specs.declared.auth_request.AuthRequest.{AuthRequest}
-use Rattle.ssh_session.specs.declared.messages.ChannelMessage.{ChannelMessage}
+use Rattle.ssh_session.specs.declared.messages.ConnectionMessage.{ConnectionMessage}
 use Rattle.ssh_session.specs.declared.gate.Gate.{Gate}
 use Rattle.ssh_session.specs.declared.gate.Gate.TheVariants as gate
 use Rattle.ssh_session.specs.declared.state.EncryptedState.{EncryptedState}
@@ -14,8 +14,8 @@ use Rattle.ssh_session.specs.declared.state.EncryptedState.TheVariants.{InitComp
 use Rattle.ssh_session.specs.declared.state.EncryptedState.TheVariants.{Authenticated}
 use Rattle.ssh_session.specs.World.{World}
 use Rattle.ssh_session.specs.Gate.{gate_of, state_gate, authentication_gate, connection_gate}
-use Rattle.ssh_session.specs.Gate.{is_over_cap, is_connection_number, of_channels}
-use Rattle.ssh_session.specs.Messages.{channel_message}
+use Rattle.ssh_session.specs.Gate.{is_over_cap, of_connection}
+use Rattle.ssh_session.specs.Messages.{connection_message}
 use Rattle.ssh_session.specs.Gate.{IsRequesting}
 
 -- a user was accepted
@@ -34,7 +34,7 @@ Meets state n gate.UserauthRequest = (n ≡ 50) × IsRequesting state
 Meets state n gate.InfoResponse = (n ≡ 61) × IsRequesting state
 Meets state n gate.NotBuilt = Unit {0}
 Meets state n gate.ChannelOpen = (n ≡ 90) × IsLetIn state
--- another message of channels
+-- another message of the connection protocol
 Meets state n _ = IsLetIn state
 
 -- what holds of both gates holds of the one that a test leads to
@@ -61,10 +61,10 @@ authentication_meets config auth n =
     else gate.InfoResponse)
     (λ over. tt) (read_meets auth n (n == 50) refl read)) tt
 
-of_channels_meets : (state : EncryptedState) (n : ℕ) (found : Option ChannelMessage)
-    (other : Gate) → IsLetIn state → Meets state n other → Meets state n (of_channels found other)
-of_channels_meets state n (Some message) other is h = is
-of_channels_meets state n None other is h = h
+of_connection_meets : (state : EncryptedState) (n : ℕ) (found : Option ConnectionMessage)
+    → IsLetIn state → Meets state n (of_connection found)
+of_connection_meets state n (Some message) is = is
+of_connection_meets state n None is = tt
 
 connection_meets : (state : EncryptedState) (n : ℕ) → IsLetIn state
     → Meets state n (connection_gate n)
@@ -72,8 +72,7 @@ connection_meets state n is =
     let P : Gate → Type 0 = Meets state n in
     chosen (n == 90) P gate.ChannelOpen _ (λ number. (eqb-true n 90 number, is))
     (chosen (n == 91) P gate.OpenConfirmation _ (λ _. is)
-    (of_channels_meets state n (channel_message n) _ is
-    (chosen (is_connection_number n) P gate.NotBuilt gate.Nothing (λ _. tt) tt)))
+    (of_connection_meets state n (connection_message n) is))
 
 state_meets : (config : Config) (state : EncryptedState) (n : ℕ)
     → Meets state n (state_gate config state n)
@@ -143,22 +142,22 @@ is_for_request w auth fields is =
     (capped_or_read (is_over_cap w.settings.config auth))
 
 -- the gates of the messages of channels
-abbrev pub IsOfChannels : Gate → Type 0
-IsOfChannels gate.ChannelOpen = Unit {0}
-IsOfChannels gate.OpenConfirmation = Unit {0}
-IsOfChannels (gate.Channel message) = Unit {0}
-IsOfChannels _ = ⊥
+abbrev pub IsOfConnection : Gate → Type 0
+IsOfConnection gate.ChannelOpen = Unit {0}
+IsOfConnection gate.OpenConfirmation = Unit {0}
+IsOfConnection (gate.Connection message) = Unit {0}
+IsOfConnection _ = ⊥
 
-meets_let_in : (state : EncryptedState) (n : ℕ) (at : Gate) → Meets state n at → IsOfChannels at
+meets_let_in : (state : EncryptedState) (n : ℕ) (at : Gate) → Meets state n at → IsOfConnection at
     → IsLetIn state
 meets_let_in state n gate.ChannelOpen h is = h.1
 meets_let_in state n gate.OpenConfirmation h is = h
-meets_let_in state n (gate.Channel message) h is = h
+meets_let_in state n (gate.Connection message) h is = h
 meets_let_in state n _ h is = absurd is
 
 -- a payload that is read as a message of channels comes after an accepted authentication
 pub is_let_in : (w : World) (payload : List ℕ) (at : Gate) → gate_of w payload ≡ at
-    → IsOfChannels at → IsLetIn w.user.state
-is_let_in w [] at e is = absurd (subst IsOfChannels (sym e) is)
+    → IsOfConnection at → IsLetIn w.user.state
+is_let_in w [] at e is = absurd (subst IsOfConnection (sym e) is)
 is_let_in w (n ∷ fields) at e is =
     meets_let_in w.user.state n at (subst (Meets w.user.state n) e (meets w n fields)) is

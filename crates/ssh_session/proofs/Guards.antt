@@ -26,8 +26,9 @@ use Rattle.ssh_session.specs.Authorised.{IsRequestOf, IsAdmitted, IsAcceptingSo,
 use Rattle.ssh_session.specs.Authorised.{AsksConnection, IsOfChannel}
 use Rattle.ssh_session.specs.Authorised.{NeedsUser}
 use Rattle.ssh_session.specs.Outcome.{Outcome, Goes, Ends, Fails}
-use Rattle.ssh_session.specs.Run.{handed_on, finish_input}
+use Rattle.ssh_session.specs.Run.{handed_on, finish_input, goes_unless_ended}
 use Rattle.ssh_session.specs.World.{World}
+use Rattle.ssh_session.proofs.Acting.{goes_or_ends}
 
 -- ---- worlds before a user is accepted
 
@@ -133,9 +134,10 @@ finished_guarded : (given : Circumstances) (named : List ℕ → Type 0) (a : Ty
 finished_guarded given named a kind (Goes world) (inl x) = plan_accepted given named a kind
     (finish_input (Goes world)) x
 finished_guarded given named a kind (Goes world) (inr clear) =
-    low_told given named a kind world.channels.lines.written (Finish (Goes (handed_on world)))
-    clear.3
-    (inr (clear.0, clear.1, clear.2, tt))
+    low_told given named a kind world.channels.lines.written
+    (Finish (goes_unless_ended (handed_on world))) clear.3
+    (goes_or_ends (λ o. Guarded given named a kind (Finish o)) (handed_on world)
+    world.disconnected (inr (clear.0, clear.1, clear.2, tt)) (inr tt))
 finished_guarded given named a kind (Ends world) (inl x) = plan_accepted given named a kind
     (finish_input (Ends world)) x
 finished_guarded given named a kind (Ends world) (inr low) =

@@ -1,7 +1,7 @@
 -- What was sent on the channels stays what has to be sent, by calls of the table and by commands
 -- (RFC
 -- 4254 section 5).
-use Rattle.std.proofs.Common.{◌≡◌, ◌==◌, ℕ, List, [], ◌∷◌, Bool}
+use Rattle.std.proofs.Common.{◌≡◌, ◌==◌, ◌||◌, ℕ, List, [], ◌∷◌, Bool}
 use Rattle.std.proofs.Common.{true, false, Option, Some, None}
 use Rattle.std.proofs.Common.{refl, sym, ◌∙◌, ap, subst, arith, append_assoc}
 use Rattle.std.specs.Prelude.{min, IfSome, if◌then◌else◌, cond}
@@ -16,7 +16,6 @@ use Rattle.ssh_link.specs.declared.command.Command.{Command}
 use Rattle.ssh_link.specs.declared.command.Command.TheVariants as command
 use Rattle.ssh_link.specs.declared.link.TraceEntry.{TraceEntry}
 use Rattle.ssh_link.specs.declared.open_answer.OpenAnswer.{OpenAnswer}
-use Rattle.ssh_link.specs.declared.outcome.Refusal.{Refusal}
 use Rattle.ssh_channels.specs.declared.chunk.DataKind.TheVariants.{Plain, Extended}
 use Rattle.ssh_channels.specs.Calls.{Op, Send, Eof, Close, Drop_pending}
 use Rattle.ssh_channels.specs.Calls.{Stage, Open_next, Byte, Set_wants_reply}
@@ -29,17 +28,21 @@ use Rattle.ssh_channels.specs.Sent.{Each, Ledgered, may_go, is_beside}
 use Rattle.ssh_channels.proofs.Booked.{op_kept, opens_kept, asks_kept}
 use Rattle.ssh_channels.proofs.Dues.{all_sound, op_due}
 use Rattle.ssh_channels.proofs.Listed.{one_number, find_new, find_beside}
-use Rattle.ssh_session.specs.Effect.{Effect, effect, lacks, needs, refused_or, done_by, answers}
+use Rattle.ssh_session.specs.Effect.{effect, refused_for, done_by, answers, said}
 use Rattle.ssh_session.specs.Effect.{decides, fails_open, failure_of, is_too_long, opens_at}
-use Rattle.ssh_session.specs.Effect.{opens, opens_or_not, requests_on, refuses, accepts}
-use Rattle.ssh_session.specs.OwnOpens.{OwnOpen, asking, open_payload}
+use Rattle.ssh_session.specs.Effect.{opens, opens_or_not, requests_on, refuses}
+use Rattle.ssh_session.specs.OwnOpens.{OwnOpen, open_payload}
 use Rattle.ssh_session.specs.Opening.{Opening}
 use Rattle.ssh_session.specs.Opens.{own, opening_of, answered}
 use Rattle.ssh_session.specs.Outcome.{Outcome, Goes, Ends, Fails}
-use Rattle.ssh_session.specs.World.{World, lined, writes, replies, wants_reply}
+use Rattle.ssh_session.specs.Layout.{at_once}
+use Rattle.ssh_session.specs.OwnMessages.{OwnMessage}
+use Rattle.ssh_session.specs.World.{World, lined, writes, replies, wants_reply, awaits}
+use Rattle.ssh_session.specs.World.{wants_global, settles_global}
 use Rattle.ssh_session.proofs.Absent.{IsAbsent, data_absent, eof_absent, close_absent}
 use Rattle.ssh_session.proofs.Absent.{says_absent, wants_absent}
 use Rattle.ssh_session.proofs.Acting.{EffectComes}
+use Rattle.ssh_session.proofs.Apart.{either, refused_comes, apart_comes}
 use Rattle.ssh_session.proofs.Pending.{IsReserved, data_pends, eof_pends, close_pends}
 use Rattle.ssh_session.proofs.Pending.{dropped_pending, next_apart, says_pends, wants_pends}
 use Rattle.ssh_session.proofs.Waiting.{AllWaiting, found_waiting, still_waiting}
@@ -150,7 +153,7 @@ none_due n = omega arith
 
 confirmed_on : (past : List TraceEntry) (number : ℕ) (opening : Opening) (w : World)
     → opening_of number w ≡ Some opening →
-    Kept past w → EffectComes (ComesKept past) (Kept past) (decides number opening None None w)
+    Kept past w → EffectComes (Kept past) (decides number opening None None w)
 confirmed_on past number opening w is k =
     let lines = w.channels.lines in
     let waits = found_waiting 0 number (IsReserved lines) w.channels.opens opening k.waiting is in
@@ -184,7 +187,7 @@ failed_step : (past : List TraceEntry) (number : ℕ) (payload : List ℕ) (open
     (w : World) (long : Bool) →
     is_too_long payload ≡ long → may_go None (refusal_frame number payload) ≡ true
     → opening_of number w ≡ Some opening →
-    Kept past w → EffectComes (ComesKept past) (Kept past) (fails_open number payload w)
+    Kept past w → EffectComes (Kept past) (fails_open number payload w)
 failed_step past number payload opening w true is go o k = rw is k
 failed_step past number payload opening w false is go o k =
     let lines = w.channels.lines in
@@ -204,7 +207,7 @@ decided_on : (past : List TraceEntry) (number : ℕ) (opening : Opening)
     (reason : Option ChannelOpenFailure)
     (texts : Option (List ℕ × List ℕ)) (w : World) → opening_of number w ≡ Some opening
     → Kept past w →
-    EffectComes (ComesKept past) (Kept past) (decides number opening reason texts w)
+    EffectComes (Kept past) (decides number opening reason texts w)
 decided_on past number opening None texts w is k = confirmed_on past number opening w is k
 decided_on past number opening (Some reason) texts w is k =
     failed_step past number (failure_of opening reason texts) opening w
@@ -212,7 +215,7 @@ decided_on past number opening (Some reason) texts w is k =
 
 answered_on : (past : List TraceEntry) (answer : OpenAnswer) (opening : Option Opening) (w : World)
     →
-    opening_of answer.channel.0 w ≡ opening → Kept past w → EffectComes (ComesKept past) (Kept past)
+    opening_of answer.channel.0 w ≡ opening → Kept past w → EffectComes (Kept past)
     (answers answer opening w)
 answered_on past answer None w is k = k
 answered_on past answer (Some opening) w is k = decided_on past answer.channel.0 opening
@@ -221,7 +224,7 @@ answered_on past answer (Some opening) w is k = decided_on past answer.channel.0
 -- this side's open draws the next number, which no open of the peer's waits on
 opened_on : (past : List TraceEntry) (number : Option ℕ) (asked : OwnOpen) (w : World)
     → next_number w.channels.lines ≡ number → Kept past w
-    → EffectComes (ComesKept past) (Kept past) (opens_at number asked w)
+    → EffectComes (Kept past) (opens_at number asked w)
 opened_on past None asked w is k = k
 opened_on past (Some n) asked w is k =
     let lines = w.channels.lines in
@@ -237,14 +240,14 @@ opened_on past (Some n) asked w is k =
 opens_on : (past : List TraceEntry) (asked : OwnOpen) (w : World) (long : Bool)
     → is_too_long (open_payload asked 0 w.settings.config.window_size
     w.settings.config.maximum_packet_size) ≡ long → Kept past w
-    → EffectComes (ComesKept past) (Kept past) (opens asked w)
+    → EffectComes (Kept past) (opens asked w)
 opens_on past asked w true is k = rw is k
 opens_on past asked w false is k =
     rw is (opened_on past (next_number w.channels.lines) asked w refl k)
 
 opens_or_not_on : (past : List TraceEntry) (asked : Option OwnOpen) (w : World) → Kept past w
-    → EffectComes (ComesKept past) (Kept past) (opens_or_not asked w)
-opens_or_not_on past None w k = tt
+    → EffectComes (Kept past) (opens_or_not asked w)
+opens_or_not_on past None w k = k
 opens_or_not_on past (Some asked) w k = opens_on past asked w
     (is_too_long (open_payload asked 0 w.settings.config.window_size
     w.settings.config.maximum_packet_size)) refl k
@@ -275,7 +278,7 @@ replied_on past channel message w beside k =
 
 requested_on : (past : List TraceEntry) (long : Bool) (e : Option Entry) (channel : ChannelId)
     (asked : OwnRequest) (w : World) → find channel.0 w.channels.lines.entries ≡ e → Kept past w
-    → EffectComes (ComesKept past) (Kept past)
+    → EffectComes (Kept past)
     (if long then refuses TooLong w else requests_on e channel asked w)
 requested_on past true e channel asked w is k = k
 requested_on past false None channel asked w is k = k
@@ -283,8 +286,34 @@ requested_on past false (Some e) channel asked w is k =
     op_on past (Stage (on_channel channel.0 (request_payload e.peer asked))) w (rw is refl) refl
     (λ n h. h) k
 
+-- nothing changes of the channels
+pub beside_on : (past : List TraceEntry) (w v : World) → v.channels ≡ w.channels → Kept past w
+    → Kept past v
+beside_on past w v is k = record {
+  ledger = subst (λ c. Ledgered c.lines past) (sym is) k.ledger;
+  due = subst (λ c. Each IsDue c.lines) (sym is) k.due;
+  waiting = subst (λ c. AllWaiting 0 (IsReserved c.lines) c.opens) (sym is) k.waiting;
+}
+
+-- a message of no channel is written
+pub said_on : (past : List TraceEntry) (message : OwnMessage) (w : World) → Kept past w
+    → Kept past (said message w)
+said_on past message w k =
+    let v : World = record (awaits message.awaited w) {
+      disconnected = w.disconnected || message.ends;
+    } in
+    plain_kept past (at_once message.payload ∷ []) v (refl, tt) (beside_on past w v refl k)
+
+-- a global request has its reply
+pub settles_on : (past : List TraceEntry) (payload : List ℕ) (w : World) → Kept past w
+    → Kept past (settles_global payload w)
+settles_on past payload w k =
+    let v = wants_global false w in
+    either (Kept past) w.globals.wanted (writes (at_once payload ∷ []) v) w
+    (plain_kept past (at_once payload ∷ []) v (refl, tt) (beside_on past w v refl k)) k
+
 done_on : (past : List TraceEntry) (w : World) (commanded : Command) → Kept past w →
-    EffectComes (ComesKept past) (Kept past) (done_by w commanded)
+    EffectComes (Kept past) (done_by w commanded)
 done_on past w (command.Data channel bytes) k =
     call_on past (Send channel.0 (chunk Plain bytes) false) w tt refl
     (λ n. data_absent n channel.0 (chunk Plain bytes) false w.channels.lines)
@@ -315,17 +344,11 @@ done_on past w (command.ExitSignal channel signal core message language) k =
     (find channel.0 w.channels.lines.entries) channel asked w refl k
 done_on past w (command.Answer answer) k = answered_on past answer (opening_of answer.channel.0 w) w
     refl k
-done_on past w other k = opens_or_not_on past (asking other) w k
-
-refused_on : (past : List TraceEntry) (why : Option Refusal) (w : World) (does : Effect)
-    → Kept past w →
-    EffectComes (ComesKept past) (Kept past) does → EffectComes (ComesKept past) (Kept past)
-    (refused_or why w does)
-refused_on past None w does k h = h
-refused_on past (Some why) w does k h = k
+done_on past w other k =
+    apart_comes (Kept past) (said_on past) (settles_on past) (opens_or_not_on past) w other k
 
 pub effect_on : (past : List TraceEntry) (w : World) (commanded : Command) → Kept past w →
-    EffectComes (ComesKept past) (Kept past) (effect w commanded)
+    EffectComes (Kept past) (effect w commanded)
 effect_on past w commanded k =
-    refused_on past (lacks w (needs commanded)) w (done_by w commanded) k
+    refused_comes (Kept past) (refused_for w.disconnected w commanded) w (done_by w commanded) k
     (done_on past w commanded k)

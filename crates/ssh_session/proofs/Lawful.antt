@@ -1,6 +1,6 @@
 -- Every account of a run is lawful.
 use Rattle.std.proofs.Common.{ℕ, Option, Some, None, Result, Ok, Err}
-use Rattle.std.proofs.Common.{subst}
+use Rattle.std.proofs.Common.{subst, refl}
 use Rattle.std.specs.Prelude.{length, OnOk, IsSomeAnd}
 use Rattle.ssh_link.specs.Faults.{Rose}
 use Rattle.ssh_auth.specs.Publickey.{Acceptance}
@@ -8,22 +8,22 @@ use Rattle.ssh_session.specs.declared.error.RunError.{RunError}
 use Rattle.ssh_session.specs.Account.{Told, Closes, Ran, Lawful}
 use Rattle.ssh_session.specs.Run.{Turn}
 use Rattle.ssh_session.specs.Valid.{IsEnding}
-use Rattle.ssh_session.specs.World.{Settings, World}
+use Rattle.ssh_session.specs.World.{Settings, World, opening_world}
 use Rattle.ssh_session.proofs.Accepting.{authorised}
 use Rattle.ssh_session.proofs.Answered.{answered}
 use Rattle.ssh_session.proofs.Books.{ledgered}
 use Rattle.ssh_session.proofs.Complete.{complete, link_fault}
-use Rattle.ssh_session.proofs.Ended.{ended}
+use Rattle.ssh_session.proofs.Ended.{ended, IsLive, run_live}
 use Rattle.ssh_session.proofs.Replied.{replied}
 
 closed_ended : {E : Type 0} (accepts : Acceptance) (w : World) (count max : ℕ)
     (last : Option (Turn E)) (rose : Type 0)
     (result : Result (Unit {0}) (RunError E)) → Closes accepts w count max last rose result →
-    OnOk result (IsSomeAnd last (λ turn. IsEnding w turn.input.kind))
-closed_ended accepts w count max (Some turn) rose (Ok done) c =
-    let o = c.2 in ended accepts w turn.input o.0 turn.events o.2.0 o.1 o.2.1
-closed_ended accepts w count max None rose (Ok done) c = absurd c
-closed_ended accepts w count max last rose (Err e) c = tt
+    IsLive w → OnOk result (IsSomeAnd last (IsEnding w))
+closed_ended accepts w count max (Some turn) rose (Ok done) c live =
+    let o = c.2 in ended accepts w turn o.0 o.2.0 o.1 live o.2.1
+closed_ended accepts w count max None rose (Ok done) c live = absurd c
+closed_ended accepts w count max last rose (Err e) c live = tt
 
 pub lawful : {E : Type 0} (accepts : Acceptance) (settings : Settings) (before after : Told E)
     (max : ℕ)
@@ -33,7 +33,8 @@ lawful {E} accepts settings before after max result account =
     let count = length account.turns in
     let rose = Rose before.faults after.faults in
     record {
-      ended = closed_ended accepts account.world count max account.last rose result account.closes;
+      ended = closed_ended accepts account.world count max account.last rose result account.closes
+          (run_live accepts (opening_world settings) account.turns account.world account.run refl);
       authorised = authorised accepts settings account.turns account.world count max account.last
           rose result account.run account.closes;
       ledger = λ earlier later is. ledgered accepts settings account.turns account.world account.run

@@ -12,11 +12,12 @@ use Rattle.ssh_wire.proofs.OpensOnce.{misfits_open_once, spells_confirmation_onc
 use Rattle.ssh_wire.proofs.OpensOnce.{misfits_confirmation_not_spells, misfits_confirmation_once}
 use Rattle.ssh_session.specs.Reading.{Said, Open, Unread, Without_packets, Unfit, SaysOpen, ReadsAs}
 use Rattle.ssh_session.specs.Reading.{said_of, Agreed, SaysConfirmation}
-use Rattle.ssh_session.specs.Spelling.{Layout, Leaves, Whole, Fields, Spells}
+use Rattle.ssh_session.specs.Spelling.{Layout, Leaves, Rest, Whole, Fields, Spells}
 
 pub layout_once : {S : Type 0} (layout : Layout S) (bytes : List ℕ) (a b : Result S WireError)
     → Spells layout bytes a → Spells layout bytes b → a ≡ b
 layout_once (Leaves says) bytes a b h k = h ∙ sym k
+layout_once (Rest says) bytes a b h k = h ∙ sym k
 layout_once (Whole fields says) bytes a b (inl h) (inl k) =
     h.2 ∙ (ap (λ v. Ok (says v)) (spells_whole_once fields h.0 k.0 bytes h.1 k.1) ∙ sym k.2)
 layout_once (Whole fields says) bytes a b (inl h) (inr k) =

@@ -32,6 +32,8 @@ use Rattle.ssh_session.specs.declared.state.EncryptedState.{EncryptedState}
 use Rattle.ssh_session.specs.declared.state.EncryptedState.TheVariants.{WaitingAuthRequest}
 use Rattle.ssh_session.specs.Acts.{acts}
 use Rattle.ssh_session.specs.Effect.{effect}
+use Rattle.ssh_session.specs.OwnMessages.{keepalive}
+use Rattle.ssh_session.specs.Ticks.{keepalive_acts, ticked}
 use Rattle.ssh_session.specs.Layout.{too_many_attempts, at_once, held}
 use Rattle.ssh_session.specs.Types.{handling, opening_by, unsupported, unknown}
 use Rattle.ssh_session.specs.declared.opens.Handling.{Handling}
@@ -45,28 +47,32 @@ use Rattle.ssh_session.specs.Reading.{Said, Disconnect, Over_cap, Service, Reque
 use Rattle.ssh_session.specs.Reading.{Agreed, Unread}
 use Rattle.ssh_session.specs.Reading.{Unfit, Without_packets}
 use Rattle.ssh_session.specs.Reading as read
-use Rattle.ssh_session.specs.Run.{is_there, is_waiting}
 use Rattle.ssh_session.specs.Rows.{spoken_acts, failure_acts, confirmation_acts}
 use Rattle.ssh_session.specs.Rows.{row, owed, greeting, greets, is_short, replied, concluded}
 use Rattle.ssh_session.specs.Rows.{asked_of, rejection_hold, moment_after}
 use Rattle.ssh_session.specs.Rows.{data_told, open_acts, turns_first, aims, served, lets_in}
 use Rattle.ssh_session.specs.Rows.{finishes, reply_of}
 use Rattle.ssh_session.specs.Run.{command_row}
-use Rattle.ssh_session.specs.World.{World, waits_for, lined, replies}
+use Rattle.ssh_session.specs.World.{World, waits_for, lined, replies, is_there, is_waiting}
+use Rattle.ssh_session.specs.World.{wants_global, settled_first}
 use Rattle.ssh_session.proofs.Absent.{IsAbsent}
 use Rattle.ssh_session.proofs.Absent.{peer_close_absent, grant_absent, adjust_absent}
 use Rattle.ssh_session.proofs.Absent.{wants_absent, confirmed_absent, failed_absent}
 use Rattle.ssh_session.proofs.Acting.{PlanComes, AllBuilt, Law, ActsCome, acts_come}
 use Rattle.ssh_session.proofs.Acting.{one_comes, comes_then}
-use Rattle.ssh_session.proofs.Settled.{Anything, on_come}
+use Rattle.ssh_session.proofs.Apart.{either, forward_comes, asked_comes, unknown_comes}
+use Rattle.ssh_session.proofs.Apart.{settles_comes, tick_comes}
+use Rattle.ssh_session.proofs.Settled.{Anything}
+use Rattle.ssh_session.proofs.Beside.{on_come}
 use Rattle.ssh_session.proofs.Pending.{IsReserved, grant_pends}
 use Rattle.ssh_session.proofs.Pending.{peer_close_pends, adjust_pends, wants_pends}
 use Rattle.ssh_session.proofs.Pending.{confirmed_pends, failed_pends, drawn_pending, drawn_self}
 use Rattle.ssh_session.proofs.Pending.{dropped_pending, next_apart}
-use Rattle.ssh_session.proofs.Waiting.{AllWaiting, still_waiting}
+use Rattle.ssh_session.proofs.Waiting.{still_waiting}
 use Rattle.ssh_session.proofs.Waiting.{inserted_waiting}
 use Rattle.ssh_session.proofs.Keeping.{ArePlain, ComesKept, Kept, call_on, effect_on, op_on}
-use Rattle.ssh_session.proofs.Keeping.{plain_kept, refusal_frame, replied_on}
+use Rattle.ssh_session.proofs.Keeping.{plain_kept, refusal_frame, replied_on, beside_on, said_on}
+use Rattle.ssh_session.proofs.Keeping.{settles_on}
 use Rattle.ssh_wire.specs.Messages.{channel_success, channel_failure}
 
 abbrev Any_command : Command → Type 0
@@ -85,6 +91,7 @@ law past = record {
   goes = λ w h. h;
   lends = λ lent commands s. any_built commands;
   judges = λ judged answer s. any_built answer.commands;
+  listens = λ address port answer s. any_built answer.commands;
   keeps = λ w command h b. effect_on past w command h;
 }
 
@@ -214,6 +221,13 @@ replied_by : (past : List TraceEntry) (channel : ℕ) (granted : Bool) (w : Worl
 replied_by past channel true w k = replied_on past channel channel_success.number w refl k
 replied_by past channel false w k = replied_on past channel channel_failure.number w refl k
 
+wanting_on : (past : List TraceEntry) (wanted : Bool) (w : World) → Kept past w
+    → Kept past (wants_global wanted w)
+wanting_on past wanted w k = beside_on past w (wants_global wanted w) refl k
+
+first_on : (past : List TraceEntry) (w : World) → Kept past w → Kept past (settled_first w)
+first_on past w k = beside_on past w (settled_first w) refl k
+
 spoken_on : (past : List TraceEntry) (w : World) (said : Spoken) → Kept past w
     → ActsCome (law past) (spoken_acts w said) w
 spoken_on past w spoken.Nothing k = tt
@@ -249,11 +263,25 @@ spoken_on past w (spoken.Asks channel wanted message happening) k =
     (wanted_on past channel.0 wanted w k, λ world h. tt)
 spoken_on past w (spoken.AsksForAgent channel wanted) k = (
   wanted_on past channel.0 wanted w k,
-  λ granted world h. (replied_by past channel.0 granted world h, tt),
+  λ granted world h. (
+    either (Kept past) world.disconnected world
+        (lined (replies channel.0 (reply_of granted)) world) h
+        (replied_by past channel.0 granted world h),
+    tt,
+  ),
 )
 spoken_on past w (spoken.AsksUnknown channel wanted) k =
     let kept = wanted_on past channel.0 wanted w k in
     (kept, (replied_by past channel.0 false (lined (wants channel.0 wanted) w) kept, tt))
+spoken_on past w (spoken.AsksToForward wanted address port) k =
+    forward_comes (law past) (wanting_on past) (settles_on past) (first_on past) w wanted address
+    port k
+spoken_on past w (spoken.AsksGlobally wanted judged) k =
+    asked_comes (law past) (wanting_on past) (settles_on past) (first_on past) w wanted judged k
+spoken_on past w (spoken.AsksGloballyUnknown wanted) k =
+    unknown_comes (law past) (wanting_on past) (settles_on past) (first_on past) w wanted k
+spoken_on past w (spoken.Settles told) k =
+    settles_comes (law past) (wanting_on past) (settles_on past) (first_on past) w told k
 spoken_on past w spoken.Inconsistent k = tt
 
 owed_on : (past : List TraceEntry) (w : World) (said : Said) → IsFairSaid said → Kept past w
@@ -263,7 +291,7 @@ owed_on past w (Open message) fair k =
 owed_on past w (Agreed message) fair k =
     confirmation_on past w (is_waiting w message.recipient_channel) message fair k
 owed_on past w Unread fair k = tt
-owed_on past w (read.Channel said) fair k = spoken_on past w said k
+owed_on past w (read.Connection said) fair k = spoken_on past w said k
 owed_on past w Disconnect fair k = k
 owed_on past w Over_cap fair k =
     let kept = plain_kept past (at_once too_many_attempts ∷ []) w (refl, tt) k in (kept, kept)
@@ -272,34 +300,25 @@ owed_on past w Without_packets fair k = tt
 owed_on past w read.Unbuilt fair k = tt
 owed_on past w _ fair k = tt
 
--- a world of another user
-user_on : (past : List TraceEntry) (w v : World) → v.channels ≡ w.channels → Kept past w
-    → Kept past v
-user_on past w v is k = record {
-  ledger = subst (λ c. Ledgered c.lines past) (sym is) k.ledger;
-  due = subst (λ c. Each IsDue c.lines) (sym is) k.due;
-  waiting = subst (λ c. AllWaiting 0 (IsReserved c.lines) c.opens) (sym is) k.waiting;
-}
-
 concluded_on : (past : List TraceEntry) (w : World) (moment : ℕ) (requested : Bool)
     (outcome : AuthOutcome) → Kept past w →
     PlanComes Anything (ComesKept past) (concluded w moment requested outcome)
 concluded_on past w moment requested (Replies reply verdict.Accepted state) k =
     let v = waits_for (WaitingAuthRequest state) w in
     acts_come (law past) (replied w moment requested reply verdict.Accepted) v
-    (user_on past w v refl k) (
+    (beside_on past w v refl k) (
       plain_kept past (at_once reply ∷ []) (lets_in (finishes requested v)) (refl, tt)
-          (user_on past w (lets_in (finishes requested v)) refl k),
+          (beside_on past w (lets_in (finishes requested v)) refl k),
       λ world h. tt,
     )
 concluded_on past w moment requested (Replies reply (verdict.Rejected none_method) state) k =
     let v = finishes requested (waits_for (WaitingAuthRequest state) w) in
     plain_kept past (held reply (moment_after moment (rejection_hold w.settings.config none_method
     w.user.requested)) ∷ []) v (refl, tt)
-    (user_on past w v refl k)
+    (beside_on past w v refl k)
 concluded_on past w moment requested (Replies reply verdict.Continued state) k =
     let v = finishes requested (waits_for (WaitingAuthRequest state) w) in
-    plain_kept past (at_once reply ∷ []) v (refl, tt) (user_on past w v refl k)
+    plain_kept past (at_once reply ∷ []) v (refl, tt) (beside_on past w v refl k)
 concluded_on past w moment requested (auth.Fails fault) k = tt
 
 asked_on : (past : List TraceEntry) (state : EncryptedState) (next : AuthRequest → Plan AuthOutcome)
@@ -321,7 +340,7 @@ greets_on : (past : List TraceEntry) (w : World) (message : Option (List ℕ)) (
     PlanComes Anything (ComesKept past) (acts (greets message) w)
 greets_on past w message true is k =
     rw is (plain_kept past (greeting message) (served w) (greeting_plain message)
-    (user_on past w (served w) refl k))
+    (beside_on past w (served w) refl k))
 greets_on past w message false is k = rw is tt
 
 service_on : (past : List TraceEntry) (w : World) (b : Bool) → Kept past w →
@@ -349,3 +368,10 @@ command_kept past w ticket commanded k =
     one_comes (law past) (effect w commanded) (λ outcome world. Tell (Answered ticket outcome)
     (Finish (Goes world)))
     (effect_on past w commanded k) (λ outcome world h. h)
+
+pub tick_kept : (past : List TraceEntry) (w : World) → Kept past w
+    → PlanComes Anything (ComesKept past) (acts (keepalive_acts w) w)
+tick_kept past w k =
+    acts_come (law past) (keepalive_acts w) w k
+    (tick_comes (law past) w tt
+    (said_on past keepalive (ticked w) (beside_on past w (ticked w) refl k)))

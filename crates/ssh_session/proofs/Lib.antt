@@ -1,4 +1,5 @@
 pub mod Serving
+pub mod Finishing
 pub mod Commanding
 pub mod Refining
 pub mod Effects
@@ -10,6 +11,7 @@ pub mod OwnOpens
 pub mod Greeting
 pub mod Requests
 pub mod Requesting
+pub mod Asking
 pub mod Signals
 pub mod Terminals
 pub mod Stepping
@@ -17,7 +19,10 @@ pub mod Guards
 pub mod Gates
 pub mod FairVerdicts
 pub mod Admitting
+pub mod Admitted
 pub mod Acting
+pub mod Apart
+pub mod Beside
 pub mod Settled
 pub mod Accepting
 pub mod Ended
@@ -36,9 +41,11 @@ pub mod Fine
 pub mod Complete
 pub mod Measures
 pub mod Measuring
+pub mod Measured
 pub mod Answers
 pub mod Answering
 pub mod Calling
+pub mod Called
 pub mod Counting
 pub mod Emptied
 pub mod Answered

@@ -1,8 +1,8 @@
 -- What a measure counts in a world: no command makes more of it, and no row but an open of the
 -- peer's and a request (RFC 4254 section 5).
-use Rattle.std.proofs.Common.{◌≡◌, ◌≤◌, ◌+◌, ℕ, List, [], ◌∷◌, Bool, true, false}
+use Rattle.std.proofs.Common.{◌≡◌, ◌≤◌, ◌+◌, ◌||◌, ℕ, List, [], ◌∷◌, Bool, true, false}
 use Rattle.std.proofs.Common.{Option, Some, None, refl, arith}
-use Rattle.std.specs.Prelude.{length, bytes_eq, codes, if◌then◌else◌}
+use Rattle.std.specs.Prelude.{length, if◌then◌else◌}
 use Rattle.ssh_wire.specs.declared.channel_id.ChannelId.{ChannelId}
 use Rattle.ssh_wire.specs.declared.open.ChannelOpenConfirmation.{ChannelOpenConfirmation}
 use Rattle.ssh_wire.specs.declared.open_failure.ChannelOpenFailure.{ChannelOpenFailure}
@@ -10,15 +10,8 @@ use Rattle.ssh_wire.specs.Messages.{channel_success, channel_failure}
 use Rattle.ssh_link.specs.Frames.{Frame}
 use Rattle.ssh_link.specs.declared.command.Command.{Command}
 use Rattle.ssh_link.specs.declared.command.Command.TheVariants as command
-use Rattle.ssh_link.specs.declared.link.TraceEntry.TheVariants.{Answered}
 use Rattle.ssh_link.specs.declared.open_answer.OpenAnswer.{OpenAnswer}
-use Rattle.ssh_link.specs.declared.outcome.Refusal.{Refusal}
-use Rattle.ssh_auth.specs.declared.auth_request.AuthRequest.{AuthRequest}
-use Rattle.ssh_auth.specs.declared.auth_step.AuthVerdict.TheVariants as verdict
-use Rattle.ssh_auth.specs.declared.question.Question.TheVariants.{Banner}
-use Rattle.ssh_auth.specs.Plan.{Plan, Finish, Ask, Tell, after}
-use Rattle.ssh_auth.specs.Verdict.{AuthOutcome, Replies, verdict as verdict_on, response_verdict}
-use Rattle.ssh_auth.specs.Verdict as auth
+use Rattle.ssh_auth.specs.Plan.{after}
 use Rattle.ssh_channels.specs.declared.adjusted.Adjusted.{Adjusted}
 use Rattle.ssh_channels.specs.declared.adjusted.Adjusted.TheVariants.{Dropped, Kept, Granted}
 use Rattle.ssh_channels.specs.declared.chunk.Chunk.{Chunk}
@@ -31,40 +24,36 @@ use Rattle.ssh_channels.specs.Lines.{takes_grant, takes_in, wants, confirms, fai
 use Rattle.ssh_channels.specs.Lines.{drops_pending, asks_next, next_number, write}
 use Rattle.ssh_session.specs.declared.messages.Spoken.{Spoken}
 use Rattle.ssh_session.specs.declared.messages.Spoken.TheVariants as spoken
-use Rattle.ssh_session.specs.declared.state.EncryptedState.{EncryptedState}
-use Rattle.ssh_session.specs.declared.state.EncryptedState.TheVariants.{WaitingAuthRequest}
-use Rattle.ssh_session.specs.Acts.{acts}
 use Rattle.ssh_session.specs.Answered.{is_answer}
-use Rattle.ssh_session.specs.Effect.{Effect, effect, lacks, needs, refused_or, done_by, answers}
+use Rattle.ssh_session.specs.Effect.{effect, refused_for, done_by, answers, said}
 use Rattle.ssh_session.specs.Effect.{decides, fails_open, failure_of, is_too_long, opens_at}
 use Rattle.ssh_session.specs.Effect.{opens, opens_or_not, requests_on, refuses}
 use Rattle.std.specs.Prelude.{if◌then◌else◌}
 use Rattle.ssh_link.specs.declared.outcome.Refusal.TheVariants.{TooLong}
-use Rattle.ssh_session.specs.Layout.{too_many_attempts, service_accept, banner, at_once, held}
+use Rattle.ssh_session.specs.Layout.{at_once}
 use Rattle.ssh_session.specs.Opening.{Opening}
 use Rattle.ssh_session.specs.Opens.{opening_of, answered, confirmation_frame, failure_frame}
 use Rattle.ssh_session.specs.Outcome.{Outcome, Goes, Ends, Fails}
-use Rattle.ssh_session.specs.OwnOpens.{OwnOpen, asking, open_payload, open_frame}
+use Rattle.ssh_session.specs.OwnMessages.{OwnMessage}
+use Rattle.ssh_session.specs.OwnOpens.{OwnOpen, open_payload, open_frame}
 use Rattle.ssh_session.specs.OwnRequests.{OwnRequest, request_payload, xon_xoff, exit_status}
 use Rattle.ssh_session.specs.OwnRequests.{exit_signal}
-use Rattle.ssh_session.specs.Reading.{Said, Disconnect, Over_cap, Service, Request, Response, Open}
-use Rattle.ssh_session.specs.Reading.{Agreed, Unfit, Without_packets}
-use Rattle.ssh_session.specs.Reading as read
 use Rattle.ssh_session.specs.Replied.{is_reply}
-use Rattle.ssh_session.specs.Rows.{row, owed, spoken_acts, greeting, greets, is_short, replied}
-use Rattle.ssh_session.specs.Rows.{concluded, asked_of, rejection_hold, moment_after, data_told}
-use Rattle.ssh_session.specs.Rows.{served, lets_in, finishes, failure_acts, confirmation_acts}
+use Rattle.ssh_session.specs.Rows.{row, spoken_acts}
+use Rattle.ssh_session.specs.Rows.{data_told}
+use Rattle.ssh_session.specs.Rows.{failure_acts, confirmation_acts}
 use Rattle.ssh_session.specs.Rows.{reply_of}
-use Rattle.ssh_session.specs.Run.{command_row, is_there, is_waiting}
-use Rattle.ssh_session.specs.World.{World, waits_for, lined, writes, replies}
-use Rattle.ssh_session.proofs.Acting.{PlanComes, EffectComes, Law, ActsCome, acts_come}
-use Rattle.ssh_session.proofs.Acting.{one_comes, comes_then}
-use Rattle.ssh_session.proofs.Calling.{IsBesideOpen}
+use Rattle.ssh_session.specs.World.{World, lined, writes, replies, is_there, is_waiting}
+use Rattle.ssh_session.specs.World.{awaits, wants_global, settles_global}
+use Rattle.ssh_session.proofs.Acting.{EffectComes, Law, ActsCome}
+use Rattle.ssh_session.proofs.Apart.{either, refused_comes, apart_comes, forward_comes, asked_comes}
+use Rattle.ssh_session.proofs.Apart.{unknown_comes, settles_comes}
 use Rattle.ssh_session.proofs.Measures.{Measure, AreSilent, LinesOwe, lines_owe, how_many_one}
 use Rattle.ssh_session.proofs.Measures.{written_owe, data_owe, eof_owe, close_owe, peer_close_owe}
 use Rattle.ssh_session.proofs.Measures.{grant_owe, adjust_owe, confirmed_owe, failed_owe}
 use Rattle.ssh_session.proofs.Measures.{added_owe, asked_owe, reply_owe}
-use Rattle.ssh_session.proofs.Settled.{Anything, any_built, Any_command, on_come}
+use Rattle.ssh_session.proofs.Settled.{Anything, any_built, Any_command}
+use Rattle.ssh_session.proofs.Beside.{on_come}
 
 -- ---- worlds
 
@@ -118,7 +107,7 @@ answered_upto of k m opening payload change w unlike c is h =
 fails_upto : (of : Measure) (k m : ℕ) (payload : List ℕ) (opening : Opening) (w : World)
     (long : Bool) → is_too_long payload ≡ long → is_reply (failure_frame m payload) ≡ false →
     opening_of m w ≡ Some opening → OwesUpTo of k w →
-    EffectComes (ComesUpTo of k) (OwesUpTo of k) (fails_open m payload w)
+    EffectComes (OwesUpTo of k) (fails_open m payload w)
 fails_upto of k m payload opening w true is unlike o h = rw is h
 fails_upto of k m payload opening w false is unlike o h =
     rw is (answered_upto of k m opening payload (drops_pending m) w unlike
@@ -127,7 +116,7 @@ fails_upto of k m payload opening w false is unlike o h =
 decides_upto : (of : Measure) (k m : ℕ) (opening : Opening) (reason : Option ChannelOpenFailure)
     (texts : Option (List ℕ × List ℕ)) (w : World) → opening_of m w ≡ Some opening →
     OwesUpTo of k w →
-    EffectComes (ComesUpTo of k) (OwesUpTo of k) (decides m opening reason texts w)
+    EffectComes (OwesUpTo of k) (decides m opening reason texts w)
 decides_upto of k m opening None texts w is h =
     let room = w.settings.config.window_size in
     let e = opened m opening.peer opening.window room opening.packet in
@@ -142,14 +131,14 @@ decides_upto of k m opening (Some reason) texts w is h =
 answers_upto : (of : Measure) (k : ℕ) (answer : OpenAnswer) (opening : Option Opening)
     (w : World) →
     opening_of answer.channel.0 w ≡ opening → OwesUpTo of k w →
-    EffectComes (ComesUpTo of k) (OwesUpTo of k) (answers answer opening w)
+    EffectComes (OwesUpTo of k) (answers answer opening w)
 answers_upto of k answer None w is h = h
 answers_upto of k answer (Some opening) w is h =
     decides_upto of k answer.channel.0 opening answer.rejection answer.texts w is h
 
 opened_upto : (of : Measure) (k : ℕ) (drawn : Option ℕ) (asked : OwnOpen) (w : World) →
     OwesUpTo of k w →
-    EffectComes (ComesUpTo of k) (OwesUpTo of k) (opens_at drawn asked w)
+    EffectComes (OwesUpTo of k) (opens_at drawn asked w)
 opened_upto of k None asked w h = h
 opened_upto of k (Some n) asked w h =
     let room = w.settings.config.window_size in
@@ -162,14 +151,14 @@ opened_upto of k (Some n) asked w h =
 opens_upto : (of : Measure) (k : ℕ) (asked : OwnOpen) (w : World) (long : Bool) →
     is_too_long (open_payload asked 0 w.settings.config.window_size
     w.settings.config.maximum_packet_size) ≡ long → OwesUpTo of k w →
-    EffectComes (ComesUpTo of k) (OwesUpTo of k) (opens asked w)
+    EffectComes (OwesUpTo of k) (opens asked w)
 opens_upto of k asked w true is h = rw is h
 opens_upto of k asked w false is h =
     rw is (opened_upto of k (next_number w.channels.lines) asked w h)
 
 opens_or_not_upto : (of : Measure) (k : ℕ) (asked : Option OwnOpen) (w : World) →
-    OwesUpTo of k w → EffectComes (ComesUpTo of k) (OwesUpTo of k) (opens_or_not asked w)
-opens_or_not_upto of k None w h = tt
+    OwesUpTo of k w → EffectComes (OwesUpTo of k) (opens_or_not asked w)
+opens_or_not_upto of k None w h = h
 opens_or_not_upto of k (Some asked) w h = opens_upto of k asked w
     (is_too_long (open_payload asked 0 w.settings.config.window_size
     w.settings.config.maximum_packet_size)) refl h
@@ -177,7 +166,7 @@ opens_or_not_upto of k (Some asked) w h = opens_upto of k asked w
 -- a request of this side's is neither an answer nor a reply
 requested_upto : (of : Measure) (k : ℕ) (long : Bool) (o : Option Entry) (channel : ChannelId)
     (asked : OwnRequest) (w : World) → OwesUpTo of k w →
-    EffectComes (ComesUpTo of k) (OwesUpTo of k)
+    EffectComes (OwesUpTo of k)
     (if long then refuses TooLong w else requests_on o channel asked w)
 requested_upto of k true o channel asked w h = h
 requested_upto of k false None channel asked w h = h
@@ -185,8 +174,25 @@ requested_upto of k false (Some e) channel asked w h =
     let frame = on_channel channel.0 (request_payload e.peer asked) in
     writes_upto of k (frame ∷ []) w (of.other frame refl refl, tt) h
 
+-- messages of no channel are neither
+pub said_upto : (of : Measure) (k : ℕ) (message : OwnMessage) (w : World) → OwesUpTo of k w
+    → OwesUpTo of k (said message w)
+said_upto of k message w h =
+    let frame = at_once message.payload in
+    writes_upto of k (frame ∷ []) (record (awaits message.awaited w) {
+      disconnected = w.disconnected || message.ends;
+    }) (of.untagged frame refl, tt) h
+
+settles_upto : (of : Measure) (k : ℕ) (payload : List ℕ) (w : World) → OwesUpTo of k w
+    → OwesUpTo of k (settles_global payload w)
+settles_upto of k payload w h =
+    let frame = at_once payload in
+    let v = wants_global false w in
+    either (OwesUpTo of k) w.globals.wanted (writes (frame ∷ []) v) w
+    (writes_upto of k (frame ∷ []) v (of.untagged frame refl, tt) h) h
+
 done_upto : (of : Measure) (k : ℕ) (w : World) (commanded : Command) → OwesUpTo of k w →
-    EffectComes (ComesUpTo of k) (OwesUpTo of k) (done_by w commanded)
+    EffectComes (OwesUpTo of k) (done_by w commanded)
 done_upto of k w (command.Data channel bytes) h =
     lined_upto of k (takes_data channel.0 (chunk Plain bytes) false) w
     (data_owe of _ channel.0 (chunk Plain bytes) false w.channels.lines
@@ -217,18 +223,14 @@ done_upto of k w (command.ExitSignal channel signal core message language) h =
     (find channel.0 w.channels.lines.entries) channel asked w h
 done_upto of k w (command.Answer answer) h =
     answers_upto of k answer (opening_of answer.channel.0 w) w refl h
-done_upto of k w other h = opens_or_not_upto of k (asking other) w h
-
-refused_upto : (of : Measure) (k : ℕ) (why : Option Refusal) (w : World) (does : Effect) →
-    OwesUpTo of k w → EffectComes (ComesUpTo of k) (OwesUpTo of k) does →
-    EffectComes (ComesUpTo of k) (OwesUpTo of k) (refused_or why w does)
-refused_upto of k None w does h e = e
-refused_upto of k (Some why) w does h e = h
+done_upto of k w other h =
+    apart_comes (OwesUpTo of k) (said_upto of k) (settles_upto of k) (opens_or_not_upto of k) w
+    other h
 
 pub effect_upto : (of : Measure) (k : ℕ) (w : World) (commanded : Command) → OwesUpTo of k w →
-    EffectComes (ComesUpTo of k) (OwesUpTo of k) (effect w commanded)
+    EffectComes (OwesUpTo of k) (effect w commanded)
 effect_upto of k w commanded h =
-    refused_upto of k (lacks w (needs commanded)) w (done_by w commanded) h
+    refused_comes (OwesUpTo of k) (refused_for w.disconnected w commanded) w (done_by w commanded) h
     (done_upto of k w commanded h)
 
 abbrev pub law : Measure → (k : ℕ) → Law
@@ -240,6 +242,7 @@ law of k = record {
   goes = λ w h. h;
   lends = λ lent commands s. any_built commands;
   judges = λ judged answer s. any_built answer.commands;
+  listens = λ address port answer s. any_built answer.commands;
   keeps = λ w command h b. effect_upto of k w command h;
 }
 
@@ -263,7 +266,7 @@ failure_upto of k w there true channel why h = (
 failure_upto of k w true false channel why h = tt
 failure_upto of k w false false channel why h = tt
 
-confirmation_upto : (of : Measure) (k : ℕ) (w : World) (waiting : Bool)
+pub confirmation_upto : (of : Measure) (k : ℕ) (w : World) (waiting : Bool)
     (message : ChannelOpenConfirmation) → OwesUpTo of k w →
     ActsCome (law of k) (confirmation_acts waiting message) w
 confirmation_upto of k w true message h = (
@@ -293,7 +296,7 @@ of_every so (spoken.AsksForAgent channel wanted) h = h channel wanted
 of_every so (spoken.AsksUnknown channel wanted) h = h channel wanted
 of_every so _ h = tt
 
-weaker : (so other : ChannelId → Bool → Type 0) (said : Spoken) →
+pub weaker : (so other : ChannelId → Bool → Type 0) (said : Spoken) →
     ((channel : ChannelId) (wanted : Bool) → so channel wanted → other channel wanted) →
     OfRequest so said → OfRequest other said
 weaker so other (spoken.Wants channel wanted) f h = f channel wanted h
@@ -311,7 +314,7 @@ reply_no_answer : (granted : Bool) (e : Entry) →
 reply_no_answer true e = refl
 reply_no_answer false e = refl
 
-spoken_upto : (of : Measure) (k : ℕ) (w : World) (said : Spoken) →
+pub spoken_upto : (of : Measure) (k : ℕ) (w : World) (said : Spoken) →
     OfRequest (RequestOwes of k w) said → OwesUpTo of k w →
     ActsCome (law of k) (spoken_acts w said) w
 spoken_upto of k w spoken.Nothing q h = tt
@@ -346,7 +349,9 @@ spoken_upto of k w (spoken.Asks channel wanted message happening) q h = (q, λ w
 spoken_upto of k w (spoken.AsksForAgent channel wanted) q h = (
   q,
   λ granted world j. (
-    replies_upto of k channel.0 (reply_of granted) world (reply_no_answer granted) j,
+    either (OwesUpTo of k) world.disconnected world
+        (lined (replies channel.0 (reply_of granted)) world) j
+        (replies_upto of k channel.0 (reply_of granted) world (reply_no_answer granted) j),
     tt,
   ),
 )
@@ -358,110 +363,12 @@ spoken_upto of k w (spoken.AsksUnknown channel wanted) q h = (
     tt,
   ),
 )
+spoken_upto of k w (spoken.AsksToForward wanted address port) q h =
+    forward_comes (law of k) (λ b v j. j) (settles_upto of k) (λ v j. j) w wanted address port h
+spoken_upto of k w (spoken.AsksGlobally wanted judged) q h =
+    asked_comes (law of k) (λ b v j. j) (settles_upto of k) (λ v j. j) w wanted judged h
+spoken_upto of k w (spoken.AsksGloballyUnknown wanted) q h =
+    unknown_comes (law of k) (λ b v j. j) (settles_upto of k) (λ v j. j) w wanted h
+spoken_upto of k w (spoken.Settles told) q h =
+    settles_comes (law of k) (λ b v j. j) (settles_upto of k) (λ v j. j) w told h
 spoken_upto of k w spoken.Inconsistent q h = tt
-
--- ---- rows
-
-abbrev pub OfRead : (so : ChannelId → Bool → Type 0) → Said → Type 0
-OfRead so (read.Channel said) = OfRequest so said
-OfRead so _ = Unit {0}
-
--- it is so of what was read where it is so of every request, or where something else is of which
--- it follows
-pub of_read : (so : ChannelId → Bool → Type 0) (said : Said) →
-    ((channel : ChannelId) (wanted : Bool) → so channel wanted) → OfRead so said
-of_read so (read.Channel said) h = of_every so said h
-of_read so _ h = tt
-
-pub read_weaker : (so other : ChannelId → Bool → Type 0) (said : Said) →
-    ((channel : ChannelId) (wanted : Bool) → so channel wanted → other channel wanted) →
-    OfRead so said → OfRead other said
-read_weaker so other (read.Channel said) f h = weaker so other said f h
-read_weaker so other _ f h = tt
-
-owed_upto : (of : Measure) (k : ℕ) (w : World) (said : Said) → IsBesideOpen said →
-    OfRead (RequestOwes of k w) said → OwesUpTo of k w → ActsCome (law of k) (owed w said) w
-owed_upto of k w (Open message) beside q h = absurd beside
-owed_upto of k w (Agreed message) beside q h =
-    confirmation_upto of k w (is_waiting w message.recipient_channel) message h
-owed_upto of k w (read.Channel said) beside q h = spoken_upto of k w said q h
-owed_upto of k w Disconnect beside q h = h
-owed_upto of k w Over_cap beside q h =
-    let frame = at_once too_many_attempts in
-    let kept = writes_upto of k (frame ∷ []) w (of.untagged frame refl, tt) h in (kept, kept)
-owed_upto of k w (Unfit why) beside q h = tt
-owed_upto of k w Without_packets beside q h = tt
-owed_upto of k w read.Unbuilt beside q h = tt
-owed_upto of k w _ beside q h = tt
-
-concluded_upto : (of : Measure) (k : ℕ) (w : World) (moment : ℕ) (requested : Bool)
-    (outcome : AuthOutcome) → OwesUpTo of k w →
-    PlanComes Anything (ComesUpTo of k) (concluded w moment requested outcome)
-concluded_upto of k w moment requested (Replies reply verdict.Accepted state) h =
-    let v = waits_for (WaitingAuthRequest state) w in
-    acts_come (law of k) (replied w moment requested reply verdict.Accepted) v h (
-      writes_upto of k (at_once reply ∷ []) (lets_in (finishes requested v))
-          (of.untagged (at_once reply) refl, tt) h,
-      λ world j. tt,
-    )
-concluded_upto of k w moment requested (Replies reply (verdict.Rejected none_method) state) h =
-    let frame = held reply (moment_after moment (rejection_hold w.settings.config none_method
-    w.user.requested)) in
-    writes_upto of k (frame ∷ []) (finishes requested (waits_for (WaitingAuthRequest state) w))
-    (of.untagged frame refl, tt) h
-concluded_upto of k w moment requested (Replies reply verdict.Continued state) h =
-    writes_upto of k (at_once reply ∷ [])
-    (finishes requested (waits_for (WaitingAuthRequest state) w))
-    (of.untagged (at_once reply) refl, tt) h
-concluded_upto of k w moment requested (auth.Fails fault) h = tt
-
-asked_upto : (of : Measure) (k : ℕ) (state : EncryptedState)
-    (next : AuthRequest → Plan AuthOutcome) (w : World) (moment : ℕ) (requested : Bool) →
-    OwesUpTo of k w →
-    PlanComes Anything (ComesUpTo of k)
-    (asked_of state (λ auth. after (next auth) (concluded w moment requested)) (acts [] w))
-asked_upto of k (WaitingAuthRequest auth) next w moment requested h =
-    comes_then Anything (ComesUpTo of k) (next auth) (concluded w moment requested)
-    (λ outcome. concluded_upto of k w moment requested outcome h)
-asked_upto of k _ next w moment requested h = h
-
-greeting_silent : (of : Measure) (message : Option (List ℕ)) →
-    AreSilent of.such (greeting message)
-greeting_silent of None = (of.untagged (at_once service_accept) refl, tt)
-greeting_silent of (Some message) = (
-  of.untagged (at_once service_accept) refl,
-  (of.untagged (at_once (banner message)) refl, tt),
-)
-
-greets_upto : (of : Measure) (k : ℕ) (w : World) (message : Option (List ℕ)) (short : Bool) →
-    is_short message ≡ short → OwesUpTo of k w →
-    PlanComes Anything (ComesUpTo of k) (acts (greets message) w)
-greets_upto of k w message true is h =
-    rw is (writes_upto of k (greeting message) (served w) (greeting_silent of message) h)
-greets_upto of k w message false is h = rw is tt
-
-service_upto : (of : Measure) (k : ℕ) (w : World) (b : Bool) → OwesUpTo of k w →
-    PlanComes Anything (ComesUpTo of k)
-    (if b then Ask Banner (λ message. acts (greets message) w) else acts [] w)
-service_upto of k w true h = λ message s. greets_upto of k w message (is_short message) refl h
-service_upto of k w false h = h
-
-pub row_upto : (of : Measure) (k : ℕ) (w : World) (moment : ℕ) (said : Said) →
-    IsBesideOpen said → OfRead (RequestOwes of k w) said → OwesUpTo of k w →
-    PlanComes Anything (ComesUpTo of k) (row w moment said)
-row_upto of k w moment (Service name) beside q h = service_upto of k w
-    (bytes_eq name (codes "ssh-userauth")) h
-row_upto of k w moment (Request asked) beside q h =
-    asked_upto of k w.user.state (λ auth. verdict_on auth asked) w moment true h
-row_upto of k w moment (Response responded) beside q h =
-    asked_upto of k w.user.state (λ auth. response_verdict auth responded) w moment
-    w.user.requested h
-row_upto of k w moment said beside q h =
-    acts_come (law of k) (owed w said) w h (owed_upto of k w said beside q h)
-
-pub command_upto : (of : Measure) (k : ℕ) (w : World) (ticket : ℕ) (commanded : Command) →
-    OwesUpTo of k w → PlanComes Anything (ComesUpTo of k) (command_row w ticket commanded)
-command_upto of k w ticket commanded h =
-    one_comes (law of k) (effect w commanded) (λ outcome world. Tell (Answered ticket outcome)
-    (Finish (Goes world)))
-    (effect_upto of k w commanded h) (λ outcome world j. j)

@@ -27,11 +27,13 @@ use Rattle.ssh_session.proofs.Rows.{confirms_as}
 -- the table and the opens that wait changed alone
 pub changed : (old new : Session) (w : World) (waiting : List (ℕ × Opening)) (lines : Lines)
     → new.common ≡ old.common → new.session_id ≡ old.session_id → new.state ≡ old.state →
-    new.requested ≡ old.requested → new.target ≡ old.target → new.spent ≡ old.spent
+    new.requested ≡ old.requested → new.target ≡ old.target →
+    new.outstanding ≡ old.outstanding → new.keepalives ≡ old.keepalives → new.spent ≡ old.spent
     → new.opens.entries ≡ waiting →
     Stands new.table lines → Refines old w →
     Refines new (record w { channels = record w.channels { lines = lines; opens = waiting } })
-changed old new w waiting lines common id state requested target spent opens stands r =
+changed old new w waiting lines common id state requested target outstanding keepalives spent opens
+    stands r =
     record {
       config = ap (λ c. c.config) common ∙ r.config;
       session_id = id ∙ r.session_id;
@@ -42,6 +44,10 @@ changed old new w waiting lines common id state requested target spent opens sta
       table = stands;
       opens = opens;
       target = target ∙ r.target;
+      wanted = ap (λ c. c.wants_reply) common ∙ r.wanted;
+      outstanding = ap (λ q. q.items) outstanding ∙ r.outstanding;
+      keepalives = keepalives ∙ r.keepalives;
+      disconnected = ap (λ c. c.disconnected) common ∙ r.disconnected;
       live = spent ∙ r.live;
     }
 

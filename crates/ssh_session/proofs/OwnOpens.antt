@@ -73,5 +73,9 @@ untouched session table fits w e r = record {
   table = subst (λ t. Stands t w.channels.lines) (sym e) r.table;
   opens = r.opens;
   target = r.target;
+  wanted = r.wanted;
+  outstanding = r.outstanding;
+  keepalives = r.keepalives;
+  disconnected = r.disconnected;
   live = r.live;
 }

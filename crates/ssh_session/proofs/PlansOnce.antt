@@ -4,7 +4,9 @@ use Rattle.std.proofs.Common.{refl, sym, ◌∙◌, ap, subst, inl, inr}
 use Rattle.std.specs.Prelude.{codes, drop, if◌then◌else◌}
 use Rattle.ssh_link.specs.declared.frame.Input.{Input}
 use Rattle.ssh_link.specs.declared.frame.InputKind.{InputKind}
-use Rattle.ssh_link.specs.declared.frame.InputKind.TheVariants.{Payload}
+use Rattle.ssh_link.specs.declared.frame.InputKind.TheVariants.{Payload, End, Command, OpenReply}
+use Rattle.ssh_link.specs.declared.frame.InputKind.TheVariants.{KeepaliveTick, InactivityTick}
+use Rattle.ssh_link.specs.declared.frame.InputKind.TheVariants.{RekeyTick}
 use Rattle.ssh_keys.specs.Offers.{offered_key}
 use Rattle.ssh_auth.specs.declared.auth.Auth.{Auth}
 use Rattle.ssh_auth.specs.declared.auth.Auth.TheVariants.{Reject, Accept, UnsupportedMethod}
@@ -30,12 +32,12 @@ use Rattle.ssh_session.specs.Acts.{acts}
 use Rattle.ssh_session.specs.Gate.{gate_of}
 use Rattle.ssh_session.specs.Outcome.{Outcome}
 use Rattle.ssh_session.specs.Messages.{message_layout}
-use Rattle.ssh_session.specs.Reading.{Said, Service, Request, Response, Channel, Unread, Says}
+use Rattle.ssh_session.specs.Reading.{Said, Service, Request, Response, Connection, Unread, Says}
 use Rattle.ssh_session.specs.Reading.{service}
 use Rattle.ssh_session.specs.Rows.{row, concluded, asked_of}
-use Rattle.ssh_session.specs.Run.{OwesKind, Owes, is_there, finish_input}
+use Rattle.ssh_session.specs.Run.{OwesKind, Owes, finish_input}
 use Rattle.ssh_session.specs.Short.{IsShortOf}
-use Rattle.ssh_session.specs.World.{World, circumstances}
+use Rattle.ssh_session.specs.World.{World, circumstances, hears}
 use Rattle.ssh_session.proofs.KeyFields.{AreOneAnswer, AreOneMethod}
 use Rattle.ssh_session.proofs.LayoutsOnce.{said_once, open_once, confirmation_once}
 use Rattle.ssh_session.proofs.RequestsOnce.{AreOneRequest, request_once}
@@ -218,7 +220,7 @@ open_rows w moment a b (inr (inr e)) = same_row w moment a b e
 
 -- at a gate a payload owes one plan
 said_one : (given : Circumstances) (w : World) (moment : ℕ) (at : Gate) (fields : List ℕ)
-    (a b : Said) → Says given (is_there w) at fields a → Says given (is_there w) at fields b
+    (a b : Said) → Says given w at fields a → Says given w at fields b
     → AreOne (row w moment a) (row w moment b)
 said_one given w moment gate.Nothing fields a b h k = same_row w moment a b (h ∙ sym k)
 said_one given w moment gate.Ends fields a b h k = same_row w moment a b (h ∙ sym k)
@@ -238,18 +240,24 @@ said_one given w moment gate.OpenConfirmation fields a b h k =
     same_row w moment a b (confirmation_once fields a b h k)
 said_one given w moment gate.ServiceRequest fields a b h k =
     same_row w moment a b (said_once Service service fields a b h k)
-said_one given w moment (gate.Channel message) fields a b h k =
-    same_row w moment a b (said_once Channel (message_layout (is_there w) message) fields a b h k)
+said_one given w moment (gate.Connection message) fields a b h k =
+    same_row w moment a b (said_once Connection (message_layout w message) fields a b h k)
 
 kind_one : (accepts : Acceptance) (w : World) (moment : ℕ) (kind : InputKind)
     (plan other : Plan Outcome) → OwesKind accepts w moment kind plan
     → OwesKind accepts w moment kind other → AreOne plan other
 kind_one accepts w moment (Payload payload) plan other h k =
+    let v = hears payload w in
     subst (λ x. AreOne x other) (sym h.2)
-    (subst (λ x. AreOne (row w moment h.0) x) (sym k.2)
-    (said_one (circumstances accepts w.settings moment) w moment (gate_of w payload)
+    (subst (λ x. AreOne (row v moment h.0) x) (sym k.2)
+    (said_one (circumstances accepts v.settings moment) v moment (gate_of v payload)
     (drop 1 payload) h.0 k.0 h.1 k.1))
-kind_one accepts w moment _ plan other h k = same plan other (h ∙ sym k)
+kind_one accepts w moment End plan other h k = same plan other (h ∙ sym k)
+kind_one accepts w moment (Command ticket commanded) plan other h k = same plan other (h ∙ sym k)
+kind_one accepts w moment (OpenReply ticket answer) plan other h k = same plan other (h ∙ sym k)
+kind_one accepts w moment KeepaliveTick plan other h k = same plan other (h ∙ sym k)
+kind_one accepts w moment InactivityTick plan other h k = same plan other (h ∙ sym k)
+kind_one accepts w moment RekeyTick plan other h k = same plan other (h ∙ sym k)
 
 finished_one : (plan other : Plan Outcome) → AreOne plan other
     → AreOne (after plan finish_input) (after other finish_input)

@@ -17,7 +17,7 @@ use Rattle.ssh_session.specs.declared.session.Session.{Session}
 use Rattle.ssh_session.specs.Failure.{run_error_of, error_of_layout}
 use Rattle.ssh_session.specs.Heard.{Heard}
 use Rattle.ssh_session.specs.Outcome.{Outcome}
-use Rattle.ssh_session.specs.Reading.{Said, said_of, Channel, Unfit, Agreed, Without_packets}
+use Rattle.ssh_session.specs.Reading.{Said, said_of, Connection, Unfit, Agreed, Without_packets}
 use Rattle.ssh_session.specs.Reading.{SaysConfirmation}
 use Rattle.ssh_session.specs.Rows.{row}
 use Rattle.ssh_session.specs.Serve.{Completes, comes}
@@ -63,9 +63,9 @@ finish flow world = Finish (comes flow world)
 unserved_so : {E : Type 0} (w : World) (moment : ℕ) (layout : Layout Spoken) (bytes : List ℕ)
     (why : WireError) (a : Heard E) (session : Session) → IsRead layout bytes (Err why)
     → (read : Result Spoken WireError) × Spells layout bytes read
-    × Completes (row w moment (said_of Channel read)) a a session (Err (run_error_of why))
+    × Completes (row w moment (said_of Connection read)) a a session (Err (run_error_of why))
 unserved_so w moment layout bytes wire.NoMemory a session h =
-    (h.0, h.1, starves {T = Flow} (row w moment (said_of Channel h.0)) finish a session)
+    (h.0, h.1, starves {T = Flow} (row w moment (said_of Connection h.0)) finish a session)
 unserved_so w moment layout bytes wire.Short a session h =
     (Err wire.Short, h, unfit wire.Short finish a session)
 unserved_so w moment layout bytes wire.NotUtf8 a session h =
@@ -81,11 +81,11 @@ pub unserved : {E : Type 0} (w : World) (moment : ℕ) (layout : Layout Spoken) 
     (result : Result Flow (RunError E)) → IsErrAnd result (λ x. x ≡ e) → e ≡ run_error_of why
     → IsRead layout bytes (Err why)
     → (read : Result Spoken WireError) × Spells layout bytes read
-    × Completes (row w moment (said_of Channel read)) a a session result
+    × Completes (row w moment (said_of Connection read)) a a session result
 unserved {E} w moment layout bytes why a session e result h is k =
     let p = err_from_is_err_and result h in
     subst (λ r. (read : Result Spoken WireError) × Spells layout bytes read
-    × Completes {E = E} (row w moment (said_of Channel read)) a a session r)
+    × Completes {E = E} (row w moment (said_of Connection read)) a a session r)
     (sym (p.1 ∙ ap Err (p.2 ∙ is))) (unserved_so w moment layout bytes why a session k)
 
 -- a packet size

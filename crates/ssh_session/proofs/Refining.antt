@@ -32,9 +32,9 @@ use Rattle.ssh_session.specs.Acts.{tell_all}
 use Rattle.ssh_session.specs.Heard.{Heard}
 use Rattle.ssh_session.specs.Outcome.{Outcome}
 use Rattle.ssh_session.specs.Effect.{not_usable, no_sending, no_closing}
-use Rattle.ssh_session.specs.Run.{is_there, nothing_waits, handed_on}
+use Rattle.ssh_session.specs.Run.{nothing_waits, handed_on}
 use Rattle.ssh_session.specs.Serve.{Refines, Serves, SendsEach}
-use Rattle.ssh_session.specs.World.{World, lined}
+use Rattle.ssh_session.specs.World.{World, lined, is_there}
 use Rattle.ssh_session.proofs.Serving.{settled_by}
 
 -- what follows from a value
@@ -66,6 +66,10 @@ tabled session table fits w change r s = record {
   table = s;
   opens = r.opens;
   target = r.target;
+  wanted = r.wanted;
+  outstanding = r.outstanding;
+  keepalives = r.keepalives;
+  disconnected = r.disconnected;
   live = r.live;
 }
 

@@ -26,9 +26,11 @@ use Rattle.ssh_session.specs.Reading.{Said, Open, Says}
 use Rattle.ssh_session.specs.Replied.{is_reply, is_reply_on, wants_reply_on, wants_on, events_of}
 use Rattle.ssh_session.specs.Replied.{Replied}
 use Rattle.ssh_session.specs.Rows.{row, open_acts}
-use Rattle.ssh_session.specs.Run.{Turn, Run, Owes, OwesKind, command_row, is_there}
+use Rattle.ssh_session.specs.Run.{Turn, Run, Owes, OwesKind, command_row}
 use Rattle.ssh_session.specs.Types.{handling, unsupported, unknown}
-use Rattle.ssh_session.specs.World.{Settings, World, circumstances, lined, opening_world}
+use Rattle.ssh_session.specs.Acts.{acts}
+use Rattle.ssh_session.specs.Ticks.{keepalive_acts}
+use Rattle.ssh_session.specs.World.{Settings, World, circumstances, hears, lined, opening_world}
 use Rattle.ssh_session.proofs.Acting.{PlanComes, ActsCome, acts_come}
 use Rattle.ssh_session.proofs.Accepting.{AllWalk, run_walks, last_walks}
 use Rattle.ssh_session.proofs.Counting.{Covered, covered, Allowed, input_allowed, still_one}
@@ -37,9 +39,9 @@ use Rattle.ssh_session.proofs.Counting.{through_one, within_few, walks_within, f
 use Rattle.ssh_session.proofs.Emptied.{owed_emptied, nothing_left}
 use Rattle.ssh_session.proofs.Guards.{Walks}
 use Rattle.ssh_session.proofs.Measures.{how_many_both, how_many_same, untold, lines_owe}
-use Rattle.ssh_session.proofs.Measuring.{owing, OwesUpTo, ComesUpTo, law, RequestOwes, OfRead}
-use Rattle.ssh_session.proofs.Measuring.{read_weaker, lined_upto, same_lines, writes_upto, row_upto}
-use Rattle.ssh_session.proofs.Measuring.{command_upto}
+use Rattle.ssh_session.proofs.Measuring.{owing, OwesUpTo, ComesUpTo, law, RequestOwes}
+use Rattle.ssh_session.proofs.Measured.{OfRead, read_weaker, row_upto, command_upto, tick_upto}
+use Rattle.ssh_session.proofs.Measuring.{lined_upto, same_lines, writes_upto}
 use Rattle.ssh_session.proofs.Owing.{replies_on, unwanted_owe, request_owe}
 use Rattle.ssh_session.proofs.Settled.{Anything}
 use Rattle.ssh_session.proofs.Telling.{kind_silent}
@@ -109,8 +111,8 @@ request_step false number left w channel wanted is h =
 
 payload_covered : (accepts : Acceptance) (number left : ℕ) (w : World) (moment : ℕ)
     (payload : List ℕ) (said : Said) →
-    Says (circumstances accepts w.settings moment) (is_there w) (gate_of w payload)
-    (drop 1 payload) said → Owed number left w →
+    Says (circumstances accepts w.settings moment) w (gate_of w payload) (drop 1 payload) said
+    → Owed number left w →
     Covered (replies_on number) (left_with number left (input.Payload payload)) (row w moment said)
 payload_covered accepts number left w moment payload said says h =
     let b = wants_reply_on number (input.Payload payload) in
@@ -134,12 +136,17 @@ kind_covered : (accepts : Acceptance) (number left : ℕ) (w : World) (moment : 
     Owed number left w → Covered (replies_on number) (left_with number left kind) plan
 kind_covered accepts number left w moment input.End plan o h = rw o h.covered
 kind_covered accepts number left w moment (input.Payload payload) plan o h =
-    rw o.2 (payload_covered accepts number left w moment payload o.0 o.1 h)
+    rw o.2 (payload_covered accepts number left (hears payload w) moment payload o.0 o.1
+    (record { none = h.none; one = h.one; covered = h.covered }))
 kind_covered accepts number left w moment (input.Command ticket commanded) plan o h =
     rw o (command_covered number left w ticket commanded h)
 kind_covered accepts number left w moment (input.OpenReply ticket answer) plan o h =
     rw o (command_covered number left w ticket (command.Answer answer) h)
-kind_covered accepts number left w moment kind plan o h = rw o tt
+kind_covered accepts number left w moment input.KeepaliveTick plan o h =
+    rw o (covered (replies_on number) left left (acts (keepalive_acts w) w) (omega arith) h.one
+    (tick_upto (replies_on number) left w h.covered))
+kind_covered accepts number left w moment input.InactivityTick plan o h = rw o tt
+kind_covered accepts number left w moment input.RekeyTick plan o h = rw o tt
 
 turn_allowed : {E : Type 0} (accepts : Acceptance) (number left : ℕ) (w : World) (turn : Turn E)
     (plan : Plan Outcome) → Owes accepts w turn.input plan → Owed number left w →

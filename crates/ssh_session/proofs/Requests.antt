@@ -141,6 +141,10 @@ let_in requested user session fits w r is = record {
   table = r.table;
   opens = r.opens;
   target = r.target;
+  wanted = r.wanted;
+  outstanding = r.outstanding;
+  keepalives = r.keepalives;
+  disconnected = r.disconnected;
   live = r.live;
 }
 
@@ -176,6 +180,10 @@ asked_again auth session fits w r = record {
   table = r.table;
   opens = r.opens;
   target = r.target;
+  wanted = r.wanted;
+  outstanding = r.outstanding;
+  keepalives = r.keepalives;
+  disconnected = r.disconnected;
   live = r.live;
 }
 
@@ -193,6 +201,10 @@ noted_as requested session fits w r = record {
   table = r.table;
   opens = r.opens;
   target = r.target;
+  wanted = r.wanted;
+  outstanding = r.outstanding;
+  keepalives = r.keepalives;
+  disconnected = r.disconnected;
   live = r.live;
 }
 

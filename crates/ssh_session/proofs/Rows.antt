@@ -1,7 +1,9 @@
 -- Rows, by what is found on their channel.
 use Rattle.std.proofs.Common.{◌≡◌, ◌⊎◌, inl, inr, ℕ, Bool, true, false, List, [], Option, Some}
 use Rattle.std.proofs.Common.{None, length, not, Err, refl, sym, ap, subst, cond, ◌∙◌, ◌∷◌, ◌++◌}
-use Rattle.std.specs.Prelude.{IsErrAnd, Result}
+use Rattle.std.specs.Prelude.{IsErrAnd, Result, option_to_list, map}
+use Rattle.ssh_link.specs.declared.link.TraceEntry.TheVariants.{Noticed}
+use Rattle.ssh_link.specs.declared.notice.Notice.{Notice}
 use Rattle.std.proofs.lemmas.Result.{err_from_is_err_and}
 use Rattle.ssh_wire.specs.declared.error.LayoutError.{LayoutError}
 use Rattle.ssh_wire.specs.declared.error.LayoutError.TheVariants as layout
@@ -28,7 +30,7 @@ use Rattle.ssh_auth.specs.Plan.{Plan, Finish}
 use Rattle.ssh_session.specs.declared.error.Flow.{Flow}
 use Rattle.ssh_session.specs.declared.error.RunError.{RunError}
 use Rattle.ssh_session.specs.declared.session.Session.{Session}
-use Rattle.ssh_session.specs.Acts.{Act, Stops, acts}
+use Rattle.ssh_session.specs.Acts.{Act, Stops, acts, tell_all}
 use Rattle.ssh_session.specs.Failure.{error_of_layout, error_of_table}
 use Rattle.ssh_session.specs.Heard.{Heard}
 use Rattle.ssh_session.specs.Opens.{own}
@@ -36,11 +38,10 @@ use Rattle.ssh_session.specs.Outcome.{Outcome, Fails, Channels_full}
 use Rattle.ssh_session.specs.declared.messages.Spoken.TheVariants.{Data, Failed}
 use Rattle.ssh_session.specs.Reading.{Said, Open, Unread, Unfit, Without_packets, SaysOpen}
 use Rattle.ssh_session.specs.Rows.{on, on_entry, on_confirmed, grant_acts, credit_left, data_acts}
-use Rattle.ssh_session.specs.Rows.{spoken_acts, failure_acts, row}
-use Rattle.ssh_session.specs.Run.{is_there, is_waiting}
+use Rattle.ssh_session.specs.Rows.{spoken_acts, failure_acts, row, notes}
 use Rattle.ssh_session.proofs.Reading.{full_packet}
 use Rattle.ssh_session.specs.Serve.{Refines, Answers, Completes, comes}
-use Rattle.ssh_session.specs.World.{World, lined}
+use Rattle.ssh_session.specs.World.{World, lined, is_there, is_waiting}
 use Rattle.ssh_session.proofs.Serving.{unfit, starves, hears_nothing}
 
 -- ---- a row on a channel, where there is one and where there is none
@@ -233,3 +234,11 @@ confirms_as message l h =
     ap (λ b. cond b l (confirms message.recipient_channel message.sender_channel
     message.initial_window_size message.maximum_packet_size l))
     (full_packet message.maximum_packet_size h)
+
+-- ---- what came of a global request of this side's
+
+pub noted_as : (told : Option Notice) (later : List Act) (v : World) →
+    acts (notes told ++ later) v
+    ≡ tell_all (map Noticed (option_to_list told)) (acts later v)
+noted_as None later v = refl
+noted_as (Some notice) later v = refl

@@ -1,30 +1,28 @@
 -- What is served one after another.
-use Rattle.std.proofs.Common.{◌≡◌, Bool, true, false, List, [], ◌∷◌, ◌++◌, length, map}
+use Rattle.std.proofs.Common.{◌≡◌, Bool, true, false, List, [], ◌∷◌, ◌++◌}
 use Rattle.std.proofs.Common.{Option, Result, Ok, Err, refl, sym}
 use Rattle.std.proofs.Common.{◌∙◌, ap, subst, arith}
 use Rattle.std.specs.Result.{IsErrAnd}
-use Rattle.std.proofs.lemmas.List.{append-nil, nil_from_length}
+use Rattle.std.proofs.lemmas.List.{append-nil}
 use Rattle.std.proofs.lemmas.Result.{err_from_is_err_and}
 use Rattle.ssh_wire.specs.declared.error.WireError.{WireError}
 use Rattle.ssh_wire.specs.declared.error.WireError.TheVariants as wire
-use Rattle.ssh_link.specs.Frames.{Frame}
+use Rattle.std.specs.Prelude.{OnOk, IfErr}
 use Rattle.ssh_link.specs.Faults.{Rose}
 use Rattle.ssh_link.specs.Told.{Adds, ToldBy}
 use Rattle.ssh_link.proofs.Tellings.{adds_both, adds_nil, adds_weak, adds_then, adds_none}
 use Rattle.ssh_link.specs.declared.link.LinkFault.{LinkFault as LinkFailure}
 use Rattle.ssh_link.specs.declared.link.LinkFault.TheVariants as link
 use Rattle.ssh_link.specs.declared.link.TraceEntry.{TraceEntry}
-use Rattle.ssh_link.specs.declared.link.TraceEntry.TheVariants.{Sent}
 use Rattle.ssh_auth.specs.declared.question.Question.{Question}
 use Rattle.ssh_auth.specs.Plan.{Plan, Finish, Ask, Tell, after, Answer, Event, Called, Told}
 use Rattle.ssh_auth.specs.Plan.{Handler_error, calls_in, steps_in, told_in}
 use Rattle.ssh_auth.specs.Plan.{Reaches}
-use Rattle.ssh_auth.proofs.Plans.{reaches_both, reaches_after, reaches_begins, reaches_follows}
-use Rattle.ssh_auth.proofs.Plans.{reaches_breaks, begins_after}
-use Rattle.ssh_auth.proofs.Plans.{breaks_after, breaks_first, calls_in_both, steps_in_both}
+use Rattle.ssh_auth.proofs.Plans.{reaches_both, reaches_begins, reaches_follows}
+use Rattle.ssh_auth.proofs.Plans.{reaches_breaks}
+use Rattle.ssh_auth.proofs.Plans.{breaks_first, calls_in_both, steps_in_both}
 use Rattle.ssh_auth.proofs.Plans.{told_in_both}
-use Rattle.ssh_session.specs.declared.error.Flow.{Flow}
-use Rattle.ssh_session.specs.declared.error.Flow.TheVariants.{Continue, Ended}
+use Rattle.ssh_session.specs.declared.error.Flow.TheVariants.{Continue}
 use Rattle.ssh_session.specs.declared.error.RunError.{RunError}
 use Rattle.ssh_session.specs.declared.error.RunError.TheVariants as error
 use Rattle.ssh_session.specs.declared.session.Session.{Session}
@@ -32,12 +30,12 @@ use Rattle.ssh_session.specs.World.{World}
 use Rattle.ssh_session.specs.Failure.{run_error_of, error_of_link}
 use Rattle.ssh_session.specs.Heard.{Heard, Gives}
 use Rattle.ssh_session.specs.Outcome.{Outcome, Goes, Fails, Encoding, Not_built}
-use Rattle.ssh_session.specs.Acts.{Act, acts, tell_all}
-use Rattle.ssh_session.specs.Run.{finish_input, handed_on}
+use Rattle.ssh_session.specs.Outcome.{Inactivity_timeout}
+use Rattle.ssh_session.specs.Acts.{Act, acts}
 use Rattle.ssh_session.specs.Serve.{Refines, Cause, Wants_memory, Link_failed, Limit_reached}
 use Rattle.ssh_session.specs.Serve.{Faulty, Refused_by, cause_of}
 use Rattle.ssh_session.specs.Serve.{IsCaused, Answers, may_stop, Hears, Serves, Does, Turned, Puts}
-use Rattle.ssh_session.specs.Serve.{Completes, SendsEach, comes}
+use Rattle.ssh_session.specs.Serve.{Completes}
 
 -- ---- parts of plans
 
@@ -357,51 +355,6 @@ pub of_value : {T E : Type 0} (value : T) (plan : Plan Outcome) (next : T → Wo
     (Ok tt) → Serves plan next a b session (Ok value)
 of_value value plan next a b session h = h
 
--- ---- the end of an input
-
--- what was owed is not finished, and no frame is handed on
-caused_after : {E : Type 0} (cause : Cause E) (plan : Plan Outcome) (rose : Type 0)
-    (events : List (Event E ⊥)) →
-    IsCaused cause plan rose events → IsCaused cause (after plan finish_input) rose events
-caused_after Wants_memory plan rose events h = begins_after plan finish_input events h
-caused_after Link_failed plan rose events h = (h.0, begins_after plan finish_input events h.1)
-caused_after Limit_reached plan rose events h = h
-caused_after (Faulty fault) plan rose events h = reaches_after plan (Finish (Fails fault))
-    finish_input events h
-caused_after (Refused_by e) plan rose events h = breaks_after plan finish_input events
-    (Handler_error e) h
-
-pub unfinished : {E : Type 0} (first : Plan Outcome) (a b : Heard E) (session session' : Session)
-    (e : RunError E) →
-    Completes first a b session (Err e) → Completes (after first finish_input) a b session' (Err e)
-unfinished first a b session session' e h =
-    (h.0, h.1, caused_after (cause_of e) first (Rose a.faults b.faults) h.0 h.2)
-
--- the frames of an input that was finished are handed on
-hands_on : (flow : Flow) (w : World) →
-    finish_input (comes flow w) ≡ tell_all (map Sent w.channels.lines.written)
-    (Finish (comes flow (handed_on w)))
-hands_on Continue w = refl
-hands_on Ended w = refl
-
-pub finished : {E : Type 0} (flow : Flow) (first : Plan Outcome) (a b c : Heard E)
-    (session session' : Session)
-    (result : Result Flow (RunError E)) → Completes first a b session (Ok flow) →
-    ((w : World) → Refines session w
-    → Serves (tell_all (map Sent w.channels.lines.written) (Finish (comes flow (handed_on w))))
-    (λ flow world. Finish (comes flow world)) b c session' result) →
-    Completes (after first finish_input) a c session' result
-finished flow first a b c session session' result h k =
-    reached (after first finish_input) (finish_input (comes flow h.2.0))
-    (λ flow world. Finish (comes flow world)) a b c h.0
-    session' result h.1 (reaches_after first (Finish (comes flow h.2.0)) finish_input h.0 h.2.1)
-    (subst (λ p. Serves p (λ flow world. Finish (comes flow world)) b c session' result)
-    (sym (hands_on flow h.2.0))
-    (k h.2.0 h.2.2))
-
-pub none_left : {A : Type 0} (items : List A) → length items ≡ 0 → items ≡ []
-none_left items h = nil_from_length items h
-
 -- ---- an error of a part is passed on
 
 pub passed : {T U E : Type 0} (plan : Plan Outcome) (mid : U → World → Plan Outcome)
@@ -445,6 +398,31 @@ pub unbuilt_input : {T E : Type 0} (next : T → World → Plan Outcome) (a : He
     Serves {T = T} {E = E} (Finish (Fails Not_built)) next a a session (Err error.NotBuilt)
 unbuilt_input next a session = ([], hears_nothing false a, refl)
 
+-- nothing came from the peer for too long
+pub inactive_input : {T E : Type 0} (next : T → World → Plan Outcome) (a : Heard E)
+    (session : Session) →
+    Serves {T = T} {E = E} (Finish (Fails Inactivity_timeout)) next a a session
+    (Err error.InactivityTimeout)
+inactive_input next a session = ([], hears_nothing false a, refl)
+
+-- the world turned, or memory was wanting, and nobody was told or asked anything
+pub turned_quietly : {E : Type 0} (later : World → Plan Outcome) (world : World)
+    (session : Session) (result : Result (Unit {0}) (RunError E)) →
+    OnOk result (Refines session world) → IfErr result (λ e. e ≡ error.NoMemory) →
+    Answers (later world) (λ (_ : Unit {0}). later) ⊥ [] session result
+turned_quietly later world session (Ok tt) r memory = (world, refl, r)
+turned_quietly {E} later world session (Err e) r memory =
+    subst (λ x. Answers {E = E} (later world) (λ (_ : Unit {0}). later) ⊥ [] session (Err x))
+    (sym memory) (later world, refl)
+
+pub turns_quietly : {E : Type 0} (later : World → Plan Outcome) (world : World) (a : Heard E)
+    (session : Session) (result : Result (Unit {0}) (RunError E)) →
+    OnOk result (Refines session world) → IfErr result (λ e. e ≡ error.NoMemory) →
+    Serves (later world) (λ (_ : Unit {0}). later) a a session result
+turns_quietly later world a session result r memory =
+    quiet (later world) (λ (_ : Unit {0}). later) a session result
+    (turned_quietly later world session result r memory)
+
 -- .. and nobody was told or asked anything
 pub starved_quietly : {T E : Type 0} (plan : Plan Outcome) (next : T → World → Plan Outcome)
     (session : Session) (e : RunError E)
@@ -456,39 +434,3 @@ starved_quietly {T} plan next session e result h is =
       plan,
       refl,
     )
-
--- ---- frames
-
-told_both : (xs ys : List Frame) (next : Plan Outcome) →
-    tell_all (map Sent (xs ++ ys)) next ≡ tell_all (map Sent xs) (tell_all (map Sent ys) next)
-told_both [] ys next = refl
-told_both (x ∷ xs) ys next = ap (Tell (Sent x)) (told_both xs ys next)
-
--- one more frame was handed on
-pub sent_more : {E : Type 0} (frames : List Frame) (frame : Frame) (a b c : Heard E) →
-    SendsEach frames a b (Ok tt) → Gives {T = Unit {0}} b c (Sent frame) (Ok tt)
-    → SendsEach (frames ++ frame ∷ []) a c (Ok tt)
-sent_more frames frame a b c h g = λ w session r next.
-    let rest = Tell (Sent frame) next in
-    subst (λ p. Serves p (λ (_ : Unit {0}) _. next) a c session (Ok tt))
-    (sym (told_both frames (frame ∷ []) next))
-    (served_both tt (tell_all (map Sent frames) rest) (λ (_ : Unit {0}) _. rest)
-    (λ (_ : Unit {0}) _. next) a b c session session
-    (Ok tt) (h w session r rest) (λ v q. given (Sent frame) next b c v session q g))
-
--- .. or was not
-pub not_sent : {E : Type 0} (frames rest : List Frame) (frame : Frame) (a b c : Heard E)
-    (fault : LinkFailure) →
-    SendsEach frames a b (Ok tt) → Gives {T = Unit {0}} b c (Sent frame) (Err fault) →
-    SendsEach (frames ++ rest) a c (Err (error_of_link fault))
-not_sent frames rest frame a b c fault h g = λ w session r next.
-    let more = tell_all (map Sent rest) next in
-    subst (λ p. Serves p (λ (_ : Unit {0}) _. next) a c session (Err (error_of_link fault)))
-    (sym (told_both frames rest next))
-    (served_both tt (tell_all (map Sent frames) more) (λ (_ : Unit {0}) _. more)
-    (λ (_ : Unit {0}) _. next) a b c session session
-    (Err (error_of_link fault)) (h w session r more)
-    (λ v q. not_given (Sent frame) more (λ (_ : Unit {0}) _. next) b c session fault g))
-
-pub none_sent : {E : Type 0} (a : Heard E) → SendsEach [] a a (Ok tt)
-none_sent a = λ w session r next. serves_nothing tt (λ (_ : Unit {0}) _. next) a w session r

@@ -4,6 +4,7 @@ use Rattle.ssh_auth.specs.Plan.{Plan, Finish, Ask, Tell, Event, Handler_error, a
 use Rattle.ssh_auth.specs.Plan.{Reaches, Follows, Breaks}
 use Rattle.ssh_session.specs.Outcome.{Encoding, Inconsistent, Key, Unsupported, Starved}
 use Rattle.ssh_session.specs.Outcome.{Channels_full, Not_built, Outcome, Goes, Ends, Fails}
+use Rattle.ssh_session.specs.Outcome.{Keepalive_timeout, Inactivity_timeout}
 use Rattle.ssh_session.specs.Run.{finish_input}
 use Rattle.ssh_session.specs.Short.{IsShortOf}
 
@@ -17,6 +18,8 @@ end_whole (Fails (Key why)) = refl
 end_whole (Fails Unsupported) = refl
 end_whole (Fails Starved) = tt
 end_whole (Fails Channels_full) = refl
+end_whole (Fails Keepalive_timeout) = refl
+end_whole (Fails Inactivity_timeout) = refl
 end_whole (Fails Not_built) = refl
 
 pub whole : (plan : Plan Outcome) → IsShortOf plan plan
@@ -38,6 +41,8 @@ ends_as (Fails (Key why)) other fed h = h
 ends_as (Fails Unsupported) other fed h = h
 ends_as (Fails Starved) other fed h = absurd (fed refl)
 ends_as (Fails Channels_full) other fed h = h
+ends_as (Fails Keepalive_timeout) other fed h = h
+ends_as (Fails Inactivity_timeout) other fed h = h
 ends_as (Fails Not_built) other fed h = h
 
 -- the same at the end of an input
@@ -57,6 +62,8 @@ end_finished (Fails (Key why)) other h = finished_as (Fails (Key why)) other h
 end_finished (Fails Unsupported) other h = finished_as (Fails Unsupported) other h
 end_finished (Fails Starved) other h = tt
 end_finished (Fails Channels_full) other h = finished_as (Fails Channels_full) other h
+end_finished (Fails Keepalive_timeout) other h = finished_as (Fails Keepalive_timeout) other h
+end_finished (Fails Inactivity_timeout) other h = finished_as (Fails Inactivity_timeout) other h
 end_finished (Fails Not_built) other h = finished_as (Fails Not_built) other h
 
 pub finished_short : (plan other : Plan Outcome) → IsShortOf plan other

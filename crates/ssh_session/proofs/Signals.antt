@@ -1,8 +1,7 @@
 -- A signal has one name (RFC 4254 section 6.10).
-use Rattle.std.proofs.Common.{◌≡◌, ◌∷◌, ◌∙◌, ℕ, List, [], Bool, true, false, Option, Some, None}
+use Rattle.std.proofs.Common.{◌≡◌, ◌∷◌, ◌∙◌, ℕ, List, [], Bool, true, false, None}
 use Rattle.std.proofs.Common.{refl, sym, ap, rules}
-use Rattle.std.specs.Prelude.{Result, Ok, Err, find, bytes_eq}
-use Rattle.std.specs.List.{list_all}
+use Rattle.std.specs.Prelude.{Result, Ok, find, bytes_eq}
 use Rattle.ssh_wire.specs.declared.error.WireError.{WireError}
 use Rattle.ssh_wire.specs.declared.sig.Sig.{Sig}
 use Rattle.ssh_wire.specs.declared.sig.Sig.TheVariants as sig

@@ -36,14 +36,15 @@ use Rattle.ssh_auth.specs.Verdict.{verdict as verdict_on, response_verdict}
 use Rattle.ssh_session.specs.declared.state.EncryptedState.{EncryptedState}
 use Rattle.ssh_session.specs.declared.state.EncryptedState.TheVariants.{WaitingAuthRequest}
 use Rattle.ssh_session.specs.Acts.{Act, Notes, Calls, Adjusts_by, Turns, Is_over, Stops, tell_all}
-use Rattle.ssh_session.specs.Acts.{tell_done, done, done_all, acts, Judges_by}
-use Rattle.ssh_session.specs.Effect.{Effect, Does, Unbuilt, effect}
+use Rattle.ssh_session.specs.Acts.{tell_done, done, done_all, acts, Judges_by, Listens_by}
+use Rattle.ssh_session.specs.Effect.{Effect, Does, effect}
 use Rattle.ssh_session.specs.Outcome.{Outcome}
 use Rattle.ssh_session.specs.Reading.{Said, Service, Request, Response}
 use Rattle.ssh_session.specs.Rows.{row, owed, greets, replied, concluded, asked_of}
 use Rattle.ssh_auth.specs.Verdict as verdicts
 use Rattle.ssh_session.specs.Run.{OwesKind, command_row}
-use Rattle.ssh_session.specs.World.{World, waits_for}
+use Rattle.ssh_session.specs.Ticks.{keepalive_acts}
+use Rattle.ssh_session.specs.World.{World, hears, waits_for}
 
 -- it is no frame
 abbrev pub IsUnsent : TraceEntry → Type 0
@@ -73,7 +74,6 @@ one_done : (does : Effect) (next : CommandOutcome → World → Plan Outcome) �
     ((outcome : CommandOutcome) (world : World) → SendsNone (next outcome world))
     → SendsNone (done does next)
 one_done (Does notices outcome world) next h = noted notices (next outcome world) (h outcome world)
-one_done Unbuilt next h = tt
 
 all_done : (place : ℕ) (commands : List Command) (w : World) (next : World → Plan Outcome) →
     ((world : World) → SendsNone (next world)) → SendsNone (done_all place commands w next)
@@ -92,6 +92,9 @@ acts_send_none (Calls lent ∷ later) w = λ commands. all_done 0 commands w (ac
 acts_send_none (Judges_by judged by ∷ later) w = λ answer.
     all_done 0 answer.commands w (λ world. acts later (by answer.granted world))
     (λ world. acts_send_none later (by answer.granted world))
+acts_send_none (Listens_by address port by ∷ later) w = λ answer.
+    all_done 0 answer.commands w (λ world. acts later (by answer.granted answer.port world))
+    (λ world. acts_send_none later (by answer.granted answer.port world))
 acts_send_none (Adjusts_by channel current by ∷ later) w = λ window. acts_send_none later
     (by window w)
 acts_send_none (Turns by ∷ later) w = acts_send_none later (by w)
@@ -204,9 +207,13 @@ pub kind_silent : (accepts : Acceptance) (w : World) (moment : ℕ) (kind : Inpu
     (plan : Plan Outcome) →
     OwesKind accepts w moment kind plan → SendsNone plan
 kind_silent accepts w moment input.End plan o = rw o tt
-kind_silent accepts w moment (input.Payload payload) plan o = rw o.2 (row_silent w moment o.0)
+kind_silent accepts w moment (input.Payload payload) plan o =
+    rw o.2 (row_silent (hears payload w) moment o.0)
 kind_silent accepts w moment (input.Command ticket commanded) plan o =
     rw o (command_silent w ticket commanded)
 kind_silent accepts w moment (input.OpenReply ticket answer) plan o =
     rw o (command_silent w ticket (command.Answer answer))
-kind_silent accepts w moment kind plan o = rw o tt
+kind_silent accepts w moment input.KeepaliveTick plan o =
+    rw o (acts_send_none (keepalive_acts w) w)
+kind_silent accepts w moment input.InactivityTick plan o = rw o tt
+kind_silent accepts w moment input.RekeyTick plan o = rw o tt

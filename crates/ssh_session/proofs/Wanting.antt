@@ -20,8 +20,8 @@ use Rattle.ssh_auth.specs.Publickey.{Circumstances}
 use Rattle.ssh_channels.specs.Sent.{message_of}
 use Rattle.ssh_session.specs.declared.gate.Gate.{Gate}
 use Rattle.ssh_session.specs.declared.gate.Gate.TheVariants as gate
-use Rattle.ssh_session.specs.declared.messages.ChannelMessage.{ChannelMessage}
-use Rattle.ssh_session.specs.declared.messages.ChannelMessage.TheVariants as message
+use Rattle.ssh_session.specs.declared.messages.ConnectionMessage.{ConnectionMessage}
+use Rattle.ssh_session.specs.declared.messages.ConnectionMessage.TheVariants as message
 use Rattle.ssh_session.specs.declared.messages.Spoken.{Spoken}
 use Rattle.ssh_session.specs.declared.messages.Spoken.TheVariants as spoken
 use Rattle.ssh_session.specs.declared.state.EncryptedState.{EncryptedState}
@@ -33,18 +33,23 @@ use Rattle.ssh_session.specs.ChannelRequests.{KnownRequest, request_named, asked
 use Rattle.ssh_session.specs.ChannelRequests.{terminal_asked, terminal, x11, environment, shell}
 use Rattle.ssh_session.specs.ChannelRequests.{exec, subsystem, window_change, signal, agent}
 use Rattle.ssh_session.specs.Gate.{gate_of, state_gate, authentication_gate, connection_gate}
-use Rattle.ssh_session.specs.Gate.{is_over_cap, is_connection_number, of_channels}
-use Rattle.ssh_session.specs.Messages.{channel_message, message_layout, data_on, extended_on}
+use Rattle.ssh_session.specs.Gate.{is_over_cap, of_connection}
+use Rattle.ssh_session.specs.Globals.{KnownGlobal, asks_globally, globally_asked_by, global_named}
+use Rattle.ssh_session.specs.Globals.{oldest, success, failure, denied, says_so, Globally, Listens}
+use Rattle.ssh_session.specs.Globals.{Judges}
+use Rattle.ssh_session.specs.declared.outstanding.Outstanding.{Outstanding}
+use Rattle.ssh_session.specs.declared.outstanding.Outstanding.TheVariants as outstanding
+use Rattle.ssh_session.specs.Messages.{connection_message, message_layout, data_on, extended_on}
 use Rattle.ssh_session.specs.Messages.{request_on}
 use Rattle.ssh_session.specs.Opens.{own}
-use Rattle.ssh_session.specs.Reading.{Said, Service, Open, Agreed, Unread, Channel, Unfit}
+use Rattle.ssh_session.specs.Reading.{Said, Service, Open, Agreed, Unread, Connection, Unfit}
 use Rattle.ssh_session.specs.Reading.{Without_packets, Says, SaysOpen, SaysConfirmation, said_of}
 use Rattle.ssh_session.specs.Replied.{recipient_of, wanted_of, wants_reply_on}
-use Rattle.ssh_session.specs.Run.{is_there}
-use Rattle.ssh_session.specs.Spelling.{Layout, Leaves, Whole, Fields, Spells}
+use Rattle.ssh_session.specs.Spelling.{Layout, Leaves, Rest, Whole, Fields, Spells}
 use Rattle.ssh_session.specs.Terminal.{modes_of}
-use Rattle.ssh_session.specs.World.{World}
-use Rattle.ssh_session.proofs.Measuring.{OfRequest, OfRead}
+use Rattle.ssh_session.specs.World.{World, is_there}
+use Rattle.ssh_session.proofs.Measuring.{OfRequest}
+use Rattle.ssh_session.proofs.Measured.{OfRead}
 
 -- ---- by the bytes
 
@@ -78,22 +83,25 @@ fields_say values fields rest h =
 -- whatever the fields are, what is said is such
 abbrev AllSay : {S : Type 0} → (such : S → Type 0) → Layout S → Type 0
 AllSay such (Leaves says) = such says
+AllSay such (Rest says) = (rest : List ℕ) → such (says rest)
 AllSay such (Whole fields says) = (values : Values fields) → such (says values)
 AllSay such (Fields fields next) = (values : Values fields) → AllSay such (next values)
 
 read_says : (so : ChannelId → Bool → Type 0) (layout : Layout Spoken) (bytes : List ℕ)
     (read : Result Spoken WireError) → AllSay (OfRequest so) layout → Spells layout bytes read →
-    OfRead so (said_of Channel read)
+    OfRead so (said_of Connection read)
 read_says so (Leaves says) bytes read q h =
-    subst (λ r. OfRead so (said_of Channel r)) (sym h) q
+    subst (λ r. OfRead so (said_of Connection r)) (sym h) q
+read_says so (Rest says) bytes read q h =
+    subst (λ r. OfRead so (said_of Connection r)) (sym h) (q bytes)
 read_says so (Whole fields says) bytes read q (inl h) =
-    subst (λ r. OfRead so (said_of Channel r)) (sym h.2) (q h.0)
+    subst (λ r. OfRead so (said_of Connection r)) (sym h.2) (q h.0)
 read_says so (Whole fields says) bytes read q (inr h) =
-    subst (λ r. OfRead so (said_of Channel r)) (sym h.2) tt
+    subst (λ r. OfRead so (said_of Connection r)) (sym h.2) tt
 read_says so (Fields fields next) bytes read q (inl h) =
     read_says so (next h.0) h.1 read (q h.0) h.3
 read_says so (Fields fields next) bytes read q (inr h) =
-    subst (λ r. OfRead so (said_of Channel r)) (sym h.2) tt
+    subst (λ r. OfRead so (said_of Connection r)) (sym h.2) tt
 
 data_say : (so : ChannelId → Bool → Type 0) (there : Bool) (channel : ℕ) →
     AllSay (OfRequest so) (data_on there channel)
@@ -188,40 +196,77 @@ request_say so true wanted channel name h =
     (λ known is. found_says so (λ known. bytes_eq known.name name) requests known (table_says so)
     is) h
 
--- ---- messages of channels
+-- ---- messages of no channel
+
+globally_so : (so : ChannelId → Bool → Type 0) (wanted : Bool) (asked : Globally) →
+    OfRequest so (says_so wanted asked)
+globally_so so wanted (Listens address port) = tt
+globally_so so wanted (Judges judged) = tt
+
+global_say : (so : ChannelId → Bool → Type 0) (known : Option KnownGlobal) (wanted : Bool) →
+    AllSay (OfRequest so) (globally_asked_by known wanted)
+global_say so None wanted = tt
+global_say so (Some known) wanted = λ values. globally_so so wanted (known.asks values)
+
+denied_say : (so : ChannelId → Bool → Type 0) (first : Option Outstanding) →
+    OfRequest so (denied first)
+denied_say so None = tt
+denied_say so (Some outstanding.Keepalive) = tt
+denied_say so (Some (outstanding.Ping slot)) = tt
+denied_say so (Some (outstanding.Cancel slot)) = tt
+denied_say so (Some (outstanding.Forward slot)) = tt
+
+success_say : (so : ChannelId → Bool → Type 0) (first : Option Outstanding) →
+    AllSay (OfRequest so) (success first)
+success_say so None = tt
+success_say so (Some outstanding.Keepalive) = λ values. tt
+success_say so (Some (outstanding.Ping slot)) = λ values. tt
+success_say so (Some (outstanding.Cancel slot)) = λ values. tt
+success_say so (Some (outstanding.Forward slot)) = λ rest. tt
+
+-- ---- messages of the connection protocol
 
 -- where the fields of a request are so, what is said is
-message_says : (so : ChannelId → Bool → Type 0) (there : ℕ → Bool) (m : ChannelMessage)
+message_says : (so : ChannelId → Bool → Type 0) (w : World) (m : ConnectionMessage)
     (fields : List ℕ) (read : Result Spoken WireError) →
     (m ≡ message.Request → (values : Values channel_request.fields) (rest : List ℕ) →
     SpellsAll channel_request.fields values fields rest → so (own values.0) values.1.1.0) →
-    Spells (message_layout there m) fields read → OfRead so (said_of Channel read)
-message_says so there message.Request fields read q (inl h) =
-    read_says so (request_on (there h.0.0) h.0.1.1.0 h.0.0 h.0.1.0) h.1 read
-    (request_say so (there h.0.0) h.0.1.1.0 h.0.0 h.0.1.0 (q refl h.0 h.1 h.2)) h.3
-message_says so there message.Request fields read q (inr h) =
-    subst (λ r. OfRead so (said_of Channel r)) (sym h.2) tt
-message_says so there message.OpenFailure fields read q h =
-    read_says so (message_layout there message.OpenFailure) fields read
+    Spells (message_layout w m) fields read → OfRead so (said_of Connection read)
+message_says so w message.Request fields read q (inl h) =
+    read_says so (request_on (is_there w h.0.0) h.0.1.1.0 h.0.0 h.0.1.0) h.1 read
+    (request_say so (is_there w h.0.0) h.0.1.1.0 h.0.0 h.0.1.0 (q refl h.0 h.1 h.2)) h.3
+message_says so w message.Request fields read q (inr h) =
+    subst (λ r. OfRead so (said_of Connection r)) (sym h.2) tt
+message_says so w message.GlobalRequest fields read q h =
+    read_says so asks_globally fields read
+    (λ values. global_say so (global_named values.0) values.1.0) h
+message_says so w message.RequestSuccess fields read q h =
+    read_says so (success (oldest w.globals.outstanding)) fields read
+    (success_say so (oldest w.globals.outstanding)) h
+message_says so w message.RequestFailure fields read q h =
+    read_says so (failure (oldest w.globals.outstanding)) fields read
+    (λ values. denied_say so (oldest w.globals.outstanding)) h
+message_says so w message.OpenFailure fields read q h =
+    read_says so (message_layout w message.OpenFailure) fields read
     (λ channel code texts. tt) h
-message_says so there message.WindowAdjust fields read q h =
-    read_says so (message_layout there message.WindowAdjust) fields read (λ values. tt) h
-message_says so there message.Data fields read q h =
-    read_says so (message_layout there message.Data) fields read
-    (λ channel. data_say so (there channel.0) channel.0) h
-message_says so there message.ExtendedData fields read q h =
-    read_says so (message_layout there message.ExtendedData) fields read
-    (λ channel. extended_say so (there channel.0) channel.0) h
-message_says so there message.Eof fields read q h =
-    read_says so (message_layout there message.Eof) fields read (λ values. tt) h
-message_says so there message.Close fields read q h =
-    read_says so (message_layout there message.Close) fields read (λ values. tt) h
+message_says so w message.WindowAdjust fields read q h =
+    read_says so (message_layout w message.WindowAdjust) fields read (λ values. tt) h
+message_says so w message.Data fields read q h =
+    read_says so (message_layout w message.Data) fields read
+    (λ channel. data_say so (is_there w channel.0) channel.0) h
+message_says so w message.ExtendedData fields read q h =
+    read_says so (message_layout w message.ExtendedData) fields read
+    (λ channel. extended_say so (is_there w channel.0) channel.0) h
+message_says so w message.Eof fields read q h =
+    read_says so (message_layout w message.Eof) fields read (λ values. tt) h
+message_says so w message.Close fields read q h =
+    read_says so (message_layout w message.Close) fields read (λ values. tt) h
 
 -- ---- gates
 
 -- the gate of requests is for the number 98
 abbrev NumbersRequest : ℕ → Gate → Type 0
-NumbersRequest n (gate.Channel message.Request) = n ≡ 98
+NumbersRequest n (gate.Connection message.Request) = n ≡ 98
 NumbersRequest n _ = Unit {0}
 
 picked : {A : Type 0} (b : Bool) (P : A → Type 0) (at other : A) → (b ≡ true → P at) → P other →
@@ -229,25 +274,26 @@ picked : {A : Type 0} (b : Bool) (P : A → Type 0) (at other : A) → (b ≡ tr
 picked true P at other h k = h refl
 picked false P at other h k = k
 
-message_numbers : (n : ℕ) (other : Gate) → NumbersRequest n other →
-    NumbersRequest n (of_channels (channel_message n) other)
-message_numbers n other h =
-    let P : Option ChannelMessage → Type 0 = λ o. NumbersRequest n (of_channels o other) in
-    picked (n == 92) P (Some message.OpenFailure) _ (λ is. tt)
+message_numbers : (n : ℕ) → NumbersRequest n (of_connection (connection_message n))
+message_numbers n =
+    let P : Option ConnectionMessage → Type 0 = λ o. NumbersRequest n (of_connection o) in
+    picked (n == 80) P (Some message.GlobalRequest) _ (λ is. tt)
+    (picked (n == 81) P (Some message.RequestSuccess) _ (λ is. tt)
+    (picked (n == 82) P (Some message.RequestFailure) _ (λ is. tt)
+    (picked (n == 92) P (Some message.OpenFailure) _ (λ is. tt)
     (picked (n == 93) P (Some message.WindowAdjust) _ (λ is. tt)
     (picked (n == 94) P (Some message.Data) _ (λ is. tt)
     (picked (n == 95) P (Some message.ExtendedData) _ (λ is. tt)
     (picked (n == 96) P (Some message.Eof) _ (λ is. tt)
     (picked (n == 97) P (Some message.Close) _ (λ is. tt)
-    (picked (n == 98) P (Some message.Request) None (eqb-true n 98) h))))))
+    (picked (n == 98) P (Some message.Request) None (eqb-true n 98) tt)))))))))
 
 connection_numbers : (n : ℕ) → NumbersRequest n (connection_gate n)
 connection_numbers n =
     let P : Gate → Type 0 = NumbersRequest n in
     picked (n == 90) P gate.ChannelOpen _ (λ is. tt)
     (picked (n == 91) P gate.OpenConfirmation _ (λ is. tt)
-    (message_numbers n (if is_connection_number n then gate.NotBuilt else gate.Nothing)
-    (picked (is_connection_number n) P gate.NotBuilt gate.Nothing (λ is. tt) tt)))
+    (message_numbers n))
 
 authentication_numbers : (config : Config) (auth : AuthRequest) (n : ℕ) →
     NumbersRequest n (authentication_gate config auth n)
@@ -267,7 +313,7 @@ state_numbers config (WaitingAuthRequest auth) n = authentication_numbers config
 state_numbers config InitCompression n = connection_numbers n
 state_numbers config Authenticated n = connection_numbers n
 
-is_request : (w : World) (payload : List ℕ) → gate_of w payload ≡ gate.Channel message.Request →
+is_request : (w : World) (payload : List ℕ) → gate_of w payload ≡ gate.Connection message.Request →
     (message_of payload == channel_request.number) ≡ true
 is_request w [] at = absurd (cc)
 is_request w (n ∷ fields) at =
@@ -301,36 +347,35 @@ service_says : (so : ChannelId → Bool → Type 0) (read : Result (List ℕ) Wi
 service_says so (Ok name) = tt
 service_says so (Err why) = tt
 
-gate_says : (so : ChannelId → Bool → Type 0) (given : Circumstances) (there : ℕ → Bool)
+gate_says : (so : ChannelId → Bool → Type 0) (given : Circumstances) (w : World)
     (at : Gate) (fields : List ℕ) (said : Said) →
-    (at ≡ gate.Channel message.Request → (values : Values channel_request.fields)
+    (at ≡ gate.Connection message.Request → (values : Values channel_request.fields)
     (rest : List ℕ) → SpellsAll channel_request.fields values fields rest →
     so (own values.0) values.1.1.0) →
-    Says given there at fields said → OfRead so said
-gate_says so given there gate.Nothing fields said q h = subst (OfRead so) (sym h) tt
-gate_says so given there gate.Ends fields said q h = subst (OfRead so) (sym h) tt
-gate_says so given there gate.OverCap fields said q h = subst (OfRead so) (sym h) tt
-gate_says so given there gate.NotBuilt fields said q h = subst (OfRead so) (sym h) tt
-gate_says so given there gate.ServiceRequest fields said q h =
+    Says given w at fields said → OfRead so said
+gate_says so given w gate.Nothing fields said q h = subst (OfRead so) (sym h) tt
+gate_says so given w gate.Ends fields said q h = subst (OfRead so) (sym h) tt
+gate_says so given w gate.OverCap fields said q h = subst (OfRead so) (sym h) tt
+gate_says so given w gate.NotBuilt fields said q h = subst (OfRead so) (sym h) tt
+gate_says so given w gate.ServiceRequest fields said q h =
     subst (OfRead so) (sym h.2) (service_says so h.0)
-gate_says so given there gate.UserauthRequest fields said q h = subst (OfRead so) (sym h.2) tt
-gate_says so given there gate.InfoResponse fields said q h = subst (OfRead so) (sym h.2) tt
-gate_says so given there gate.ChannelOpen fields said q h = open_says so fields said h
-gate_says so given there gate.OpenConfirmation fields said q h =
+gate_says so given w gate.UserauthRequest fields said q h = subst (OfRead so) (sym h.2) tt
+gate_says so given w gate.InfoResponse fields said q h = subst (OfRead so) (sym h.2) tt
+gate_says so given w gate.ChannelOpen fields said q h = open_says so fields said h
+gate_says so given w gate.OpenConfirmation fields said q h =
     confirmation_says so fields said h
-gate_says so given there (gate.Channel m) fields said q h =
-    subst (OfRead so) (sym h.2) (message_says so there m fields h.0
-    (λ is. q (ap gate.Channel is)) h.1)
+gate_says so given w (gate.Connection m) fields said q h =
+    subst (OfRead so) (sym h.2) (message_says so w m fields h.0
+    (λ is. q (ap gate.Connection is)) h.1)
 
 -- a payload that is read as a request wants a reply on the number where the request says so
 pub payload_says : (number : ℕ) (given : Circumstances) (w : World) (payload : List ℕ)
-    (said : Said) → Says given (is_there w) (gate_of w payload) (drop 1 payload) said →
+    (said : Said) → Says given w (gate_of w payload) (drop 1 payload) said →
     OfRead (λ channel wanted. wants_reply_on number (input.Payload payload)
     ≡ ((number == channel.0) && wanted)) said
 payload_says number given w payload said h =
     gate_says (λ channel wanted. wants_reply_on number (input.Payload payload)
-    ≡ ((number == channel.0) && wanted)) given (is_there w) (gate_of w payload) (drop 1 payload)
-    said
+    ≡ ((number == channel.0) && wanted)) given w (gate_of w payload) (drop 1 payload) said
     (λ at values rest spelled.
     let told = fields_say values (drop 1 payload) rest spelled in
     ap (λ b. b && ((number == recipient_of (drop 1 payload)) && wanted_of (drop 1 payload)))

@@ -103,7 +103,7 @@ pub record Lawful {E : Type 0} {accepts : Acceptance} {settings : Settings} {bef
     {max : ℕ} {result : Result (Unit {0}) (RunError E)}
     (account : Ran accepts settings before after max result) : Type 0 where
   -- Ok comes only where the last input ended the run
-  pub ended : OnOk result (IsSomeAnd account.last (λ turn. IsEnding account.world turn.input.kind))
+  pub ended : OnOk result (IsSomeAnd account.last (IsEnding account.world))
   -- nothing of the connection is served before an accepted authentication
   pub authorised : Authorised accepts settings (account.turns ++ option_to_list account.last)
   -- after each finished input each channel has sent exactly its first min(accepted, granted) bytes,

@@ -9,11 +9,12 @@ use Rattle.ssh_link.specs.declared.outcome.CommandOutcome.TheVariants.{Accepted,
 use Rattle.ssh_wire.specs.declared.channel_id.ChannelId.{ChannelId}
 use Rattle.ssh_auth.specs.declared.question.Judged.{Judged}
 use Rattle.ssh_auth.specs.declared.question.Lent.{Lent}
-use Rattle.ssh_auth.specs.declared.question.Question.TheVariants.{Lends, Judges, Adjusts, Done}
+use Rattle.ssh_auth.specs.declared.question.Question.TheVariants.{Lends, Judges, Listens, Adjusts}
+use Rattle.ssh_auth.specs.declared.question.Question.TheVariants.{Done}
 use Rattle.ssh_auth.specs.Plan.{Plan, Finish, Ask, Tell}
 use Rattle.ssh_session.specs.World.{World}
-use Rattle.ssh_session.specs.Effect.{Effect, Does, Unbuilt, effect}
-use Rattle.ssh_session.specs.Outcome.{Fault, Not_built, Outcome, Goes, Ends, Fails}
+use Rattle.ssh_session.specs.Effect.{Effect, Does, effect}
+use Rattle.ssh_session.specs.Outcome.{Fault, Outcome, Goes, Ends, Fails}
 
 pub data Act : Type 0 where
   -- the users of the channels are told this
@@ -23,6 +24,10 @@ pub data Act : Type 0 where
   -- the handler is asked whether this is granted, the commands that it recorded are done, and then
   -- the world turns by its answer
   Judges_by : (judged : Judged) → (by : (granted : Bool) → World → World) → Act
+  -- the handler is asked whether connections to this address are forwarded and at which port it
+  -- listens, the commands that it recorded are done, and then the world turns by its answer
+  Listens_by : (address : List ℕ) → (port : ℕ) → (by : (granted : Bool) → (bound : ℕ) → World
+      → World) → Act
   -- the handler is asked how large a window is from now on, and the world turns by its answer
   Adjusts_by : (channel : ChannelId) → (current : ℕ) → (by : ℕ → World → World) → Act
   -- the world turns, and frames are written
@@ -46,7 +51,6 @@ tell_done place (Refused why) next = Ask (Done place (Refused why)) (λ _. next)
 -- what a command does, and what follows
 abbrev pub done : Effect → (CommandOutcome → World → Plan Outcome) → Plan Outcome
 done (Does notices outcome world) next = tell_all (map Noticed notices) (next outcome world)
-done Unbuilt next = Finish (Fails Not_built)
 
 -- what a callback recorded is done in order, and then this follows
 abbrev pub done_all : (place : ℕ) → List Command → World → (World → Plan Outcome) → Plan Outcome
@@ -61,6 +65,9 @@ acts (Notes notice ∷ later) w = Tell (Noticed notice) (acts later w)
 acts (Calls lent ∷ later) w = Ask (Lends lent) (λ commands. done_all 0 commands w (acts later))
 acts (Judges_by judged by ∷ later) w = Ask (Judges judged) (λ judgement.
     done_all 0 judgement.commands w (λ world. acts later (by judgement.granted world)))
+acts (Listens_by address port by ∷ later) w = Ask (Listens address port) (λ listening.
+    done_all 0 listening.commands w
+    (λ world. acts later (by listening.granted listening.port world)))
 acts (Adjusts_by channel current by ∷ later) w = Ask (Adjusts channel current)
     (λ window. acts later (by window w))
 acts (Turns by ∷ later) w = acts later (by w)

@@ -4,7 +4,8 @@ use Rattle.std.specs.Prelude.{if◌then◌else◌, Bool, Option, Some, None}
 use Rattle.ssh_wire.specs.declared.channel_id.ChannelId.{ChannelId}
 use Rattle.ssh_wire.specs.declared.open_failure.ChannelOpenFailure.{ChannelOpenFailure}
 use Rattle.ssh_wire.specs.Open.{open_failure}
-use Rattle.ssh_wire.specs.Messages.{channel_success, channel_failure}
+use Rattle.ssh_wire.specs.Messages.{written, channel_success, channel_failure, request_success}
+use Rattle.ssh_wire.specs.Messages.{request_failure}
 use Rattle.ssh_wire.specs.OpenFailures.{open_failure_code, open_failure_text}
 use Rattle.ssh_link.specs.declared.command.Command.{Command}
 use Rattle.ssh_link.specs.declared.command.Command.TheVariants as command
@@ -17,6 +18,7 @@ use Rattle.ssh_link.specs.declared.outcome.Refusal.{Refusal}
 use Rattle.ssh_link.specs.declared.outcome.Refusal.TheVariants.{UnknownChannel, UnknownOpen}
 use Rattle.ssh_link.specs.declared.outcome.Refusal.TheVariants.{NotConfirmed, SendingEnded, TooLong}
 use Rattle.ssh_link.specs.declared.outcome.Refusal.TheVariants.{NotAuthenticated, NumbersFull}
+use Rattle.ssh_link.specs.declared.outcome.Refusal.TheVariants.{Disconnected, ClientOnly}
 use Rattle.ssh_channels.specs.declared.chunk.DataKind.TheVariants.{Plain, Extended}
 use Rattle.ssh_channels.specs.Entry.{Entry, opened}
 use Rattle.ssh_channels.specs.Layout.{chunk, on_channel}
@@ -30,7 +32,11 @@ use Rattle.ssh_session.specs.Opening.{Opening}
 use Rattle.ssh_session.specs.Opens.{opening_of, answered, confirmation_frame, failure_frame}
 use Rattle.ssh_session.specs.OwnRequests.{OwnRequest, request_payload, xon_xoff, exit_status}
 use Rattle.ssh_session.specs.OwnRequests.{exit_signal}
-use Rattle.ssh_session.specs.World.{World, lined, writes, replies}
+use Rattle.ssh_session.specs.Layout.{at_once}
+use Rattle.ssh_session.specs.OwnMessages.{OwnMessage, forward, cancel, keepalive, ping, debug}
+use Rattle.ssh_session.specs.OwnMessages.{disconnect}
+use Rattle.ssh_session.specs.World.{World, lined, writes, replies, awaits, ends_by}
+use Rattle.ssh_session.specs.World.{settles_global}
 
 -- what a command needs, to be done
 pub data Need : Type 0 where
@@ -43,6 +49,8 @@ pub data Need : Type 0 where
   Opening_of : (channel : ChannelId) → Need
   -- a user who was let in (RFC 4252 section 6)
   User : Need
+  -- that this side is a client, which it is not
+  Client : Need
   -- nothing
   Nothing : Need
 
@@ -50,6 +58,13 @@ pub data Need : Type 0 where
 abbrev pub opens_need : Option OwnOpen → Need
 opens_need None = Nothing
 opens_need (Some asked) = User
+
+-- a command that concerns no channel that is there: one line a command
+abbrev pub apart_needs : Command → Need
+apart_needs (command.TcpipForward address port reply) = User
+apart_needs (command.CancelTcpipForward address port reply) = User
+apart_needs (command.ClientOnly channel message) = Client
+apart_needs other = opens_need (asking other)
 
 -- one line a command
 abbrev pub needs : Command → Need
@@ -63,7 +78,7 @@ needs (command.XonXoff channel client_can_do) = Established channel
 needs (command.ExitStatus channel status) = Established channel
 needs (command.ExitSignal channel signal core message language) = Established channel
 needs (command.Answer answer) = Opening_of answer.channel
-needs other = opens_need (asking other)
+needs other = apart_needs other
 
 -- what keeps a channel from being used: the peer has not confirmed it, or what is asked for was
 -- ended
@@ -101,6 +116,7 @@ lacks w (Closing channel) = no_closing (find channel.0 w.channels.lines.entries)
 lacks w (Established channel) = no_established (find channel.0 w.channels.lines.entries)
 lacks w (Opening_of channel) = no_open (opening_of channel.0 w)
 lacks w User = no_user w.user.state
+lacks w Client = Some ClientOnly
 lacks w Nothing = None
 
 -- the description of a refusal and its language: those of the answer, or that of its reason in
@@ -123,11 +139,9 @@ failure_of opening reason texts =
 abbrev pub is_too_long : List ℕ → Bool
 is_too_long payload = nat_le (2 ^ 32) (length payload)
 
--- this notice is given, this is the answer, and this is the world from then on
+-- these notices are given, this is the answer, and this is the world from then on
 pub data Effect : Type 0 where
   Does : (notices : List Notice) → (outcome : CommandOutcome) → (world : World) → Effect
-  -- it is not built
-  Unbuilt : Effect
 
 abbrev pub accepts : World → Effect
 accepts w = Does [] Accepted w
@@ -176,7 +190,7 @@ opens asked w = if is_too_long (open_payload asked 0 w.settings.config.window_si
     else opens_at (next_number w.channels.lines) asked w
 
 abbrev pub opens_or_not : Option OwnOpen → World → Effect
-opens_or_not None w = Unbuilt
+opens_or_not None w = accepts w
 opens_or_not (Some asked) w = opens asked w
 
 -- a request of this side's goes to the peer, and wants no reply (section 5.4)
@@ -189,6 +203,28 @@ abbrev pub requests : (channel : ChannelId) → OwnRequest → World → Effect
 requests channel asked w = if is_too_long (request_payload 0 asked)
     then refuses TooLong w
     else requests_on (find channel.0 w.channels.lines.entries) channel asked w
+
+-- a message of no channel is written; its reply is waited for, or the connection is over with it
+abbrev pub said : OwnMessage → World → World
+said message w =
+    writes (at_once message.payload ∷ []) (ends_by message.ends (awaits message.awaited w))
+
+abbrev pub sends : OwnMessage → World → Effect
+sends message w = if is_too_long message.payload then refuses TooLong w else accepts (said message w)
+
+-- a command that concerns no channel that is there, and lacks nothing: one line a command; what a
+-- client alone may say is never done
+abbrev pub done_apart : World → Command → Effect
+done_apart w (command.TcpipForward address port reply) = sends (forward address port reply) w
+done_apart w (command.CancelTcpipForward address port reply) = sends (cancel address port reply) w
+done_apart w command.Keepalive = sends keepalive w
+done_apart w (command.Ping slot) = sends (ping slot) w
+done_apart w command.RequestSuccess = accepts (settles_global (written request_success tt) w)
+done_apart w command.RequestFailure = accepts (settles_global (written request_failure tt) w)
+done_apart w (command.Debug always message language) = sends (debug always message language) w
+done_apart w (command.Disconnect reason description language) =
+    sends (disconnect reason description language) w
+done_apart w other = opens_or_not (asking other) w
 
 -- a command that lacks nothing is done: one line a command
 abbrev pub done_by : World → Command → Effect
@@ -207,12 +243,17 @@ done_by w (command.ExitStatus channel status) = requests channel (exit_status st
 done_by w (command.ExitSignal channel signal core message language) =
     requests channel (exit_signal signal core message language) w
 done_by w (command.Answer answer) = answers answer (opening_of answer.channel.0 w) w
-done_by w other = opens_or_not (asking other) w
+done_by w other = done_apart w other
 
 -- a command that is refused does nothing
 abbrev pub refused_or : Option Refusal → World → Effect → Effect
 refused_or (Some why) w does = refuses why w
 refused_or None w does = does
 
+-- once the connection was ended, each command is refused (RFC 4253 section 11.1)
+abbrev pub refused_for : (disconnected : Bool) → World → Command → Option Refusal
+refused_for true w command = Some Disconnected
+refused_for false w command = lacks w (needs command)
+
 abbrev pub effect : World → Command → Effect
-effect w command = refused_or (lacks w (needs command)) w (done_by w command)
+effect w command = refused_or (refused_for w.disconnected w command) w (done_by w command)

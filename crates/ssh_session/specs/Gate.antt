@@ -10,8 +10,8 @@ use Rattle.ssh_session.specs.declared.state.EncryptedState.TheVariants.{WaitingA
 use Rattle.ssh_session.specs.declared.state.EncryptedState.TheVariants.{WaitingAuthRequest}
 use Rattle.ssh_session.specs.declared.state.EncryptedState.TheVariants.{InitCompression}
 use Rattle.ssh_session.specs.declared.state.EncryptedState.TheVariants.{Authenticated}
-use Rattle.ssh_session.specs.declared.messages.ChannelMessage.{ChannelMessage}
-use Rattle.ssh_session.specs.Messages.{channel_message}
+use Rattle.ssh_session.specs.declared.messages.ConnectionMessage.{ConnectionMessage}
+use Rattle.ssh_session.specs.Messages.{connection_message}
 use Rattle.ssh_session.specs.World.{World}
 
 -- so many requests were rejected that no more are read
@@ -28,21 +28,16 @@ authentication_gate config auth n =
     else gate.InfoResponse))
     else gate.Nothing
 
--- GLOBAL_REQUEST and its replies are 80 to 82, and the messages of channels 90 to 98
-abbrev pub is_connection_number : ℕ → Bool
-is_connection_number n = (nat_le 80 n && nat_le n 82) || (nat_le 90 n && nat_le n 98)
-
-abbrev pub of_channels : Option ChannelMessage → Gate → Gate
-of_channels (Some message) other = gate.Channel message
-of_channels None other = other
+abbrev pub of_connection : Option ConnectionMessage → Gate
+of_connection (Some message) = gate.Connection message
+of_connection None = gate.Nothing
 
 -- what a number means once a user is accepted
 abbrev pub connection_gate : ℕ → Gate
 connection_gate n =
     if n == 90 then gate.ChannelOpen
     else (if n == 91 then gate.OpenConfirmation
-    else of_channels (channel_message n)
-    (if is_connection_number n then gate.NotBuilt else gate.Nothing))
+    else of_connection (connection_message n))
 
 -- what a number means to what is waited for: SERVICE_REQUEST is 5
 abbrev pub state_gate : Config → EncryptedState → ℕ → Gate

@@ -12,9 +12,12 @@ pub mod Reading
 pub mod Types
 pub mod OwnOpens
 pub mod OwnRequests
+pub mod OwnMessages
 pub mod ChannelRequests
+pub mod Globals
 pub mod Terminal
 pub mod Rows
+pub mod Ticks
 pub mod Run
 pub mod Short
 pub mod Heard

@@ -1,4 +1,4 @@
--- What a message of channels says, by its layout: one line a message (RFC 4254 section 5).
+-- What a message of the connection protocol says, by its layout: one line a message (RFC 4254).
 use Rattle.std.specs.Prelude.{ℕ, Bool, true, false, List, [], ◌∷◌, Option, Some, None}
 use Rattle.std.specs.Prelude.{◌==◌, if◌then◌else◌}
 use Rattle.ssh_wire.specs.Field.{Bytes, Number, Text}
@@ -12,24 +12,30 @@ use Rattle.ssh_auth.specs.declared.question.Happening.{Happening}
 use Rattle.ssh_auth.specs.declared.question.Happening.TheVariants as what
 use Rattle.ssh_channels.specs.declared.chunk.DataKind.TheVariants.{Plain, Extended}
 use Rattle.ssh_channels.specs.Layout.{chunk}
-use Rattle.ssh_session.specs.declared.messages.ChannelMessage.{ChannelMessage}
-use Rattle.ssh_session.specs.declared.messages.ChannelMessage.TheVariants as message
+use Rattle.ssh_session.specs.declared.messages.ConnectionMessage.{ConnectionMessage}
+use Rattle.ssh_session.specs.declared.messages.ConnectionMessage.TheVariants as message
 use Rattle.ssh_session.specs.declared.messages.Spoken.{Spoken}
 use Rattle.ssh_session.specs.declared.messages.Spoken.TheVariants as spoken
 use Rattle.ssh_session.specs.ChannelRequests.{request_named, asked_by}
+use Rattle.ssh_session.specs.Globals.{asks_globally, oldest, success}
+use Rattle.ssh_session.specs.Globals as globals
 use Rattle.ssh_session.specs.Opens.{own}
 use Rattle.ssh_session.specs.Spelling.{Layout, Leaves, Whole, Fields}
+use Rattle.ssh_session.specs.World.{World, is_there}
 
--- the message of channels of this number (RFC 4250 section 4.1.2)
-abbrev pub channel_message : ℕ → Option ChannelMessage
-channel_message n =
-    if n == 92 then Some message.OpenFailure
+-- the message of this number, where it is one of these (RFC 4250 section 4.1.2)
+abbrev pub connection_message : ℕ → Option ConnectionMessage
+connection_message n =
+    if n == 80 then Some message.GlobalRequest
+    else (if n == 81 then Some message.RequestSuccess
+    else (if n == 82 then Some message.RequestFailure
+    else (if n == 92 then Some message.OpenFailure
     else (if n == 93 then Some message.WindowAdjust
     else (if n == 94 then Some message.Data
     else (if n == 95 then Some message.ExtendedData
     else (if n == 96 then Some message.Eof
     else (if n == 97 then Some message.Close
-    else (if n == 98 then Some message.Request else None))))))
+    else (if n == 98 then Some message.Request else None)))))))))
 
 -- the reason of a refusal; a code that is none is read as the first (section 5.1)
 abbrev pub reason_of : (code : ℕ) → ChannelOpenFailure
@@ -89,11 +95,14 @@ request is_there = Fields channel_request.fields (λ (channel, (name, (wanted, _
     request_on (is_there channel) wanted channel name)
 
 -- one line a message
-abbrev pub message_layout : (is_there : ℕ → Bool) → ChannelMessage → Layout Spoken
-message_layout is_there message.OpenFailure = failure
-message_layout is_there message.WindowAdjust = grant
-message_layout is_there message.Data = plain_data is_there
-message_layout is_there message.ExtendedData = extended_data is_there
-message_layout is_there message.Eof = tells msg.Eof what.Eof
-message_layout is_there message.Close = close
-message_layout is_there message.Request = request is_there
+abbrev pub message_layout : World → ConnectionMessage → Layout Spoken
+message_layout w message.GlobalRequest = asks_globally
+message_layout w message.RequestSuccess = success (oldest w.globals.outstanding)
+message_layout w message.RequestFailure = globals.failure (oldest w.globals.outstanding)
+message_layout w message.OpenFailure = failure
+message_layout w message.WindowAdjust = grant
+message_layout w message.Data = plain_data (is_there w)
+message_layout w message.ExtendedData = extended_data (is_there w)
+message_layout w message.Eof = tells msg.Eof what.Eof
+message_layout w message.Close = close
+message_layout w message.Request = request (is_there w)

@@ -18,6 +18,10 @@ pub data Fault : Type 0 where
   Starved : Fault
   -- every number of a channel is taken
   Channels_full : Fault
+  -- the peer was not heard for too many keepalive ticks
+  Keepalive_timeout : Fault
+  -- nothing came from the peer for too long
+  Inactivity_timeout : Fault
   -- what it asks for is not built
   Not_built : Fault
 

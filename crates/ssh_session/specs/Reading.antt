@@ -15,6 +15,7 @@ use Rattle.ssh_session.specs.declared.gate.Gate.TheVariants as gate
 use Rattle.ssh_session.specs.declared.messages.Spoken.{Spoken}
 use Rattle.ssh_session.specs.Messages.{message_layout}
 use Rattle.ssh_session.specs.Spelling.{Layout, Whole, Spells}
+use Rattle.ssh_session.specs.World.{World}
 
 pub data Said : Type 0 where
   -- nothing that is to be served
@@ -34,8 +35,8 @@ pub data Said : Type 0 where
   Agreed : (message : ChannelOpenConfirmation) → Said
   -- memory was wanting to keep what it says
   Unread : Said
-  -- a message of channels
-  Channel : (spoken : Spoken) → Said
+  -- another message of the connection protocol
+  Connection : (spoken : Spoken) → Said
   -- it does not fit its layout
   Unfit : (why : WireError) → Said
   -- a packet size of 0
@@ -82,16 +83,16 @@ ReadsAs {S} says layout fields said = (read : Result S WireError) × Spells layo
     × (said ≡ said_of says read)
 
 -- at this gate, in this world and under these circumstances, the payload's fields say this
-abbrev pub Says : Circumstances → (is_there : ℕ → Bool) → Gate → List ℕ → Said → Type 0
-Says given is_there gate.Nothing fields said = said ≡ Nothing
-Says given is_there gate.Ends fields said = said ≡ Disconnect
-Says given is_there gate.OverCap fields said = said ≡ Over_cap
-Says given is_there gate.ServiceRequest fields said = ReadsAs Service service fields said
-Says given is_there gate.UserauthRequest fields said = (asked : Asked) × SaysRequest given fields
+abbrev pub Says : Circumstances → World → Gate → List ℕ → Said → Type 0
+Says given w gate.Nothing fields said = said ≡ Nothing
+Says given w gate.Ends fields said = said ≡ Disconnect
+Says given w gate.OverCap fields said = said ≡ Over_cap
+Says given w gate.ServiceRequest fields said = ReadsAs Service service fields said
+Says given w gate.UserauthRequest fields said = (asked : Asked) × SaysRequest given fields
     asked × (said ≡ Request asked)
-Says given is_there gate.InfoResponse fields said = SaysResponse fields said
-Says given is_there gate.ChannelOpen fields said = SaysOpen fields said
-Says given is_there gate.OpenConfirmation fields said = SaysConfirmation fields said
-Says given is_there (gate.Channel message) fields said =
-    ReadsAs Channel (message_layout is_there message) fields said
-Says given is_there gate.NotBuilt fields said = said ≡ Unbuilt
+Says given w gate.InfoResponse fields said = SaysResponse fields said
+Says given w gate.ChannelOpen fields said = SaysOpen fields said
+Says given w gate.OpenConfirmation fields said = SaysConfirmation fields said
+Says given w (gate.Connection message) fields said =
+    ReadsAs Connection (message_layout w message) fields said
+Says given w gate.NotBuilt fields said = said ≡ Unbuilt

@@ -1,9 +1,10 @@
 -- The reply table: what each input owes, row by row.
-use Rattle.std.specs.Prelude.{ℕ, ◌+◌, ◌-◌, ◌^◌, ◌==◌, min, nat_lt, List, [], ◌∷◌, length}
+use Rattle.std.specs.Prelude.{ℕ, ◌+◌, ◌-◌, ◌^◌, ◌==◌, ◌&&◌, min, nat_lt, List, [], ◌∷◌, length}
 use Rattle.std.specs.Prelude.{Bool, true, false, not, Option, Some, None, unwrap_or, if◌then◌else◌}
 use Rattle.std.specs.Prelude.{bytes_eq, codes}
 use Rattle.ssh_wire.specs.declared.error.WireError.TheVariants.{TooLong}
-use Rattle.ssh_wire.specs.Messages.{channel_success, channel_failure}
+use Rattle.ssh_wire.specs.Messages.{written, channel_success, channel_failure, request_success}
+use Rattle.ssh_wire.specs.Messages.{forward_success, request_failure}
 use Rattle.ssh_wire.specs.declared.channel_id.ChannelId.{ChannelId}
 use Rattle.ssh_wire.specs.declared.open.OpenChannelMessage.{OpenChannelMessage}
 use Rattle.ssh_wire.specs.declared.open.ChannelOpenConfirmation.{ChannelOpenConfirmation}
@@ -11,6 +12,7 @@ use Rattle.ssh_wire.specs.declared.open_failure.ChannelOpenFailure.{ChannelOpenF
 use Rattle.ssh_link.specs.Frames.{Frame}
 use Rattle.ssh_link.specs.declared.notice.ChannelMsg.{ChannelMsg}
 use Rattle.ssh_link.specs.declared.notice.ChannelMsg.TheVariants as msg
+use Rattle.ssh_link.specs.declared.notice.Notice.{Notice}
 use Rattle.ssh_link.specs.declared.notice.Notice.TheVariants as notice
 use Rattle.ssh_auth.specs.declared.auth_request.AuthRequest.{AuthRequest}
 use Rattle.ssh_auth.specs.declared.auth_step.AuthVerdict.{AuthVerdict}
@@ -56,10 +58,11 @@ use Rattle.ssh_session.specs.Types.{handling, opening_by, unsupported, unknown}
 use Rattle.ssh_session.specs.Outcome.{Fault, Encoding, Inconsistent, Key, Unsupported, Starved}
 use Rattle.ssh_session.specs.Outcome.{Channels_full, Not_built, Outcome}
 use Rattle.ssh_session.specs.Reading.{Said, Disconnect, Over_cap, Service, Request, Response, Open}
-use Rattle.ssh_session.specs.Reading.{Agreed, Channel, Unread, Unfit, Without_packets, Unbuilt}
-use Rattle.ssh_session.specs.World.{World, waits_for, lined, writes, replies}
-use Rattle.ssh_session.specs.Acts.{Act, Notes, Calls, Judges_by, Adjusts_by, Turns, Is_over}
-use Rattle.ssh_session.specs.Acts.{Stops, acts}
+use Rattle.ssh_session.specs.Reading.{Agreed, Connection, Unread, Unfit, Without_packets, Unbuilt}
+use Rattle.ssh_session.specs.World.{World, waits_for, lined, writes, replies, wants_global}
+use Rattle.ssh_session.specs.World.{settles_global, settled_first, unless_ended}
+use Rattle.ssh_session.specs.Acts.{Act, Notes, Calls, Judges_by, Listens_by, Adjusts_by, Turns}
+use Rattle.ssh_session.specs.Acts.{Is_over, Stops, acts}
 
 -- ---- the service (RFC 4253 section 10)
 
@@ -301,9 +304,28 @@ agent_acts channel wanted =
     Turns (lined (wants channel.0 wanted))
     ∷ Notes (notice.Channel channel (msg.AgentForward true))
     ∷ Judges_by (whether.AgentRequest channel)
-    (λ granted. lined (replies channel.0 (reply_of granted))) ∷ []
+    (λ granted. unless_ended (lined (replies channel.0 (reply_of granted)))) ∷ []
 
--- ---- messages of channels, by what they say
+-- ---- global requests of the peer's, and replies to this side's (section 4)
+
+-- REQUEST_SUCCESS has the port that was bound, where the peer left it to this side (section 7.1)
+abbrev pub bound_to : (asked bound : ℕ) → Option ℕ
+bound_to asked bound = if (asked == 0) && not (bound == 0) then Some bound else None
+
+abbrev pub granted_on : (port : Option ℕ) → List ℕ
+granted_on None = written request_success tt
+granted_on (Some port) = written forward_success (port, tt)
+
+abbrev pub global_reply : (granted : Bool) → (port : Option ℕ) → List ℕ
+global_reply true port = granted_on port
+global_reply false port = written request_failure tt
+
+-- the users are told what came of this side's request, where it has a slot
+abbrev pub notes : Option Notice → List Act
+notes None = []
+notes (Some what) = Notes what ∷ []
+
+-- ---- messages of the connection protocol, by what they say
 
 abbrev pub spoken_acts : World → Spoken → List Act
 spoken_acts w spoken.Nothing = []
@@ -326,6 +348,18 @@ spoken_acts w (spoken.Asks channel wanted message happening) =
 spoken_acts w (spoken.AsksForAgent channel wanted) = agent_acts channel wanted
 spoken_acts w (spoken.AsksUnknown channel wanted) =
     Turns (lined (wants channel.0 wanted)) ∷ Turns (lined (replies channel.0 (reply_of false))) ∷ []
+-- the handler says whether connections are forwarded, which is the reply where one is still wanted
+spoken_acts w (spoken.AsksToForward wanted address port) =
+    Turns (wants_global wanted)
+    ∷ Listens_by address port (λ granted bound.
+    unless_ended (settles_global (global_reply granted (bound_to port bound)))) ∷ []
+spoken_acts w (spoken.AsksGlobally wanted judged) =
+    Turns (wants_global wanted)
+    ∷ Judges_by judged (λ granted. unless_ended (settles_global (global_reply granted None))) ∷ []
+spoken_acts w (spoken.AsksGloballyUnknown wanted) =
+    Turns (wants_global wanted) ∷ Turns (settles_global (global_reply false None)) ∷ []
+-- the oldest request of this side's has its reply
+spoken_acts w (spoken.Settles told) = Turns settled_first ∷ notes told
 spoken_acts w spoken.Inconsistent = Stops Inconsistent ∷ []
 
 -- ---- one line a row
@@ -335,7 +369,7 @@ owed w (Open message) = open_acts (next_number w.channels.lines) message (handli
 owed w (Agreed message) = confirmation_acts (has (λ e. not e.confirmed)
     message.recipient_channel w.channels.lines) message
 owed w Unread = Stops Starved ∷ []
-owed w (Channel said) = spoken_acts w said
+owed w (Connection said) = spoken_acts w said
 owed w Disconnect = Is_over ∷ []
 owed w Over_cap = Turns (writes (at_once too_many_attempts ∷ [])) ∷ Is_over ∷ []
 owed w (Unfit why) = Stops (Encoding why) ∷ []

@@ -1,10 +1,12 @@
 -- A run: inputs, each with its calls and what the link was told.
-use Rattle.std.specs.Prelude.{◌≡◌, ℕ, Bool, true, false, not, List, [], ◌∷◌, map, drop}
+use Rattle.std.specs.Prelude.{◌≡◌, ℕ, Bool, true, false, List, [], ◌∷◌, map, drop, cond}
 use Rattle.ssh_link.specs.Asked.{IsAsked}
 use Rattle.ssh_link.specs.declared.command.Command.TheVariants.{Answer}
 use Rattle.ssh_link.specs.declared.frame.Input.{Input}
 use Rattle.ssh_link.specs.declared.frame.InputKind.{InputKind}
 use Rattle.ssh_link.specs.declared.frame.InputKind.TheVariants.{Payload, Command, OpenReply, End}
+use Rattle.ssh_link.specs.declared.frame.InputKind.TheVariants.{KeepaliveTick, InactivityTick}
+use Rattle.ssh_link.specs.declared.frame.InputKind.TheVariants.{RekeyTick}
 use Rattle.ssh_link.specs.declared.link.TraceEntry.{TraceEntry}
 use Rattle.ssh_link.specs.declared.link.TraceEntry.TheVariants.{Took, Sent, Answered}
 use Rattle.ssh_link.specs.declared.command.Command.{Command as Commanded}
@@ -13,43 +15,43 @@ use Rattle.ssh_auth.specs.Publickey.{Acceptance}
 use Rattle.ssh_auth.specs.Plan.{Plan, Finish, Tell, Event, after, calls_in, steps_in, told_in}
 use Rattle.ssh_auth.specs.Plan.{Follows}
 use Rattle.ssh_channels.specs.Lines.{hands_on}
-use Rattle.ssh_channels.specs.Does.{has}
 use Rattle.ssh_channels.specs.Entry.{all_framed}
-use Rattle.ssh_session.specs.Acts.{done, tell_all}
+use Rattle.ssh_session.specs.Acts.{acts, done, tell_all}
 use Rattle.ssh_session.specs.Effect.{effect}
 use Rattle.ssh_session.specs.Gate.{gate_of}
 use Rattle.ssh_session.specs.Outcome.{Outcome, Goes, Ends, Fails, Not_built}
 use Rattle.ssh_session.specs.Reading.{Said, Says}
 use Rattle.ssh_session.specs.Rows.{row}
-use Rattle.ssh_session.specs.World.{World, circumstances, lined}
+use Rattle.ssh_session.specs.Ticks.{keepalive_acts, inactivity_acts}
+use Rattle.ssh_session.specs.World.{World, circumstances, hears, lined}
 use Rattle.std.specs.List.{list_all}
-
--- a channel of this number is there, which both sides agreed to
-abbrev pub is_there : World → ℕ → Bool
-is_there w channel = has (λ e. e.confirmed) channel w.channels.lines
-
--- an open of this side's waits under this number for the peer
-abbrev pub is_waiting : World → ℕ → Bool
-is_waiting w channel = has (λ e. not e.confirmed) channel w.channels.lines
 
 -- a command from outside is done, and its ticket is answered
 abbrev pub command_row : World → (ticket : ℕ) → Commanded → Plan Outcome
 command_row w ticket command = done (effect w command) (λ outcome world.
     Tell (Answered ticket outcome) (Finish (Goes world)))
 
+-- what a payload owes, where the peer was heard by it
+abbrev pub OwesPayload : Acceptance → World → (moment : ℕ) → (payload : List ℕ) → Plan Outcome
+    → Type 0
+OwesPayload accepts w moment payload plan =
+    (said : Said) × Says (circumstances accepts w.settings moment) w (gate_of w payload)
+    (drop 1 payload) said
+    × (plan ≡ row w moment said)
+
 -- what an input of this kind owes before its frames are handed on, taken in this world at this
 -- moment, where the verifier accepts these signatures
 abbrev pub OwesKind : Acceptance → World → (moment : ℕ) → InputKind → Plan Outcome → Type 0
 OwesKind accepts w moment End plan = plan ≡ Finish (Ends w)
 OwesKind accepts w moment (Payload payload) plan =
-    (said : Said) × Says (circumstances accepts w.settings moment) (is_there w) (gate_of w payload)
-    (drop 1 payload) said
-    × (plan ≡ row w moment said)
+    OwesPayload accepts (hears payload w) moment payload plan
 OwesKind accepts w moment (Command ticket command) plan = plan ≡ command_row w ticket command
 OwesKind accepts w moment (OpenReply ticket answer) plan = plan ≡ command_row w ticket
     (Answer answer)
--- ticks are not built
-OwesKind accepts w moment _ plan = plan ≡ Finish (Fails Not_built)
+OwesKind accepts w moment KeepaliveTick plan = plan ≡ acts (keepalive_acts w) w
+OwesKind accepts w moment InactivityTick plan = plan ≡ acts inactivity_acts w
+-- not built
+OwesKind accepts w moment RekeyTick plan = plan ≡ Finish (Fails Not_built)
 
 -- the written frames are handed on
 abbrev pub handed_on : World → World
@@ -58,9 +60,13 @@ handed_on = lined (hands_on false)
 abbrev pub hand_on : World → (World → Outcome) → Plan Outcome
 hand_on w comes = tell_all (map Sent w.channels.lines.written) (Finish (comes (handed_on w)))
 
+-- the run is over where the connection was ended (RFC 4253 section 11.1), and goes on elsewhere
+abbrev pub goes_unless_ended : World → Outcome
+goes_unless_ended w = cond w.disconnected (Ends w) (Goes w)
+
 -- the end of an input
 abbrev pub finish_input : Outcome → Plan Outcome
-finish_input (Goes w) = hand_on w Goes
+finish_input (Goes w) = hand_on w goes_unless_ended
 finish_input (Ends w) = hand_on w Ends
 finish_input (Fails why) = Finish (Fails why)
 

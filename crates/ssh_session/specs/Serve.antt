@@ -20,10 +20,12 @@ use Rattle.ssh_session.specs.declared.error.RunError.{RunError}
 use Rattle.ssh_session.specs.declared.error.RunError.TheVariants as error
 use Rattle.ssh_session.specs.declared.session.Session.{Session}
 use Rattle.ssh_session.specs.Acts.{Act, acts, tell_all}
-use Rattle.ssh_session.specs.Effect.{Effect, Does as Does_so, Unbuilt}
+use Rattle.ssh_session.specs.Effect.{Effect, Does as Does_so}
 use Rattle.ssh_session.specs.Heard.{Heard, AreSame, Calls}
 use Rattle.ssh_session.specs.Outcome.{Fault, Encoding, Inconsistent, Key, Unsupported}
 use Rattle.ssh_session.specs.Outcome.{Channels_full, Not_built, Outcome, Goes, Ends, Fails}
+use Rattle.ssh_session.specs.Outcome.{Keepalive_timeout, Inactivity_timeout}
+use Rattle.ssh_session.specs.Run.{goes_unless_ended}
 use Rattle.ssh_session.specs.World.{Settings, World, opening_world}
 
 -- ---- how a session stands for a world
@@ -65,6 +67,10 @@ pub record Refines (session : Session) (w : World) : Type 0 where
   pub table : Stands session.table w.channels.lines
   pub opens : session.opens.entries ≡ w.channels.opens
   pub target : session.target ≡ w.channels.target
+  pub wanted : session.common.wants_reply ≡ w.globals.wanted
+  pub outstanding : session.outstanding.items ≡ w.globals.outstanding
+  pub keepalives : session.keepalives ≡ w.keepalives
+  pub disconnected : session.common.disconnected ≡ w.disconnected
   pub live : session.spent ≡ false
 
 -- the session is before its first input, and the handler suits its config and its peer
@@ -92,6 +98,8 @@ cause_of (error.Key why) = Faulty (Key why)
 cause_of error.UnsupportedAuthMethod = Faulty Unsupported
 cause_of (error.Handler e) = Refused_by e
 cause_of error.ChannelsFull = Faulty Channels_full
+cause_of error.KeepaliveTimeout = Faulty Keepalive_timeout
+cause_of error.InactivityTimeout = Faulty Inactivity_timeout
 cause_of error.NotBuilt = Faulty Not_built
 
 -- with these events the plan gives this cause; rose says that the link's faults rose
@@ -155,6 +163,11 @@ abbrev pub comes : Flow → World → Outcome
 comes Continue w = Goes w
 comes Ended w = Ends w
 
+-- and whether it does so at the end of an input
+abbrev pub comes_at_end : Flow → World → Outcome
+comes_at_end Continue w = goes_unless_ended w
+comes_at_end Ended w = Ends w
+
 -- the plan came to its end
 abbrev pub Completes : {E : Type 0} → Plan Outcome → Heard E → Heard E → Session
     → Result Flow (RunError E) → Type 0
@@ -180,10 +193,9 @@ SendsEach {E} frames before after result = (w : World) (session : Session) → R
     → (next : Plan Outcome) →
     Serves (tell_all (map Sent frames) next) (λ (_ : Unit {0}) _. next) before after session result
 
--- the command did this, or there was no memory, or it is not built
+-- the command did this, or there was no memory
 abbrev pub HasEffect : {E : Type 0} → Effect → Session → Result Done (RunError E) → Type 0
 HasEffect does session (Ok done) = (world : World)
     × (does ≡ Does_so (option_to_list done.notice) done.outcome world) × Refines session world
 HasEffect does session (Err error.NoMemory) = Unit {0}
-HasEffect does session (Err error.NotBuilt) = does ≡ Unbuilt
 HasEffect does session (Err _) = ⊥

@@ -1,6 +1,7 @@
 -- Which inputs a session can finish, said positively.
 use Rattle.std.specs.Prelude.{◌≡◌, ◌<◌, ◌^◌, ◌⊎◌, ℕ, List, [], ◌∷◌, length, Option, Some, None}
-use Rattle.std.specs.Prelude.{Bool, true, false, Result, Ok, Err, codes, drop}
+use Rattle.std.specs.Prelude.{Bool, true, false, not, Result, Ok, Err, codes, drop}
+use Rattle.std.specs.List.{list_any}
 use Rattle.ssh_wire.specs.Field.{Flag, Number, Text, SpellsAll, SpellsWhole}
 use Rattle.ssh_wire.specs.declared.open.OpenChannelMessage.{OpenChannelMessage}
 use Rattle.ssh_wire.specs.declared.open.ChannelOpenConfirmation.{ChannelOpenConfirmation}
@@ -11,6 +12,7 @@ use Rattle.ssh_auth.specs.Requested.{Named, Is_none, Is_password, Is_publickey, 
 use Rattle.ssh_auth.specs.Requested.{Is_other, named_by, head_fields}
 use Rattle.ssh_link.specs.declared.frame.InputKind.{InputKind}
 use Rattle.ssh_link.specs.declared.frame.InputKind.TheVariants.{Payload, Command, OpenReply, End}
+use Rattle.ssh_link.specs.declared.frame.InputKind.TheVariants.{KeepaliveTick}
 use Rattle.ssh_keys.specs.declared.signature.Signature.{Signature}
 use Rattle.ssh_keys.specs.Signatures.{EndsInSignature}
 use Rattle.ssh_auth.specs.Layout.{pk_ok, info_request}
@@ -37,15 +39,17 @@ use Rattle.ssh_wire.specs.Field.{Values}
 use Rattle.std.specs.Prelude.{IsSome}
 use Rattle.ssh_session.specs.declared.state.EncryptedState.{EncryptedState}
 use Rattle.ssh_session.specs.declared.state.EncryptedState.TheVariants.{WaitingAuthRequest}
-use Rattle.ssh_session.specs.World.{World, circumstances}
+use Rattle.ssh_session.specs.World.{World, circumstances, hears, is_there, is_waiting}
 use Rattle.ssh_session.specs.Gate.{gate_of}
 use Rattle.ssh_session.specs.Layout.{banner}
 use Rattle.ssh_session.specs.declared.messages.Spoken.{Spoken}
 use Rattle.ssh_session.specs.declared.messages.Spoken.TheVariants as spoken
-use Rattle.ssh_session.specs.OwnOpens.{asking}
+use Rattle.ssh_session.specs.OwnMessages.{disconnect}
+use Rattle.ssh_session.specs.Effect.{is_too_long}
 use Rattle.ssh_session.specs.Messages.{message_layout}
-use Rattle.ssh_session.specs.Spelling.{Layout, Leaves, Whole, Fields}
-use Rattle.ssh_session.specs.Run.{Turn, calls_of, is_there, is_waiting}
+use Rattle.ssh_session.specs.Spelling.{Layout, Leaves, Rest, Whole, Fields}
+use Rattle.ssh_session.specs.Ticks.{is_too_many, one_more}
+use Rattle.ssh_session.specs.Run.{Turn, calls_of}
 
 -- boolean signed, string algorithm name, string blob: nothing that can be used is offered, and the
 -- rest is not read; or a usable offer is asked about; or it is signed, and string signature ends
@@ -90,6 +94,7 @@ IsServed w _ = Unit {0}
 -- the bytes fit the layout, and say what is served
 abbrev pub FitsLayout : World → Layout Spoken → List ℕ → Type 0
 FitsLayout w (Leaves said) bytes = IsServed w said
+FitsLayout w (Rest says) bytes = IsServed w (says bytes)
 FitsLayout w (Whole fields says) bytes = (values : Values fields) × SpellsWhole fields values bytes
     × IsServed w (says values)
 FitsLayout w (Fields fields next) bytes = (values : Values fields) × (rest : List ℕ)
@@ -120,30 +125,21 @@ AreValidFields given w gate.ChannelOpen fields = (message : OpenChannelMessage) 
 -- a confirmation of an open of this side's that waits
 AreValidFields given w gate.OpenConfirmation fields = (message : ChannelOpenConfirmation)
     × SpellsConfirmation message fields [] × (is_waiting w message.recipient_channel ≡ true)
-AreValidFields given w (gate.Channel message) fields =
-    FitsLayout w (message_layout (is_there w) message) fields
+AreValidFields given w (gate.Connection message) fields =
+    FitsLayout w (message_layout w message) fields
 AreValidFields given w gate.NotBuilt fields = ⊥
 
--- what the command does is built
-abbrev pub IsBuiltCommand : Commanded → Type 0
-IsBuiltCommand (command.Data channel bytes) = Unit {0}
-IsBuiltCommand (command.ExtendedData channel code bytes) = Unit {0}
-IsBuiltCommand (command.Eof channel) = Unit {0}
-IsBuiltCommand (command.Close channel) = Unit {0}
-IsBuiltCommand (command.ChannelSuccess channel) = Unit {0}
-IsBuiltCommand (command.ChannelFailure channel) = Unit {0}
-IsBuiltCommand (command.XonXoff channel client_can_do) = Unit {0}
-IsBuiltCommand (command.ExitStatus channel status) = Unit {0}
-IsBuiltCommand (command.ExitSignal channel signal core message language) = Unit {0}
-IsBuiltCommand (command.Answer answer) = Unit {0}
-IsBuiltCommand other = IsSome (asking other)
+abbrev pub IsValidPayload : Circumstances → World → (payload : List ℕ) → Type 0
+IsValidPayload given w payload = AreValidFields given w (gate_of w payload) (drop 1 payload)
 
--- a tick is not built
+-- no more keepalive ticks come than are allowed, and no tick of inactivity; one that asks for new
+-- keys is not built
 abbrev pub IsValidKind : Circumstances → World → InputKind → Type 0
 IsValidKind given w End = Unit {0}
-IsValidKind given w (Payload payload) = AreValidFields given w (gate_of w payload) (drop 1 payload)
-IsValidKind given w (Command ticket commanded) = IsBuiltCommand commanded
+IsValidKind given w (Payload payload) = IsValidPayload given (hears payload w) payload
+IsValidKind given w (Command ticket commanded) = Unit {0}
 IsValidKind given w (OpenReply ticket answer) = Unit {0}
+IsValidKind given w KeepaliveTick = is_too_many w.settings.config (one_more w.keepalives) ≡ false
 IsValidKind given w _ = ⊥
 
 -- PK_OK, the reply to a probe whose key may sign, is no longer than a payload can be (RFC 4252
@@ -154,11 +150,6 @@ HasShortReply (Payload payload) = (user name blob rest : List ℕ) →
     rest →
     SpellsAll offer_fields (false, (name, (blob, tt))) rest [] → length (pk_ok name blob) < 2 ^ 32
 HasShortReply _ = Unit {0}
-
--- a callback records nothing that is not built
-abbrev pub AreBuilt : List Commanded → Type 0
-AreBuilt [] = Unit {0}
-AreBuilt (command ∷ commands) = IsBuiltCommand command × AreBuilt commands
 
 -- the banner is not too long
 abbrev pub IsFineBanner : Option (List ℕ) → Type 0
@@ -182,22 +173,19 @@ IsFineAdmission kind (by.PublickeyOffered user key algorithm) answer = IsFinePro
 IsFineAdmission kind (by.KeyboardInteractive user submethods response) answer = IsFinePrompt answer
 IsFineAdmission kind _ answer = Unit {0}
 
--- the answer to a question asks for nothing that is too long, or not built
+-- the answer to a question asks for nothing that is too long
 abbrev pub IsFineAnswer : InputKind → (question : Question) → Answer question → Type 0
 IsFineAnswer kind ask.Banner message = IsFineBanner message
 IsFineAnswer kind (ask.Admits admission) answer = IsFineAdmission kind admission answer
-IsFineAnswer kind (ask.Lends lent) commands = AreBuilt commands
-IsFineAnswer kind (ask.Judges judged) judgement = AreBuilt judgement.commands
-IsFineAnswer kind (ask.Listens address port) listening = AreBuilt listening.commands
 IsFineAnswer kind _ answer = Unit {0}
 
 -- the call answered no error, and is fine so
 abbrev pub IsFineSo : {E : Type 0} → InputKind → Was E → Type 0
 IsFineSo kind (Banner_so (Ok message)) = IsFineBanner message
 IsFineSo kind (Admitted_so admission (Ok answer)) = IsFineAdmission kind admission answer
-IsFineSo kind (Lent_so lent (Ok done) commands) = AreBuilt commands
-IsFineSo kind (Judged_so judged (Ok granted) commands) = AreBuilt commands
-IsFineSo kind (Listened_so address port port_after (Ok granted) commands) = AreBuilt commands
+IsFineSo kind (Lent_so lent (Ok done) commands) = Unit {0}
+IsFineSo kind (Judged_so judged (Ok granted) commands) = Unit {0}
+IsFineSo kind (Listened_so address port port_after (Ok granted) commands) = Unit {0}
 IsFineSo kind (Adjusted_so channel current (Ok window)) = Unit {0}
 IsFineSo kind (Done_so place outcome (Ok done)) = Unit {0}
 IsFineSo kind _ = ⊥
@@ -223,9 +211,33 @@ IsComplete (Err error.NoMemory) = Unit {0}
 IsComplete (Err error.InputLimit) = Unit {0}
 IsComplete (Err e) = ⊥
 
--- an input that ends a run: the end, DISCONNECT, whose number is 1, or a request over the cap
-abbrev pub IsEnding : World → InputKind → Type 0
-IsEnding w End = Unit {0}
-IsEnding w (Payload payload) = ((fields : List ℕ) × (payload ≡ 1 ∷ fields))
+-- this command ends the connection: a DISCONNECT that is not too long to be sent
+abbrev pub disconnects : Commanded → Bool
+disconnects (command.Disconnect reason description language) =
+    not (is_too_long (disconnect reason description language).payload)
+disconnects _ = false
+
+-- the commands that were recorded in a call
+abbrev pub recorded_so : {E : Type 0} → Was E → List Commanded
+recorded_so (Lent_so lent answer commands) = commands
+recorded_so (Judged_so judged answer commands) = commands
+recorded_so (Listened_so address port port_after answer commands) = commands
+recorded_so _ = []
+
+-- a callback recorded a command that ends the connection
+abbrev pub call_disconnects : {E : Type 0} → Call E → Bool
+call_disconnects call = list_any disconnects (recorded_so (was call))
+
+-- an input of this kind ends a run by itself: the end, DISCONNECT, whose number is 1, a request
+-- over the cap, or a command that ends the connection
+abbrev pub IsEndingKind : World → InputKind → Type 0
+IsEndingKind w End = Unit {0}
+IsEndingKind w (Payload payload) = ((fields : List ℕ) × (payload ≡ 1 ∷ fields))
     ⊎ (gate_of w payload ≡ gate.OverCap)
-IsEnding w _ = ⊥
+IsEndingKind w (Command ticket commanded) = disconnects commanded ≡ true
+IsEndingKind w _ = ⊥
+
+-- it does, or one of its callbacks recorded a command that ends the connection
+abbrev pub IsEnding : {E : Type 0} → World → Turn E → Type 0
+IsEnding w turn = IsEndingKind w turn.input.kind
+    ⊎ (list_any call_disconnects (calls_of turn) ≡ true)

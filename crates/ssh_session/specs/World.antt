@@ -1,13 +1,16 @@
 -- The state of a session in the standard's terms. It is a record of the definitions alone: the code
 -- has what it needs of it, and the relation `Refines` ties the two.
-use Rattle.std.specs.Prelude.{◌&&◌, ℕ, Bool, List, [], false, cond}
+use Rattle.std.specs.Prelude.{◌&&◌, ◌||◌, ◌++◌, ◌∷◌, ℕ, Bool, List, [], true, false, not, cond, drop}
+use Rattle.std.specs.Prelude.{Option, option_to_list}
 use Rattle.ssh_link.specs.Frames.{Frame}
 use Rattle.ssh_handler.specs.declared.config.Config.{Config}
 use Rattle.ssh_auth.specs.Publickey.{Acceptance, Circumstances}
 use Rattle.ssh_channels.specs.Does.{has}
 use Rattle.ssh_channels.specs.Lines.{Lines, no_lines, write, wants, says}
+use Rattle.ssh_session.specs.declared.outstanding.Outstanding.{Outstanding}
 use Rattle.ssh_session.specs.declared.state.EncryptedState.{EncryptedState}
 use Rattle.ssh_session.specs.declared.state.EncryptedState.TheVariants.{WaitingAuthServiceRequest}
+use Rattle.ssh_session.specs.Layout.{at_once}
 use Rattle.ssh_session.specs.Opening.{Opening}
 
 -- what is fixed in a run
@@ -42,10 +45,23 @@ pub record Channels : Type 0 where
   -- up to how many bytes the room of a channel is filled
   pub target : ℕ
 
+-- the global requests, which are no channel's (RFC 4254 section 4)
+pub record Globals : Type 0 where
+  -- the peer's last one wants a reply, and has none yet
+  pub wanted : Bool
+  -- those of this side's that wait for a reply, the oldest first
+  pub outstanding : List Outstanding
+
 pub record World : Type 0 where
   pub settings : Settings
   pub user : User
   pub channels : Channels
+  pub globals : Globals
+  -- how many keepalive ticks came since the peer was heard last
+  pub keepalives : ℕ
+  -- a command ended the connection: a DISCONNECT was written, behind which nothing goes out (RFC
+  -- 4253 section 11.1)
+  pub disconnected : Bool
 
 -- before the first input
 abbrev pub opening_world : Settings → World
@@ -53,6 +69,9 @@ opening_world settings = record {
   settings = settings;
   user = record { state = WaitingAuthServiceRequest false false; requested = false; name = [] };
   channels = record { lines = no_lines; opens = []; target = settings.config.window_size };
+  globals = record { wanted = false; outstanding = [] };
+  keepalives = 0;
+  disconnected = false;
 }
 
 -- what a request at this moment is judged by, where the verifier accepts these signatures
@@ -68,6 +87,14 @@ waits_for state w = record w { user = record w.user { state = state } }
 abbrev pub lined : (Lines → Lines) → World → World
 lined change w = record w { channels = record w.channels { lines = change w.channels.lines } }
 
+-- a channel of this number is there, which both sides agreed to
+abbrev pub is_there : World → ℕ → Bool
+is_there w channel = has (λ e. e.confirmed) channel w.channels.lines
+
+-- an open of this side's waits under this number for the peer
+abbrev pub is_waiting : World → ℕ → Bool
+is_waiting w channel = has (λ e. not e.confirmed) channel w.channels.lines
+
 -- the last request on the channel wants a reply, which goes to a channel that both sides agreed to
 abbrev pub wants_reply : (number : ℕ) → Lines → Bool
 wants_reply number = has (λ e. e.confirmed && e.wants_reply) number
@@ -81,3 +108,42 @@ replies number message l =
 -- these frames are written
 abbrev pub writes : List Frame → World → World
 writes frames = lined (write frames)
+
+-- the global requests are these from now on
+abbrev pub requested : (Globals → Globals) → World → World
+requested change w = record w { globals = change w.globals }
+
+-- the peer's last global request wants a reply, or none
+abbrev pub wants_global : (wanted : Bool) → World → World
+wants_global wanted = requested (λ g. record g { wanted = wanted })
+
+-- the reply that the peer's last global request wants, where it wants one; then it wants none (RFC
+-- 4254 section 4)
+abbrev pub settles_global : (payload : List ℕ) → World → World
+settles_global payload w =
+    cond w.globals.wanted (writes (at_once payload ∷ []) (wants_global false w)) w
+
+-- a request of this side's waits for its reply, behind those before
+abbrev pub awaits : Option Outstanding → World → World
+awaits awaited =
+    requested (λ g. record g { outstanding = g.outstanding ++ option_to_list awaited })
+
+-- the oldest one waits no longer
+abbrev pub settled_first : World → World
+settled_first = requested (λ g. record g { outstanding = drop 1 g.outstanding })
+
+-- the connection is ended, or stays as it is (RFC 4253 section 11.1)
+abbrev pub ends_by : Bool → World → World
+ends_by ends w = record w { disconnected = w.disconnected || ends }
+
+-- where the connection was ended, nothing changes any more (RFC 4253 section 11.1)
+abbrev pub unless_ended : (World → World) → World → World
+unless_ended change w = cond w.disconnected w (change w)
+
+abbrev pub is_empty : List ℕ → Bool
+is_empty [] = true
+is_empty (n ∷ rest) = false
+
+-- the peer was heard: a payload that is not empty came
+abbrev pub hears : (payload : List ℕ) → World → World
+hears payload w = record w { keepalives = cond (is_empty payload) w.keepalives 0 }

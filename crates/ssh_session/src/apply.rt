@@ -6,10 +6,12 @@ ghost use Rattle.ssh_wire.specs.Open.{open_failure};
 ghost use Rattle.ssh_wire.specs.OpenFailures.{open_failure_code};
 ghost use Rattle.ssh_session.specs.Effect.{not_usable, effect, done_by, needs, lacks, Sending};
 ghost use Rattle.ssh_session.specs.Effect.{Closing, Opening_of, answers, confirms};
-ghost use Rattle.ssh_session.specs.Effect.{fails_open, failure_of};
+ghost use Rattle.ssh_session.specs.Effect.{fails_open, failure_of, refused_for, apart_needs};
+ghost use Rattle.ssh_session.specs.Effect.{done_apart};
 ghost use Rattle.ssh_session.specs.Serve.{Refines, HasEffect, IsSamePeer};
 
 use crate::channel_frames::{confirmation_frame, failure_frame};
+use crate::outstanding::Outstanding;
 use crate::peer_open::PeerOpen;
 use crate::{RunError, Session};
 use ssh_channels::ChannelParams;
@@ -65,7 +67,7 @@ impl Session {
             HasEffect (effect w command) self.new result }
         ensures peer { IsSamePeer self.old self.new }
     {
-        match self.refusal(&command) {
+        match self.refused_for(&command) {
             Some(why) => {
                 drop(command);
                 Ok(Done::refused(why))
@@ -74,7 +76,18 @@ impl Session {
         }
     }
 
-    /// Why the command is refused.
+    /// Why the command is refused: once the connection was ended, each is.
+    fn refused_for(&self, command: &Command) -> Option<Refusal>
+        ensures { (w : World) → Refines self.now w →
+            result ≡ refused_for w.disconnected w command.now }
+    {
+        if self.common.disconnected {
+            return Some(Refusal::Disconnected);
+        }
+        self.refusal(command)
+    }
+
+    /// Why the command is refused on a connection that stands.
     fn refusal(&self, command: &Command) -> Option<Refusal>
         ensures { (w : World) → Refines self.now w → result ≡ lacks w (needs command.now) }
     {
@@ -89,6 +102,18 @@ impl Session {
             Command::ExitStatus { channel, .. } => self.not_established(*channel),
             Command::ExitSignal { channel, .. } => self.not_established(*channel),
             Command::Answer(answer) => self.no_open(answer.channel),
+            other => self.refusal_apart(other),
+        }
+    }
+
+    /// Why a command is refused that concerns no channel that is there.
+    fn refusal_apart(&self, command: &Command) -> Option<Refusal>
+        ensures { (w : World) → Refines self.now w → result ≡ lacks w (apart_needs command.now) }
+    {
+        match command {
+            Command::TcpipForward { .. } => self.no_user(),
+            Command::CancelTcpipForward { .. } => self.no_user(),
+            Command::ClientOnly { .. } => Some(Refusal::ClientOnly),
             other => self.no_opening(other),
         }
     }
@@ -166,10 +191,45 @@ impl Session {
             } => self.exit_signal(channel, &signal, core_dumped, &error_message, &language),
             Command::Answer(answer) => self.answer_open(answer),
             other => {
-                let opened = self.do_open(&other);
+                let done = self.do_apart(&other);
                 drop(other);
-                opened
+                done
             }
+        }
+    }
+
+    /// A command that concerns no channel that is there, and lacks nothing.
+    fn do_apart<E>(&mut self, command: &Command) -> Result<Done, RunError<E>>
+        ensures does { (w : World) → Refines self.old w →
+            HasEffect (done_apart w command.now) self.new result }
+        ensures peer { IsSamePeer self.old self.new }
+    {
+        match command {
+            Command::TcpipForward {
+                address,
+                port,
+                reply,
+            } => self.forward(address, *port, *reply),
+            Command::CancelTcpipForward {
+                address,
+                port,
+                reply,
+            } => self.cancel_forward(address, *port, *reply),
+            Command::Keepalive => self.ask_alive(Outstanding::Keepalive),
+            Command::Ping { slot } => self.ask_alive(Outstanding::Ping { slot: *slot }),
+            Command::RequestSuccess => self.reply_globally(true),
+            Command::RequestFailure => self.reply_globally(false),
+            Command::Debug {
+                always_display,
+                message,
+                language,
+            } => self.debug(*always_display, message, language),
+            Command::Disconnect {
+                reason,
+                description,
+                language,
+            } => self.disconnect(*reason, description, language),
+            other => self.do_open(other),
         }
     }
 

@@ -4,7 +4,6 @@ ghost use Rattle.ssh_wire.specs.declared.error.WireError.TheVariants.{NoMemory};
 ghost use Rattle.ssh_auth.specs.Serve.{IsNumbered};
 ghost use Rattle.ssh_session.specs.declared.gate.Gate.TheVariants as gate;
 ghost use Rattle.ssh_session.specs.World.{World, circumstances, writes};
-ghost use Rattle.ssh_session.specs.Run.{is_there};
 ghost use Rattle.ssh_session.specs.Reading.{Said, Says, SaysResponse, Over_cap};
 ghost use Rattle.ssh_auth.specs.declared.auth_step.AuthVerdict.TheVariants as verdict;
 ghost use Rattle.ssh_auth.specs.Plan.{Finish};
@@ -38,7 +37,7 @@ impl Session {
         requires number { IsNumbered 50 payload.now }
         requires state { IsRequesting self.old.state }
         ensures does { (w : World) → Refines self.old w → (said : Said)
-            × Says (circumstances (V.accepts verifier.now) w.settings moment) (is_there w)
+            × Says (circumstances (V.accepts verifier.now) w.settings moment) w
             gate.UserauthRequest (drop 1 payload.now) said
             × Completes (row w moment said) (O.heard outside.old) (O.heard outside.new) self.new
             result }

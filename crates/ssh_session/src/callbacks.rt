@@ -1,7 +1,7 @@
 // What a session tells and asks, each in one place.
-ghost use Rattle.std.specs.Prelude.{◌≡◌, ◌∷◌, [], Bool, Ok, Err, MatchResult};
+ghost use Rattle.std.specs.Prelude.{◌≡◌, ◌∷◌, [], ℕ, Bool, Ok, Err, MatchResult};
 ghost use Rattle.ssh_link.specs.declared.link.TraceEntry.TheVariants.{Noticed};
-ghost use Rattle.ssh_auth.specs.declared.question.Question.TheVariants.{Lends, Judges};
+ghost use Rattle.ssh_auth.specs.declared.question.Question.TheVariants.{Lends, Judges, Listens};
 ghost use Rattle.ssh_auth.specs.Plan.{Plan, Ask, Tell};
 ghost use Rattle.ssh_session.specs.World.{World};
 ghost use Rattle.ssh_session.specs.Outcome.{Outcome};
@@ -64,6 +64,29 @@ impl Session {
         }
     }
 
+    /// Asks whether connections to an address are forwarded, and answers that, the port that the
+    /// handler listens at, and the commands that it recorded.
+    fn put_listening<O: Outside>(
+        &self,
+        outside: &mut O,
+        address: &str,
+        port: u32,
+    ) -> Result<(bool, u32, CommandList), O::Error>
+        requires suits { IsSuited O.suits self.now }
+        ensures { MatchResult result
+            (λ given. Puts (Listens address.now port) (O.heard outside.old) (O.heard outside.new)
+            (Ok (record { granted = given.0; port = given.1; commands = given.2 })))
+            (λ e. Puts (Listens address.now port) (O.heard outside.old) (O.heard outside.new)
+            (Err e)) }
+    {
+        let mut commands = self.lend();
+        let mut bound = port;
+        match outside.listen(address, &mut bound, &mut commands) {
+            Ok(granted) => Ok((granted, bound, commands.into_list())),
+            Err(e) => Err(e),
+        }
+    }
+
     /// Tells the users of the channels.
     pub(crate) fn note<O: Outside>(
         &self,
@@ -115,6 +138,33 @@ impl Session {
         match self.put_judged(outside, judged) {
             Ok((granted, commands)) => match self.finish_commands(outside, commands) {
                 Ok(()) => Ok(granted),
+                Err(e) => Err(e),
+            },
+            Err(e) => Err(RunError::Handler(e)),
+        }
+    }
+
+    /// Asks whether connections to an address are forwarded, does the commands that the callback
+    /// recorded, and answers that and the port that the handler listens at.
+    pub(crate) fn listen<O: Outside>(
+        &mut self,
+        outside: &mut O,
+        address: &str,
+        port: u32,
+    ) -> Result<(bool, u32), RunError<O::Error>>
+        requires suits { IsSuited O.suits self.old }
+        ensures does { (w : World) → Refines self.old w →
+            (next : Bool → ℕ → World → Plan Outcome) →
+            Serves (Ask (Listens address.now port) (λ listening. done_all 0 listening.commands w
+            (next listening.granted listening.port)))
+            (λ given. next given.0 given.1) (O.heard outside.old) (O.heard outside.new) self.new
+            result }
+        ensures peer { IsSamePeer self.old self.new }
+        ensures same { AreSame (O.heard outside.old) (O.heard outside.new) }
+    {
+        match self.put_listening(outside, address, port) {
+            Ok((granted, bound, commands)) => match self.finish_commands(outside, commands) {
+                Ok(()) => Ok((granted, bound)),
                 Err(e) => Err(e),
             },
             Err(e) => Err(RunError::Handler(e)),

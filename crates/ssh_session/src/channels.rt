@@ -3,8 +3,7 @@ ghost use Rattle.std.specs.Prelude.{◌≡◌, ◌∷◌, [], false, length, OnO
 ghost use Rattle.ssh_channels.specs.declared.error.TableError.TheVariants.{NoMemory};
 ghost use Rattle.ssh_channels.specs.Lines.{find, takes_grant, takes_in, peer_closes, goes_on};
 ghost use Rattle.ssh_channels.specs.Lines.{wants};
-ghost use Rattle.ssh_session.specs.World.{World, lined, writes};
-ghost use Rattle.ssh_session.specs.Run.{is_there};
+ghost use Rattle.ssh_session.specs.World.{World, lined, writes, is_there};
 ghost use Rattle.ssh_channels.specs.Does.{credit_after, coming_of, goes_out};
 ghost use Rattle.ssh_session.specs.Serve.{Refines, IsSamePeer, is_spent};
 

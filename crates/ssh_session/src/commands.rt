@@ -77,7 +77,7 @@ impl Session {
     }
 
     /// Gives the notice, where there is one.
-    fn give<O: Outside>(
+    pub(crate) fn give<O: Outside>(
         &self,
         outside: &mut O,
         notice: Option<Notice>,

@@ -16,8 +16,8 @@ use std::alloc::{AllocError, AllocFailed};
 pub enum Flow {
     /// It takes the next one.
     Continue,
-    /// This input ended the run, well: the end, a DISCONNECT, or a request over the cap on
-    /// attempts.
+    /// This input ended the run, well: the end, a DISCONNECT of either side, or a request over the
+    /// cap on attempts.
     Ended,
 }
 
@@ -46,9 +46,11 @@ pub enum RunError<HE> {
     Handler(HE),
     /// The peer opens a channel, and every number is taken.
     ChannelsFull,
-    /// The input asks for what is not built yet: a key exchange, a global request or an answer to
-    /// one, a request on a channel, or a tick; or it brings a command, or a callback records one,
-    /// that is none of data of both kinds, end of file, close, opens and answers to opens.
+    /// The peer was not heard for more keepalive ticks than `Config::keepalive_max` allows.
+    KeepaliveTimeout,
+    /// A tick said that nothing came from the peer for too long.
+    InactivityTimeout,
+    /// The input asks for what is not built yet: an exchange of keys.
     NotBuilt,
 }
 

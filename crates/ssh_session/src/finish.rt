@@ -7,10 +7,10 @@ ghost use Rattle.ssh_session.specs.World.{World};
 ghost use Rattle.ssh_session.specs.Acts.{tell_all};
 ghost use Rattle.ssh_session.specs.Run.{handed_on};
 ghost use Rattle.ssh_session.specs.Heard.{AreSame};
-ghost use Rattle.ssh_session.specs.Serve.{Refines, Serves, SendsEach};
+ghost use Rattle.ssh_session.specs.Serve.{Refines, Serves, SendsEach, comes, comes_at_end};
 
 use crate::outside::Outside;
-use crate::{RunError, Session};
+use crate::{Flow, RunError, Session};
 use ssh_channels::FrameSink;
 use ssh_link::Frame;
 
@@ -37,5 +37,17 @@ impl Session {
         let mut frames = FrameSink::new(self.alloc);
         self.table.flush(&mut frames, false)?;
         send_each(outside, frames.into_vec())
+    }
+
+    /// How the run goes on behind an input that came to this: it is over where the connection was
+    /// ended (RFC 4253 section 11.1).
+    pub(crate) fn at_end(&self, flow: Flow) -> Flow
+        ensures { (w : World) → Refines self.now w → comes result w ≡ comes_at_end flow w }
+    {
+        if self.common.disconnected {
+            Flow::Ended
+        } else {
+            flow
+        }
     }
 }

@@ -10,7 +10,7 @@ use ssh_wire::{Disconnect, WireError, put_text, put_u8, put_u32};
 use std::alloc::Global;
 
 /// A frame of no channel with this payload, which may go out at once.
-fn frame_at_once(payload: Vec<u8>) -> Result<Frame, WireError>
+pub(crate) fn frame_at_once(payload: Vec<u8>) -> Result<Frame, WireError>
     ensures ok { IfOk result (λ f. f ≡ at_once payload.items) }
     ensures memory { IfErr result (λ e. e ≡ NoMemory) }
 {

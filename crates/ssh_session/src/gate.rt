@@ -4,10 +4,10 @@ ghost use Rattle.ssh_auth.specs.Serve.{IsNumbered};
 ghost use Rattle.ssh_session.specs.World.{World};
 ghost use Rattle.ssh_session.specs.Serve.{Refines};
 ghost use Rattle.ssh_session.specs.Gate.{gate_of, state_gate, authentication_gate, is_over_cap};
-ghost use Rattle.ssh_session.specs.Gate.{connection_gate, is_connection_number, IsRequesting};
+ghost use Rattle.ssh_session.specs.Gate.{connection_gate, IsRequesting};
 
 use crate::Session;
-use crate::messages::{ChannelMessage, channel_message};
+use crate::messages::{ConnectionMessage, connection_message};
 use crate::state::EncryptedState;
 use ssh_auth::AuthRequest;
 use ssh_handler::Config;
@@ -35,8 +35,8 @@ pub enum Gate {
     ChannelOpen,
     /// It agrees to an open of this side's.
     OpenConfirmation,
-    /// It is of a channel.
-    Channel(ChannelMessage),
+    /// It is another message of the connection protocol.
+    Connection(ConnectionMessage),
     /// What it asks for is not built.
     NotBuilt,
 }
@@ -111,7 +111,7 @@ fn service_gate(number: u8) -> Gate
     }
 }
 
-/// The messages of the connection; some are not built.
+/// The messages of the connection protocol (RFC 4254).
 fn connection_gate(number: u8) -> Gate
     ensures { result ≡ connection_gate number }
 {
@@ -121,18 +121,8 @@ fn connection_gate(number: u8) -> Gate
     if number == CHANNEL_OPEN_CONFIRMATION {
         return Gate::OpenConfirmation;
     }
-    match channel_message(number) {
-        Some(message) => Gate::Channel(message),
-        None => unserved_gate(number),
-    }
-}
-
-/// The other numbers of the connection are not built.
-fn unserved_gate(number: u8) -> Gate
-    ensures { result ≡ (if is_connection_number number then Gate.NotBuilt else Gate.Nothing) }
-{
-    match number {
-        80..=82 | 90..=98 => Gate::NotBuilt,
-        _ => Gate::Nothing,
+    match connection_message(number) {
+        Some(message) => Gate::Connection(message),
+        None => Gate::Nothing,
     }
 }

@@ -127,6 +127,47 @@ pub(crate) fn read_request(fields: &[u8]) -> Result<Request<'_>, WireError>
     })
 }
 
+/// A GLOBAL_REQUEST as far as all are alike (RFC 4254 section 4).
+#[derive(Clone, Copy)]
+pub(crate) struct GlobalRequest<'a> {
+    /// What is asked for.
+    pub(crate) name: &'a str,
+    /// Whether a reply is wanted.
+    pub(crate) wanted: bool,
+    /// The fields behind these.
+    pub(crate) rest: &'a [u8],
+}
+
+/// GLOBAL_REQUEST (RFC 4254 section 4), up to its own fields.
+pub(crate) fn read_global_request(fields: &[u8]) -> Result<GlobalRequest<'_>, WireError>
+    ensures { MatchResult result
+        (λ read. SpellsAll (Text ∷ Flag ∷ []) (read.name.now, (read.wanted, tt)) fields.now
+        read.rest.now)
+        (λ why. MisfitsAll (Text ∷ Flag ∷ []) fields.now why) }
+{
+    let mut reader = Reader::new(fields);
+    let name = reader.text()?;
+    let wanted = read_flag(&mut reader)?;
+    Ok(GlobalRequest {
+        name,
+        wanted,
+        rest: reader.rest(),
+    })
+}
+
+/// An address and its port, as in a request to forward connections (RFC 4254 section 7.1).
+pub(crate) fn read_address(rest: &[u8]) -> Result<(&str, u32), WireError>
+    ensures { MatchResult result
+        (λ read. SpellsWhole (Text ∷ Number ∷ []) (read.0.now, (read.1, tt)) rest.now)
+        (λ why. MisfitsWhole (Text ∷ Number ∷ []) rest.now why) }
+{
+    let mut reader = Reader::new(rest);
+    let address = reader.text()?;
+    let port = reader.u32()?;
+    reader.end()?;
+    Ok((address, port))
+}
+
 /// The fields of a request for a terminal (RFC 4254 section 6.2); its modes are bytes still.
 #[derive(Clone, Copy)]
 pub(crate) struct Terminal<'a> {

@@ -1,12 +1,11 @@
-// Messages of channels: what each says, and what is done by it (RFC 4254 section 5).
+// Messages of the connection protocol: what each says, and what is done by it (RFC 4254).
 ghost use Rattle.std.specs.Prelude.{◌≡◌, ℕ, Result};
 ghost use Rattle.ssh_wire.specs.declared.error.WireError.{WireError as Misfit};
 ghost use Rattle.ssh_session.specs.declared.messages.Spoken.{Spoken as Says};
 ghost use Rattle.ssh_session.specs.World.{World};
-ghost use Rattle.ssh_session.specs.Run.{is_there};
 ghost use Rattle.ssh_session.specs.Spelling.{Spells, IsRead};
-ghost use Rattle.ssh_session.specs.Messages.{message_layout, channel_message, tells};
-ghost use Rattle.ssh_session.specs.Reading.{said_of, Channel};
+ghost use Rattle.ssh_session.specs.Messages.{message_layout, connection_message, tells};
+ghost use Rattle.ssh_session.specs.Reading.{said_of, Connection};
 ghost use Rattle.ssh_session.specs.Rows.{row, spoken_acts};
 ghost use Rattle.ssh_session.specs.Rows as rows;
 ghost use Rattle.ssh_session.specs.Heard.{AreSame};
@@ -15,22 +14,28 @@ ghost use Rattle.ssh_session.specs.Serve.{Refines, Does, Completes, IsSuited};
 use crate::endings::close_message;
 use crate::message::read_channel;
 use crate::outside::Outside;
-use crate::own_opens::failure_message;
+use crate::own_opens::open_failure_message;
 use crate::windows::grant_message;
 use crate::{Flow, RunError, Session};
-use ssh_auth::Happening;
+use ssh_auth::{Happening, Judged};
 use ssh_channels::Chunk;
-use ssh_link::ChannelMsg;
+use ssh_link::{ChannelMsg, Notice};
 use ssh_wire::message::{
     CHANNEL_CLOSE, CHANNEL_DATA, CHANNEL_EOF, CHANNEL_EXTENDED_DATA, CHANNEL_OPEN_FAILURE,
-    CHANNEL_REQUEST, CHANNEL_WINDOW_ADJUST,
+    CHANNEL_REQUEST, CHANNEL_WINDOW_ADJUST, GLOBAL_REQUEST, REQUEST_FAILURE, REQUEST_SUCCESS,
 };
-use ssh_wire::{ChannelId, ChannelOpenFailure, WireError};
+use ssh_wire::{ChannelId, ChannelOpenFailure, Text, WireError};
 
-/// A message of a channel that is there.
+/// A message of the connection protocol, but for opens and their confirmations.
 #[derive(Clone, Copy, Debug, PartialEq, Eq)]
-pub enum ChannelMessage {
-    /// CHANNEL_OPEN_FAILURE (RFC 4254 section 5.1).
+pub enum ConnectionMessage {
+    /// GLOBAL_REQUEST (RFC 4254 section 4).
+    GlobalRequest,
+    /// REQUEST_SUCCESS (section 4).
+    RequestSuccess,
+    /// REQUEST_FAILURE (section 4).
+    RequestFailure,
+    /// CHANNEL_OPEN_FAILURE (section 5.1).
     OpenFailure,
     /// CHANNEL_WINDOW_ADJUST (section 5.2).
     WindowAdjust,
@@ -46,23 +51,26 @@ pub enum ChannelMessage {
     Request,
 }
 
-/// The message of channels of this number.
-pub(crate) fn channel_message(number: u8) -> Option<ChannelMessage>
-    ensures { result ≡ channel_message number }
+/// The message of this number, where it is one of these.
+pub(crate) fn connection_message(number: u8) -> Option<ConnectionMessage>
+    ensures { result ≡ connection_message number }
 {
     match number {
-        CHANNEL_OPEN_FAILURE => Some(ChannelMessage::OpenFailure),
-        CHANNEL_WINDOW_ADJUST => Some(ChannelMessage::WindowAdjust),
-        CHANNEL_DATA => Some(ChannelMessage::Data),
-        CHANNEL_EXTENDED_DATA => Some(ChannelMessage::ExtendedData),
-        CHANNEL_EOF => Some(ChannelMessage::Eof),
-        CHANNEL_CLOSE => Some(ChannelMessage::Close),
-        CHANNEL_REQUEST => Some(ChannelMessage::Request),
+        GLOBAL_REQUEST => Some(ConnectionMessage::GlobalRequest),
+        REQUEST_SUCCESS => Some(ConnectionMessage::RequestSuccess),
+        REQUEST_FAILURE => Some(ConnectionMessage::RequestFailure),
+        CHANNEL_OPEN_FAILURE => Some(ConnectionMessage::OpenFailure),
+        CHANNEL_WINDOW_ADJUST => Some(ConnectionMessage::WindowAdjust),
+        CHANNEL_DATA => Some(ConnectionMessage::Data),
+        CHANNEL_EXTENDED_DATA => Some(ConnectionMessage::ExtendedData),
+        CHANNEL_EOF => Some(ConnectionMessage::Eof),
+        CHANNEL_CLOSE => Some(ConnectionMessage::Close),
+        CHANNEL_REQUEST => Some(ConnectionMessage::Request),
         _ => None,
     }
 }
 
-/// What a message of a channel says.
+/// What a message of the connection protocol says.
 #[derive(Debug, Drop)]
 pub enum Spoken {
     /// Nothing that is served.
@@ -86,6 +94,14 @@ pub enum Spoken {
     AsksForAgent(ChannelId, bool),
     /// A request that is not known, and whether it wants a reply.
     AsksUnknown(ChannelId, bool),
+    /// Connections to this address and port are to be forwarded, and whether a reply is wanted.
+    AsksToForward(bool, Text, u32),
+    /// Another global request, and whether it wants a reply.
+    AsksGlobally(bool, Judged),
+    /// A global request that is not known, and whether it wants a reply.
+    AsksGloballyUnknown(bool),
+    /// The reply to the oldest global request of this side that waits, of which this is told.
+    Settles(Option<Notice>),
     /// Its fields fit, but one has a value that it cannot have.
     Inconsistent,
 }
@@ -109,18 +125,18 @@ fn tells_message(
 }
 
 impl Session {
-    /// A message of channels.
-    pub(crate) fn serve_channel_message<O: Outside>(
+    /// A message of the connection protocol.
+    pub(crate) fn serve_connection_message<O: Outside>(
         &mut self,
         outside: &mut O,
-        message: ChannelMessage,
+        message: ConnectionMessage,
         fields: &[u8],
     ) -> Result<Flow, RunError<O::Error>>
         requires suits { IsSuited O.suits self.old }
         ensures does { (w : World) (moment : ℕ) → Refines self.old w →
             (read : Result Says Misfit)
-            × Spells (message_layout (is_there w) message) fields.now read
-            × Completes (row w moment (said_of Channel read)) (O.heard outside.old)
+            × Spells (message_layout w message) fields.now read
+            × Completes (row w moment (said_of Connection read)) (O.heard outside.old)
             (O.heard outside.new) self.new result }
         ensures same { AreSame (O.heard outside.old) (O.heard outside.new) }
     {
@@ -130,18 +146,21 @@ impl Session {
     }
 
     /// What the message says: one line a message.
-    fn read_message(&self, message: ChannelMessage, fields: &[u8]) -> Result<Spoken, WireError>
+    fn read_message(&self, message: ConnectionMessage, fields: &[u8]) -> Result<Spoken, WireError>
         ensures { (w : World) → Refines self.now w →
-            IsRead (message_layout (is_there w) message) fields.now result }
+            IsRead (message_layout w message) fields.now result }
     {
         match message {
-            ChannelMessage::OpenFailure => failure_message(fields),
-            ChannelMessage::WindowAdjust => grant_message(fields),
-            ChannelMessage::Data => self.data_message(fields),
-            ChannelMessage::ExtendedData => self.extended_data_message(fields),
-            ChannelMessage::Eof => tells_message(fields, ChannelMsg::Eof, Happening::Eof),
-            ChannelMessage::Close => close_message(fields),
-            ChannelMessage::Request => self.request_message(fields),
+            ConnectionMessage::GlobalRequest => self.global_request_message(fields),
+            ConnectionMessage::RequestSuccess => self.success_message(fields),
+            ConnectionMessage::RequestFailure => self.failure_message(fields),
+            ConnectionMessage::OpenFailure => open_failure_message(fields),
+            ConnectionMessage::WindowAdjust => grant_message(fields),
+            ConnectionMessage::Data => self.data_message(fields),
+            ConnectionMessage::ExtendedData => self.extended_data_message(fields),
+            ConnectionMessage::Eof => tells_message(fields, ChannelMsg::Eof, Happening::Eof),
+            ConnectionMessage::Close => close_message(fields),
+            ConnectionMessage::Request => self.request_message(fields),
         }
     }
 
@@ -175,6 +194,12 @@ impl Session {
             }
             Spoken::AsksForAgent(channel, wanted) => self.asked_for_agent(outside, channel, wanted),
             Spoken::AsksUnknown(channel, wanted) => self.asked_unknown(channel, wanted),
+            Spoken::AsksToForward(wanted, address, port) => {
+                self.asked_to_forward(outside, wanted, address, port)
+            }
+            Spoken::AsksGlobally(wanted, judged) => self.asked_globally(outside, wanted, judged),
+            Spoken::AsksGloballyUnknown(wanted) => self.asked_globally_unknown(wanted),
+            Spoken::Settles(told) => self.settle(outside, told),
             Spoken::Inconsistent => Err(RunError::Inconsistent),
         }
     }

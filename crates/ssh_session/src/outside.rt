@@ -5,7 +5,7 @@ ghost use Rattle.ssh_handler.specs.declared.config.Config.{Config as ConfigOf};
 ghost use Rattle.ssh_auth.specs.Calls.{lent_call, judged_call};
 ghost use Rattle.ssh_auth.specs.Serve.{IsNumbered};
 ghost use Rattle.ssh_auth.specs.declared.call.Call.TheVariants.{AuthenticationBanner, AdjustWindow};
-ghost use Rattle.ssh_auth.specs.declared.call.Call.TheVariants.{CommandDone};
+ghost use Rattle.ssh_auth.specs.declared.call.Call.TheVariants.{CommandDone, TcpipForward};
 ghost use Rattle.ssh_session.specs.Heard.{Heard, Gives, Calls, AnswersRequest, AnswersResponse};
 
 use ssh_auth::{AuthError, AuthRequest, AuthStep, Judged, Lent, serve_request, serve_response};
@@ -82,6 +82,18 @@ pub(crate) trait Outside {
         requires suits { suits session.old.config session.old.remote_sshid }
         ensures { Calls (heard self.old) (heard self.new) result
             (judged_call judged result session.new.recorded) };
+
+    /// Asks whether connections to an address are forwarded, and at which port the handler listens.
+    fn listen(
+        &mut self,
+        address: &str,
+        port: &mut u32,
+        session: &mut Commands<'_>,
+    ) -> Result<bool, Self::Error>
+        requires fresh { session.old.recorded ≡ [] }
+        requires suits { suits session.old.config session.old.remote_sshid }
+        ensures { Calls (heard self.old) (heard self.new) result
+            (TcpipForward address.now port.old port.new result session.new.recorded) };
 
     /// Asks how large the window of a channel is from now on.
     fn adjust_window(&mut self, channel: ChannelId, current: u32) -> Result<u32, Self::Error>
@@ -177,6 +189,15 @@ impl<'a, H: Handler, L: Link> Outside for Both<'a, H, L> {
 
     fn judge(&mut self, judged: Judged, session: &mut Commands<'_>) -> Result<bool, H::Error> {
         judge(self.handler, judged, session)
+    }
+
+    fn listen(
+        &mut self,
+        address: &str,
+        port: &mut u32,
+        session: &mut Commands<'_>,
+    ) -> Result<bool, H::Error> {
+        self.handler.tcpip_forward(address, port, session)
     }
 
     fn adjust_window(&mut self, channel: ChannelId, current: u32) -> Result<u32, H::Error> {

@@ -1,8 +1,7 @@
 // Opens of this side (RFC 4254 section 5.1).
 ghost use Rattle.std.specs.Prelude.{◌≡◌, ◌≢◌, ◌<◌, ◌^◌, ℕ};
 ghost use Rattle.ssh_session.specs.declared.messages.Spoken.TheVariants.{Failed};
-ghost use Rattle.ssh_session.specs.World.{World};
-ghost use Rattle.ssh_session.specs.Run.{is_waiting};
+ghost use Rattle.ssh_session.specs.World.{World, is_waiting};
 ghost use Rattle.ssh_session.specs.Spelling.{IsRead};
 ghost use Rattle.ssh_session.specs.Messages.{failure, reason_of};
 ghost use Rattle.ssh_session.specs.Reading.{Said, SaysConfirmation};
@@ -42,7 +41,7 @@ fn reason_of(code: u32) -> ChannelOpenFailure
 }
 
 /// CHANNEL_OPEN_FAILURE.
-pub(crate) fn failure_message(fields: &[u8]) -> Result<Spoken, WireError>
+pub(crate) fn open_failure_message(fields: &[u8]) -> Result<Spoken, WireError>
     ensures { IsRead failure fields.now result }
 {
     let (channel, rest) = read_recipient(fields)?;
@@ -147,8 +146,8 @@ impl Session {
         )
     }
 
-    /// Why nothing can be opened yet.
-    fn no_user(&self) -> Option<Refusal>
+    /// Why nothing can be opened or forwarded yet.
+    pub(crate) fn no_user(&self) -> Option<Refusal>
         ensures { (w : World) → Refines self.now w → result ≡ no_user w.user.state }
     {
         match &self.state {
@@ -168,14 +167,14 @@ impl Session {
         }
     }
 
-    /// A command that opens a channel; others are not built.
+    /// A command that opens a channel; what a client alone may say does nothing.
     pub(crate) fn do_open<E>(&mut self, command: &Command) -> Result<Done, RunError<E>>
         ensures does { (w : World) → Refines self.old w →
             HasEffect (opens_or_not (asking command.now) w) self.new result }
         ensures peer { IsSamePeer self.old self.new }
     {
         let Some(name) = type_name(command) else {
-            return Err(RunError::NotBuilt);
+            return Ok(Done::accepted());
         };
         let mut fields = Vec::new(self.alloc);
         match put_own_fields(&mut fields, command) {

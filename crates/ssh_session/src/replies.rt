@@ -3,7 +3,7 @@ ghost use Rattle.std.specs.Prelude.{◌≡◌, ◌&&◌, OnOk, IfErr};
 ghost use Rattle.ssh_channels.specs.declared.error.TableError.TheVariants.{NoMemory};
 ghost use Rattle.ssh_session.specs.declared.messages.Spoken.TheVariants.{Asks, AsksForAgent};
 ghost use Rattle.ssh_session.specs.declared.messages.Spoken.TheVariants.{AsksUnknown};
-ghost use Rattle.ssh_session.specs.World.{World, lined, replies, wants_reply};
+ghost use Rattle.ssh_session.specs.World.{World, lined, replies, wants_reply, unless_ended};
 ghost use Rattle.ssh_session.specs.Effect.{accepts};
 ghost use Rattle.ssh_session.specs.Rows.{spoken_acts, reply_of};
 ghost use Rattle.ssh_session.specs.Heard.{AreSame};
@@ -61,6 +61,19 @@ impl Session {
         self.table.byte(channel, message)?;
         self.want_reply(channel, false);
         Ok(())
+    }
+
+    /// The same, unless a command of the callback ended the connection.
+    fn reply_unless_ended(&mut self, channel: ChannelId, message: u8) -> Result<(), TableError>
+        ensures world { OnOk result ((w : World) → Refines self.old w →
+            Refines self.new (unless_ended (lined (replies channel.0 message)) w)) }
+        ensures memory { IfErr result (λ e. e ≡ NoMemory) }
+        ensures peer { IsSamePeer self.old self.new }
+    {
+        if self.common.disconnected {
+            return Ok(());
+        }
+        self.take_reply(channel, message)
     }
 
     /// CHANNEL_SUCCESS or CHANNEL_FAILURE, as a command.
@@ -128,7 +141,7 @@ impl Session {
         let message = ChannelMsg::AgentForward { want_reply: true };
         self.note(outside, Notice::Channel(channel, message))?;
         let granted = self.judge(outside, Judged::AgentRequest { channel })?;
-        self.take_reply(channel, reply_of(granted))?;
+        self.reply_unless_ended(channel, reply_of(granted))?;
         Ok(())
     }
 }

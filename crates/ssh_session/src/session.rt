@@ -1,6 +1,7 @@
 // A session and what it is made of.
 ghost use Rattle.std.specs.Prelude.{◌<◌, ◌^◌, length};
 
+use crate::outstanding::Outstanding;
 use crate::peer_open::PeerOpen;
 use crate::state::{CommonSession, EncryptedState};
 use bytes::Bytes;
@@ -8,7 +9,7 @@ use ssh_channels::Encrypted;
 use ssh_handler::Config;
 use ssh_wire::{Text, WireError};
 use std::alloc::Global;
-use std::collections::BTreeMap;
+use std::collections::{BTreeMap, VecDeque};
 
 /// A server's side of one connection, above the encrypted transport.
 #[derive(Drop)]
@@ -25,6 +26,10 @@ pub struct Session {
     pub(crate) opens: BTreeMap<u32, PeerOpen>,
     /// Up to how many bytes the room of a channel is filled.
     pub(crate) target: u32,
+    /// The global requests of this side that wait for a reply, the oldest first.
+    pub(crate) outstanding: VecDeque<Outstanding>,
+    /// How many keepalive ticks came since the peer was heard last.
+    pub(crate) keepalives: u64,
     pub(crate) spent: bool,
     ghost session_id_fits: { length session_id < 2 ^ 32 },
 }
@@ -67,6 +72,8 @@ impl Session {
             table: Encrypted::new(alloc),
             opens: BTreeMap::new(alloc),
             target: config.window_size,
+            outstanding: VecDeque::new(alloc),
+            keepalives: 0,
             spent: false,
         })
     }

@@ -2,14 +2,14 @@
 ghost use Rattle.std.specs.Prelude.{◌≡◌, ◌≢◌, Ok, Err, true, drop};
 ghost use Rattle.ssh_auth.specs.Plan.{Plan};
 ghost use Rattle.ssh_session.specs.Outcome.{Outcome};
-ghost use Rattle.ssh_session.specs.World.{World, circumstances};
+ghost use Rattle.ssh_session.specs.World.{World, circumstances, hears};
 ghost use Rattle.ssh_session.specs.Gate.{gate_of};
 ghost use Rattle.ssh_session.specs.Reading.{Said, Says};
 ghost use Rattle.ssh_session.specs.Rows.{row};
-ghost use Rattle.ssh_session.specs.Run.{OwesKind, Owes, is_there};
+ghost use Rattle.ssh_session.specs.Run.{OwesKind, Owes};
 ghost use Rattle.ssh_session.specs.Heard.{AreSame};
 ghost use Rattle.ssh_session.specs.Account.{told_by, Steps, StepsBy, TellsNothing};
-ghost use Rattle.ssh_session.specs.Serve.{Refines, Completes, is_spent, IsSuited};
+ghost use Rattle.ssh_session.specs.Serve.{Refines, Completes, is_spent, IsSuited, IsSamePeer};
 
 use crate::gate::Gate;
 use crate::outside::{Both, Outside};
@@ -98,7 +98,7 @@ impl Session {
         let Input { moment, kind } = input;
         let flow = self.serve(outside, verifier, moment, kind)?;
         self.hand_on(outside)?;
-        Ok(flow)
+        Ok(self.at_end(flow))
     }
 
     /// An input, up to its end: makes the calls and tells the notices that it owes, and writes its
@@ -118,6 +118,7 @@ impl Session {
     {
         match kind {
             InputKind::Payload(payload) => {
+                self.hear(payload.as_slice());
                 self.serve_payload(outside, verifier, moment, payload.as_slice())
             }
             InputKind::Command(ticket, command) => self.serve_command(outside, ticket, command),
@@ -125,9 +126,23 @@ impl Session {
                 self.serve_command(outside, ticket, Command::Answer(answer))
             }
             InputKind::End => Ok(Flow::Ended),
-            InputKind::KeepaliveTick => Err(RunError::NotBuilt),
-            InputKind::InactivityTick => Err(RunError::NotBuilt),
+            InputKind::KeepaliveTick => {
+                self.keepalive_tick()?;
+                Ok(Flow::Continue)
+            }
+            InputKind::InactivityTick => Err(RunError::InactivityTimeout),
             InputKind::RekeyTick => Err(RunError::NotBuilt),
+        }
+    }
+
+    /// The peer was heard, where the payload is not empty.
+    fn hear(&mut self, payload: &[u8])
+        ensures world { (w : World) → Refines self.old w →
+            Refines self.new (hears payload.now w) }
+        ensures peer { IsSamePeer self.old self.new }
+    {
+        if !payload.is_empty() {
+            self.keepalives = 0;
         }
     }
 
@@ -141,7 +156,7 @@ impl Session {
     ) -> Result<Flow, RunError<O::Error>>
         requires suits { IsSuited O.suits self.old }
         ensures does { (w : World) → Refines self.old w → (said : Said)
-            × Says (circumstances (V.accepts verifier.now) w.settings moment) (is_there w)
+            × Says (circumstances (V.accepts verifier.now) w.settings moment) w
             (gate_of w payload.now) (drop 1 payload.now) said
             × Completes (row w moment said) (O.heard outside.old) (O.heard outside.new) self.new
             result }
@@ -159,7 +174,7 @@ impl Session {
             Gate::InfoResponse => self.serve_info_response(outside, moment, payload),
             Gate::ChannelOpen => self.serve_channel_open(outside, fields),
             Gate::OpenConfirmation => self.serve_open_confirmation(outside, fields),
-            Gate::Channel(message) => self.serve_channel_message(outside, message, fields),
+            Gate::Connection(message) => self.serve_connection_message(outside, message, fields),
             Gate::NotBuilt => Err(RunError::NotBuilt),
         }
     }

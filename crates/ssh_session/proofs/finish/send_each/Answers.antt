@@ -4,7 +4,7 @@ use Rattle.std.proofs.lemmas.List.{append-nil, nil_from_length}
 use Rattle.std.proofs.lemmas.Result.{err_from_is_err_and}
 use Rattle.ssh_session.specs.Failure.{error_of_link}
 use Rattle.ssh_session.specs.Serve.{SendsEach}
-use Rattle.ssh_session.proofs.Serving.{sent_more, not_sent, none_sent}
+use Rattle.ssh_session.proofs.Finishing.{sent_more, not_sent, none_sent}
 use Rattle.ssh_session.proofs.finish.send_each.Goals as goal
 
 pub loop-frame-init : goal.loop-frame-init

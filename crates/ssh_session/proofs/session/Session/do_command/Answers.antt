@@ -110,4 +110,4 @@ returns-in_default-clause-does g c = λ w r.
     c.in_default.not-Eof c.in_default.not-Close c.in_default.not-ChannelSuccess
     c.in_default.not-ChannelFailure c.in_default.not-XonXoff c.in_default.not-ExitStatus
     c.in_default.not-ExitSignal c.in_default.not-Answer)
-    (c.do_open-opened.ensures.does w r)
+    (c.do_apart-done.ensures.does w r)

@@ -4,7 +4,7 @@ use Rattle.ssh_channels.specs.declared.chunk.DataKind.TheVariants.{Extended}
 use Rattle.ssh_channels.specs.Layout.{chunk}
 use Rattle.ssh_session.specs.declared.messages.Spoken.TheVariants.{Nothing, Data}
 use Rattle.ssh_session.specs.Messages.{extended_data, extended_on}
-use Rattle.ssh_session.specs.Run.{is_there}
+use Rattle.ssh_session.specs.World.{is_there}
 use Rattle.ssh_session.specs.Spelling.{Spells}
 use Rattle.ssh_session.proofs.Reading.{misread, unkept}
 use Rattle.ssh_session.proofs.session.Session.extended_data_message.Goals as goal

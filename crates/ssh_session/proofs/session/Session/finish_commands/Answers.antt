@@ -4,7 +4,8 @@ use Rattle.ssh_session.specs.World.{World}
 use Rattle.ssh_session.specs.Serve.{Serves}
 use Rattle.ssh_session.specs.Acts.{done_all}
 use Rattle.ssh_session.specs.Outcome.{Outcome}
-use Rattle.ssh_session.proofs.Serving.{serves_nothing, served_both, served_then_error, none_left}
+use Rattle.ssh_session.proofs.Serving.{serves_nothing, served_both, served_then_error}
+use Rattle.ssh_session.proofs.Finishing.{none_left}
 use Rattle.ssh_session.proofs.session.Session.finish_commands.Goals as goal
 
 pub loop-place-init : goal.loop-place-init

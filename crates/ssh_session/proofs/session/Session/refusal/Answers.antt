@@ -36,7 +36,7 @@ returns-in-Answer c = λ w r. rw c.in-Answer.is (c.no_open.ensures w r)
 
 pub returns-in_default : goal.returns-in_default
 returns-in_default c = λ w r.
-    c.no_opening.ensures w r ∙ sym (needs_other w c.args.command.now c.in_default.not-Data
+    c.refusal_apart.ensures w r ∙ sym (needs_other w c.args.command.now c.in_default.not-Data
     c.in_default.not-ExtendedData c.in_default.not-Eof c.in_default.not-Close
     c.in_default.not-ChannelSuccess c.in_default.not-ChannelFailure c.in_default.not-XonXoff
     c.in_default.not-ExitStatus c.in_default.not-ExitSignal c.in_default.not-Answer)

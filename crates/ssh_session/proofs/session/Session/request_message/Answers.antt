@@ -1,7 +1,7 @@
 use Rattle.std.proofs.Common.{◌∙◌, inl, inr, refl, sym, subst, Ok}
 use Rattle.ssh_session.specs.declared.messages.Spoken.TheVariants.{Wants}
 use Rattle.ssh_session.specs.Messages.{request, request_on}
-use Rattle.ssh_session.specs.Run.{is_there}
+use Rattle.ssh_session.specs.World.{is_there}
 use Rattle.ssh_session.specs.Spelling.{Spells}
 use Rattle.ssh_session.proofs.Reading.{misread}
 use Rattle.ssh_session.proofs.Requesting.{read_behind}

@@ -1,19 +1,25 @@
-use Rattle.std.proofs.Common.{refl}
+use Rattle.std.proofs.Common.{refl, Ok, Err}
 use Rattle.ssh_link.specs.declared.command.Command.TheVariants.{Answer}
 use Rattle.ssh_auth.specs.Plan.{Finish}
 use Rattle.ssh_session.specs.declared.error.Flow.{Flow}
 use Rattle.ssh_session.specs.declared.error.Flow.TheVariants.{Ended}
-use Rattle.ssh_session.specs.Outcome.{Ends, Fails, Not_built}
+use Rattle.ssh_session.specs.Acts.{acts}
+use Rattle.ssh_session.specs.Outcome.{Goes, Ends, Fails, Not_built}
 use Rattle.ssh_session.specs.Rows.{row}
 use Rattle.ssh_session.specs.Run.{command_row}
 use Rattle.ssh_session.specs.Serve.{comes}
-use Rattle.ssh_session.proofs.Serving.{serves_nothing, unbuilt_input}
+use Rattle.ssh_session.specs.Ticks.{keepalive_acts, inactivity_acts}
+use Rattle.ssh_session.specs.World.{hears}
+use Rattle.ssh_session.proofs.Serving.{serves_nothing, unbuilt_input, inactive_input, completes}
+use Rattle.ssh_session.proofs.Serving.{goes_on, turned, passed}
 use Rattle.ssh_session.proofs.session.Session.serve.Goals as goal
 
 pub returns-in-Payload-clause-does : goal.returns-in-Payload-clause-does
 returns-in-Payload-clause-does g c = λ w r.
-    let s = rw c.as_slice.ensures at (c.serve_payload.ensures.does w r) in
-    (row w c.args.moment s.0, rw c.in-Payload.is (s.0, s.1, refl), s.2)
+    let v = hears c.in-Payload.payload w in
+    let q = rw c.as_slice.ensures at (c.hear.ensures.world w r) in
+    let s = rw c.as_slice-in-Payload.ensures at (c.serve_payload.ensures.does v q) in
+    (row v c.args.moment s.0, rw c.in-Payload.is (s.0, s.1, refl), s.2)
 
 pub returns-in-Command-clause-does : goal.returns-in-Command-clause-does
 returns-in-Command-clause-does g c = λ w r. (
@@ -36,18 +42,40 @@ returns-in-End-clause-does g c = λ w r. (
   serves_nothing Ended (λ flow world. Finish (comes flow world)) _ w c.args.self.now r,
 )
 
-pub returns-in-KeepaliveTick-clause-does : goal.returns-in-KeepaliveTick-clause-does
-returns-in-KeepaliveTick-clause-does g c = λ w r. (
-  Finish (Fails Not_built),
-  rw c.in-KeepaliveTick.is refl,
-  unbuilt_input (λ (flow : Flow) world. Finish (comes flow world)) _ c.args.self.now,
-)
+pub returns-in_err-keepalive_tick-in-KeepaliveTick-clause-does :
+    goal.returns-in_err-keepalive_tick-in-KeepaliveTick-clause-does
+returns-in_err-keepalive_tick-in-KeepaliveTick-clause-does g c = λ w r.
+    let plan = acts (keepalive_acts w) w in
+    let heard = g.O.Outside.heard c.args.outside.now in
+    let session = c.keepalive_tick.new.self in
+    let e = c.in_err-keepalive_tick-in-KeepaliveTick.field-0.0 in (
+      plan,
+      rw c.in-KeepaliveTick.is refl,
+      passed plan (λ (_ : Unit {0}) world. Finish (Goes world))
+          (λ (flow : Flow) world. Finish (comes flow world)) heard heard session session e _
+          c.from_residual.ensures.1
+          (completes (keepalive_acts w) w heard heard session (Err e)
+          (turned (keepalive_acts w) w heard session (Err e)
+          (c.in_err-keepalive_tick-in-KeepaliveTick.ensures.does w r))),
+    )
+
+pub returns-in_ok-keepalive_tick-in-KeepaliveTick-clause-does :
+    goal.returns-in_ok-keepalive_tick-in-KeepaliveTick-clause-does
+returns-in_ok-keepalive_tick-in-KeepaliveTick-clause-does g c = λ w r.
+    let heard = g.O.Outside.heard c.args.outside.now in
+    let session = c.keepalive_tick.new.self in (
+      acts (keepalive_acts w) w,
+      rw c.in-KeepaliveTick.is refl,
+      goes_on (keepalive_acts w) w heard heard session
+          (turned (keepalive_acts w) w heard session (Ok tt)
+          (c.in_ok-keepalive_tick-in-KeepaliveTick.ensures.does w r)),
+    )
 
 pub returns-in-InactivityTick-clause-does : goal.returns-in-InactivityTick-clause-does
 returns-in-InactivityTick-clause-does g c = λ w r. (
-  Finish (Fails Not_built),
+  acts inactivity_acts w,
   rw c.in-InactivityTick.is refl,
-  unbuilt_input (λ (flow : Flow) world. Finish (comes flow world)) _ c.args.self.now,
+  inactive_input (λ (flow : Flow) world. Finish (comes flow world)) _ c.args.self.now,
 )
 
 pub returns-in-RekeyTick-clause-does : goal.returns-in-RekeyTick-clause-does

@@ -3,11 +3,10 @@ use Rattle.ssh_auth.specs.Plan.{Finish}
 use Rattle.ssh_session.specs.declared.error.Flow.{Flow}
 use Rattle.ssh_session.specs.declared.error.Flow.TheVariants.{Continue, Ended}
 use Rattle.ssh_session.specs.Reading.{Says, Nothing, Disconnect, Over_cap, Unbuilt}
-use Rattle.ssh_session.specs.Reading.{Service, Channel, said_of}
+use Rattle.ssh_session.specs.Reading.{Service, Connection, said_of}
 use Rattle.ssh_session.specs.Rows.{row}
-use Rattle.ssh_session.specs.Run.{is_there}
 use Rattle.ssh_session.specs.Serve.{comes}
-use Rattle.ssh_session.specs.World.{circumstances}
+use Rattle.ssh_session.specs.World.{circumstances, is_there}
 use Rattle.ssh_session.proofs.Serving.{serves_nothing, unbuilt_input, quiet}
 use Rattle.ssh_session.proofs.session.Session.serve_payload.Goals as goal
 
@@ -18,7 +17,7 @@ returns-in-ServiceRequest-clause-does g c = λ w r.
     let said = said_of Service served.0 in (
       said,
       subst (λ at. Says (circumstances (g.V.Verifier.accepts c.args.verifier.now) w.settings
-          c.args.moment) (is_there w) at (drop 1 c.args.payload.now) said)
+          c.args.moment) w at (drop 1 c.args.payload.now) said)
           (c.in-ServiceRequest.ensures.gate w r) (served.0, served.1, refl),
       served.2,
     )
@@ -29,7 +28,7 @@ returns-in-ChannelOpen-clause-does g c = λ w r.
     r) in (
       served.0,
       subst (λ at. Says (circumstances (g.V.Verifier.accepts c.args.verifier.now) w.settings
-          c.args.moment) (is_there w) at (drop 1 c.args.payload.now) served.0)
+          c.args.moment) w at (drop 1 c.args.payload.now) served.0)
           (c.in-ChannelOpen.ensures.gate w r) served.1,
       served.2,
     )
@@ -40,20 +39,20 @@ returns-in-OpenConfirmation-clause-does g c = λ w r.
     c.args.moment r) in (
       served.0,
       subst (λ at. Says (circumstances (g.V.Verifier.accepts c.args.verifier.now) w.settings
-          c.args.moment) (is_there w) at (drop 1 c.args.payload.now) served.0)
+          c.args.moment) w at (drop 1 c.args.payload.now) served.0)
           (c.in-OpenConfirmation.ensures.gate w r) served.1,
       served.2,
     )
 
-pub returns-in-Channel-clause-does : goal.returns-in-Channel-clause-does
-returns-in-Channel-clause-does g c = λ w r.
-    let served = rw c.fields_of-fields.ensures at (c.serve_channel_message.ensures.does w
+pub returns-in-Connection-clause-does : goal.returns-in-Connection-clause-does
+returns-in-Connection-clause-does g c = λ w r.
+    let served = rw c.fields_of-fields.ensures at (c.serve_connection_message.ensures.does w
     c.args.moment r) in
-    let said = said_of Channel served.0 in (
+    let said = said_of Connection served.0 in (
       said,
       subst (λ at. Says (circumstances (g.V.Verifier.accepts c.args.verifier.now) w.settings
-          c.args.moment) (is_there w) at (drop 1 c.args.payload.now) said)
-          (c.in-Channel.ensures.gate w r) (served.0, served.1, refl),
+          c.args.moment) w at (drop 1 c.args.payload.now) said)
+          (c.in-Connection.ensures.gate w r) (served.0, served.1, refl),
       served.2,
     )
 
@@ -62,7 +61,7 @@ returns-in-UserauthRequest-clause-does g c = λ w r.
     let served = c.serve_userauth_request.ensures.does w r in (
       served.0,
       subst (λ at. Says (circumstances (g.V.Verifier.accepts c.args.verifier.now) w.settings
-          c.args.moment) (is_there w) at (drop 1 c.args.payload.now) served.0)
+          c.args.moment) w at (drop 1 c.args.payload.now) served.0)
           (c.in-UserauthRequest.ensures.gate w r) served.1,
       served.2,
     )
@@ -72,7 +71,7 @@ returns-in-InfoResponse-clause-does g c = λ w r.
     let served = c.serve_info_response.ensures.does w r in (
       served.0,
       subst (λ at. Says (circumstances (g.V.Verifier.accepts c.args.verifier.now) w.settings
-          c.args.moment) (is_there w) at (drop 1 c.args.payload.now) served.0)
+          c.args.moment) w at (drop 1 c.args.payload.now) served.0)
           (c.in-InfoResponse.ensures.gate w r) served.1,
       served.2,
     )
@@ -81,7 +80,7 @@ pub returns-in-Nothing-clause-does : goal.returns-in-Nothing-clause-does
 returns-in-Nothing-clause-does g c = λ w r. (
   Nothing,
   subst (λ at. Says (circumstances (g.V.Verifier.accepts c.args.verifier.now) w.settings
-      c.args.moment) (is_there w) at (drop 1 c.args.payload.now) Nothing)
+      c.args.moment) w at (drop 1 c.args.payload.now) Nothing)
       (c.in-Nothing.ensures.gate w r) refl,
   serves_nothing Continue (λ flow world. Finish (comes flow world)) _ w c.args.self.now r,
 )
@@ -90,7 +89,7 @@ pub returns-in-Ends-clause-does : goal.returns-in-Ends-clause-does
 returns-in-Ends-clause-does g c = λ w r. (
   Disconnect,
   subst (λ at. Says (circumstances (g.V.Verifier.accepts c.args.verifier.now) w.settings
-      c.args.moment) (is_there w) at (drop 1 c.args.payload.now) Disconnect)
+      c.args.moment) w at (drop 1 c.args.payload.now) Disconnect)
       (c.in-Ends.ensures.gate w r) refl,
   serves_nothing Ended (λ flow world. Finish (comes flow world)) _ w c.args.self.now r,
 )
@@ -99,7 +98,7 @@ pub returns-in-OverCap-clause-does : goal.returns-in-OverCap-clause-does
 returns-in-OverCap-clause-does g c = λ w r. (
   Over_cap,
   subst (λ at. Says (circumstances (g.V.Verifier.accepts c.args.verifier.now) w.settings
-      c.args.moment) (is_there w) at (drop 1 c.args.payload.now) Over_cap)
+      c.args.moment) w at (drop 1 c.args.payload.now) Over_cap)
       (c.in-OverCap.ensures.gate w r) refl,
   quiet (row w c.args.moment Over_cap) (λ flow world. Finish (comes flow world)) _
       c.serve_over_cap.new.self c.serve_over_cap.result
@@ -110,7 +109,7 @@ pub returns-in-NotBuilt-clause-does : goal.returns-in-NotBuilt-clause-does
 returns-in-NotBuilt-clause-does g c = λ w r. (
   Unbuilt,
   subst (λ at. Says (circumstances (g.V.Verifier.accepts c.args.verifier.now) w.settings
-      c.args.moment) (is_there w) at (drop 1 c.args.payload.now) Unbuilt)
+      c.args.moment) w at (drop 1 c.args.payload.now) Unbuilt)
       (c.in-NotBuilt.ensures.gate w r) refl,
   unbuilt_input (λ (flow : Flow) world. Finish (comes flow world)) _ c.args.self.now,
 )

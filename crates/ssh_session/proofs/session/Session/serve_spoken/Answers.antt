@@ -2,6 +2,7 @@ use Rattle.ssh_channels.specs.Lines.{wants}
 use Rattle.ssh_session.specs.Acts.{acts}
 use Rattle.ssh_session.specs.World.{lined}
 use Rattle.ssh_session.specs.declared.messages.Spoken.TheVariants.{AsksUnknown}
+use Rattle.ssh_session.specs.declared.messages.Spoken.TheVariants.{AsksGloballyUnknown}
 use Rattle.ssh_session.specs.Rows.{spoken_acts}
 use Rattle.ssh_session.proofs.Serving.{serves_nothing, turned}
 use Rattle.ssh_session.proofs.session.Session.serve_spoken.Goals as goal
@@ -45,3 +46,21 @@ returns-in-AsksUnknown-clause-does g c = λ w r later.
     rw c.in-AsksUnknown.is (turned (spoken_acts w
     (AsksUnknown c.in-AsksUnknown.channel c.in-AsksUnknown.wanted)) w _ c.asked_unknown.new.self
     c.asked_unknown.result (c.asked_unknown.ensures.does w r) later)
+
+pub returns-in-AsksToForward-clause-does : goal.returns-in-AsksToForward-clause-does
+returns-in-AsksToForward-clause-does g c = λ w r later.
+    rw c.in-AsksToForward.is (c.asked_to_forward.ensures.does w r later)
+
+pub returns-in-AsksGlobally-clause-does : goal.returns-in-AsksGlobally-clause-does
+returns-in-AsksGlobally-clause-does g c = λ w r later.
+    rw c.in-AsksGlobally.is (c.asked_globally.ensures.does w r later)
+
+pub returns-in-AsksGloballyUnknown-clause-does : goal.returns-in-AsksGloballyUnknown-clause-does
+returns-in-AsksGloballyUnknown-clause-does g c = λ w r later.
+    rw c.in-AsksGloballyUnknown.is (turned (spoken_acts w
+    (AsksGloballyUnknown c.in-AsksGloballyUnknown.wanted)) w _ c.asked_globally_unknown.new.self
+    c.asked_globally_unknown.result (c.asked_globally_unknown.ensures.does w r) later)
+
+pub returns-in-Settles-clause-does : goal.returns-in-Settles-clause-does
+returns-in-Settles-clause-does g c = λ w r later.
+    rw c.in-Settles.is (c.settle.ensures.does w r later)

@@ -3,17 +3,17 @@ use Rattle.ssh_auth.specs.Plan.{Finish}
 use Rattle.ssh_session.specs.declared.error.Flow.{Flow}
 use Rattle.ssh_session.specs.Messages.{message_layout}
 use Rattle.ssh_session.specs.Outcome.{Goes}
-use Rattle.ssh_session.specs.Reading.{Channel}
+use Rattle.ssh_session.specs.Reading.{Connection}
 use Rattle.ssh_session.specs.Rows.{row, spoken_acts}
-use Rattle.ssh_session.specs.Run.{is_there}
+use Rattle.ssh_session.specs.World.{is_there}
 use Rattle.ssh_session.specs.Serve.{comes}
 use Rattle.ssh_session.proofs.Reading.{unserved}
 use Rattle.ssh_session.proofs.Serving.{passed, goes_on, completes}
-use Rattle.ssh_session.proofs.session.Session.serve_channel_message.Goals as goal
+use Rattle.ssh_session.proofs.session.Session.serve_connection_message.Goals as goal
 
 pub returns-in_err-spoken-clause-does : goal.returns-in_err-spoken-clause-does
 returns-in_err-spoken-clause-does g c = λ w moment r.
-    unserved w moment (message_layout (is_there w) c.args.message) c.args.fields.now
+    unserved w moment (message_layout w c.args.message) c.args.fields.now
     c.in_err-spoken.field-0.0 _ c.args.self.now _ _ c.from_residual.ensures.1 refl
     (c.in_err-spoken.ensures w r)
 
@@ -22,7 +22,7 @@ returns-in_err-serve_spoken-clause-does g c = λ w moment r.
     let said = c.in_ok-spoken.spoken in (
       Ok said,
       c.in_ok-spoken.ensures w r,
-      passed (row w moment (Channel said)) (λ (_ : Unit {0}) world. Finish (Goes world))
+      passed (row w moment (Connection said)) (λ (_ : Unit {0}) world. Finish (Goes world))
           (λ (flow : Flow) world. Finish (comes flow world)) _ _
           c.serve_spoken.new.self c.serve_spoken.new.self _ _
           c.from_residual-in_err-serve_spoken.ensures.1

@@ -2,7 +2,7 @@ use Rattle.std.proofs.Common.{inl, inr, refl, ap, Ok}
 use Rattle.ssh_session.specs.declared.messages.Spoken.TheVariants.{Failed}
 use Rattle.ssh_session.specs.Messages.{failure}
 use Rattle.ssh_session.proofs.Reading.{misread}
-use Rattle.ssh_session.proofs.own_opens.failure_message.Goals as goal
+use Rattle.ssh_session.proofs.own_opens.open_failure_message.Goals as goal
 
 pub returns-in_err-channel : goal.returns-in_err-channel
 returns-in_err-channel c = misread failure c.args.fields.now _ _ c.from_residual.ensures.1

@@ -1,0 +1,58 @@
+-- What the callback of an open is in one event after another (RFC 4254 section 5.1).
+use Rattle.std.proofs.Common.{◌≡◌, ◌≤◌, ◌+◌, ℕ, List, [], ◌∷◌, Bool, true, false, cond}
+use Rattle.std.proofs.Common.{refl, ap, inl, inr, arith}
+use Rattle.std.specs.Prelude.{if◌then◌else◌}
+use Rattle.ssh_auth.specs.Plan.{Plan, Finish, Ask, Tell, Event}
+use Rattle.ssh_auth.specs.Plan.{after}
+use Rattle.ssh_auth.specs.Proven.{AsksOnly}
+use Rattle.ssh_auth.specs.Publickey.{Acceptance}
+use Rattle.ssh_auth.proofs.Back.{asked_so, refused_so}
+use Rattle.ssh_session.specs.Answered.{how_many, is_open, open_returned}
+use Rattle.ssh_session.specs.Outcome.{Outcome}
+use Rattle.ssh_session.specs.Run.{Turn, Owes}
+use Rattle.ssh_session.specs.World.{World}
+use Rattle.ssh_session.proofs.Guards.{Walks}
+use Rattle.ssh_session.proofs.Calling.{asked_open, IsBeside, AsksOnce, AsksUpTo, kind_upto}
+use Rattle.ssh_session.proofs.Calling.{input_upto}
+
+-- ---- events
+
+beside_none : {E : Type 0} (plan : Plan Outcome) (events : List (Event E ⊥)) →
+    AsksOnly IsBeside plan → Walks plan events → how_many open_returned events ≡ 0
+beside_none plan [] h w = refl
+beside_none (Finish outcome) (event ∷ events) h w = absurd w
+beside_none (Ask question next) (event ∷ events) h (inl w) =
+    rw (asked_open event question (asked_so question w.0 event w.1), h.0)
+    (beside_none (next w.0) events (h.1 w.0) w.2)
+beside_none (Ask question next) (event ∷ events) h (inr w) =
+    rw (asked_open event question (refused_so question w.0 event w.1), h.0, w.2) refl
+beside_none (Tell entry next) (event ∷ events) h w = rw w.0 (beside_none next events h w.1)
+
+one_more : (b : Bool) (n : ℕ) → n ≡ 0 → cond b (n + 1) n ≤ 1
+one_more true n h = omega (arith, h)
+one_more false n h = omega (arith, h)
+
+once_one : {E : Type 0} (plan : Plan Outcome) (events : List (Event E ⊥)) → AsksOnce plan →
+    Walks plan events → how_many open_returned events ≤ 1
+once_one plan [] h w = omega arith
+once_one (Finish outcome) (event ∷ events) h w = absurd w
+once_one (Ask question next) (event ∷ events) h (inl w) =
+    one_more (open_returned event) (how_many open_returned events)
+    (beside_none (next w.0) events (h w.0) w.2)
+once_one (Ask question next) (event ∷ events) h (inr w) =
+    one_more (open_returned event) (how_many open_returned events) (ap (how_many open_returned) w.2)
+once_one (Tell entry next) (event ∷ events) h w = rw w.0 (once_one next events h w.1)
+
+upto_count : {E : Type 0} (b : Bool) (plan : Plan Outcome) (events : List (Event E ⊥)) →
+    AsksUpTo b plan → Walks plan events → how_many open_returned events ≤ (if b then 1 else 0)
+upto_count true plan events h w = once_one plan events h w
+upto_count false plan events h w = let none = beside_none plan events h w in omega (arith, none)
+
+-- a CHANNEL_OPEN makes the callback of an open once at most, and another input never
+pub turn_called : {E : Type 0} (accepts : Acceptance) (w : World) (turn : Turn E)
+    (plan : Plan Outcome) → Owes accepts w turn.input plan → Walks plan turn.events →
+    how_many open_returned turn.events ≤ (if is_open turn.input.kind then 1 else 0)
+turn_called accepts w turn plan o walks =
+    upto_count (is_open turn.input.kind) plan turn.events
+    (rw o.2 (input_upto (is_open turn.input.kind) o.0
+    (kind_upto accepts w turn.input.moment turn.input.kind o.0 o.1))) walks

@@ -1,0 +1,17 @@
+use Rattle.std.proofs.Common.{◌∙◌, ◌∷◌, [], ap, cond, false, subst, sym}
+use Rattle.ssh_session.specs.Layout.{at_once}
+use Rattle.ssh_session.specs.Rows.{global_reply}
+use Rattle.ssh_session.specs.Serve.{Refines}
+use Rattle.ssh_session.specs.World.{wants_global, writes}
+use Rattle.ssh_session.proofs.session.Session.settle_global.Goals as goal
+
+pub returns-clause-world : goal.returns-clause-world
+returns-clause-world g c = λ w r.
+    let frame = at_once (global_reply c.args.granted c.args.port) in
+    let wanted = sym r.wanted ∙ c.if-not-self.false in
+    subst (Refines c.want_global.new.self)
+    (sym (ap (λ b. cond b (writes (frame ∷ []) (wants_global false w)) w) wanted))
+    (subst (λ f. Refines c.want_global.new.self (wants_global false (writes (f ∷ []) w)))
+    c.reply_frame.ensures
+    (c.want_global.ensures.world (writes (c.reply_frame.result ∷ []) w)
+    (c.in_ok-write.ensures.world w r)))

@@ -1,0 +1,174 @@
+// Global requests of the peer and their replies, and what comes of those of this side (RFC 4254
+// section 4).
+ghost use Rattle.std.specs.Prelude.{◌≡◌, OnOk, IfOk, IfErr};
+ghost use Rattle.ssh_session.specs.declared.error.RunError.TheVariants.{NoMemory};
+ghost use Rattle.ssh_session.specs.declared.messages.Spoken.TheVariants.{AsksToForward};
+ghost use Rattle.ssh_session.specs.declared.messages.Spoken.TheVariants.{AsksGlobally};
+ghost use Rattle.ssh_session.specs.declared.messages.Spoken.TheVariants.{AsksGloballyUnknown};
+ghost use Rattle.ssh_session.specs.declared.messages.Spoken.TheVariants.{Settles};
+ghost use Rattle.ssh_session.specs.Layout.{at_once};
+ghost use Rattle.ssh_session.specs.World.{World, wants_global, settles_global, unless_ended};
+ghost use Rattle.ssh_session.specs.World.{settled_first};
+ghost use Rattle.ssh_session.specs.Effect.{accepts};
+ghost use Rattle.ssh_session.specs.Rows.{spoken_acts, bound_to, global_reply};
+ghost use Rattle.ssh_session.specs.Heard.{AreSame};
+ghost use Rattle.ssh_session.specs.Serve.{Refines, Does, Turned, HasEffect, IsSamePeer, IsSuited};
+
+use crate::apply::Done;
+use crate::outside::Outside;
+use crate::{RunError, Session};
+use ssh_auth::Judged;
+use ssh_link::{Frame, Notice};
+use ssh_wire::Text;
+use ssh_wire::message::{REQUEST_FAILURE, REQUEST_SUCCESS};
+
+/// The port that REQUEST_SUCCESS tells: the one that is listened at, where the peer left it to this
+/// side (section 7.1).
+fn bound_to(asked: u32, bound: u32) -> Option<u32>
+    ensures { result ≡ bound_to asked bound }
+{
+    if asked == 0 && bound != 0 {
+        Some(bound)
+    } else {
+        None
+    }
+}
+
+/// REQUEST_SUCCESS, with the port where there is one, or REQUEST_FAILURE.
+fn reply_frame(granted: bool, port: Option<u32>) -> Frame
+    ensures { result ≡ at_once (global_reply granted port) }
+{
+    if !granted {
+        return Frame::short(&[REQUEST_FAILURE], None, None);
+    }
+    match port {
+        Some(port) => {
+            let [a, b, c, d] = port.to_be_bytes();
+            Frame::short(&[REQUEST_SUCCESS, a, b, c, d], None, None)
+        }
+        None => Frame::short(&[REQUEST_SUCCESS], None, None),
+    }
+}
+
+impl Session {
+    /// The peer's last global request wants a reply, or none.
+    fn want_global(&mut self, wanted: bool)
+        ensures world { (w : World) → Refines self.old w →
+            Refines self.new (wants_global wanted w) }
+        ensures peer { IsSamePeer self.old self.new }
+    {
+        self.common.wants_reply = wanted;
+    }
+
+    /// The reply to the peer's last global request goes out, where that wants one.
+    fn settle_global<E>(&mut self, granted: bool, port: Option<u32>) -> Result<(), RunError<E>>
+        ensures world { OnOk result ((w : World) → Refines self.old w →
+            Refines self.new (settles_global (global_reply granted port) w)) }
+        ensures memory { IfErr result (λ e. e ≡ NoMemory) }
+        ensures peer { IsSamePeer self.old self.new }
+    {
+        if !self.common.wants_reply {
+            return Ok(());
+        }
+        self.write(reply_frame(granted, port))?;
+        self.want_global(false);
+        Ok(())
+    }
+
+    /// The same, unless a command of the callback ended the connection.
+    fn settle_unless_ended<E>(
+        &mut self,
+        granted: bool,
+        port: Option<u32>,
+    ) -> Result<(), RunError<E>>
+        ensures world { OnOk result ((w : World) → Refines self.old w →
+            Refines self.new (unless_ended (settles_global (global_reply granted port)) w)) }
+        ensures memory { IfErr result (λ e. e ≡ NoMemory) }
+        ensures peer { IsSamePeer self.old self.new }
+    {
+        if self.common.disconnected {
+            return Ok(());
+        }
+        self.settle_global(granted, port)
+    }
+
+    /// REQUEST_SUCCESS or REQUEST_FAILURE, as a command.
+    pub(crate) fn reply_globally<E>(&mut self, granted: bool) -> Result<Done, RunError<E>>
+        ensures does { (w : World) → Refines self.old w →
+            HasEffect (accepts (settles_global (global_reply granted None) w)) self.new result }
+        ensures peer { IsSamePeer self.old self.new }
+    {
+        self.settle_global(granted, None)?;
+        Ok(Done::accepted())
+    }
+
+    /// Whether connections to an address are forwarded is the handler's to say, and the reply.
+    pub(crate) fn asked_to_forward<O: Outside>(
+        &mut self,
+        outside: &mut O,
+        wanted: bool,
+        address: Text,
+        port: u32,
+    ) -> Result<(), RunError<O::Error>>
+        requires suits { IsSuited O.suits self.old }
+        ensures does { (w : World) → Refines self.old w →
+            Does (spoken_acts w (AsksToForward wanted address port)) w (O.heard outside.old)
+            (O.heard outside.new) self.new result }
+        ensures same { AreSame (O.heard outside.old) (O.heard outside.new) }
+    {
+        self.want_global(wanted);
+        let (granted, bound) = self.listen(outside, address.as_str(), port)?;
+        self.settle_unless_ended(granted, bound_to(port, bound))
+    }
+
+    /// Whether another global request is granted is the handler's to say, and the reply.
+    pub(crate) fn asked_globally<O: Outside>(
+        &mut self,
+        outside: &mut O,
+        wanted: bool,
+        judged: Judged,
+    ) -> Result<(), RunError<O::Error>>
+        requires suits { IsSuited O.suits self.old }
+        ensures does { (w : World) → Refines self.old w →
+            Does (spoken_acts w (AsksGlobally wanted judged)) w (O.heard outside.old)
+            (O.heard outside.new) self.new result }
+        ensures same { AreSame (O.heard outside.old) (O.heard outside.new) }
+    {
+        self.want_global(wanted);
+        let granted = self.judge(outside, judged)?;
+        self.settle_unless_ended(granted, None)
+    }
+
+    /// A global request that is not known is answered by failure.
+    pub(crate) fn asked_globally_unknown<E>(&mut self, wanted: bool) -> Result<(), RunError<E>>
+        ensures does { (w : World) → Refines self.old w →
+            Turned (spoken_acts w (AsksGloballyUnknown wanted)) w self.new result }
+        ensures peer { IsSamePeer self.old self.new }
+    {
+        self.want_global(wanted);
+        self.settle_global(false, None)
+    }
+
+    /// The oldest global request of this side has its reply, of which this is told.
+    pub(crate) fn settle<O: Outside>(
+        &mut self,
+        outside: &mut O,
+        told: Option<Notice>,
+    ) -> Result<(), RunError<O::Error>>
+        ensures does { (w : World) → Refines self.old w →
+            Does (spoken_acts w (Settles told)) w (O.heard outside.old) (O.heard outside.new)
+            self.new result }
+        ensures same { AreSame (O.heard outside.old) (O.heard outside.new) }
+    {
+        self.settle_first();
+        self.give(outside, told)
+    }
+
+    /// The oldest one waits no longer.
+    fn settle_first(&mut self)
+        ensures world { (w : World) → Refines self.old w → Refines self.new (settled_first w) }
+        ensures peer { IsSamePeer self.old self.new }
+    {
+        let _settled = self.outstanding.pop_front();
+    }
+}

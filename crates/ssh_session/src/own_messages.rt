@@ -1,0 +1,282 @@
+// Messages of no channel that this side sends: global requests (RFC 4254 sections 4 and 7.1), and
+// those of the transport (RFC 4253 section 11).
+ghost use Rattle.std.specs.Prelude.{◌≡◌, ◌≤◌, ◌<◌, ◌^◌, ◌⊎◌, Some, length, IfOk, IfErr, OnOk};
+ghost use Rattle.ssh_session.specs.declared.error.RunError.TheVariants as error;
+ghost use Rattle.ssh_wire.specs.declared.error.WireError.TheVariants.{NoMemory, TooLong};
+ghost use Rattle.ssh_session.specs.declared.outstanding.Outstanding.TheVariants as outstanding;
+ghost use Rattle.ssh_session.specs.World.{World, awaits, ends_by};
+ghost use Rattle.ssh_session.specs.Effect.{said, sends};
+ghost use Rattle.ssh_session.specs.OwnMessages.{OwnMessage, IsUnbuilt, awaited_by};
+ghost use Rattle.ssh_session.specs.OwnMessages as own;
+ghost use Rattle.ssh_session.specs.Serve.{Refines, HasEffect, IsSamePeer};
+
+use crate::apply::Done;
+use crate::frames::frame_at_once;
+use crate::outstanding::Outstanding;
+use crate::{RunError, Session};
+use ssh_link::Refusal;
+use ssh_wire::message::{DEBUG, DISCONNECT, GLOBAL_REQUEST};
+use ssh_wire::{Disconnect, Text, WireError, put_text, put_u8, put_u32};
+use std::alloc::Global;
+
+/// A payload, or `TooLong` where it has more than 2^32 - 1 bytes.
+fn within(payload: Vec<u8>) -> Result<Vec<u8>, WireError>
+    ensures ok { IfOk result (λ p. (p.items ≡ payload.items) × (length payload.items < 2 ^ 32)) }
+    ensures refused { IfErr result (λ e. (e ≡ TooLong) × (2 ^ 32 ≤ length payload.items)) }
+{
+    if u32::try_from(payload.len()).is_err() {
+        return Err(WireError::TooLong);
+    }
+    Ok(payload)
+}
+
+/// The request for a sign of life, which wants a reply (OpenSSH).
+pub(crate) fn keepalive_payload(alloc: Global) -> Result<Vec<u8>, WireError>
+    ensures ok { IfOk result (λ p. p.items ≡ own.keepalive.payload) }
+    ensures memory { IfErr result (λ e. e ≡ NoMemory) }
+{
+    let mut payload = Vec::new(alloc);
+    put_u8(&mut payload, GLOBAL_REQUEST)?;
+    put_text(&mut payload, "keepalive@openssh.com")?;
+    put_u8(&mut payload, 1)?;
+    Ok(payload)
+}
+
+/// The request that connections to an address are forwarded (RFC 4254 section 7.1).
+fn forward_payload(
+    alloc: Global,
+    address: &Text,
+    port: u32,
+    wanted: bool,
+) -> Result<Vec<u8>, WireError>
+    ensures ok { IfOk result (λ p. (p.items ≡ own.forward_payload address.now port wanted)
+        × (length (own.forward_payload address.now port wanted) < 2 ^ 32)) }
+    ensures refused { IfErr result (IsUnbuilt (own.forward_payload address.now port wanted)) }
+{
+    let mut payload = Vec::new(alloc);
+    put_u8(&mut payload, GLOBAL_REQUEST)?;
+    put_text(&mut payload, "tcpip-forward")?;
+    put_u8(&mut payload, wanted as u8)?;
+    put_text(&mut payload, address.as_str())?;
+    put_u32(&mut payload, port)?;
+    within(payload)
+}
+
+/// The request that they are forwarded no longer (RFC 4254 section 7.1).
+fn cancel_payload(
+    alloc: Global,
+    address: &Text,
+    port: u32,
+    wanted: bool,
+) -> Result<Vec<u8>, WireError>
+    ensures ok { IfOk result (λ p. (p.items ≡ own.cancel_payload address.now port wanted)
+        × (length (own.cancel_payload address.now port wanted) < 2 ^ 32)) }
+    ensures refused { IfErr result (IsUnbuilt (own.cancel_payload address.now port wanted)) }
+{
+    let mut payload = Vec::new(alloc);
+    put_u8(&mut payload, GLOBAL_REQUEST)?;
+    put_text(&mut payload, "cancel-tcpip-forward")?;
+    put_u8(&mut payload, wanted as u8)?;
+    put_text(&mut payload, address.as_str())?;
+    put_u32(&mut payload, port)?;
+    within(payload)
+}
+
+/// DEBUG (RFC 4253 section 11.3).
+fn debug_payload(
+    alloc: Global,
+    always: bool,
+    text: &Text,
+    language: &Text,
+) -> Result<Vec<u8>, WireError>
+    ensures ok { IfOk result (λ p. (p.items ≡ (own.debug always text.now language.now).payload)
+        × (length (own.debug always text.now language.now).payload < 2 ^ 32)) }
+    ensures refused { IfErr result (IsUnbuilt (own.debug always text.now language.now).payload) }
+{
+    let mut payload = Vec::new(alloc);
+    put_u8(&mut payload, DEBUG)?;
+    put_u8(&mut payload, always as u8)?;
+    put_text(&mut payload, text.as_str())?;
+    put_text(&mut payload, language.as_str())?;
+    within(payload)
+}
+
+/// DISCONNECT (RFC 4253 section 11.1).
+fn disconnect_payload(
+    alloc: Global,
+    reason: Disconnect,
+    description: &Text,
+    language: &Text,
+) -> Result<Vec<u8>, WireError>
+    ensures ok { IfOk result (λ p. (p.items ≡ (own.disconnect reason description.now language.now).payload)
+        × (length (own.disconnect reason description.now language.now).payload < 2 ^ 32)) }
+    ensures refused { IfErr result (IsUnbuilt (own.disconnect reason description.now language.now).payload) }
+{
+    let mut payload = Vec::new(alloc);
+    put_u8(&mut payload, DISCONNECT)?;
+    put_u32(&mut payload, reason.code())?;
+    put_text(&mut payload, description.as_str())?;
+    put_text(&mut payload, language.as_str())?;
+    within(payload)
+}
+
+/// A forward that is asked for under this slot.
+fn forward_under(slot: Option<u64>) -> Option<Outstanding>
+    ensures { result ≡ awaited_by outstanding.Forward slot }
+{
+    match slot {
+        Some(slot) => Some(Outstanding::Forward { slot }),
+        None => None,
+    }
+}
+
+/// A cancelled forward that is asked for under this slot.
+fn cancel_under(slot: Option<u64>) -> Option<Outstanding>
+    ensures { result ≡ awaited_by outstanding.Cancel slot }
+{
+    match slot {
+        Some(slot) => Some(Outstanding::Cancel { slot }),
+        None => None,
+    }
+}
+
+impl Session {
+    /// Asks the peer to forward connections to this address.
+    pub(crate) fn forward<E>(
+        &mut self,
+        address: &Text,
+        port: u32,
+        slot: Option<u64>,
+    ) -> Result<Done, RunError<E>>
+        ensures does { (w : World) → Refines self.old w →
+            HasEffect (sends (own.forward address.now port slot) w) self.new result }
+        ensures peer { IsSamePeer self.old self.new }
+    {
+        let payload = forward_payload(self.alloc, address, port, slot.is_some());
+        self.send(payload, forward_under(slot), false)
+    }
+
+    /// Asks the peer to forward them no longer.
+    pub(crate) fn cancel_forward<E>(
+        &mut self,
+        address: &Text,
+        port: u32,
+        slot: Option<u64>,
+    ) -> Result<Done, RunError<E>>
+        ensures does { (w : World) → Refines self.old w →
+            HasEffect (sends (own.cancel address.now port slot) w) self.new result }
+        ensures peer { IsSamePeer self.old self.new }
+    {
+        let payload = cancel_payload(self.alloc, address, port, slot.is_some());
+        self.send(payload, cancel_under(slot), false)
+    }
+
+    /// Asks the peer for a sign of life.
+    pub(crate) fn ask_alive<E>(&mut self, awaited: Outstanding) -> Result<Done, RunError<E>>
+        ensures does { (w : World) → Refines self.old w →
+            HasEffect (sends (own.alive awaited) w) self.new result }
+        ensures peer { IsSamePeer self.old self.new }
+    {
+        let payload = keepalive_payload(self.alloc);
+        self.send(payload, Some(awaited), false)
+    }
+
+    /// Tells the peer something for people to read.
+    pub(crate) fn debug<E>(
+        &mut self,
+        always: bool,
+        text: &Text,
+        language: &Text,
+    ) -> Result<Done, RunError<E>>
+        ensures does { (w : World) → Refines self.old w →
+            HasEffect (sends (own.debug always text.now language.now) w) self.new result }
+        ensures peer { IsSamePeer self.old self.new }
+    {
+        let payload = debug_payload(self.alloc, always, text, language);
+        self.send(payload, None, false)
+    }
+
+    /// Ends the connection: nothing goes out behind this.
+    pub(crate) fn disconnect<E>(
+        &mut self,
+        reason: Disconnect,
+        description: &Text,
+        language: &Text,
+    ) -> Result<Done, RunError<E>>
+        ensures does { (w : World) → Refines self.old w →
+            HasEffect (sends (own.disconnect reason description.now language.now) w) self.new
+            result }
+        ensures peer { IsSamePeer self.old self.new }
+    {
+        let payload = disconnect_payload(self.alloc, reason, description, language);
+        self.send(payload, None, true)
+    }
+
+    /// A message with this payload goes out, or is refused where it is too long.
+    fn send<E>(
+        &mut self,
+        payload: Result<Vec<u8>, WireError>,
+        awaited: Option<Outstanding>,
+        ends: bool,
+    ) -> Result<Done, RunError<E>>
+        ensures does { (message : OwnMessage) →
+            IfOk payload (λ p. (p.items ≡ message.payload) × (length message.payload < 2 ^ 32)) →
+            IfErr payload (IsUnbuilt message.payload) → message.awaited ≡ awaited →
+            message.ends ≡ ends → (w : World) → Refines self.old w →
+            HasEffect (sends message w) self.new result }
+        ensures peer { IsSamePeer self.old self.new }
+    {
+        match payload {
+            Ok(payload) => {
+                self.say(payload, awaited, ends)?;
+                Ok(Done::accepted())
+            }
+            Err(WireError::TooLong) => Ok(Done::refused(Refusal::TooLong)),
+            Err(_) => Err(RunError::NoMemory),
+        }
+    }
+
+    /// A message of no channel is written; its reply is waited for, or the connection is over with
+    /// it.
+    pub(crate) fn say<E>(
+        &mut self,
+        payload: Vec<u8>,
+        awaited: Option<Outstanding>,
+        ends: bool,
+    ) -> Result<(), RunError<E>>
+        ensures world { OnOk result ((w : World) → Refines self.old w → Refines self.new
+            (said (record { payload = payload.items; awaited = awaited; ends = ends }) w)) }
+        ensures memory { IfErr result (λ e. e ≡ error.NoMemory) }
+        ensures peer { IsSamePeer self.old self.new }
+    {
+        let frame = frame_at_once(payload)?;
+        self.await_reply(awaited)?;
+        self.write(frame)?;
+        self.end_by(ends);
+        Ok(())
+    }
+
+    /// The reply to a request is waited for, behind those that came before, where there is one.
+    fn await_reply<E>(&mut self, awaited: Option<Outstanding>) -> Result<(), RunError<E>>
+        ensures world { OnOk result ((w : World) → Refines self.old w →
+            Refines self.new (awaits awaited w)) }
+        ensures memory { IfErr result (λ e. e ≡ error.NoMemory) }
+        ensures peer { IsSamePeer self.old self.new }
+    {
+        match awaited {
+            Some(request) => {
+                self.outstanding.push_back(request)?;
+                Ok(())
+            }
+            None => Ok(()),
+        }
+    }
+
+    /// The connection is ended, or stays as it is.
+    fn end_by(&mut self, ends: bool)
+        ensures world { (w : World) → Refines self.old w → Refines self.new (ends_by ends w) }
+        ensures peer { IsSamePeer self.old self.new }
+    {
+        self.common.disconnected = self.common.disconnected || ends;
+    }
+}
