@@ -52,6 +52,8 @@ status_small (Err (error.Handler record_error.NoMemory)) status h =
 status_small (Err (error.Handler (record_error.Inner e))) status h = some_small 1 status
     (omega arith) h
 status_small (Err error.ChannelsFull) status h = some_small 1 status (omega arith) h
+status_small (Err error.KeepaliveTimeout) status h = some_small 1 status (omega arith) h
+status_small (Err error.InactivityTimeout) status h = some_small 1 status (omega arith) h
 status_small (Err error.NotBuilt) status h = some_small 1 status (omega arith) h
 
 shows_small : (read : Result Scene ℕ) (status : ℕ) (text : List ℕ) → Shows read status text

@@ -17,6 +17,8 @@ use Rattle.ssh_script.specs.declared.answers.DataVerdict.{DataVerdict}
 use Rattle.ssh_script.specs.declared.answers.DataVerdict.TheVariants.{Silent, Echo}
 use Rattle.ssh_script.specs.declared.answers.RequestVerdict.{RequestVerdict}
 use Rattle.ssh_script.specs.declared.answers.RequestVerdict.TheVariants as requests
+use Rattle.ssh_script.specs.declared.answers.ForwardVerdict.{ForwardVerdict}
+use Rattle.ssh_script.specs.declared.answers.ForwardVerdict.TheVariants as forwards
 use Rattle.ssh_script.specs.declared.answers.Standing.{Standing}
 use Rattle.ssh_script.specs.declared.answers.Verdict.{Verdict}
 use Rattle.ssh_script.specs.declared.answers.Verdict.TheVariants.{Accept, Reject, Fail}
@@ -32,6 +34,7 @@ use Rattle.ssh_script.specs.Played.{
   told_opens,
   told_data,
   told_requests,
+  told_forwards,
   heading,
 }
 use Rattle.ssh_script.specs.Given.{told_input, told_moment}
@@ -127,9 +130,21 @@ told_requests_once : (v w : RequestVerdict) (xs ys : List (Call Failure))
 told_requests_once v w xs ys e =
     let a : told_requests v ≡ told_requests w = cc in (requests_once v w a, cc)
 
+forwards_once : (v w : ForwardVerdict) → told_forwards v ≡ told_forwards w → v ≡ w
+forwards_once forwards.No forwards.No e = refl
+forwards_once forwards.No (forwards.Yes port) e = cc
+forwards_once (forwards.Yes port) forwards.No e = cc
+forwards_once (forwards.Yes port) (forwards.Yes other) e = cc
+
+told_forwards_once : (v w : ForwardVerdict) (xs ys : List (Call Failure))
+    → told_forwards v ∷ xs ≡ told_forwards w ∷ ys → (v ≡ w) × (xs ≡ ys)
+told_forwards_once v w xs ys e =
+    let a : told_forwards v ≡ told_forwards w = cc in (forwards_once v w a, cc)
+
 standing_same : (s t : Standing) → s.opens ≡ t.opens → s.incoming ≡ t.incoming
-    → s.requests ≡ t.requests → s ≡ t
-standing_same s t a b c = λ i. record { opens = a i; incoming = b i; requests = c i }
+    → s.requests ≡ t.requests → s.forwards ≡ t.forwards → s ≡ t
+standing_same s t a b c d =
+    λ i. record { opens = a i; incoming = b i; requests = c i; forwards = d i }
 
 queues_same : (q p : Queues) → q.none ≡ p.none → q.password ≡ p.password → q.offered ≡ p.offered →
     q.publickey ≡ p.publickey → q.certificate ≡ p.certificate → q.interactive ≡ p.interactive →
@@ -161,9 +176,10 @@ heads q p xs ys e =
     let j = banner_once q.banner p.banner _ _ h.1 in
     let k = told_opens_once q.standing.opens p.standing.opens _ _ j.1 in
     let l = told_data_once q.standing.incoming p.standing.incoming _ _ k.1 in
-    let m = told_requests_once q.standing.requests p.standing.requests xs ys l.1 in
-    let n = standing_same q.standing p.standing k.0 l.0 m.0 in
-    (queues_same q p a.0 b.0 c.0 d.0 f.0 g.0 h.0 j.0 n, m.1)
+    let m = told_requests_once q.standing.requests p.standing.requests _ _ l.1 in
+    let n = told_forwards_once q.standing.forwards p.standing.forwards xs ys m.1 in
+    let o = standing_same q.standing p.standing k.0 l.0 m.0 n.0 in
+    (queues_same q p a.0 b.0 c.0 d.0 f.0 g.0 h.0 j.0 o, n.1)
 
 -- an entry's input, and the moment until which its frame is held
 input_in : Input → List TraceEntry → Input

@@ -38,8 +38,8 @@ use Rattle.ssh_session.specs.Run.{Turn, calls_of, entries}
 use Rattle.ssh_session.specs.Account.{Told, Concludes, Closes, Ran}
 use Rattle.ssh_script.specs.Scene.{Scene}
 use Rattle.ssh_script.specs.Played.{Failure, Queues, banner_answer, interactive_answer, verdict_on}
-use Rattle.ssh_script.specs.Played.{records, grants, answered, after, played, IsAnswered, heading}
-use Rattle.ssh_script.specs.Played.{told_of}
+use Rattle.ssh_script.specs.Played.{records, grants, listened, answered, after, played, IsAnswered}
+use Rattle.ssh_script.specs.Played.{heading, told_of}
 use Rattle.ssh_script.specs.Given.{IsGiven, as_given, trace_of}
 use Rattle.ssh_script.specs.Given.{heading as input_heading}
 use Rattle.ssh_script.specs.CallLines.{question_line, call_line}
@@ -84,7 +84,7 @@ heard queues (ask.Judges judged) =
       ap question_of (judged_back Failure judged (Ok (grants queues.standing judged)) []),
     )
 heard queues (ask.Listens address port) = inl (
-  call.TcpipForward address port port (Ok false) [],
+  listened address port queues.standing.forwards,
   refl,
   refl,
 )

@@ -62,11 +62,12 @@ fits_once (Of_bytes says digits) None (Some b) h k = absurd (h k.0 k.1)
 fits_once (Of_bytes says digits) (Some a) None h k = absurd (k h.0 h.1)
 fits_once (Of_bytes says digits) (Some a) (Some b) h k =
     ap Some (h.2 ∙ (ap says (hex_once digits h.0 k.0 h.1 k.1) ∙ sym k.2))
-fits_once (Of_text says digits) None None h k = refl
-fits_once (Of_text says digits) None (Some b) h k = absurd (h k.0 k.1)
-fits_once (Of_text says digits) (Some a) None h k = absurd (k h.0 h.1)
-fits_once (Of_text says digits) (Some a) (Some b) h k =
-    ap Some (h.2 ∙ (ap says (hex_once digits h.0 k.0 h.1.0 k.1.0) ∙ sym k.2))
+fits_once (Of_text next digits) a b (inl h) (inl k) =
+    fits_once (next h.0) a b h.2 (subst (λ text. Fits (next text) b)
+    (sym (hex_once digits h.0 k.0 h.1.0 k.1.0)) k.2)
+fits_once (Of_text next digits) a b (inl h) (inr k) = absurd (k.0 h.0 h.1)
+fits_once (Of_text next digits) a b (inr h) (inl k) = absurd (h.0 k.0 k.1)
+fits_once (Of_text next digits) a b (inr h) (inr k) = h.1 ∙ sym k.1
 fits_once (Of_signature key algorithm message signature) None None h k = refl
 fits_once (Of_signature key algorithm message signature) None (Some b) h k = absurd (h k.0 k.1)
 fits_once (Of_signature key algorithm message signature) (Some a) None h k = absurd (k h.0 h.1)

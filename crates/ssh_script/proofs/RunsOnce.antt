@@ -49,6 +49,8 @@ use Rattle.ssh_session.specs.Outcome.{
   Unsupported,
   Starved,
   Channels_full,
+  Keepalive_timeout,
+  Inactivity_timeout,
   Not_built,
 }
 use Rattle.ssh_session.specs.Run.{Owes, Turn, IsTaken, Turns, Run, calls_of, entries}
@@ -113,6 +115,8 @@ Matches (Ok (Fails (Key why))) result = result ≡ Err (error.Key why)
 Matches (Ok (Fails Unsupported)) result = result ≡ Err error.UnsupportedAuthMethod
 Matches (Ok (Fails Starved)) result = ⊥
 Matches (Ok (Fails Channels_full)) result = result ≡ Err error.ChannelsFull
+Matches (Ok (Fails Keepalive_timeout)) result = result ≡ Err error.KeepaliveTimeout
+Matches (Ok (Fails Inactivity_timeout)) result = result ≡ Err error.InactivityTimeout
 Matches (Ok (Fails Not_built)) result = result ≡ Err error.NotBuilt
 Matches (Err e) result = result ≡ Err (error.Handler e)
 
@@ -126,6 +130,8 @@ matches_once (Ok (Fails (Key why))) r s h k = h ∙ sym k
 matches_once (Ok (Fails Unsupported)) r s h k = h ∙ sym k
 matches_once (Ok (Fails Starved)) r s h k = absurd h
 matches_once (Ok (Fails Channels_full)) r s h k = h ∙ sym k
+matches_once (Ok (Fails Keepalive_timeout)) r s h k = h ∙ sym k
+matches_once (Ok (Fails Inactivity_timeout)) r s h k = h ∙ sym k
 matches_once (Ok (Fails Not_built)) r s h k = h ∙ sym k
 matches_once (Err e) r s h k = h ∙ sym k
 
@@ -139,6 +145,8 @@ matches_fed (Ok (Fails (Key why))) r h = tt
 matches_fed (Ok (Fails Unsupported)) r h = tt
 matches_fed (Ok (Fails Starved)) r h = h
 matches_fed (Ok (Fails Channels_full)) r h = tt
+matches_fed (Ok (Fails Keepalive_timeout)) r h = tt
+matches_fed (Ok (Fails Inactivity_timeout)) r h = tt
 matches_fed (Ok (Fails Not_built)) r h = tt
 matches_fed (Err e) r h = tt
 
@@ -167,6 +175,10 @@ came plan events (Err (error.Key why)) status c h = (Ok (Fails (Key why)), c, re
 came plan events (Err error.UnsupportedAuthMethod) status c h = (Ok (Fails Unsupported), c, refl)
 came plan events (Err (error.Handler e)) status c h = (Err e, c, refl)
 came plan events (Err error.ChannelsFull) status c h = (Ok (Fails Channels_full), c, refl)
+came plan events (Err error.KeepaliveTimeout) status c h =
+    (Ok (Fails Keepalive_timeout), c, refl)
+came plan events (Err error.InactivityTimeout) status c h =
+    (Ok (Fails Inactivity_timeout), c, refl)
 came plan events (Err error.NotBuilt) status c h = (Ok (Fails Not_built), c, refl)
 
 closes_some : (accepts : Acceptance) (w : World) (n max : ℕ) (turn : Turn Failure)

@@ -123,6 +123,8 @@ run_not_two (Err error.UnsupportedAuthMethod) h = not_two 1 (omega arith) h
 run_not_two (Err (error.Handler record_error.NoMemory)) h = absurd (none_is_some 2 h)
 run_not_two (Err (error.Handler (record_error.Inner e))) h = not_two 1 (omega arith) h
 run_not_two (Err error.ChannelsFull) h = not_two 1 (omega arith) h
+run_not_two (Err error.KeepaliveTimeout) h = not_two 1 (omega arith) h
+run_not_two (Err error.InactivityTimeout) h = not_two 1 (omega arith) h
 run_not_two (Err error.NotBuilt) h = not_two 1 (omega arith) h
 
 two_shown : (read : Result Scene ℕ) (m : ℕ) (text : List ℕ) (lines : List (List ℕ))

@@ -1,7 +1,7 @@
 -- How the lines of a script are written: words with one space between each two.
 use Rattle.std.specs.Prelude.{◌≡◌, ◌≢◌, ◌<◌, ◌^◌, ◌⊎◌, ◌==◌, ℕ, List, [], ◌∷◌, length, codes}
 use Rattle.std.specs.Prelude.{bytes_eq, Bool, true}
-use Rattle.std.specs.Prelude.{false, nat_lt, if◌then◌else◌, Option, Some, None, option_map, Ok}
+use Rattle.std.specs.Prelude.{false, nat_lt, if◌then◌else◌, Option, Some, None, Ok}
 use Rattle.std.specs.Prelude.{IsUtf8}
 use Rattle.std.specs.List.{position_or_len, before_first, after_first}
 use Rattle.std.specs.Fmt.{decimal}
@@ -11,22 +11,22 @@ use Rattle.ssh_keys.specs.Keys.{IsKey}
 use Rattle.ssh_keys.specs.declared.public_key.PublicKey.{PublicKey}
 use Rattle.ssh_keys.specs.declared.table_verifier.AcceptedSignature.{AcceptedSignature}
 use Rattle.ssh_wire.specs.declared.channel_id.ChannelId.{ChannelId}
+use Rattle.ssh_wire.specs.declared.disconnect.Disconnect.{Disconnect}
+use Rattle.ssh_wire.specs.declared.disconnect.Disconnect.TheVariants as cause
 use Rattle.ssh_wire.specs.declared.open_failure.ChannelOpenFailure.{ChannelOpenFailure}
 use Rattle.ssh_wire.specs.declared.open_failure.ChannelOpenFailure.TheVariants as reason
 use Rattle.ssh_link.specs.declared.command.Command.{Command}
 use Rattle.ssh_link.specs.declared.command.Command.TheVariants as command
 use Rattle.ssh_link.specs.declared.open_answer.OpenAnswer.{OpenAnswer}
 use Rattle.ssh_script.specs.Opens.{own, accepting, rejecting}
+use Rattle.ssh_script.specs.Verdicts.{verdict_of, answer_to, interactive_verdict_of}
+use Rattle.ssh_script.specs.Verdicts.{open_verdict_of, data_verdict_of, request_verdict_of}
 use Rattle.ssh_script.specs.declared.answers.InteractiveVerdict.{InteractiveVerdict}
-use Rattle.ssh_script.specs.declared.answers.InteractiveVerdict.TheVariants as interactive
 use Rattle.ssh_script.specs.declared.answers.OpenVerdict.{OpenVerdict}
-use Rattle.ssh_script.specs.declared.answers.OpenVerdict.TheVariants as open_verdict
 use Rattle.ssh_script.specs.declared.answers.DataVerdict.{DataVerdict}
-use Rattle.ssh_script.specs.declared.answers.DataVerdict.TheVariants as data_verdict
 use Rattle.ssh_script.specs.declared.answers.RequestVerdict.{RequestVerdict}
-use Rattle.ssh_script.specs.declared.answers.RequestVerdict.TheVariants as request_verdict
 use Rattle.ssh_script.specs.declared.answers.Verdict.{Verdict}
-use Rattle.ssh_script.specs.declared.answers.Verdict.TheVariants as verdict
+use Rattle.ssh_script.specs.declared.answers.ForwardVerdict.TheVariants.{Yes, No}
 use Rattle.ssh_script.specs.declared.lines.Setting.{Setting}
 use Rattle.ssh_script.specs.declared.lines.Setting.TheVariants as setting
 use Rattle.ssh_script.specs.declared.lines.InputLine.TheVariants as input
@@ -106,8 +106,8 @@ pub data Form : Type 0 where
   Of_number : (says : ℕ → Line) → (digits : List ℕ) → Form
   -- these digits write the bytes of which it speaks
   Of_bytes : (says : List ℕ → Line) → (digits : List ℕ) → Form
-  -- these digits write the text of which it speaks
-  Of_text : (says : List ℕ → Line) → (digits : List ℕ) → Form
+  -- these digits write a text, and by it this is what the line is
+  Of_text : (next : List ℕ → Form) → (digits : List ℕ) → Form
   -- these words write the signature that it accepts
   Of_signature : (key algorithm message signature : List ℕ) → Form
   -- these digits write a number below 2^32, and by it this is what the line is
@@ -121,24 +121,6 @@ abbrev pub cut : List ℕ → Option (List ℕ × List ℕ)
 cut text =
     if nat_lt (position_or_len is_space text) (length text)
     then Some (before_first is_space text, after_first is_space text)
-    else None
-
--- accept, reject or fail
-abbrev pub verdict_of : List ℕ → Option Verdict
-verdict_of word =
-    if bytes_eq word (codes "accept") then Some verdict.Accept
-    else if bytes_eq word (codes "reject") then Some verdict.Reject
-    else if bytes_eq word (codes "fail") then Some verdict.Fail
-    else None
-
--- the requests that a verdict answers
-abbrev pub answer_to : List ℕ → Verdict → Option Setting
-answer_to name one =
-    if bytes_eq name (codes "none") then Some (setting.AnswerNone one)
-    else if bytes_eq name (codes "password") then Some (setting.AnswerPassword one)
-    else if bytes_eq name (codes "offered") then Some (setting.AnswerOffered one)
-    else if bytes_eq name (codes "publickey") then Some (setting.AnswerPublickey one)
-    else if bytes_eq name (codes "certificate") then Some (setting.AnswerCertificate one)
     else None
 
 abbrev pub setting_form : Option Setting → Form
@@ -155,13 +137,6 @@ abbrev pub banner_form : List ℕ → Form
 banner_form word = if bytes_eq word (codes "fail") then Whole (line.Setting setting.FailBanner) else
     No_form
 
--- accept, reject, fail, unsupported or ask
-abbrev pub interactive_verdict_of : List ℕ → Option InteractiveVerdict
-interactive_verdict_of word =
-    if bytes_eq word (codes "unsupported") then Some interactive.Unsupported
-    else if bytes_eq word (codes "ask") then Some interactive.Ask
-    else option_map interactive.Plain (verdict_of word)
-
 abbrev pub interactive_verdict_form : Option InteractiveVerdict → Form
 interactive_verdict_form None = No_form
 interactive_verdict_form (Some one) = Whole (line.Setting (setting.AnswerInteractive one))
@@ -169,14 +144,6 @@ interactive_verdict_form (Some one) = Whole (line.Setting (setting.AnswerInterac
 -- answer interactive, and one of these
 abbrev pub interactive_form : List ℕ → Form
 interactive_form word = interactive_verdict_form (interactive_verdict_of word)
-
--- accept, reject or hold
-abbrev pub open_verdict_of : List ℕ → Option OpenVerdict
-open_verdict_of word =
-    if bytes_eq word (codes "accept") then Some open_verdict.Accept
-    else if bytes_eq word (codes "reject") then Some open_verdict.Reject
-    else if bytes_eq word (codes "hold") then Some open_verdict.Hold
-    else None
 
 abbrev pub open_verdict_form : Option OpenVerdict → Form
 open_verdict_form None = No_form
@@ -186,13 +153,6 @@ open_verdict_form (Some one) = Whole (line.Setting (setting.AnswerOpen one))
 abbrev pub open_form : List ℕ → Form
 open_form word = open_verdict_form (open_verdict_of word)
 
--- echo or silent
-abbrev pub data_verdict_of : List ℕ → Option DataVerdict
-data_verdict_of word =
-    if bytes_eq word (codes "echo") then Some data_verdict.Echo
-    else if bytes_eq word (codes "silent") then Some data_verdict.Silent
-    else None
-
 abbrev pub data_verdict_form : Option DataVerdict → Form
 data_verdict_form None = No_form
 data_verdict_form (Some one) = Whole (line.Setting (setting.AnswerData one))
@@ -200,14 +160,6 @@ data_verdict_form (Some one) = Whole (line.Setting (setting.AnswerData one))
 -- answer data, and one of these
 abbrev pub data_answer_form : List ℕ → Form
 data_answer_form word = data_verdict_form (data_verdict_of word)
-
--- success, failure or silent
-abbrev pub request_verdict_of : List ℕ → Option RequestVerdict
-request_verdict_of word =
-    if bytes_eq word (codes "success") then Some request_verdict.Success
-    else if bytes_eq word (codes "failure") then Some request_verdict.Failure
-    else if bytes_eq word (codes "silent") then Some request_verdict.Silent
-    else None
 
 abbrev pub request_verdict_form : Option RequestVerdict → Form
 request_verdict_form None = No_form
@@ -217,7 +169,24 @@ request_verdict_form (Some one) = Whole (line.Setting (setting.AnswerRequest one
 abbrev pub request_form : List ℕ → Form
 request_form word = request_verdict_form (request_verdict_of word)
 
--- answer, a name and a word
+-- answer forward no; and answer forward yes, and a port
+abbrev pub forward_no_form : List ℕ → Form
+forward_no_form word =
+    if bytes_eq word (codes "no") then Whole (line.Setting (setting.AnswerForward No)) else No_form
+
+abbrev pub forward_yes_form : List ℕ → Form
+forward_yes_form digits =
+    Of_small (λ port. Whole (line.Setting (setting.AnswerForward (Yes port)))) digits
+
+abbrev pub forward_answer_words : List ℕ → Option (List ℕ × List ℕ) → Form
+forward_answer_words word None = forward_no_form word
+forward_answer_words word (Some parts) =
+    if bytes_eq parts.0 (codes "yes") then forward_yes_form parts.1 else No_form
+
+abbrev pub forward_answer_form : List ℕ → Form
+forward_answer_form rest = forward_answer_words rest (cut rest)
+
+-- answer, a name and what is answered
 abbrev pub answer_words : Option (List ℕ × List ℕ) → Form
 answer_words None = No_form
 answer_words (Some parts) =
@@ -226,6 +195,7 @@ answer_words (Some parts) =
     else if bytes_eq parts.0 (codes "open") then open_form parts.1
     else if bytes_eq parts.0 (codes "data") then data_answer_form parts.1
     else if bytes_eq parts.0 (codes "request") then request_form parts.1
+    else if bytes_eq parts.0 (codes "forward") then forward_answer_form parts.1
     else verdict_form parts.0 (verdict_of parts.1)
 
 abbrev pub answer_form : List ℕ → Form
@@ -243,6 +213,8 @@ abbrev pub number_form : (name digits : List ℕ) → Form
 number_form name digits =
     if bytes_eq name (codes "attempts")
     then Of_number (λ count. line.Setting (setting.Attempts count)) digits
+    else if bytes_eq name (codes "keepalive")
+    then Of_number (λ count. line.Setting (setting.Keepalive count)) digits
     else if bytes_eq name (codes "reject")
     then Of_number (λ time. line.Setting (setting.Reject time)) digits
     else if bytes_eq name (codes "reject-initial")
@@ -337,6 +309,54 @@ abbrev pub own_open_form : List ℕ → Form
 own_open_form type =
     if bytes_eq type (codes "session") then Whole (commands command.OpenSession) else No_form
 
+-- forward, an address, a port and the slot of the reply
+abbrev pub forward_port : (address : List ℕ) → Option (List ℕ × List ℕ) → Form
+forward_port address None = No_form
+forward_port address (Some parts) =
+    Of_small (λ port. Of_text (λ text. Of_number (λ slot.
+    commands (command.TcpipForward text port (Some slot))) parts.1) address) parts.0
+
+abbrev pub forward_words : Option (List ℕ × List ℕ) → Form
+forward_words None = No_form
+forward_words (Some parts) = forward_port parts.0 (cut parts.1)
+
+abbrev pub forward_form : List ℕ → Form
+forward_form rest = forward_words (cut rest)
+
+-- the reason to end a connection that has this code
+abbrev pub disconnect_of : ℕ → Option Disconnect
+disconnect_of code =
+    if code == 1 then Some cause.HostNotAllowedToConnect
+    else if code == 2 then Some cause.ProtocolError
+    else if code == 3 then Some cause.KeyExchangeFailed
+    else if code == 4 then Some cause.Reserved
+    else if code == 5 then Some cause.MACError
+    else if code == 6 then Some cause.CompressionError
+    else if code == 7 then Some cause.ServiceNotAvailable
+    else if code == 8 then Some cause.ProtocolVersionNotSupported
+    else if code == 9 then Some cause.HostKeyNotVerifiable
+    else if code == 10 then Some cause.ConnectionLost
+    else if code == 11 then Some cause.ByApplication
+    else if code == 12 then Some cause.TooManyConnections
+    else if code == 13 then Some cause.AuthCancelledByUser
+    else if code == 14 then Some cause.NoMoreAuthMethodsAvailable
+    else if code == 15 then Some cause.IllegalUserName
+    else None
+
+-- disconnect, the code of a reason and a text, whose language is not said
+abbrev pub disconnect_text : (digits : List ℕ) → Option Disconnect → Form
+disconnect_text digits None = No_form
+disconnect_text digits (Some why) =
+    Of_text (λ text. Whole (commands (command.Disconnect why text []))) digits
+
+abbrev pub disconnect_words : Option (List ℕ × List ℕ) → Form
+disconnect_words None = No_form
+disconnect_words (Some parts) =
+    Of_small (λ code. disconnect_text parts.1 (disconnect_of code)) parts.0
+
+abbrev pub disconnect_form : List ℕ → Form
+disconnect_form rest = disconnect_words (cut rest)
+
 -- accept, and a channel
 abbrev pub accept_form : List ℕ → Form
 accept_form rest = Of_small (λ channel. Whole (replies (accepting (own channel)))) rest
@@ -374,6 +394,19 @@ command_form word rest =
     else if bytes_eq word (codes "failure") then failure_form rest
     else if bytes_eq word (codes "status") then status_form rest
     else if bytes_eq word (codes "open") then own_open_form rest
+    else if bytes_eq word (codes "forward") then forward_form rest
+    else if bytes_eq word (codes "disconnect") then disconnect_form rest
+    else No_form
+
+-- banner, and a text
+abbrev pub banner_text_form : List ℕ → Form
+banner_text_form digits = Of_text (λ text. Whole (line.Setting (setting.Banner text))) digits
+
+-- tick, and what it is time for
+abbrev pub tick_form : List ℕ → Form
+tick_form word =
+    if bytes_eq word (codes "keepalive") then Whole (line.Input input.KeepaliveTick)
+    else if bytes_eq word (codes "inactivity") then Whole (line.Input input.InactivityTick)
     else No_form
 
 -- a word, and what follows it
@@ -382,8 +415,7 @@ word_form word rest =
     if bytes_eq word (codes "session") then Of_bytes (λ id. line.Setting (setting.Session id)) rest
     else if bytes_eq word (codes "inputs") then Of_number (λ n. line.Setting (setting.Inputs n))
     rest
-    else if bytes_eq word (codes "banner") then Of_text (λ text. line.Setting (setting.Banner text))
-    rest
+    else if bytes_eq word (codes "banner") then banner_text_form rest
     else if bytes_eq word (codes "config") then config_form rest
     else if bytes_eq word (codes "answer") then answer_form rest
     else if bytes_eq word (codes "sign") then sign_form rest
@@ -391,6 +423,7 @@ word_form word rest =
     else if bytes_eq word (codes "recv") then Of_bytes (λ bytes. line.Input (input.Recv bytes)) rest
     else if bytes_eq word (codes "accept") then accept_form rest
     else if bytes_eq word (codes "reject") then reject_form rest
+    else if bytes_eq word (codes "tick") then tick_form rest
     else command_form word rest
 
 -- one word alone
@@ -413,9 +446,9 @@ Fits (Of_number says digits) None = (n : ℕ) → IsNumber digits n → ⊥
 Fits (Of_bytes says digits) (Some said) = (bytes : List ℕ) × IsHex digits bytes
     × (said ≡ says bytes)
 Fits (Of_bytes says digits) None = (bytes : List ℕ) → IsHex digits bytes → ⊥
-Fits (Of_text says digits) (Some said) = (text : List ℕ) × IsTextHex digits text
-    × (said ≡ says text)
-Fits (Of_text says digits) None = (text : List ℕ) → IsTextHex digits text → ⊥
+Fits (Of_text next digits) said =
+    ((text : List ℕ) × IsTextHex digits text × Fits (next text) said)
+    ⊎ (((text : List ℕ) → IsTextHex digits text → ⊥) × (said ≡ None))
 Fits (Of_signature key algorithm message signature) (Some said) =
     (accepted : AcceptedSignature) × IsSignature key algorithm message signature accepted
     × (said ≡ line.Setting (setting.Sign accepted))

@@ -1,5 +1,6 @@
 pub mod Transfer
 pub mod Opens
+pub mod Verdicts
 pub mod Grammar
 pub mod Queue
 pub mod Played

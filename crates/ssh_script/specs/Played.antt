@@ -36,6 +36,8 @@ use Rattle.ssh_script.specs.declared.answers.DataVerdict.{DataVerdict}
 use Rattle.ssh_script.specs.declared.answers.DataVerdict.TheVariants.{Silent, Echo}
 use Rattle.ssh_script.specs.declared.answers.RequestVerdict.{RequestVerdict}
 use Rattle.ssh_script.specs.declared.answers.RequestVerdict.TheVariants as requested
+use Rattle.ssh_script.specs.declared.answers.ForwardVerdict.{ForwardVerdict}
+use Rattle.ssh_script.specs.declared.answers.ForwardVerdict.TheVariants.{Yes, No}
 use Rattle.ssh_script.specs.declared.answers.Standing.{Standing}
 use Rattle.ssh_script.specs.declared.answers.Verdict.{Verdict}
 use Rattle.ssh_script.specs.declared.answers.Verdict.TheVariants as verdict
@@ -188,10 +190,25 @@ is_success requested.Success = true
 is_success requested.Failure = false
 is_success requested.Silent = false
 
--- whether it is granted: the agent is reached where requests succeed, and nothing is forwarded
+-- whether a forward is granted that is answered so
+abbrev pub is_granted : ForwardVerdict → Bool
+is_granted (Yes port) = true
+is_granted No = false
+
+-- its port, where the peer asked for this one
+abbrev pub port_of : ForwardVerdict → ℕ → ℕ
+port_of (Yes port) asked = port
+port_of No asked = asked
+
+-- whether it is granted: the agent is reached where requests succeed, and the others are forwards
 abbrev pub grants : Standing → Judged → Bool
 grants standing (whether.AgentRequest channel) = is_success standing.requests
-grants standing _ = false
+grants standing _ = is_granted standing.forwards
+
+-- the call by which the peer asks for a forward, answered so
+abbrev pub listened : (address : List ℕ) → (port : ℕ) → ForwardVerdict → Call Failure
+listened address port how =
+    call.TcpipForward address port (port_of how port) (Ok (is_granted how)) []
 
 -- the call of a question, which is answered so; those of an exchange are put to no handler
 abbrev pub answered : Queues → Question → List (Call Failure)
@@ -203,9 +220,8 @@ answered queues (question.Lends lent) =
     lent_call lent (Ok tt) (records queues.standing lent) ∷ []
 answered queues (question.Judges judged) =
     judged_call judged (Ok (grants queues.standing judged)) [] ∷ []
--- nobody listens, and the port is as it was
-answered queues (question.Listens address port) = call.TcpipForward address port port (Ok false) []
-    ∷ []
+answered queues (question.Listens address port) =
+    listened address port queues.standing.forwards ∷ []
 -- a window stays as large as it is
 answered queues (question.Adjusts channel current) = call.AdjustWindow channel current (Ok current)
     ∷ []
@@ -236,7 +252,7 @@ IsAnswered queues (call ∷ calls) =
 
 -- the answers as a handler tells them before its calls: a call for each queue, which names its
 -- verdicts by their numbers, one for the number of banners that fail, one for the banner, and one
--- each for opens, for data and for requests
+-- each for opens, for data, for requests and for forwards
 abbrev pub verdict_number : Verdict → ℕ
 verdict_number verdict.Accept = 0
 verdict_number verdict.Reject = 1
@@ -268,6 +284,9 @@ told_data how = lent_call (Happened (own 0) (what.Data [])) (Ok tt) (echoes how 
 abbrev pub told_requests : RequestVerdict → Call Failure
 told_requests how = lent_call (Happened (own 0) what.ShellRequest) (Ok tt) (replies how (own 0))
 
+abbrev pub told_forwards : ForwardVerdict → Call Failure
+told_forwards how = listened [] 0 how
+
 abbrev pub heading : Queues → List (Call Failure)
 heading queues =
     told_queue queues.none
@@ -281,6 +300,7 @@ heading queues =
     ∷ told_opens queues.standing.opens
     ∷ told_data queues.standing.incoming
     ∷ told_requests queues.standing.requests
+    ∷ told_forwards queues.standing.forwards
     ∷ []
 
 -- what a handler tells that has these answers and was asked so; one that lost a question tells

@@ -86,6 +86,8 @@ variant_name (error.Key why) = codes "Key"
 variant_name error.UnsupportedAuthMethod = codes "UnsupportedAuthMethod"
 variant_name (error.Handler e) = codes "Handler"
 variant_name error.ChannelsFull = codes "ChannelsFull"
+variant_name error.KeepaliveTimeout = codes "KeepaliveTimeout"
+variant_name error.InactivityTimeout = codes "InactivityTimeout"
 variant_name error.NotBuilt = codes "NotBuilt"
 
 -- how a run ended

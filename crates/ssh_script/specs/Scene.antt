@@ -5,12 +5,14 @@ use Rattle.std.specs.Prelude.{Some, None, Result, Ok, Err, MatchOption}
 use Rattle.ssh_link.specs.declared.frame.Input.{Input}
 use Rattle.ssh_link.specs.declared.frame.InputKind.{InputKind}
 use Rattle.ssh_link.specs.declared.frame.InputKind.TheVariants.{Payload, Command, OpenReply}
+use Rattle.ssh_link.specs.declared.frame.InputKind.TheVariants.{KeepaliveTick, InactivityTick}
 use Rattle.ssh_handler.specs.declared.config.Config.{Config}
 use Rattle.ssh_handler.specs.Settings.{standard_config}
 use Rattle.ssh_keys.specs.declared.table_verifier.AcceptedSignature.{AcceptedSignature}
 use Rattle.ssh_script.specs.declared.answers.OpenVerdict.TheVariants.{Accept}
 use Rattle.ssh_script.specs.declared.answers.DataVerdict.TheVariants.{Silent}
 use Rattle.ssh_script.specs.declared.answers.RequestVerdict.TheVariants.{Success}
+use Rattle.ssh_script.specs.declared.answers.ForwardVerdict.TheVariants.{No}
 use Rattle.ssh_script.specs.declared.answers.Standing.{Standing}
 use Rattle.ssh_script.specs.declared.lines.Setting.{Setting}
 use Rattle.ssh_script.specs.declared.lines.Setting.TheVariants as setting
@@ -58,7 +60,7 @@ opening_scene = record {
     interactive = [];
     banners = 0;
     banner = None;
-    standing = record { opens = Accept; incoming = Silent; requests = Success };
+    standing = record { opens = Accept; incoming = Silent; requests = Success; forwards = No };
   };
   tickets = 0;
   inputs = [];
@@ -84,6 +86,8 @@ set (setting.RejectInitial time) s =
     Some (record s { config = record s.config { auth_rejection_time_initial = Some time } })
 set (setting.Attempts count) s = Some
     (record s { config = record s.config { max_auth_attempts = count } })
+set (setting.Keepalive count) s = Some
+    (record s { config = record s.config { keepalive_max = count } })
 set (setting.Sign signature) s = Some (record s { accepted = s.accepted ++ signature ∷ [] })
 set (setting.AnswerNone verdict) s =
     Some (record s { queues = record s.queues { none = s.queues.none ++ verdict ∷ [] } })
@@ -110,6 +114,8 @@ set (setting.AnswerData verdict) s =
     Some (with_standing (record s.queues.standing { incoming = verdict }) s)
 set (setting.AnswerRequest verdict) s =
     Some (with_standing (record s.queues.standing { requests = verdict }) s)
+set (setting.AnswerForward verdict) s =
+    Some (with_standing (record s.queues.standing { forwards = verdict }) s)
 
 -- settings come before the first input line
 abbrev pub set_in : Stage → Setting → Scene → Option Scene
@@ -140,6 +146,8 @@ after_input (input.Command command) s = with_input (Command (s.tickets + 1) comm
     (with_ticket (begun s))
 after_input (input.Reply answer) s = with_input (OpenReply (s.tickets + 1) answer)
     (with_ticket (begun s))
+after_input input.KeepaliveTick s = with_input KeepaliveTick (begun s)
+after_input input.InactivityTick s = with_input InactivityTick (begun s)
 after_input input.End s = record s { stage = stage.Ended }
 
 -- once the peer is gone, input lines are not taken

@@ -55,6 +55,15 @@ pub(crate) enum RequestVerdict {
     Silent,
 }
 
+/// What a script answers where the peer asks that connections are forwarded to it, or no longer.
+#[derive(Clone, Copy, Debug, PartialEq, Eq)]
+pub(crate) enum ForwardVerdict {
+    /// No.
+    No,
+    /// Yes, and at this port.
+    Yes(u32),
+}
+
 /// The answers of a script that stand for a whole run.
 #[derive(Clone, Copy)]
 pub(crate) struct Standing {
@@ -64,6 +73,8 @@ pub(crate) struct Standing {
     pub(crate) incoming: DataVerdict,
     /// To requests on a channel.
     pub(crate) requests: RequestVerdict,
+    /// To forwards.
+    pub(crate) forwards: ForwardVerdict,
 }
 
 /// The answers of a script, each list in order.

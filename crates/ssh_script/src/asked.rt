@@ -8,11 +8,11 @@ ghost use Rattle.ssh_auth.specs.declared.question.Happening.TheVariants as what;
 ghost use Rattle.ssh_auth.specs.declared.question.Lent.TheVariants.{Happened, Opens};
 ghost use Rattle.ssh_auth.specs.Calls.{admission_call, lent_call, judged_call};
 ghost use Rattle.ssh_script.specs.Played.{Failure, records, responses, replies, echoes, is_success};
-ghost use Rattle.ssh_script.specs.Played.{grants};
+ghost use Rattle.ssh_script.specs.Played.{is_granted, port_of, grants};
 ghost use Rattle.ssh_script.specs.Opens.{recorded};
 ghost use Rattle.ssh_script.specs.Telling.{told_by};
 
-use crate::answers::{DataVerdict, RequestVerdict};
+use crate::answers::{DataVerdict, ForwardVerdict, RequestVerdict};
 use crate::interactive::interactive_answer_of;
 use crate::made;
 use crate::script_handler::{ScriptError, ScriptHandler, open_answer_of, places_after, verdict_of};
@@ -89,6 +89,26 @@ pub(crate) fn is_success(verdict: RequestVerdict) -> bool
     match verdict {
         RequestVerdict::Success => true,
         RequestVerdict::Failure | RequestVerdict::Silent => false,
+    }
+}
+
+// Whether a forward is granted that is answered so.
+pub(crate) fn is_granted(verdict: ForwardVerdict) -> bool
+    ensures { result ≡ is_granted verdict }
+{
+    match verdict {
+        ForwardVerdict::Yes(_port) => true,
+        ForwardVerdict::No => false,
+    }
+}
+
+// The port of a forward that is answered so, where the peer asked for this one.
+pub(crate) fn port_of(verdict: ForwardVerdict, asked: u32) -> u32
+    ensures { result ≡ port_of verdict asked }
+{
+    match verdict {
+        ForwardVerdict::Yes(port) => port,
+        ForwardVerdict::No => asked,
     }
 }
 

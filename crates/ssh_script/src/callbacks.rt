@@ -1,5 +1,5 @@
 // The callbacks of a script's handler once a user is authenticated.
-use crate::asked::{is_success, keep};
+use crate::asked::{is_granted, is_success, keep, port_of};
 use crate::made;
 use crate::script_handler::{ScriptError, ScriptHandler};
 use ssh_auth::{Happening, Judged, Lent, OpenType, Question};
@@ -279,7 +279,9 @@ impl Handler for ScriptHandler {
             port: *port,
         };
         keep(&mut self.asked, &mut self.lost, question)?;
-        Ok(false)
+        let verdict = self.answers.standing.forwards;
+        *port = port_of(verdict, *port);
+        Ok(is_granted(verdict))
     }
 
     fn cancel_tcpip_forward(
@@ -291,7 +293,8 @@ impl Handler for ScriptHandler {
         let Ok(judged) = made::cancel_tcpip(self.alloc, address, port) else {
             return self.loses();
         };
-        self.judges(judged, false, session)
+        let granted = is_granted(self.answers.standing.forwards);
+        self.judges(judged, granted, session)
     }
 
     fn streamlocal_forward(
@@ -302,7 +305,8 @@ impl Handler for ScriptHandler {
         let Ok(judged) = made::streamlocal(self.alloc, socket_path) else {
             return self.loses();
         };
-        self.judges(judged, false, session)
+        let granted = is_granted(self.answers.standing.forwards);
+        self.judges(judged, granted, session)
     }
 
     fn cancel_streamlocal_forward(
@@ -313,7 +317,8 @@ impl Handler for ScriptHandler {
         let Ok(judged) = made::cancel_streamlocal(self.alloc, socket_path) else {
             return self.loses();
         };
-        self.judges(judged, false, session)
+        let granted = is_granted(self.answers.standing.forwards);
+        self.judges(judged, granted, session)
     }
 
     fn command_done(&mut self, place: usize, outcome: CommandOutcome) -> Heard {

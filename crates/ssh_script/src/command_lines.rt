@@ -1,14 +1,15 @@
 // How the lines of a script are written that bring a command, or the answer to an open of the peer.
-ghost use Rattle.std.specs.Prelude.{◌≡◌, IfOk};
+ghost use Rattle.std.specs.Prelude.{◌≡◌, [], IfOk};
 ghost use Rattle.ssh_script.specs.Grammar.{IsSmallIn, IsChannelIn, Fits, reason_of, data_form};
 ghost use Rattle.ssh_script.specs.Grammar.{ext_form, eof_form, close_form, success_form};
 ghost use Rattle.ssh_script.specs.Grammar.{failure_form, status_form, own_open_form, command_form};
-ghost use Rattle.ssh_script.specs.Grammar.{accept_form, reject_form};
+ghost use Rattle.ssh_script.specs.Grammar.{accept_form, reject_form, forward_form};
+ghost use Rattle.ssh_script.specs.Grammar.{disconnect_of, disconnect_form};
 
-use crate::grammar::{bytes_in, number_in};
+use crate::grammar::{bytes_in, number_in, text_in};
 use crate::lines::{InputLine, Line};
 use ssh_link::{ChannelOpenHandle, Command};
-use ssh_wire::{ChannelId, ChannelOpenFailure};
+use ssh_wire::{ChannelId, ChannelOpenFailure, Disconnect, Text};
 use std::alloc::{AllocError, Global};
 
 /// The number that the digits write, below 2^32.
@@ -36,6 +37,30 @@ fn reason_in(code: u32) -> Option<ChannelOpenFailure>
     ensures { result ≡ reason_of code }
 {
     ChannelOpenFailure::from_u32(code)
+}
+
+/// The reason to end a connection that has this code.
+fn disconnect_in(code: u32) -> Option<Disconnect>
+    ensures { result ≡ disconnect_of code }
+{
+    match code {
+        1 => Some(Disconnect::HostNotAllowedToConnect),
+        2 => Some(Disconnect::ProtocolError),
+        3 => Some(Disconnect::KeyExchangeFailed),
+        4 => Some(Disconnect::Reserved),
+        5 => Some(Disconnect::MACError),
+        6 => Some(Disconnect::CompressionError),
+        7 => Some(Disconnect::ServiceNotAvailable),
+        8 => Some(Disconnect::ProtocolVersionNotSupported),
+        9 => Some(Disconnect::HostKeyNotVerifiable),
+        10 => Some(Disconnect::ConnectionLost),
+        11 => Some(Disconnect::ByApplication),
+        12 => Some(Disconnect::TooManyConnections),
+        13 => Some(Disconnect::AuthCancelledByUser),
+        14 => Some(Disconnect::NoMoreAuthMethodsAvailable),
+        15 => Some(Disconnect::IllegalUserName),
+        _ => None,
+    }
 }
 
 /// The rest of a line `data`: a channel, and bytes.
@@ -156,6 +181,64 @@ fn own_open_line(word: &str) -> Option<Line>
     }
 }
 
+/// The rest of a line `forward`: an address, its port, and the slot of the reply.
+fn forward_line(alloc: Global, rest: &str) -> Result<Option<Line>, AllocError>
+    ensures { IfOk result (Fits (forward_form rest.now)) }
+{
+    let Some((digits, rest)) = rest.split_once(' ') else {
+        return Ok(None);
+    };
+    let Some((port, slot)) = rest.split_once(' ') else {
+        return Ok(None);
+    };
+    let Some(port) = small_in(alloc, port)? else {
+        return Ok(None);
+    };
+    let Some(address) = text_in(alloc, digits)? else {
+        return Ok(None);
+    };
+    let Some(slot) = number_in(alloc, slot)? else {
+        return Ok(None);
+    };
+    let command = Command::TcpipForward {
+        address,
+        port,
+        reply: Some(slot),
+    };
+    Ok(Some(Line::Input(InputLine::Command(command))))
+}
+
+/// The language tag of a description whose language is not said.
+fn no_language(alloc: Global) -> Result<Text, AllocError>
+    ensures { IfOk result (λ language. language ≡ []) }
+{
+    Text::new(alloc, "").or(Err(AllocError))
+}
+
+/// The rest of a line `disconnect`: the code of a reason, and the same in words.
+fn disconnect_line(alloc: Global, rest: &str) -> Result<Option<Line>, AllocError>
+    ensures { IfOk result (Fits (disconnect_form rest.now)) }
+{
+    let Some((number, digits)) = rest.split_once(' ') else {
+        return Ok(None);
+    };
+    let Some(code) = small_in(alloc, number)? else {
+        return Ok(None);
+    };
+    let Some(reason) = disconnect_in(code) else {
+        return Ok(None);
+    };
+    let Some(description) = text_in(alloc, digits)? else {
+        return Ok(None);
+    };
+    let command = Command::Disconnect {
+        reason,
+        description,
+        language: no_language(alloc)?,
+    };
+    Ok(Some(Line::Input(InputLine::Command(command))))
+}
+
 /// A line of a command, by its name.
 pub(crate) fn command_line(
     alloc: Global,
@@ -173,6 +256,8 @@ pub(crate) fn command_line(
         "failure" => failure_line(alloc, rest),
         "status" => status_line(alloc, rest),
         "open" => Ok(own_open_line(rest)),
+        "forward" => forward_line(alloc, rest),
+        "disconnect" => disconnect_line(alloc, rest),
         _ => Ok(None),
     }
 }

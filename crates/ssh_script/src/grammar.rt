@@ -3,12 +3,16 @@ ghost use Rattle.std.specs.Prelude.{◌≡◌, IfOk};
 ghost use Rattle.ssh_script.specs.Grammar.{IsNumberIn, IsHexIn, IsTextIn, IsKeyIn, IsSignatureIn};
 ghost use Rattle.ssh_script.specs.Grammar.{Fits, Reads, word_form, config_form, number_form};
 ghost use Rattle.ssh_script.specs.Grammar.{window_form, packet_form, answer_form, sign_form};
-ghost use Rattle.ssh_script.specs.Grammar.{lone_form, verdict_of, interactive_verdict_of};
-ghost use Rattle.ssh_script.specs.Grammar.{open_verdict_of, data_verdict_of, answer_to};
-ghost use Rattle.ssh_script.specs.Grammar.{verdict_form, banner_form, interactive_form, open_form};
-ghost use Rattle.ssh_script.specs.Grammar.{data_answer_form, request_verdict_of, request_form};
+ghost use Rattle.ssh_script.specs.Grammar.{lone_form, verdict_form, banner_form, interactive_form};
+ghost use Rattle.ssh_script.specs.Grammar.{open_form, data_answer_form, request_form};
+ghost use Rattle.ssh_script.specs.Grammar.{forward_answer_form, forward_no_form, forward_yes_form};
+ghost use Rattle.ssh_script.specs.Grammar.{banner_text_form, tick_form};
+ghost use Rattle.ssh_script.specs.Verdicts.{verdict_of, interactive_verdict_of, open_verdict_of};
+ghost use Rattle.ssh_script.specs.Verdicts.{data_verdict_of, request_verdict_of, answer_to};
 
-use crate::answers::{DataVerdict, InteractiveVerdict, OpenVerdict, RequestVerdict, Verdict};
+use crate::answers::{
+    DataVerdict, ForwardVerdict, InteractiveVerdict, OpenVerdict, RequestVerdict, Verdict,
+};
 use crate::command_lines::{accept_line, command_line, reject_line, small_in};
 use crate::lines::{InputLine, Line, Setting};
 use bytes::Bytes;
@@ -49,7 +53,7 @@ pub(crate) fn bytes_in(alloc: Global, digits: &str) -> Result<Option<Bytes>, All
 }
 
 /// The text whose bytes the digits write in hex, with `-` for none.
-fn text_in(alloc: Global, digits: &str) -> Result<Option<Text>, AllocError>
+pub(crate) fn text_in(alloc: Global, digits: &str) -> Result<Option<Text>, AllocError>
     ensures { IfOk result (IsTextIn digits.now) }
 {
     let Some(bytes) = bytes_in(alloc, digits)? else {
@@ -233,18 +237,48 @@ fn request_line(word: &str) -> Option<Line>
     Some(Line::Setting(Setting::AnswerRequest(verdict)))
 }
 
-/// The rest of a line `answer`.
-fn answer_line(rest: &str) -> Option<Line>
-    ensures { Fits (answer_form rest.now) result }
+fn forward_no_line(word: &str) -> Option<Line>
+    ensures { Fits (forward_no_form word.now) result }
+{
+    match word {
+        "no" => Some(Line::Setting(Setting::AnswerForward(ForwardVerdict::No))),
+        _ => None,
+    }
+}
+
+fn forward_yes_line(alloc: Global, digits: &str) -> Result<Option<Line>, AllocError>
+    ensures { IfOk result (Fits (forward_yes_form digits.now)) }
+{
+    let Some(port) = small_in(alloc, digits)? else {
+        return Ok(None);
+    };
+    let verdict = ForwardVerdict::Yes(port);
+    Ok(Some(Line::Setting(Setting::AnswerForward(verdict))))
+}
+
+fn forward_answer_line(alloc: Global, rest: &str) -> Result<Option<Line>, AllocError>
+    ensures { IfOk result (Fits (forward_answer_form rest.now)) }
 {
     match rest.split_once(' ') {
-        Some(("banner", word)) => banner_line(word),
-        Some(("interactive", word)) => interactive_line(word),
-        Some(("open", word)) => open_line(word),
-        Some(("data", word)) => data_answer_line(word),
-        Some(("request", word)) => request_line(word),
-        Some((name, word)) => verdict_line(name, word),
-        None => None,
+        Some(("yes", digits)) => forward_yes_line(alloc, digits),
+        Some(_) => Ok(None),
+        None => Ok(forward_no_line(rest)),
+    }
+}
+
+/// The rest of a line `answer`.
+fn answer_line(alloc: Global, rest: &str) -> Result<Option<Line>, AllocError>
+    ensures { IfOk result (Fits (answer_form rest.now)) }
+{
+    match rest.split_once(' ') {
+        Some(("banner", word)) => Ok(banner_line(word)),
+        Some(("interactive", word)) => Ok(interactive_line(word)),
+        Some(("open", word)) => Ok(open_line(word)),
+        Some(("data", word)) => Ok(data_answer_line(word)),
+        Some(("request", word)) => Ok(request_line(word)),
+        Some(("forward", words)) => forward_answer_line(alloc, words),
+        Some((name, word)) => Ok(verdict_line(name, word)),
+        None => Ok(None),
     }
 }
 
@@ -275,6 +309,7 @@ fn number_line(alloc: Global, name: &str, digits: &str) -> Result<Option<Line>, 
     let number = number_in(alloc, digits)?;
     match name {
         "attempts" => Ok(number.map(|count| Line::Setting(Setting::Attempts(count)))),
+        "keepalive" => Ok(number.map(|count| Line::Setting(Setting::Keepalive(count)))),
         "reject" => Ok(number.map(|time| Line::Setting(Setting::Reject(time)))),
         "reject-initial" => Ok(number.map(|time| Line::Setting(Setting::RejectInitial(time)))),
         _ => Ok(None),
@@ -312,6 +347,27 @@ fn sign_line(alloc: Global, rest: &str) -> Result<Option<Line>, AllocError>
     Ok(accepted.map(|accepted| Line::Setting(Setting::Sign(accepted))))
 }
 
+/// The rest of a line `banner`.
+fn banner_text_line(alloc: Global, digits: &str) -> Result<Option<Line>, AllocError>
+    ensures { IfOk result (Fits (banner_text_form digits.now)) }
+{
+    let Some(text) = text_in(alloc, digits)? else {
+        return Ok(None);
+    };
+    Ok(Some(Line::Setting(Setting::Banner(text))))
+}
+
+/// The rest of a line `tick`.
+fn tick_line(word: &str) -> Option<Line>
+    ensures { Fits (tick_form word.now) result }
+{
+    match word {
+        "keepalive" => Some(Line::Input(InputLine::KeepaliveTick)),
+        "inactivity" => Some(Line::Input(InputLine::InactivityTick)),
+        _ => None,
+    }
+}
+
 /// A line of more than one word.
 fn word_line(alloc: Global, word: &str, rest: &str) -> Result<Option<Line>, AllocError>
     ensures { IfOk result (Fits (word_form word.now rest.now)) }
@@ -319,14 +375,15 @@ fn word_line(alloc: Global, word: &str, rest: &str) -> Result<Option<Line>, Allo
     match word {
         "session" => Ok(bytes_in(alloc, rest)?.map(|id| Line::Setting(Setting::Session(id)))),
         "inputs" => Ok(number_in(alloc, rest)?.map(|n| Line::Setting(Setting::Inputs(n)))),
-        "banner" => Ok(text_in(alloc, rest)?.map(|text| Line::Setting(Setting::Banner(text)))),
+        "banner" => banner_text_line(alloc, rest),
         "config" => config_line(alloc, rest),
-        "answer" => Ok(answer_line(rest)),
+        "answer" => answer_line(alloc, rest),
         "sign" => sign_line(alloc, rest),
         "at" => Ok(number_in(alloc, rest)?.map(|ms| Line::Input(InputLine::At(ms)))),
         "recv" => Ok(bytes_in(alloc, rest)?.map(|bytes| Line::Input(InputLine::Recv(bytes)))),
         "accept" => accept_line(alloc, rest),
         "reject" => reject_line(alloc, rest),
+        "tick" => Ok(tick_line(rest)),
         _ => command_line(alloc, word, rest),
     }
 }

@@ -1,6 +1,8 @@
 // The lines of a script.
 
-use crate::answers::{DataVerdict, InteractiveVerdict, OpenVerdict, RequestVerdict, Verdict};
+use crate::answers::{
+    DataVerdict, ForwardVerdict, InteractiveVerdict, OpenVerdict, RequestVerdict, Verdict,
+};
 use bytes::Bytes;
 use ssh_keys::AcceptedSignature;
 use ssh_link::{Command, OpenAnswer};
@@ -23,6 +25,8 @@ pub(crate) enum Setting {
     RejectInitial(u64),
     /// After how many rejected requests no more are read, and 0 for no such limit.
     Attempts(u64),
+    /// How many keepalive requests may go unanswered, and 0 for no such limit.
+    Keepalive(u64),
     /// One more signature that the verifier accepts.
     Sign(AcceptedSignature),
     /// One more answer to the requests of method none.
@@ -47,6 +51,8 @@ pub(crate) enum Setting {
     AnswerData(DataVerdict),
     /// The answer to requests on a channel; the last of these counts.
     AnswerRequest(RequestVerdict),
+    /// The answer to forwards; the last of these counts.
+    AnswerForward(ForwardVerdict),
 }
 
 /// What comes in.
@@ -60,6 +66,10 @@ pub(crate) enum InputLine {
     Command(Command),
     /// The answer to an open of the peer from outside.
     Reply(OpenAnswer),
+    /// Nothing came from the peer for a while: it may be asked for a sign of life.
+    KeepaliveTick,
+    /// Nothing came from the peer for too long.
+    InactivityTick,
     /// The peer is gone.
     End,
 }

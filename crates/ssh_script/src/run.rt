@@ -66,6 +66,8 @@ fn variant_name(error: &RunError<RecordError<ScriptError>>) -> &'static str
         RunError::UnsupportedAuthMethod => "UnsupportedAuthMethod",
         RunError::Handler(_) => "Handler",
         RunError::ChannelsFull => "ChannelsFull",
+        RunError::KeepaliveTimeout => "KeepaliveTimeout",
+        RunError::InactivityTimeout => "InactivityTimeout",
         RunError::NotBuilt => "NotBuilt",
     }
 }

@@ -7,7 +7,7 @@ ghost use Rattle.ssh_script.specs.Scene.{scene_of, seen, opening_scene, set, wit
 ghost use Rattle.ssh_script.specs.Scene.{with_ticket, after_input, taken, with_line, lines_of};
 ghost use Rattle.ssh_script.specs.Scene.{Gives};
 
-use crate::answers::{Answers, DataVerdict, OpenVerdict, RequestVerdict, Standing};
+use crate::answers::{Answers, DataVerdict, ForwardVerdict, OpenVerdict, RequestVerdict, Standing};
 use crate::grammar::read_line;
 use crate::lines::{InputLine, Line, Setting};
 use crate::script::{Script, Stage};
@@ -43,6 +43,7 @@ impl Script {
                     opens: OpenVerdict::Accept,
                     incoming: DataVerdict::Silent,
                     requests: RequestVerdict::Success,
+                    forwards: ForwardVerdict::No,
                 },
             },
             tickets: 0,
@@ -70,6 +71,7 @@ impl Script {
             Setting::Reject(time) => self.config.auth_rejection_time = time,
             Setting::RejectInitial(time) => self.config.auth_rejection_time_initial = Some(time),
             Setting::Attempts(count) => self.config.max_auth_attempts = count as usize,
+            Setting::Keepalive(count) => self.config.keepalive_max = count as usize,
             Setting::Sign(accepted) => self.accept(accepted)?,
             Setting::AnswerNone(verdict) => self.answers.none.push(verdict)?,
             Setting::AnswerPassword(verdict) => self.answers.password.push(verdict)?,
@@ -85,6 +87,7 @@ impl Script {
             Setting::AnswerOpen(verdict) => self.answers.standing.opens = verdict,
             Setting::AnswerData(verdict) => self.answers.standing.incoming = verdict,
             Setting::AnswerRequest(verdict) => self.answers.standing.requests = verdict,
+            Setting::AnswerForward(verdict) => self.answers.standing.forwards = verdict,
         }
         Ok(true)
     }
@@ -157,6 +160,8 @@ impl Script {
             InputLine::Recv(bytes) => self.push(InputKind::Payload(bytes)),
             InputLine::Command(command) => self.push_command(command),
             InputLine::Reply(answer) => self.push_reply(answer),
+            InputLine::KeepaliveTick => self.push(InputKind::KeepaliveTick),
+            InputLine::InactivityTick => self.push(InputKind::InactivityTick),
             InputLine::End => {
                 self.stage = Stage::Ended;
                 Ok(())

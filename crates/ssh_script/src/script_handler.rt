@@ -21,9 +21,9 @@ pub struct ScriptError;
 
 /// Answers the k-th request of a kind by the k-th verdict on that kind. Later offers of keys are
 /// accepted, and all other later requests are refused. The first banner callbacks fail, as many as
-/// the script says, and the later ones give the script's banner, where it has one. Opens, data and
-/// requests on a channel are answered as the script says, nothing is forwarded, and windows stay as
-/// large as they are.
+/// the script says, and the later ones give the script's banner, where it has one. Opens, data,
+/// requests on a channel and forwards are answered as the script says, and windows stay as large as
+/// they are.
 #[derive(Drop)]
 pub(crate) struct ScriptHandler {
     pub(crate) alloc: Global,
