@@ -2,7 +2,7 @@
 use crate::scripts::writes;
 use std::test::Fail;
 
-static BAD_LINES: [&[u8]; 86] = [
+static BAD_LINES: [&[u8]; 113] = [
     b"recv",
     b"recv ",
     b"recv 0",
@@ -77,6 +77,33 @@ static BAD_LINES: [&[u8]; 86] = [
     b"status 4294967296 0",
     b"status 2 -1",
     b"status 2 0 0",
+    b"config keepalive",
+    b"config keepalive 01",
+    b"config keepalive 18446744073709551616",
+    b"answer forward",
+    b"answer forward yes",
+    b"answer forward Yes 1",
+    b"answer forward yes 4294967296",
+    b"answer forward no 1",
+    b"forward",
+    b"forward 61",
+    b"forward 61 0",
+    b"forward 61 0 5 6",
+    b"forward 61 4294967296 5",
+    b"forward 61 0 18446744073709551616",
+    b"forward 6 0 5",
+    b"forward ff 0 5",
+    b"disconnect",
+    b"disconnect 11",
+    b"disconnect 0 61",
+    b"disconnect 16 61",
+    b"disconnect 11 ff",
+    b"disconnect 11 61 62",
+    b"tick",
+    b"tick ",
+    b"tick Keepalive",
+    b"tick silence",
+    b"tick inactivity 1",
     b"sign",
     b"\
         sign 0000000b7373682d6564323535313900000020111111111111111111111111111111111111111111\

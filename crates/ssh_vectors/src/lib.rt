@@ -9,7 +9,11 @@ mod calls;
 #[cfg(test)]
 mod channels;
 #[cfg(test)]
+mod deciding;
+#[cfg(test)]
 mod documented;
+#[cfg(test)]
+mod globals;
 #[cfg(test)]
 mod handlers;
 #[cfg(test)]
@@ -30,3 +34,5 @@ mod sessions;
 mod taking;
 #[cfg(test)]
 mod transcripts;
+#[cfg(test)]
+mod wishes;

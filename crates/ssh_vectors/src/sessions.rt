@@ -15,8 +15,8 @@ use ssh_wire::ChannelId;
 use std::alloc::Global;
 use std::test::Fail;
 
-// SERVICE_REQUEST for the service ssh-userauth, and USERAUTH_REQUEST of alice by method none.
-const LOGIN: [&[u8]; 2] = [
+/// SERVICE_REQUEST for the service ssh-userauth, and USERAUTH_REQUEST of alice by method none.
+pub(crate) const LOGIN: [&[u8]; 2] = [
     b"\x05\0\0\0\x0cssh-userauth",
     b"\x32\0\0\0\x05alice\0\0\0\x0essh-connection\0\0\0\x04none",
 ];
@@ -44,8 +44,8 @@ enum Ends {
     Otherwise,
 }
 
-// The channel of a frame, and its payload.
-type Sent = (Option<u32>, &'static [u8]);
+/// The channel of a frame, and its payload.
+pub(crate) type Sent = (Option<u32>, &'static [u8]);
 
 // What comes after a login in windows of this size, how it ends, and the frames that go out for it;
 // and what the handler is then told of channels.
@@ -163,8 +163,12 @@ fn give(side: &mut Side, comes: Comes) -> Result<Ends, Fail> {
     Ok(answer)
 }
 
-// Whether this frame has this channel and this payload.
-fn is_sent(alloc: Global, frame: &Frame, (channel, payload): Sent) -> Result<bool, Fail> {
+/// Whether this frame has this channel and this payload.
+pub(crate) fn is_sent(
+    alloc: Global,
+    frame: &Frame,
+    (channel, payload): Sent,
+) -> Result<bool, Fail> {
     let payload = Bytes::copy_from_slice(alloc, payload)?;
     Ok(*frame == Frame::new(payload, None, channel.map(ChannelId)))
 }
