@@ -23,6 +23,7 @@ mod table;
 mod tests;
 mod waiting;
 mod windows;
+mod with_frames;
 mod writers;
 
 pub use adjusted::Adjusted;

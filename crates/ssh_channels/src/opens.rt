@@ -1,6 +1,6 @@
 // The numbers of channels, and the channels that are opened, confirmed and refused.
 ghost use Rattle.std.specs.Prelude.{◌≡◌, ◌^◌, ◌⊎◌, ◌↔◌, not, Some, None, IfOk, IfErr, OnOk, OnErr};
-ghost use Rattle.std.specs.Prelude.{IsErrOf};
+ghost use Rattle.std.specs.Prelude.{IsErrOf, IfSome, IfNone};
 ghost use Rattle.ssh_channels.specs.declared.error.TableError.TheVariants.{NoMemory, Full};
 ghost use Rattle.ssh_channels.specs.declared.error.TableError.TheVariants.{Inconsistent};
 ghost use Rattle.ssh_channels.specs.Line as line;
@@ -35,6 +35,17 @@ impl Encrypted {
             }
         }
         None
+    }
+
+    /// The number that the next open is given, and none exactly where all 2^32 are live or pending.
+    pub fn next_channel_id(&self) -> Option<ChannelId>
+        ensures number { IfSome result (λ id. numbers.next_number self.now ≡ Some id.0) }
+        ensures full { IfNone result (numbers.next_number self.now ≡ None) }
+    {
+        match self.next_number() {
+            Some(number) => Some(ChannelId(number)),
+            None => None,
+        }
     }
 
     /// Draws the next number that is free, for an open of the peer's; it is pending until

@@ -11,8 +11,6 @@ mod made;
 mod questions;
 mod receiving;
 mod recorded;
-#[cfg(test)]
-mod tests;
 
 pub use commands::Commands;
 pub use config::Config;

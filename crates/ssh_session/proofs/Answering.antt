@@ -113,7 +113,8 @@ requests_owe number k w said h =
     of_read (RequestOwes (answers_on number) k w) said
     (λ channel wanted. lined_upto (answers_on number) k (wants channel.0 wanted) w
     (wants_owe number (lines_owe (answers_on number) w.channels.lines) channel.0 wanted
-    w.channels.lines (same_lines (answers_on number) w.channels.lines)) h)
+    w.channels.lines (same_lines (answers_on number) w.channels.lines)) h) (λ wanted. h) (λ told.
+    tt)
 
 row_covered : (number left : ℕ) (w : World) (moment : ℕ) (said : Said) → IsBesideOpen said →
     Left number left w → Covered (answers_on number) left (row w moment said)

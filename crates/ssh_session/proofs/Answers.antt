@@ -168,8 +168,9 @@ answers_on number = record {
   such = is_answer_on number;
   due = λ entries. 0;
   waiting = waiting number;
+  globally = λ wanted. 0;
   asks = asks_open number;
-  untagged = λ frame is. no_channel number frame.channel (is_answer frame) is;
+  untagged = λ frame is unlike. no_channel number frame.channel (is_answer frame) is;
   other = λ frame no_answer no_reply. untold (is_tagged number frame.channel) (is_answer frame)
       no_answer;
   kept = λ e f entries at same. omega arith;
@@ -177,8 +178,9 @@ answers_on number = record {
   begun = λ e entries none. omega arith;
   replied = λ message e entries unlike at wanted. no_more (is_answer_on number (bare_frame message
       e.number e.peer)) 0
-      (untold (number == e.number) (is_answer (bare_frame message e.number e.peer)) unlike);
+      (untold (number == e.number) (is_answer (bare_frame message e.number e.peer)) unlike.0);
   answered = λ m payload opening opens unlike is. one_answered number m payload opening opens is;
+  settled = λ payload. omega arith;
 }
 
 -- a request makes none

@@ -1,6 +1,7 @@
 -- What holds of worlds holds through what concerns no channel: commands, global requests and their
 -- replies, ticks (RFC 4254 section 4).
-use Rattle.std.proofs.Common.{ℕ, List, [], ◌∷◌, Bool, true, false, cond, Option, Some, None}
+use Rattle.std.proofs.Common.{◌≡◌, ℕ, List, [], ◌∷◌, Bool, true, false, cond, Option, Some, None}
+use Rattle.std.proofs.Common.{refl}
 use Rattle.std.specs.Prelude.{if◌then◌else◌}
 use Rattle.ssh_link.specs.declared.command.Command.{Command}
 use Rattle.ssh_link.specs.declared.command.Command.TheVariants as command
@@ -12,6 +13,8 @@ use Rattle.ssh_auth.specs.declared.question.Judged.{Judged}
 use Rattle.ssh_session.specs.declared.messages.Spoken.TheVariants as spoken
 use Rattle.ssh_session.specs.Effect.{Effect, said, sends, done_apart, opens_or_not}
 use Rattle.ssh_session.specs.Effect.{refuses, accepts, is_too_long, refused_or}
+use Rattle.ssh_session.specs.GlobalReplied.{is_global_reply}
+use Rattle.ssh_session.specs.Layout.{at_once}
 use Rattle.ssh_session.specs.OwnMessages.{OwnMessage, forward, cancel, keepalive, ping, debug}
 use Rattle.ssh_session.specs.OwnMessages.{disconnect}
 use Rattle.ssh_session.specs.OwnOpens.{OwnOpen, asking}
@@ -48,32 +51,49 @@ pub sent_comes : (holds : World → Type 0) (message : OwnMessage) (w : World) �
     → holds (said message w) → EffectComes holds (sends message w)
 sent_comes holds message w h k = sent_step holds message w (is_too_long message.payload) h k
 
--- what holds through each message that is sent, each reply to a global request and each open, holds
--- through each command of no channel
+-- what holds through each message that is sent, which is no reply to a global request, each such
+-- reply and each open, holds through each command of no channel
 module _ (holds : World → Type 0)
-    (saying : (message : OwnMessage) (w : World) → holds w → holds (said message w))
+    (saying : (message : OwnMessage) (w : World)
+    → is_global_reply (at_once message.payload) ≡ false → holds w → holds (said message w))
     (settling : (payload : List ℕ) (w : World) → holds w → holds (settles_global payload w))
     (opening : (asked : Option OwnOpen) (w : World) → holds w
     → EffectComes holds (opens_or_not asked w))
   where
-    sent : (message : OwnMessage) (w : World) → holds w → EffectComes holds (sends message w)
-    sent message w h = sent_comes holds message w h (saying message w h)
+    sent : (message : OwnMessage) (w : World) → is_global_reply (at_once message.payload) ≡ false
+        → holds w → EffectComes holds (sends message w)
+    sent message w unlike h = sent_comes holds message w h (saying message w unlike h)
 
-    pub apart_comes : (w : World) (one : Command) → holds w → EffectComes holds (done_apart w one)
-    apart_comes w (command.TcpipForward address port reply) h = sent (forward address port reply) w h
-    apart_comes w (command.CancelTcpipForward address port reply) h =
-        sent (cancel address port reply) w h
-    apart_comes w command.Keepalive h = sent keepalive w h
-    apart_comes w (command.Ping slot) h = sent (ping slot) w h
-    apart_comes w command.RequestSuccess h = settling (written request_success tt) w h
-    apart_comes w command.RequestFailure h = settling (written request_failure tt) w h
-    apart_comes w (command.Debug always message language) h =
-        sent (debug always message language) w h
-    apart_comes w (command.Disconnect reason description language) h =
-        sent (disconnect reason description language) w h
-    apart_comes w other h = opening (asking other) w h
+    pub own_comes : (w : World) (one : Command) → holds w → EffectComes holds (done_apart w one)
+    own_comes w (command.TcpipForward address port reply) h =
+        sent (forward address port reply) w refl h
+    own_comes w (command.CancelTcpipForward address port reply) h =
+        sent (cancel address port reply) w refl h
+    own_comes w command.Keepalive h = sent keepalive w refl h
+    own_comes w (command.Ping slot) h = sent (ping slot) w refl h
+    own_comes w command.RequestSuccess h = settling (written request_success tt) w h
+    own_comes w command.RequestFailure h = settling (written request_failure tt) w h
+    own_comes w (command.Debug always message language) h =
+        sent (debug always message language) w refl h
+    own_comes w (command.Disconnect reason description language) h =
+        sent (disconnect reason description language) w refl h
+    own_comes w other h = opening (asking other) w h
+
+-- .. and what holds through each message at all
+pub apart_comes : (holds : World → Type 0)
+    (saying : (message : OwnMessage) (w : World) → holds w → holds (said message w))
+    (settling : (payload : List ℕ) (w : World) → holds w → holds (settles_global payload w))
+    (opening : (asked : Option OwnOpen) (w : World) → holds w
+    → EffectComes holds (opens_or_not asked w))
+    (w : World) (one : Command) → holds w → EffectComes holds (done_apart w one)
+apart_comes holds saying settling opening w one h =
+    own_comes holds (λ message v unlike k. saying message v k) settling opening w one h
 
 -- ---- rows
+
+pub notes_come : (law : Law) (told : Option Notice) (w : World) → ActsCome law (notes told) w
+notes_come law None w = tt
+notes_come law (Some notice) w = tt
 
 -- a law that holds through what the peer's global requests and the replies to this side's change
 module _ (law : Law)
@@ -111,13 +131,9 @@ module _ (law : Law)
       (settling (global_reply false None) (wants_global wanted w) (wanting wanted w h), tt),
     )
 
-    notes_come : (told : Option Notice) (w : World) → ActsCome law (notes told) w
-    notes_come None w = tt
-    notes_come (Some notice) w = tt
-
     pub settles_comes : (w : World) (told : Option Notice) → law.holds w
         → ActsCome law (spoken_acts w (spoken.Settles told)) w
-    settles_comes w told h = (first w h, notes_come told (settled_first w))
+    settles_comes w told h = (first w h, notes_come law told (settled_first w))
 
 -- ---- ticks
 

@@ -224,7 +224,7 @@ run_kept accepts past w (turn ∷ turns) world run k =
     (turn_kept accepts past w turn run.0 run.1 k))
 
 -- the first inputs of a run are a run
-run_front : {E : Type 0} (accepts : Acceptance) (w : World) (earlier later : List (Turn E))
+pub run_front : {E : Type 0} (accepts : Acceptance) (w : World) (earlier later : List (Turn E))
     (world : World) →
     Run accepts w (earlier ++ later) world → (mid : World) × Run accepts w earlier mid
 run_front accepts w [] later world run = (w, refl)

@@ -3,7 +3,6 @@ use Rattle.std.proofs.Common.{◌≡◌, ◌≤◌, ◌+◌, ℕ, List, [], ◌�
 use Rattle.std.proofs.Common.{refl, ap, inl, inr, arith}
 use Rattle.std.specs.Prelude.{if◌then◌else◌}
 use Rattle.ssh_auth.specs.Plan.{Plan, Finish, Ask, Tell, Event}
-use Rattle.ssh_auth.specs.Plan.{after}
 use Rattle.ssh_auth.specs.Proven.{AsksOnly}
 use Rattle.ssh_auth.specs.Publickey.{Acceptance}
 use Rattle.ssh_auth.proofs.Back.{asked_so, refused_so}

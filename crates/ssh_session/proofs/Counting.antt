@@ -95,13 +95,15 @@ frames_allowed of left rest (frame ∷ frames) next l h =
 finished_allowed : (of : Measure) (left : ℕ) (outcome : Outcome) →
     Covered of left (Finish outcome) → Allowed of left (finish_input outcome)
 finished_allowed of left (Goes w) h =
-    let rest = of.due w.channels.lines.entries + of.waiting w.channels.opens in
+    let rest = of.due w.channels.lines.entries + of.waiting w.channels.opens
+    + of.globally w.globals.wanted in
     frames_allowed of left rest w.channels.lines.written (Finish (goes_unless_ended (handed_on w)))
     (omega (arith, h))
     (λ l e. goes_or_ends (λ o. Allowed of l (Finish o)) (handed_on w) w.disconnected
     (omega (arith, e)) tt)
 finished_allowed of left (Ends w) h =
-    let rest = of.due w.channels.lines.entries + of.waiting w.channels.opens in
+    let rest = of.due w.channels.lines.entries + of.waiting w.channels.opens
+    + of.globally w.globals.wanted in
     frames_allowed of left rest w.channels.lines.written (Finish (Ends (handed_on w)))
     (omega (arith, h)) (λ l e. tt)
 finished_allowed of left (Fails fault) h = tt

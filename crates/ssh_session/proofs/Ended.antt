@@ -30,7 +30,6 @@ use Rattle.ssh_session.specs.Ticks.{keepalive_acts, inactivity_acts, ticked}
 use Rattle.ssh_wire.specs.Messages.{written, request_success, request_failure}
 use Rattle.ssh_session.specs.Gate.{gate_of}
 use Rattle.ssh_session.specs.Outcome.{Outcome, Goes, Ends, Fails, Not_built}
-use Rattle.ssh_session.specs.declared.messages.Spoken.TheVariants as spoken
 use Rattle.ssh_session.specs.Reading.{Said, Service}
 use Rattle.ssh_session.specs.Reading.{Open, Agreed, SaysConfirmation}
 use Rattle.ssh_session.specs.Reading.{Unread, Connection, Unfit, Without_packets, Says}
@@ -176,7 +175,8 @@ mild_answer {E} (ask.Admits admission) answer events h =
 mild_answer {E} (ask.Lends lent) commands events h =
     let both = first_mild {E = E} (lent_call lent (Ok tt) commands) (calls_in events) h in
     let same = lent_back E lent (Ok tt) commands in (
-      all_mild commands (subst (λ x. list_any disconnects (recorded_so {E = E} x) ≡ false) same both.0),
+      all_mild commands (subst (λ x. list_any disconnects (recorded_so {E = E} x) ≡ false) same
+          both.0),
       both.1,
     )
 mild_answer {E} (ask.Judges judged) answer events h =

@@ -3,9 +3,9 @@ use Rattle.std.proofs.Common.{◌≡◌, List, [], ◌∷◌, ◌++◌, length, 
 use Rattle.std.proofs.Common.{Result, Ok, Err, refl, sym}
 use Rattle.std.proofs.Common.{ap, subst}
 use Rattle.std.proofs.lemmas.List.{nil_from_length}
-use Rattle.ssh_link.specs.Frames.{Frame}
 use Rattle.ssh_link.specs.Faults.{Rose}
 use Rattle.ssh_link.specs.declared.link.LinkFault.{LinkFault as LinkFailure}
+use Rattle.ssh_link.specs.declared.link.TraceEntry.{TraceEntry}
 use Rattle.ssh_link.specs.declared.link.TraceEntry.TheVariants.{Sent}
 use Rattle.ssh_auth.specs.Plan.{Plan, Finish, Tell, after, Event}
 use Rattle.ssh_auth.specs.Plan.{Handler_error}
@@ -26,7 +26,7 @@ use Rattle.ssh_session.specs.Run.{finish_input, handed_on}
 use Rattle.ssh_session.specs.Serve.{Refines, Cause, Wants_memory, Link_failed, Limit_reached}
 use Rattle.ssh_session.specs.Serve.{Faulty, Refused_by, cause_of}
 use Rattle.ssh_session.specs.Serve.{IsCaused, Serves}
-use Rattle.ssh_session.specs.Serve.{Completes, SendsEach, comes, comes_at_end}
+use Rattle.ssh_session.specs.Serve.{Completes, TellsEach, comes, comes_at_end}
 use Rattle.ssh_session.proofs.Serving.{reached, served_both, serves_nothing, given, not_given}
 
 -- ---- the end of an input
@@ -87,38 +87,42 @@ at_end before flow plan a b session same h =
 pub none_left : {A : Type 0} (items : List A) → length items ≡ 0 → items ≡ []
 none_left items h = nil_from_length items h
 
--- ---- frames
+-- ---- what is told one after another
 
-told_both : (xs ys : List Frame) (next : Plan Outcome) →
-    tell_all (map Sent (xs ++ ys)) next ≡ tell_all (map Sent xs) (tell_all (map Sent ys) next)
-told_both [] ys next = refl
-told_both (x ∷ xs) ys next = ap (Tell (Sent x)) (told_both xs ys next)
+told_both : {A : Type 0} (as_what : A → TraceEntry) (xs ys : List A) (next : Plan Outcome) →
+    tell_all (map as_what (xs ++ ys)) next
+    ≡ tell_all (map as_what xs) (tell_all (map as_what ys) next)
+told_both as_what [] ys next = refl
+told_both as_what (x ∷ xs) ys next = ap (Tell (as_what x)) (told_both as_what xs ys next)
 
--- one more frame was handed on
-pub sent_more : {E : Type 0} (frames : List Frame) (frame : Frame) (a b c : Heard E) →
-    SendsEach frames a b (Ok tt) → Gives {T = Unit {0}} b c (Sent frame) (Ok tt)
-    → SendsEach (frames ++ frame ∷ []) a c (Ok tt)
-sent_more frames frame a b c h g = λ w session r next.
-    let rest = Tell (Sent frame) next in
+-- one more was told
+pub told_more : {A E : Type 0} (as_what : A → TraceEntry) (items : List A) (item : A)
+    (a b c : Heard E) → TellsEach as_what items a b (Ok tt) →
+    Gives {T = Unit {0}} b c (as_what item) (Ok tt) →
+    TellsEach as_what (items ++ item ∷ []) a c (Ok tt)
+told_more as_what items item a b c h g = λ w session r next.
+    let rest = Tell (as_what item) next in
     subst (λ p. Serves p (λ (_ : Unit {0}) _. next) a c session (Ok tt))
-    (sym (told_both frames (frame ∷ []) next))
-    (served_both tt (tell_all (map Sent frames) rest) (λ (_ : Unit {0}) _. rest)
+    (sym (told_both as_what items (item ∷ []) next))
+    (served_both tt (tell_all (map as_what items) rest) (λ (_ : Unit {0}) _. rest)
     (λ (_ : Unit {0}) _. next) a b c session session
-    (Ok tt) (h w session r rest) (λ v q. given (Sent frame) next b c v session q g))
+    (Ok tt) (h w session r rest) (λ v q. given (as_what item) next b c v session q g))
 
 -- .. or was not
-pub not_sent : {E : Type 0} (frames rest : List Frame) (frame : Frame) (a b c : Heard E)
-    (fault : LinkFailure) →
-    SendsEach frames a b (Ok tt) → Gives {T = Unit {0}} b c (Sent frame) (Err fault) →
-    SendsEach (frames ++ rest) a c (Err (error_of_link fault))
-not_sent frames rest frame a b c fault h g = λ w session r next.
-    let more = tell_all (map Sent rest) next in
+pub not_told : {A E : Type 0} (as_what : A → TraceEntry) (items rest : List A) (item : A)
+    (a b c : Heard E) (fault : LinkFailure) →
+    TellsEach as_what items a b (Ok tt) → Gives {T = Unit {0}} b c (as_what item) (Err fault) →
+    TellsEach as_what (items ++ rest) a c (Err (error_of_link fault))
+not_told as_what items rest item a b c fault h g = λ w session r next.
+    let more = tell_all (map as_what rest) next in
     subst (λ p. Serves p (λ (_ : Unit {0}) _. next) a c session (Err (error_of_link fault)))
-    (sym (told_both frames rest next))
-    (served_both tt (tell_all (map Sent frames) more) (λ (_ : Unit {0}) _. more)
+    (sym (told_both as_what items rest next))
+    (served_both tt (tell_all (map as_what items) more) (λ (_ : Unit {0}) _. more)
     (λ (_ : Unit {0}) _. next) a b c session session
     (Err (error_of_link fault)) (h w session r more)
-    (λ v q. not_given (Sent frame) more (λ (_ : Unit {0}) _. next) b c session fault g))
+    (λ v q. not_given (as_what item) more (λ (_ : Unit {0}) _. next) b c session fault g))
 
-pub none_sent : {E : Type 0} (a : Heard E) → SendsEach [] a a (Ok tt)
-none_sent a = λ w session r next. serves_nothing tt (λ (_ : Unit {0}) _. next) a w session r
+pub none_told : {A E : Type 0} (as_what : A → TraceEntry) (a : Heard E) →
+    TellsEach as_what [] a a (Ok tt)
+none_told as_what a = λ w session r next.
+    serves_nothing tt (λ (_ : Unit {0}) _. next) a w session r

@@ -14,6 +14,8 @@ use Rattle.ssh_session.proofs.Answered.{answered}
 use Rattle.ssh_session.proofs.Books.{ledgered}
 use Rattle.ssh_session.proofs.Complete.{complete, link_fault}
 use Rattle.ssh_session.proofs.Ended.{ended, IsLive, run_live}
+use Rattle.ssh_session.proofs.GlobalReplied.{globally_replied}
+use Rattle.ssh_session.proofs.InOrder.{in_order, last_in_order}
 use Rattle.ssh_session.proofs.Replied.{replied}
 
 closed_ended : {E : Type 0} (accepts : Acceptance) (w : World) (count max : ℕ)
@@ -43,6 +45,12 @@ lawful {E} accepts settings before after max result account =
           result account.run account.closes;
       replied = replied accepts settings account.turns account.world count max account.last rose
           result account.run account.closes;
+      globally_replied = globally_replied accepts settings account.turns account.world count max
+          account.last rose result account.run account.closes;
+      in_order = λ earlier later is. in_order accepts settings account.turns account.world
+          account.run earlier later is;
+      last_in_order = last_in_order accepts account.world count max account.last rose result
+          account.closes;
       complete = λ same valid. complete accepts account.world count max account.last before.faults
           after.faults result account.closes same valid;
       link_fault = λ is. link_fault {E = E} accepts account.world count max account.last rose

@@ -8,6 +8,7 @@ pub mod Reading
 pub mod Rows
 pub mod Opened
 pub mod OwnOpens
+pub mod Unchanged
 pub mod Greeting
 pub mod Requests
 pub mod Requesting
@@ -41,6 +42,7 @@ pub mod Fine
 pub mod Complete
 pub mod Measures
 pub mod Measuring
+pub mod Replying
 pub mod Measured
 pub mod Answers
 pub mod Answering
@@ -51,7 +53,15 @@ pub mod Emptied
 pub mod Answered
 pub mod Owing
 pub mod Wanting
+pub mod Repaying
 pub mod Replied
+pub mod GlobalReplied
+pub mod Queueing
+pub mod Queued
+pub mod QueuedRows
+pub mod Untold
+pub mod Settling
+pub mod InOrder
 pub mod Lawful
 pub mod Runs
 pub mod Shorter

@@ -5,6 +5,7 @@ use Rattle.std.specs.Prelude.{bytes_eq, codes, if◌then◌else◌}
 use Rattle.ssh_wire.specs.declared.channel_id.ChannelId.{ChannelId}
 use Rattle.ssh_link.specs.declared.command.Command.{Command}
 use Rattle.ssh_link.specs.declared.link.TraceEntry.TheVariants.{Answered}
+use Rattle.ssh_link.specs.declared.notice.Notice.{Notice}
 use Rattle.ssh_auth.specs.declared.auth_request.AuthRequest.{AuthRequest}
 use Rattle.ssh_auth.specs.declared.auth_step.AuthVerdict.TheVariants as verdict
 use Rattle.ssh_auth.specs.declared.question.Question.TheVariants.{Banner}
@@ -29,33 +30,38 @@ use Rattle.ssh_session.specs.Rows.{served, lets_in, finishes}
 use Rattle.ssh_session.specs.Run.{command_row}
 use Rattle.ssh_session.specs.World.{World, waits_for, is_waiting}
 use Rattle.ssh_session.proofs.Acting.{PlanComes, ActsCome, acts_come}
-use Rattle.ssh_session.proofs.Acting.{one_comes, comes_then}
+use Rattle.ssh_session.proofs.Acting.{one_comes}
 use Rattle.ssh_session.proofs.Apart.{tick_comes}
 use Rattle.ssh_session.proofs.Calling.{IsBesideOpen}
 use Rattle.ssh_session.proofs.Measures.{Measure, AreSilent}
 use Rattle.ssh_session.proofs.Settled.{Anything}
 use Rattle.ssh_session.proofs.Measuring.{OwesUpTo, ComesUpTo, writes_upto, said_upto, effect_upto}
 use Rattle.ssh_session.proofs.Measuring.{law, confirmation_upto, OfRequest, of_every, weaker}
-use Rattle.ssh_session.proofs.Measuring.{RequestOwes, spoken_upto}
+use Rattle.ssh_session.proofs.Measuring.{Claims, RequestOwes, spoken_upto}
+use Rattle.ssh_session.proofs.Replying.{EndsSo, IsBeside, so_then, verdict_beside, response_beside}
 
 -- ---- rows
 
-abbrev pub OfRead : (so : ChannelId → Bool → Type 0) → Said → Type 0
+abbrev pub OfRead : Claims → Said → Type 0
 OfRead so (read.Connection said) = OfRequest so said
 OfRead so _ = Unit {0}
 
 -- it is so of what was read where it is so of every request, or where something else is of which
 -- it follows
-pub of_read : (so : ChannelId → Bool → Type 0) (said : Said) →
-    ((channel : ChannelId) (wanted : Bool) → so channel wanted) → OfRead so said
-of_read so (read.Connection said) h = of_every so said h
-of_read so _ h = tt
+pub of_read : (so : Claims) (said : Said) →
+    ((channel : ChannelId) (wanted : Bool) → so.on channel wanted) →
+    ((wanted : Bool) → so.globally wanted) → ((told : Option Notice) → so.settles told) →
+    OfRead so said
+of_read so (read.Connection said) f g h = of_every so said f g h
+of_read so _ f g h = tt
 
-pub read_weaker : (so other : ChannelId → Bool → Type 0) (said : Said) →
-    ((channel : ChannelId) (wanted : Bool) → so channel wanted → other channel wanted) →
+pub read_weaker : (so other : Claims) (said : Said) →
+    ((channel : ChannelId) (wanted : Bool) → so.on channel wanted → other.on channel wanted) →
+    ((wanted : Bool) → so.globally wanted → other.globally wanted) →
+    ((told : Option Notice) → so.settles told → other.settles told) →
     OfRead so said → OfRead other said
-read_weaker so other (read.Connection said) f h = weaker so other said f h
-read_weaker so other _ f h = tt
+read_weaker so other (read.Connection said) f g h is = weaker so other said f g h is
+read_weaker so other _ f g h is = tt
 
 owed_upto : (of : Measure) (k : ℕ) (w : World) (said : Said) → IsBesideOpen said →
     OfRead (RequestOwes of k w) said → OwesUpTo of k w → ActsCome (law of k) (owed w said) w
@@ -66,49 +72,50 @@ owed_upto of k w (read.Connection said) beside q h = spoken_upto of k w said q h
 owed_upto of k w Disconnect beside q h = h
 owed_upto of k w Over_cap beside q h =
     let frame = at_once too_many_attempts in
-    let kept = writes_upto of k (frame ∷ []) w (of.untagged frame refl, tt) h in (kept, kept)
+    let kept = writes_upto of k (frame ∷ []) w (of.untagged frame refl refl, tt) h in (kept, kept)
 owed_upto of k w (Unfit why) beside q h = tt
 owed_upto of k w Without_packets beside q h = tt
 owed_upto of k w read.Unbuilt beside q h = tt
 owed_upto of k w _ beside q h = tt
 
 concluded_upto : (of : Measure) (k : ℕ) (w : World) (moment : ℕ) (requested : Bool)
-    (outcome : AuthOutcome) → OwesUpTo of k w →
+    (outcome : AuthOutcome) → IsBeside outcome → OwesUpTo of k w →
     PlanComes Anything (ComesUpTo of k) (concluded w moment requested outcome)
-concluded_upto of k w moment requested (Replies reply verdict.Accepted state) h =
+concluded_upto of k w moment requested (Replies reply verdict.Accepted state) beside h =
     let v = waits_for (WaitingAuthRequest state) w in
     acts_come (law of k) (replied w moment requested reply verdict.Accepted) v h (
       writes_upto of k (at_once reply ∷ []) (lets_in (finishes requested v))
-          (of.untagged (at_once reply) refl, tt) h,
+          (of.untagged (at_once reply) refl beside, tt) h,
       λ world j. tt,
     )
-concluded_upto of k w moment requested (Replies reply (verdict.Rejected none_method) state) h =
+concluded_upto of k w moment requested (Replies reply (verdict.Rejected none_method) state) beside
+    h =
     let frame = held reply (moment_after moment (rejection_hold w.settings.config none_method
     w.user.requested)) in
     writes_upto of k (frame ∷ []) (finishes requested (waits_for (WaitingAuthRequest state) w))
-    (of.untagged frame refl, tt) h
-concluded_upto of k w moment requested (Replies reply verdict.Continued state) h =
+    (of.untagged frame refl beside, tt) h
+concluded_upto of k w moment requested (Replies reply verdict.Continued state) beside h =
     writes_upto of k (at_once reply ∷ [])
     (finishes requested (waits_for (WaitingAuthRequest state) w))
-    (of.untagged (at_once reply) refl, tt) h
-concluded_upto of k w moment requested (auth.Fails fault) h = tt
+    (of.untagged (at_once reply) refl beside, tt) h
+concluded_upto of k w moment requested (auth.Fails fault) beside h = tt
 
 asked_upto : (of : Measure) (k : ℕ) (state : EncryptedState)
     (next : AuthRequest → Plan AuthOutcome) (w : World) (moment : ℕ) (requested : Bool) →
-    OwesUpTo of k w →
+    ((auth : AuthRequest) → EndsSo IsBeside (next auth)) → OwesUpTo of k w →
     PlanComes Anything (ComesUpTo of k)
     (asked_of state (λ auth. after (next auth) (concluded w moment requested)) (acts [] w))
-asked_upto of k (WaitingAuthRequest auth) next w moment requested h =
-    comes_then Anything (ComesUpTo of k) (next auth) (concluded w moment requested)
-    (λ outcome. concluded_upto of k w moment requested outcome h)
-asked_upto of k _ next w moment requested h = h
+asked_upto of k (WaitingAuthRequest auth) next w moment requested ends h =
+    so_then IsBeside Anything (ComesUpTo of k) (next auth) (concluded w moment requested)
+    (ends auth) (λ outcome beside. concluded_upto of k w moment requested outcome beside h)
+asked_upto of k _ next w moment requested ends h = h
 
 greeting_silent : (of : Measure) (message : Option (List ℕ)) →
     AreSilent of.such (greeting message)
-greeting_silent of None = (of.untagged (at_once service_accept) refl, tt)
+greeting_silent of None = (of.untagged (at_once service_accept) refl refl, tt)
 greeting_silent of (Some message) = (
-  of.untagged (at_once service_accept) refl,
-  (of.untagged (at_once (banner message)) refl, tt),
+  of.untagged (at_once service_accept) refl refl,
+  (of.untagged (at_once (banner message)) refl refl, tt),
 )
 
 greets_upto : (of : Measure) (k : ℕ) (w : World) (message : Option (List ℕ)) (short : Bool) →
@@ -130,10 +137,11 @@ pub row_upto : (of : Measure) (k : ℕ) (w : World) (moment : ℕ) (said : Said)
 row_upto of k w moment (Service name) beside q h = service_upto of k w
     (bytes_eq name (codes "ssh-userauth")) h
 row_upto of k w moment (Request asked) beside q h =
-    asked_upto of k w.user.state (λ auth. verdict_on auth asked) w moment true h
+    asked_upto of k w.user.state (λ auth. verdict_on auth asked) w moment true
+    (verdict_beside asked) h
 row_upto of k w moment (Response responded) beside q h =
     asked_upto of k w.user.state (λ auth. response_verdict auth responded) w moment
-    w.user.requested h
+    w.user.requested (response_beside responded) h
 row_upto of k w moment said beside q h =
     acts_come (law of k) (owed w said) w h (owed_upto of k w said beside q h)
 
@@ -148,4 +156,4 @@ pub tick_upto : (of : Measure) (k : ℕ) (w : World) → OwesUpTo of k w →
     PlanComes Anything (ComesUpTo of k) (acts (keepalive_acts w) w)
 tick_upto of k w h =
     acts_come (law of k) (keepalive_acts w) w h
-    (tick_comes (law of k) w tt (said_upto of k keepalive (ticked w) h))
+    (tick_comes (law of k) w tt (said_upto of k keepalive (ticked w) refl h))

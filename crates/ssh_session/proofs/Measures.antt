@@ -30,6 +30,8 @@ use Rattle.ssh_channels.specs.Sent.{is_tagged}
 use Rattle.ssh_channels.specs.Room.{coming, having, adjust_out}
 use Rattle.ssh_channels.proofs.Listed.{found_put, find_again, found_number}
 use Rattle.ssh_session.specs.Answered.{how_many, is_answer}
+use Rattle.ssh_session.specs.GlobalReplied.{is_global_reply}
+use Rattle.ssh_session.specs.Layout.{at_once}
 use Rattle.ssh_session.specs.Opening.{Opening}
 use Rattle.ssh_session.specs.Opens.{failure_frame}
 use Rattle.ssh_session.specs.Replied.{is_reply}
@@ -114,18 +116,28 @@ silent_both such (x ∷ xs) ys h k = (h.0, silent_both such xs ys h.1 k)
 
 -- ---- what is counted
 
+-- it answers no open, and replies to no global request
+abbrev pub IsNoAnswer : Frame → Type 0
+IsNoAnswer frame = (is_answer frame ≡ false) × (is_global_reply frame ≡ false)
+
+-- it replies to no request
+abbrev pub IsNoReply : Frame → Type 0
+IsNoReply frame = (is_reply frame ≡ false) × (is_global_reply frame ≡ false)
+
 -- frames of one kind, with those that may still come: answers to opens, or replies to requests, or
--- such ones on a channel
+-- such ones on a channel, or replies to global requests
 pub record Measure : Type 0 where
   pub such : Frame → Bool
-  -- so many may still come by what the channels want, and so many by the opens that wait
+  -- so many may still come by what the channels want, so many by the opens that wait, and so many
+  -- by whether the peer's last global request wants a reply
   pub due : List Entry → ℕ
   pub waiting : List (ℕ × Opening) → ℕ
+  pub globally : (wanted : Bool) → ℕ
   -- and one once this was asked
   pub asks : Question → Bool
-  pub untagged : (frame : Frame) → frame.channel ≡ None → such frame ≡ false
-  pub other : (frame : Frame) → is_answer frame ≡ false → is_reply frame ≡ false
+  pub untagged : (frame : Frame) → frame.channel ≡ None → is_global_reply frame ≡ false
       → such frame ≡ false
+  pub other : (frame : Frame) → is_answer frame ≡ false → IsNoReply frame → such frame ≡ false
   -- no more may come as a channel changes that wants a reply as before, or leaves, or is added and
   -- wants none
   pub kept : (e f : Entry) (entries : List Entry) → find e.number entries ≡ Some f
@@ -135,15 +147,18 @@ pub record Measure : Type 0 where
       → due (added e entries) ≤ due entries
   -- a reply that is wanted is one that may come, and so is the answer to an open that waits
   pub replied : (message : ℕ) (e : Entry) (entries : List Entry)
-      → is_answer (bare_frame message e.number e.peer) ≡ false
+      → IsNoAnswer (bare_frame message e.number e.peer)
       → find e.number entries ≡ Some e → e.wants_reply ≡ true
       → one_if (such (bare_frame message e.number e.peer))
       + due (put (record e { wants_reply = false }) entries) ≤ due entries
   pub answered : (number : ℕ) (payload : List ℕ) (opening : Opening) (opens : List (ℕ × Opening))
-      → is_reply (failure_frame number payload) ≡ false
+      → IsNoReply (failure_frame number payload)
       → lookup (is_at (nat_cmp number)) opens ≡ Some opening
       → one_if (such (failure_frame number payload))
       + waiting (remove_entry (is_at (nat_cmp number)) opens) ≤ waiting opens
+  -- and so is the reply that the peer's last global request wants
+  pub settled : (payload : List ℕ) → one_if (such (at_once payload)) + globally false
+      ≤ globally true
 
 -- ---- frames that are not counted
 
@@ -153,9 +168,9 @@ data_no_answer own peer Plain bytes = refl
 data_no_answer own peer (Extended code) bytes = refl
 
 data_no_reply : (own peer : ℕ) (kind : DataKind) (bytes : List ℕ) →
-    is_reply (data_frame own peer (chunk kind bytes)) ≡ false
-data_no_reply own peer Plain bytes = refl
-data_no_reply own peer (Extended code) bytes = refl
+    IsNoReply (data_frame own peer (chunk kind bytes))
+data_no_reply own peer Plain bytes = (refl, refl)
+data_no_reply own peer (Extended code) bytes = (refl, refl)
 
 data_silent : (of : Measure) (own peer : ℕ) (pieces : List Chunk) →
     AreSilent of.such (map (data_frame own peer) pieces)
@@ -172,14 +187,14 @@ flush_silent of e = data_silent of e.number e.peer
 
 eof_step : (b : Bool) (of : Measure) (e : Entry) →
     AreSilent of.such (cond b (eof_frame e.number e.peer ∷ []) [])
-eof_step true of e = (of.other (eof_frame e.number e.peer) refl refl, tt)
+eof_step true of e = (of.other (eof_frame e.number e.peer) refl (refl, refl), tt)
 eof_step false of e = tt
 
 eof_silent : (of : Measure) (e : Entry) → AreSilent of.such (eof_out e)
 eof_silent of e = eof_step (tells_eof e) of e
 
 close_silent : (of : Measure) (e : Entry) → AreSilent of.such (close_frame e.number e.peer ∷ [])
-close_silent of e = (of.other (close_frame e.number e.peer) refl refl, tt)
+close_silent of e = (of.other (close_frame e.number e.peer) refl (refl, refl), tt)
 
 -- ---- calls of the table
 
@@ -291,7 +306,7 @@ adjusted of k count target Kept e l is h =
     turned of k (record e { room = e.room - count }) e [] l is refl tt h
 adjusted of k count target (Granted amount) e l is h =
     turned of k (record e { room = target }) e (adjust_frame e.number e.peer amount ∷ []) l is refl
-    (of.other (adjust_frame e.number e.peer amount) refl refl, tt) h
+    (of.other (adjust_frame e.number e.peer amount) refl (refl, refl), tt) h
 
 pub adjust_owe : (of : Measure) (k m count target : ℕ) (l : Lines) → LinesOwe of k l →
     LinesOwe of k (takes_in m count target l)
@@ -350,7 +365,7 @@ replied_is m message e l is agreed =
 
 reply_step : (b : Bool) (of : Measure) (k m message : ℕ) (e : Entry) (l : Lines) →
     (e.confirmed && e.wants_reply) ≡ b → find m l.entries ≡ Some e →
-    is_answer (bare_frame message e.number e.peer) ≡ false → LinesOwe of k l →
+    IsNoAnswer (bare_frame message e.number e.peer) → LinesOwe of k l →
     LinesOwe of k (cond b (wants m false (says m message l)) l)
 reply_step true of k m message e l so is unlike h =
     let frame = bare_frame message e.number e.peer in
@@ -366,7 +381,7 @@ reply_step false of k m message e l so is unlike h = h
 
 found_reply : (o : Option Entry) (of : Measure) (k m message : ℕ) (l : Lines) →
     find m l.entries ≡ o →
-    ((e : Entry) → is_answer (bare_frame message e.number e.peer) ≡ false) → LinesOwe of k l →
+    ((e : Entry) → IsNoAnswer (bare_frame message e.number e.peer)) → LinesOwe of k l →
     LinesOwe of k (cond (is_one (λ e. e.confirmed && e.wants_reply) o)
     (wants m false (says m message l)) l)
 found_reply None of k m message l is unlike h = h
@@ -375,6 +390,6 @@ found_reply (Some e) of k m message l is unlike h =
 
 -- a reply that is wanted is sent
 pub reply_owe : (of : Measure) (k m message : ℕ) (l : Lines) →
-    ((e : Entry) → is_answer (bare_frame message e.number e.peer) ≡ false) → LinesOwe of k l →
+    ((e : Entry) → IsNoAnswer (bare_frame message e.number e.peer)) → LinesOwe of k l →
     LinesOwe of k (replies m message l)
 reply_owe of k m message l unlike h = found_reply (find m l.entries) of k m message l refl unlike h

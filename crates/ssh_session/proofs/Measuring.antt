@@ -1,7 +1,7 @@
 -- What a measure counts in a world: no command makes more of it, and no row but an open of the
 -- peer's and a request (RFC 4254 section 5).
 use Rattle.std.proofs.Common.{◌≡◌, ◌≤◌, ◌+◌, ◌||◌, ℕ, List, [], ◌∷◌, Bool, true, false}
-use Rattle.std.proofs.Common.{Option, Some, None, refl, arith}
+use Rattle.std.proofs.Common.{Option, Some, None, cond, refl, ap, arith}
 use Rattle.std.specs.Prelude.{length, if◌then◌else◌}
 use Rattle.ssh_wire.specs.declared.channel_id.ChannelId.{ChannelId}
 use Rattle.ssh_wire.specs.declared.open.ChannelOpenConfirmation.{ChannelOpenConfirmation}
@@ -10,8 +10,8 @@ use Rattle.ssh_wire.specs.Messages.{channel_success, channel_failure}
 use Rattle.ssh_link.specs.Frames.{Frame}
 use Rattle.ssh_link.specs.declared.command.Command.{Command}
 use Rattle.ssh_link.specs.declared.command.Command.TheVariants as command
+use Rattle.ssh_link.specs.declared.notice.Notice.{Notice}
 use Rattle.ssh_link.specs.declared.open_answer.OpenAnswer.{OpenAnswer}
-use Rattle.ssh_auth.specs.Plan.{after}
 use Rattle.ssh_channels.specs.declared.adjusted.Adjusted.{Adjusted}
 use Rattle.ssh_channels.specs.declared.adjusted.Adjusted.TheVariants.{Dropped, Kept, Granted}
 use Rattle.ssh_channels.specs.declared.chunk.Chunk.{Chunk}
@@ -24,7 +24,7 @@ use Rattle.ssh_channels.specs.Lines.{takes_grant, takes_in, wants, confirms, fai
 use Rattle.ssh_channels.specs.Lines.{drops_pending, asks_next, next_number, write}
 use Rattle.ssh_session.specs.declared.messages.Spoken.{Spoken}
 use Rattle.ssh_session.specs.declared.messages.Spoken.TheVariants as spoken
-use Rattle.ssh_session.specs.Answered.{is_answer}
+use Rattle.ssh_session.specs.GlobalReplied.{is_global_reply}
 use Rattle.ssh_session.specs.Effect.{effect, refused_for, done_by, answers, said}
 use Rattle.ssh_session.specs.Effect.{decides, fails_open, failure_of, is_too_long, opens_at}
 use Rattle.ssh_session.specs.Effect.{opens, opens_or_not, requests_on, refuses}
@@ -38,17 +38,17 @@ use Rattle.ssh_session.specs.OwnMessages.{OwnMessage}
 use Rattle.ssh_session.specs.OwnOpens.{OwnOpen, open_payload, open_frame}
 use Rattle.ssh_session.specs.OwnRequests.{OwnRequest, request_payload, xon_xoff, exit_status}
 use Rattle.ssh_session.specs.OwnRequests.{exit_signal}
-use Rattle.ssh_session.specs.Replied.{is_reply}
-use Rattle.ssh_session.specs.Rows.{row, spoken_acts}
+use Rattle.ssh_session.specs.Rows.{spoken_acts}
 use Rattle.ssh_session.specs.Rows.{data_told}
 use Rattle.ssh_session.specs.Rows.{failure_acts, confirmation_acts}
-use Rattle.ssh_session.specs.Rows.{reply_of}
+use Rattle.ssh_session.specs.Rows.{reply_of, global_reply, bound_to}
 use Rattle.ssh_session.specs.World.{World, lined, writes, replies, is_there, is_waiting}
-use Rattle.ssh_session.specs.World.{awaits, wants_global, settles_global}
+use Rattle.ssh_session.specs.World.{awaits, wants_global, settles_global, settled_first}
+use Rattle.ssh_session.specs.World.{unless_ended}
 use Rattle.ssh_session.proofs.Acting.{EffectComes, Law, ActsCome}
-use Rattle.ssh_session.proofs.Apart.{either, refused_comes, apart_comes, forward_comes, asked_comes}
-use Rattle.ssh_session.proofs.Apart.{unknown_comes, settles_comes}
+use Rattle.ssh_session.proofs.Apart.{either, refused_comes, own_comes, notes_come}
 use Rattle.ssh_session.proofs.Measures.{Measure, AreSilent, LinesOwe, lines_owe, how_many_one}
+use Rattle.ssh_session.proofs.Measures.{IsNoAnswer, IsNoReply}
 use Rattle.ssh_session.proofs.Measures.{written_owe, data_owe, eof_owe, close_owe, peer_close_owe}
 use Rattle.ssh_session.proofs.Measures.{grant_owe, adjust_owe, confirmed_owe, failed_owe}
 use Rattle.ssh_session.proofs.Measures.{added_owe, asked_owe, reply_owe}
@@ -59,7 +59,8 @@ use Rattle.ssh_session.proofs.Beside.{on_come}
 
 -- so many frames were written and not handed on, or may still come
 abbrev pub owing : Measure → World → ℕ
-owing of w = lines_owe of w.channels.lines + of.waiting w.channels.opens
+owing of w =
+    lines_owe of w.channels.lines + of.waiting w.channels.opens + of.globally w.globals.wanted
 
 abbrev pub OwesUpTo : Measure → (k : ℕ) → World → Type 0
 OwesUpTo of k w = owing of w ≤ k
@@ -85,7 +86,7 @@ writes_upto of k frames w silent h =
     (written_owe of _ frames w.channels.lines silent (same_lines of w.channels.lines)) h
 
 pub replies_upto : (of : Measure) (k m message : ℕ) (w : World) →
-    ((e : Entry) → is_answer (bare_frame message e.number e.peer) ≡ false) → OwesUpTo of k w →
+    ((e : Entry) → IsNoAnswer (bare_frame message e.number e.peer)) → OwesUpTo of k w →
     OwesUpTo of k (lined (replies m message) w)
 replies_upto of k m message w unlike h =
     lined_upto of k (replies m message) w
@@ -95,7 +96,7 @@ replies_upto of k m message w unlike h =
 
 -- an open is answered by one frame, and waits no longer
 answered_upto : (of : Measure) (k m : ℕ) (opening : Opening) (payload : List ℕ)
-    (change : Lines → Lines) (w : World) → is_reply (failure_frame m payload) ≡ false →
+    (change : Lines → Lines) (w : World) → IsNoReply (failure_frame m payload) →
     LinesOwe of (lines_owe of w.channels.lines) (change w.channels.lines) →
     opening_of m w ≡ Some opening → OwesUpTo of k w →
     OwesUpTo of k (writes (failure_frame m payload ∷ []) (lined change (answered m w)))
@@ -105,7 +106,7 @@ answered_upto of k m opening payload change w unlike c is h =
     omega (arith, one, left, c, h)
 
 fails_upto : (of : Measure) (k m : ℕ) (payload : List ℕ) (opening : Opening) (w : World)
-    (long : Bool) → is_too_long payload ≡ long → is_reply (failure_frame m payload) ≡ false →
+    (long : Bool) → is_too_long payload ≡ long → IsNoReply (failure_frame m payload) →
     opening_of m w ≡ Some opening → OwesUpTo of k w →
     EffectComes (OwesUpTo of k) (fails_open m payload w)
 fails_upto of k m payload opening w true is unlike o h = rw is h
@@ -122,11 +123,11 @@ decides_upto of k m opening None texts w is h =
     let e = opened m opening.peer opening.window room opening.packet in
     answered_upto of k m opening
     (confirmation_frame m opening.peer room w.settings.config.maximum_packet_size).payload (adds e)
-    w refl
+    w (refl, refl)
     (added_owe of _ e w.channels.lines refl (same_lines of w.channels.lines)) is h
 decides_upto of k m opening (Some reason) texts w is h =
     fails_upto of k m (failure_of opening reason texts) opening w
-    (is_too_long (failure_of opening reason texts)) refl refl is h
+    (is_too_long (failure_of opening reason texts)) refl (refl, refl) is h
 
 answers_upto : (of : Measure) (k : ℕ) (answer : OpenAnswer) (opening : Option Opening)
     (w : World) →
@@ -143,7 +144,7 @@ opened_upto of k None asked w h = h
 opened_upto of k (Some n) asked w h =
     let room = w.settings.config.window_size in
     let frame = open_frame asked n room w.settings.config.maximum_packet_size in
-    writes_upto of k (frame ∷ []) (lined (asks_next room) w) (of.other frame refl refl, tt)
+    writes_upto of k (frame ∷ []) (lined (asks_next room) w) (of.other frame refl (refl, refl), tt)
     (lined_upto of k (asks_next room) w
     (asked_owe of _ room (next_number w.channels.lines) w.channels.lines
     (same_lines of w.channels.lines)) h)
@@ -172,24 +173,39 @@ requested_upto of k true o channel asked w h = h
 requested_upto of k false None channel asked w h = h
 requested_upto of k false (Some e) channel asked w h =
     let frame = on_channel channel.0 (request_payload e.peer asked) in
-    writes_upto of k (frame ∷ []) w (of.other frame refl refl, tt) h
+    writes_upto of k (frame ∷ []) w (of.other frame refl (refl, refl), tt) h
 
--- messages of no channel are neither
-pub said_upto : (of : Measure) (k : ℕ) (message : OwnMessage) (w : World) → OwesUpTo of k w
-    → OwesUpTo of k (said message w)
-said_upto of k message w h =
+-- a message of no channel that is no reply to a global request
+pub said_upto : (of : Measure) (k : ℕ) (message : OwnMessage) (w : World) →
+    is_global_reply (at_once message.payload) ≡ false → OwesUpTo of k w →
+    OwesUpTo of k (said message w)
+said_upto of k message w unlike h =
     let frame = at_once message.payload in
     writes_upto of k (frame ∷ []) (record (awaits message.awaited w) {
       disconnected = w.disconnected || message.ends;
-    }) (of.untagged frame refl, tt) h
+    }) (of.untagged frame refl unlike, tt) h
+
+-- a global request's reply that is wanted is sent, and then none is wanted
+settled_step : (b : Bool) (of : Measure) (k : ℕ) (payload : List ℕ) (w : World) →
+    w.globals.wanted ≡ b → OwesUpTo of k w →
+    OwesUpTo of k (cond b (writes (at_once payload ∷ []) (wants_global false w)) w)
+settled_step true of k payload w is h =
+    let one = how_many_one of.such w.channels.lines.written (at_once payload) in
+    let paid = of.settled payload in
+    let same : of.globally w.globals.wanted ≡ of.globally true = ap of.globally is in
+    omega (arith, one, paid, same, h)
+settled_step false of k payload w is h = h
 
 settles_upto : (of : Measure) (k : ℕ) (payload : List ℕ) (w : World) → OwesUpTo of k w
     → OwesUpTo of k (settles_global payload w)
-settles_upto of k payload w h =
-    let frame = at_once payload in
-    let v = wants_global false w in
-    either (OwesUpTo of k) w.globals.wanted (writes (frame ∷ []) v) w
-    (writes_upto of k (frame ∷ []) v (of.untagged frame refl, tt) h) h
+settles_upto of k payload w h = settled_step w.globals.wanted of k payload w refl h
+
+-- .. where the connection was not ended
+ended_upto : (of : Measure) (k : ℕ) (payload : List ℕ) (w : World) → OwesUpTo of k w
+    → OwesUpTo of k (unless_ended (settles_global payload) w)
+ended_upto of k payload w h =
+    either (OwesUpTo of k) w.disconnected w (settles_global payload w) h
+    (settles_upto of k payload w h)
 
 done_upto : (of : Measure) (k : ℕ) (w : World) (commanded : Command) → OwesUpTo of k w →
     EffectComes (OwesUpTo of k) (done_by w commanded)
@@ -208,9 +224,9 @@ done_upto of k w (command.Close channel) h =
     lined_upto of k (takes_close channel.0) w
     (close_owe of _ channel.0 w.channels.lines (same_lines of w.channels.lines)) h
 done_upto of k w (command.ChannelSuccess channel) h =
-    replies_upto of k channel.0 channel_success.number w (λ e. refl) h
+    replies_upto of k channel.0 channel_success.number w (λ e. (refl, refl)) h
 done_upto of k w (command.ChannelFailure channel) h =
-    replies_upto of k channel.0 channel_failure.number w (λ e. refl) h
+    replies_upto of k channel.0 channel_failure.number w (λ e. (refl, refl)) h
 done_upto of k w (command.XonXoff channel client_can_do) h =
     requested_upto of k (is_too_long (request_payload 0 (xon_xoff client_can_do)))
     (find channel.0 w.channels.lines.entries) channel (xon_xoff client_can_do) w h
@@ -224,7 +240,7 @@ done_upto of k w (command.ExitSignal channel signal core message language) h =
 done_upto of k w (command.Answer answer) h =
     answers_upto of k answer (opening_of answer.channel.0 w) w refl h
 done_upto of k w other h =
-    apart_comes (OwesUpTo of k) (said_upto of k) (settles_upto of k) (opens_or_not_upto of k) w
+    own_comes (OwesUpTo of k) (said_upto of k) (settles_upto of k) (opens_or_not_upto of k) w
     other h
 
 pub effect_upto : (of : Measure) (k : ℕ) (w : World) (commanded : Command) → OwesUpTo of k w →
@@ -279,40 +295,66 @@ confirmation_upto of k w true message h = (
 )
 confirmation_upto of k w false message h = tt
 
--- this is so of the request that was read, where it was one: of its channel, and of whether it
--- wants a reply
-abbrev pub OfRequest : (so : ChannelId → Bool → Type 0) → Spoken → Type 0
-OfRequest so (spoken.Wants channel wanted) = so channel wanted
-OfRequest so (spoken.Asks channel wanted message happening) = so channel wanted
-OfRequest so (spoken.AsksForAgent channel wanted) = so channel wanted
-OfRequest so (spoken.AsksUnknown channel wanted) = so channel wanted
+-- what is so of a request on a channel, and of a global one, by whether it wants a reply, and of a
+-- reply to one of this side's, by what it tells
+pub record Claims : Type 1 where
+  pub on : ChannelId → Bool → Type 0
+  pub globally : Bool → Type 0
+  pub settles : Option Notice → Type 0
+
+-- this is so of what was read, where it was one of these
+abbrev pub OfRequest : Claims → Spoken → Type 0
+OfRequest so (spoken.Wants channel wanted) = so.on channel wanted
+OfRequest so (spoken.Asks channel wanted message happening) = so.on channel wanted
+OfRequest so (spoken.AsksForAgent channel wanted) = so.on channel wanted
+OfRequest so (spoken.AsksUnknown channel wanted) = so.on channel wanted
+OfRequest so (spoken.AsksToForward wanted address port) = so.globally wanted
+OfRequest so (spoken.AsksGlobally wanted judged) = so.globally wanted
+OfRequest so (spoken.AsksGloballyUnknown wanted) = so.globally wanted
+OfRequest so (spoken.Settles told) = so.settles told
 OfRequest so _ = Unit {0}
 
-pub of_every : (so : ChannelId → Bool → Type 0) (said : Spoken) →
-    ((channel : ChannelId) (wanted : Bool) → so channel wanted) → OfRequest so said
-of_every so (spoken.Wants channel wanted) h = h channel wanted
-of_every so (spoken.Asks channel wanted message happening) h = h channel wanted
-of_every so (spoken.AsksForAgent channel wanted) h = h channel wanted
-of_every so (spoken.AsksUnknown channel wanted) h = h channel wanted
-of_every so _ h = tt
+pub of_every : (so : Claims) (said : Spoken) →
+    ((channel : ChannelId) (wanted : Bool) → so.on channel wanted) →
+    ((wanted : Bool) → so.globally wanted) → ((told : Option Notice) → so.settles told) →
+    OfRequest so said
+of_every so (spoken.Wants channel wanted) f g h = f channel wanted
+of_every so (spoken.Asks channel wanted message happening) f g h = f channel wanted
+of_every so (spoken.AsksForAgent channel wanted) f g h = f channel wanted
+of_every so (spoken.AsksUnknown channel wanted) f g h = f channel wanted
+of_every so (spoken.AsksToForward wanted address port) f g h = g wanted
+of_every so (spoken.AsksGlobally wanted judged) f g h = g wanted
+of_every so (spoken.AsksGloballyUnknown wanted) f g h = g wanted
+of_every so (spoken.Settles told) f g h = h told
+of_every so _ f g h = tt
 
-pub weaker : (so other : ChannelId → Bool → Type 0) (said : Spoken) →
-    ((channel : ChannelId) (wanted : Bool) → so channel wanted → other channel wanted) →
+pub weaker : (so other : Claims) (said : Spoken) →
+    ((channel : ChannelId) (wanted : Bool) → so.on channel wanted → other.on channel wanted) →
+    ((wanted : Bool) → so.globally wanted → other.globally wanted) →
+    ((told : Option Notice) → so.settles told → other.settles told) →
     OfRequest so said → OfRequest other said
-weaker so other (spoken.Wants channel wanted) f h = f channel wanted h
-weaker so other (spoken.Asks channel wanted message happening) f h = f channel wanted h
-weaker so other (spoken.AsksForAgent channel wanted) f h = f channel wanted h
-weaker so other (spoken.AsksUnknown channel wanted) f h = f channel wanted h
-weaker so other _ f h = tt
+weaker so other (spoken.Wants channel wanted) f g h is = f channel wanted is
+weaker so other (spoken.Asks channel wanted message happening) f g h is = f channel wanted is
+weaker so other (spoken.AsksForAgent channel wanted) f g h is = f channel wanted is
+weaker so other (spoken.AsksUnknown channel wanted) f g h is = f channel wanted is
+weaker so other (spoken.AsksToForward wanted address port) f g h is = g wanted is
+weaker so other (spoken.AsksGlobally wanted judged) f g h is = g wanted is
+weaker so other (spoken.AsksGloballyUnknown wanted) f g h is = g wanted is
+weaker so other (spoken.Settles told) f g h is = h told is
+weaker so other _ f g h is = tt
 
 -- after a request no more than so many may come
-abbrev pub RequestOwes : Measure → (k : ℕ) → World → ChannelId → Bool → Type 0
-RequestOwes of k w channel wanted = OwesUpTo of k (lined (wants channel.0 wanted) w)
+abbrev pub RequestOwes : Measure → (k : ℕ) → World → Claims
+RequestOwes of k w = record {
+  on = λ channel wanted. OwesUpTo of k (lined (wants channel.0 wanted) w);
+  globally = λ wanted. OwesUpTo of k (wants_global wanted w);
+  settles = λ told. Unit {0};
+}
 
 reply_no_answer : (granted : Bool) (e : Entry) →
-    is_answer (bare_frame (reply_of granted) e.number e.peer) ≡ false
-reply_no_answer true e = refl
-reply_no_answer false e = refl
+    IsNoAnswer (bare_frame (reply_of granted) e.number e.peer)
+reply_no_answer true e = (refl, refl)
+reply_no_answer false e = (refl, refl)
 
 pub spoken_upto : (of : Measure) (k : ℕ) (w : World) (said : Spoken) →
     OfRequest (RequestOwes of k w) said → OwesUpTo of k w →
@@ -363,12 +405,16 @@ spoken_upto of k w (spoken.AsksUnknown channel wanted) q h = (
     tt,
   ),
 )
-spoken_upto of k w (spoken.AsksToForward wanted address port) q h =
-    forward_comes (law of k) (λ b v j. j) (settles_upto of k) (λ v j. j) w wanted address port h
+spoken_upto of k w (spoken.AsksToForward wanted address port) q h = (
+  q,
+  λ granted bound world j. (
+    ended_upto of k (global_reply granted (bound_to port bound)) world j,
+    tt,
+  ),
+)
 spoken_upto of k w (spoken.AsksGlobally wanted judged) q h =
-    asked_comes (law of k) (λ b v j. j) (settles_upto of k) (λ v j. j) w wanted judged h
+    (q, λ granted world j. (ended_upto of k (global_reply granted None) world j, tt))
 spoken_upto of k w (spoken.AsksGloballyUnknown wanted) q h =
-    unknown_comes (law of k) (λ b v j. j) (settles_upto of k) (λ v j. j) w wanted h
-spoken_upto of k w (spoken.Settles told) q h =
-    settles_comes (law of k) (λ b v j. j) (settles_upto of k) (λ v j. j) w told h
+    (q, (settles_upto of k (global_reply false None) (wants_global wanted w) q, tt))
+spoken_upto of k w (spoken.Settles told) q h = (h, notes_come (law of k) told (settled_first w))
 spoken_upto of k w spoken.Inconsistent q h = tt

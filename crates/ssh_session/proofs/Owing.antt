@@ -125,17 +125,19 @@ replies_on number = record {
   such = is_reply_on number;
   due = due_on number;
   waiting = λ opens. 0;
+  globally = λ wanted. 0;
   asks = λ question. false;
-  untagged = λ frame is. no_channel number frame.channel (is_reply frame) is;
+  untagged = λ frame is unlike. no_channel number frame.channel (is_reply frame) is;
   other = λ frame no_answer no_reply. untold (is_tagged number frame.channel) (is_reply frame)
-      no_reply;
+      no_reply.0;
   kept = λ e f entries at same. due_kept number e f entries at same;
   parted = λ m entries. parted_step (number == m) number m entries refl;
   begun = λ e entries none. due_begun number e entries none;
   replied = λ message e entries unlike at wanted. paid_step (number == e.number)
       (is_reply (bare_frame message e.number e.peer)) number e entries refl at wanted;
   answered = λ m payload opening opens unlike is. no_more (is_reply_on number (failure_frame m
-      payload)) 0 (untold (number == m) (is_reply (failure_frame m payload)) unlike);
+      payload)) 0 (untold (number == m) (is_reply (failure_frame m payload)) unlike.0);
+  settled = λ payload. omega arith;
 }
 
 -- ---- a request

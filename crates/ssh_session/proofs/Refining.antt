@@ -33,7 +33,7 @@ use Rattle.ssh_session.specs.Heard.{Heard}
 use Rattle.ssh_session.specs.Outcome.{Outcome}
 use Rattle.ssh_session.specs.Effect.{not_usable, no_sending, no_closing}
 use Rattle.ssh_session.specs.Run.{nothing_waits, handed_on}
-use Rattle.ssh_session.specs.Serve.{Refines, Serves, SendsEach}
+use Rattle.ssh_session.specs.Serve.{Refines, Serves, TellsEach}
 use Rattle.ssh_session.specs.World.{World, lined, is_there}
 use Rattle.ssh_session.proofs.Serving.{settled_by}
 
@@ -202,7 +202,7 @@ pub handed : {E : Type 0} (session : Session) (table : Table) (fits : length ses
     (result : Result (Unit {0}) (RunError E)) →
     Refines session w → table ≡ hand_on false session.table → frames
     ≡ calls.handed false session.table →
-    SendsEach frames a b result →
+    TellsEach Sent frames a b result →
     Serves (tell_all (map Sent w.channels.lines.written) (next (handed_on w)))
     (λ (_ : Unit {0}) world. next world) a b
     (record session { table = table; session_id_fits = fits }) result

@@ -24,7 +24,7 @@ use Rattle.ssh_session.specs.declared.error.RunError.TheVariants as error
 use Rattle.ssh_session.specs.declared.session.Session.{Session}
 use Rattle.ssh_session.specs.Account.{Told, Steps, Closes, Ran, Laws}
 use Rattle.ssh_session.specs.Failure.{error_of_link}
-use Rattle.ssh_session.specs.Run.{Turn, Turns, Run, calls_of, entries, nothing_waits}
+use Rattle.ssh_session.specs.Run.{Owes, Turn, Turns, Run, calls_of, entries, nothing_waits}
 use Rattle.ssh_session.specs.Serve.{Refines, IsSuited, cause_of, may_stop}
 use Rattle.ssh_session.specs.World.{Settings, World, opening_world}
 use Rattle.ssh_session.proofs.Lawful.{lawful}
@@ -108,7 +108,7 @@ pub goes_on : {E : Type 0} (accepts : Acceptance) (settings : Settings) (a b c d
     (count : ℕ) (session session' : Session)
     (commands : Bool) (input : Input) → Going accepts settings a b count session
     → Taken session b c commands input →
-    ((w : World) → Refines session w → Steps accepts w input c d session' (Ok Continue)) →
+    ((w : World) → Refines session w → Steps (Owes accepts w input) c d session' (Ok Continue)) →
     Going accepts settings a d (count + 1) session'
 goes_on {E} accepts settings a b c d count session session' commands input going taken step =
     let w = going.world in
@@ -145,7 +145,8 @@ pub ends : {E : Type 0} (accepts : Acceptance) (settings : Settings) (a b c d : 
     (count max : ℕ) (session session' : Session)
     (commands : Bool) (input : Input) → Going accepts settings a b count session
     → Taken session b c commands input →
-    ((w : World) → Refines session w → Steps accepts w input c d session' (Ok Ended)) → count < max
+    ((w : World) → Refines session w → Steps (Owes accepts w input) c d session' (Ok Ended)) →
+    count < max
     →
     Ran accepts settings a d max (Ok tt)
 ends {E} accepts settings a b c d count max session session' commands input going taken step room =
@@ -175,7 +176,8 @@ pub stopped : {E : Type 0} (accepts : Acceptance) (settings : Settings) (a b c d
     (count max : ℕ) (session session' : Session)
     (commands : Bool) (input : Input) (e : RunError E) → Going accepts settings a b count session
     → Taken session b c commands input →
-    ((w : World) → Refines session w → Steps accepts w input c d session' (Err e)) → count < max →
+    ((w : World) → Refines session w → Steps (Owes accepts w input) c d session' (Err e)) → count <
+    max →
     Ran accepts settings a d max (Err e)
 stopped {E} accepts settings a b c d count max session session' commands input e going taken step
     room =

@@ -1,17 +1,18 @@
 -- A step, from what serving its input does.
-use Rattle.std.proofs.Common.{◌≡◌, Result, Ok, Err, refl, sym, subst}
+use Rattle.std.proofs.Common.{◌≡◌, List, Result, Ok, Err, refl, sym, subst, inl, inr}
 use Rattle.ssh_link.specs.declared.frame.Input.{Input}
+use Rattle.ssh_link.specs.declared.notice.Notice.{Notice}
 use Rattle.ssh_auth.specs.Publickey.{Acceptance}
-use Rattle.ssh_auth.specs.Plan.{Plan}
+use Rattle.ssh_auth.specs.Plan.{Plan, Event}
 use Rattle.ssh_session.specs.declared.error.Flow.{Flow}
 use Rattle.ssh_session.specs.declared.error.Flow.TheVariants.{Continue, Ended}
 use Rattle.ssh_session.specs.declared.error.RunError.{RunError}
 use Rattle.ssh_session.specs.declared.session.Session.{Session}
 use Rattle.ssh_session.specs.Account.{Told, Comes, Steps}
+use Rattle.ssh_session.specs.Between.{OwesBehind, OwesNotices, StepsAfter, TakesBehind}
 use Rattle.ssh_session.specs.Heard.{Heard}
 use Rattle.ssh_session.specs.Outcome.{Outcome}
-use Rattle.ssh_session.specs.Run.{Owes}
-use Rattle.ssh_session.specs.Serve.{Refines, Completes}
+use Rattle.ssh_session.specs.Serve.{Refines, Completes, IsUnchanged}
 use Rattle.ssh_session.specs.World.{World}
 use Rattle.ssh_link.specs.Faults.{Rose}
 
@@ -21,20 +22,21 @@ told_of heard = record { calls = heard.calls; trace = heard.trace; faults = hear
 
 comes_so : {E : Type 0} (plan : Plan Outcome) (a b : Heard E) (session session' : Session)
     (result : Result Flow (RunError E)) →
-    (result ≡ Ok Continue → session' ≡ session) → (h : Completes plan a b session result) →
+    (result ≡ Ok Continue → IsUnchanged session session') → (h : Completes plan a b session result)
+    →
     Comes plan h.0 (Rose a.faults b.faults) session' result
 comes_so plan a b session session' (Ok Continue) same h =
-    (h.2.0, h.2.1, subst (λ s. Refines s h.2.0) (sym (same refl)) h.2.2)
+    (h.2.0, h.2.1, same refl h.2.0 h.2.2)
 comes_so plan a b session session' (Ok Ended) same h = (h.2.0, h.2.1)
 comes_so plan a b session session' (Err e) same h = h.2
 
--- the input was taken and finished, and then the session is spent or goes on
-pub noted : {E : Type 0} (accepts : Acceptance) (w : World) (input : Input) (a b : Heard E)
-    (session session' : Session)
-    (result : Result Flow (RunError E)) → (result ≡ Ok Continue → session' ≡ session) →
-    ((plan : Plan Outcome) × Owes accepts w input plan × Completes plan a b session result) →
-    Steps accepts w input (told_of a) (told_of b) session' result
-noted accepts w input a b session session' result same (plan, owes, h) = record {
+-- what is owed was done, and then the session is spent or goes on
+pub noted : {E : Type 0} (IsOwed : Plan Outcome → Type 0) (a b : Heard E)
+    (session session' : Session) (result : Result Flow (RunError E)) →
+    (result ≡ Ok Continue → IsUnchanged session session') →
+    ((plan : Plan Outcome) × IsOwed plan × Completes plan a b session result) →
+    Steps IsOwed (told_of a) (told_of b) session' result
+noted IsOwed a b session session' result same (plan, owes, h) = record {
   plan = plan;
   owes = owes;
   events = h.0;
@@ -44,3 +46,55 @@ noted accepts w input a b session session' result same (plan, owes, h) = record 
   unstepped = h.1.unstepped;
   comes = comes_so plan a b session session' result same h;
 }
+
+-- the same session, as far as worlds go
+pub unchanged_by : (session session' : Session) → session' ≡ session → IsUnchanged session session'
+unchanged_by session session' same = λ w r. subst (λ s. Refines s w) (sym same) r
+
+still_comes : {E : Type 0} (plan : Plan Outcome) (events : List (Event E ⊥)) (rose : Type 0)
+    (session session' : Session) (result : Result Flow (RunError E)) →
+    IsUnchanged session session' → Comes plan events rose session result →
+    Comes plan events rose session' result
+still_comes plan events rose session session' (Ok Continue) same h =
+    (h.0, h.1, same h.0 h.2)
+still_comes plan events rose session session' (Ok Ended) same h = h
+still_comes plan events rose session session' (Err e) same h = h
+
+-- what was done is so of a session that stands for the same worlds
+pub steps_still : {E : Type 0} (IsOwed : Plan Outcome → Type 0) (a b : Told E)
+    (session session' : Session) (result : Result Flow (RunError E)) →
+    IsUnchanged session session' → Steps IsOwed a b session result →
+    Steps IsOwed a b session' result
+steps_still IsOwed a b session session' result same h = record {
+  plan = h.plan;
+  owes = h.owes;
+  events = h.events;
+  called = h.called;
+  told = h.told;
+  later = h.later;
+  unstepped = h.unstepped;
+  comes = still_comes h.plan h.events (Rose a.faults b.faults) session session' result same h.comes;
+}
+
+-- ---- behind notices
+
+-- what was taken behind notices was done, and then the session is spent or goes on
+pub noted_behind : {E : Type 0} (notices : List Notice) (accepts : Acceptance) (w : World)
+    (input : Input) (a b : Heard E) (session session' : Session)
+    (result : Result Flow (RunError E)) → (result ≡ Ok Continue → IsUnchanged session session') →
+    TakesBehind notices accepts w input a b session result →
+    StepsAfter notices accepts w input (told_of a) (told_of b) session' result
+noted_behind notices accepts w input a b session session' result same (inl h) =
+    inl (noted (OwesBehind notices accepts w input) a b session session' result same h)
+noted_behind notices accepts w input a b session session' result same (inr (e, is, h)) =
+    inr (e, is, noted (OwesNotices notices w) a b session session' result same (_, refl, h))
+
+pub still_behind : {E : Type 0} (notices : List Notice) (accepts : Acceptance) (w : World)
+    (input : Input) (a b : Told E) (session session' : Session)
+    (result : Result Flow (RunError E)) → IsUnchanged session session' →
+    StepsAfter notices accepts w input a b session result →
+    StepsAfter notices accepts w input a b session' result
+still_behind notices accepts w input a b session session' result same (inl h) =
+    inl (steps_still (OwesBehind notices accepts w input) a b session session' result same h)
+still_behind notices accepts w input a b session session' result same (inr (e, is, h)) =
+    inr (e, is, steps_still (OwesNotices notices w) a b session session' result same h)

@@ -1,7 +1,7 @@
 -- The modes of a terminal: one mode a code, and the modes in their order (RFC 4254 section 8).
 use Rattle.std.proofs.Common.{◌≡◌, ◌==◌, ◌≤◌, ◌-◌, ◌+◌, ◌*◌, ◌∷◌, ◌++◌, ◌∙◌, ℕ, zero, suc}
 use Rattle.std.proofs.Common.{List, [], length}
-use Rattle.std.proofs.Common.{Bool, true, false, not, Option, Some, None, take, drop}
+use Rattle.std.proofs.Common.{Bool, true, false, Option, Some, None, take, drop}
 use Rattle.std.proofs.Common.{refl, sym, ap, rules, arith, append_assoc}
 use Rattle.std.specs.Prelude.{find, nat_lt, get_or, IfSome}
 use Rattle.std.proofs.Math.Seq.{take-length}

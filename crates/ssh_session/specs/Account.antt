@@ -3,7 +3,6 @@ use Rattle.std.specs.Prelude.{◌≡◌, ◌<◌, ◌≤◌, ℕ, List, [], ◌+
 use Rattle.std.specs.Prelude.{None, option_to_list, IfSome, IsSomeAnd, OnOk, Result, Ok, Err}
 use Rattle.ssh_link.specs.Faults.{Rose}
 use Rattle.ssh_link.specs.Told.{Adds, ToldBy}
-use Rattle.ssh_link.specs.declared.frame.Input.{Input}
 use Rattle.ssh_link.specs.declared.link.TraceEntry.{TraceEntry}
 use Rattle.ssh_auth.specs.declared.call.Call.{Call}
 use Rattle.ssh_auth.specs.Publickey.{Acceptance}
@@ -15,6 +14,8 @@ use Rattle.ssh_session.specs.declared.error.RunError.TheVariants as error
 use Rattle.ssh_session.specs.declared.session.Session.{Session}
 use Rattle.ssh_session.specs.Answered.{Answered}
 use Rattle.ssh_session.specs.Authorised.{Authorised}
+use Rattle.ssh_session.specs.GlobalReplied.{GlobalReplied}
+use Rattle.ssh_session.specs.InOrder.{InOrder, IsNextInOrder}
 use Rattle.ssh_session.specs.Ledger.{Ledgered_after}
 use Rattle.ssh_session.specs.Outcome.{Outcome, Goes, Ends}
 use Rattle.ssh_session.specs.Replied.{Replied}
@@ -48,12 +49,12 @@ Comes plan events rose session (Ok Continue) = (world : World) × Follows plan e
 Comes plan events rose session (Ok Ended) = (world : World) × Follows plan events (Ends world)
 Comes plan events rose session (Err e) = IsCaused (cause_of e) plan rose events
 
--- an input was taken by a session in this world: what was called and told is what the input owes,
--- and so is the answer
-pub record Steps {E : Type 0} (accepts : Acceptance) (w : World) (input : Input)
-    (before after : Told E) (session : Session) (result : Result Flow (RunError E)) : Type 0 where
+-- an input was taken that owes such a plan: what was called and told is that plan, and so is the
+-- answer
+pub record Steps {E : Type 0} (IsOwed : Plan Outcome → Type 0) (before after : Told E)
+    (session : Session) (result : Result Flow (RunError E)) : Type 0 where
   pub plan : Plan Outcome
-  pub owes : Owes accepts w input plan
+  pub owes : IsOwed plan
   pub events : List (Event E ⊥)
   pub called : ToldBy (may_stop result) before.calls after.calls (calls_in events)
   pub told : Adds before.trace after.trace (told_in events)
@@ -114,6 +115,12 @@ pub record Lawful {E : Type 0} {accepts : Acceptance} {settings : Settings} {bef
   pub answered : Answered (account.turns ++ option_to_list account.last)
   -- the peer gets no more replies to its requests on a channel than it wanted
   pub replied : Replied (account.turns ++ option_to_list account.last)
+  -- and no more replies to its global requests
+  pub globally_replied : GlobalReplied (account.turns ++ option_to_list account.last)
+  -- the replies to this side's global requests are taken in the order of the requests
+  pub in_order : (earlier later : List (Turn E)) → account.turns ≡ earlier ++ later
+      → InOrder accepts settings earlier
+  pub last_in_order : IfSome account.last (IsNextInOrder account.world)
   -- where no fault of the link rose and the last input was valid, it ends well, or memory or the
   -- limit of inputs ends it
   pub complete : after.faults ≡ before.faults → IfSome account.last (IsValid accepts account.world)
@@ -132,11 +139,11 @@ pub record Laws {E : Type 0} (accepts : Acceptance) (settings : Settings) (befor
 -- ---- by the handler and the link that tell
 
 -- an input was taken so, with this handler and this link before it and after it
-abbrev pub StepsBy : {E H L : Type 0} → Acceptance → World → Input → (told : H → L → Told E)
-    → (handler : H) → (link : L) → (handler_after : H) → (link_after : L) → Session
-    → Result Flow (RunError E) → Type 0
-StepsBy accepts w input told handler link handler_after link_after session result =
-    Steps accepts w input (told handler link) (told handler_after link_after) session result
+abbrev pub StepsBy : {E H L : Type 0} → (IsOwed : Plan Outcome → Type 0)
+    → (told : H → L → Told E) → (handler : H) → (link : L) → (handler_after : H)
+    → (link_after : L) → Session → Result Flow (RunError E) → Type 0
+StepsBy IsOwed told handler link handler_after link_after session result =
+    Steps IsOwed (told handler link) (told handler_after link_after) session result
 
 -- the two tell nothing more
 abbrev pub TellsNothing : {E H L : Type 0} → (told : H → L → Told E) → (handler : H) → (link : L)

@@ -26,6 +26,9 @@ pub mod Serve
 pub mod Authorised
 pub mod Answered
 pub mod Replied
+pub mod GlobalReplied
 pub mod Ledger
 pub mod Valid
+pub mod InOrder
 pub mod Account
+pub mod Between

@@ -1,6 +1,6 @@
 -- Messages of no channel that this side sends: global requests (RFC 4254 sections 4 and 7.1), and
 -- those of the transport (RFC 4253 section 11).
-use Rattle.std.specs.Prelude.{◌≡◌, ◌≤◌, ◌^◌, ◌⊎◌, ℕ, Bool, true, false, List, [], ◌∷◌, ◌++◌}
+use Rattle.std.specs.Prelude.{◌≡◌, ◌≤◌, ◌<◌, ◌^◌, ◌⊎◌, ℕ, Bool, true, false, List, [], ◌∷◌, ◌++◌}
 use Rattle.std.specs.Prelude.{length, codes}
 use Rattle.std.specs.Prelude.{Option, Some, None, is_some}
 use Rattle.ssh_wire.specs.declared.error.WireError.{WireError}
@@ -28,13 +28,8 @@ asking_payload name fields wanted = written global_request (name, (wanted, tt)) 
 abbrev pub address_fields : (address : List ℕ) → (port : ℕ) → List ℕ
 address_fields address port = spellings (Text ∷ Number ∷ []) (address, (port, tt))
 
-abbrev pub forward_payload : (address : List ℕ) → (port : ℕ) → (wanted : Bool) → List ℕ
-forward_payload address port =
-    asking_payload (codes "tcpip-forward") (address_fields address port)
-
-abbrev pub cancel_payload : (address : List ℕ) → (port : ℕ) → (wanted : Bool) → List ℕ
-cancel_payload address port =
-    asking_payload (codes "cancel-tcpip-forward") (address_fields address port)
+abbrev pub address_payload : (name address : List ℕ) → (port : ℕ) → (wanted : Bool) → List ℕ
+address_payload name address port = asking_payload name (address_fields address port)
 
 -- a reply is wanted where a slot is given
 abbrev pub awaited_by : (made : (slot : ℕ) → Outstanding) → (slot : Option ℕ) → Option Outstanding
@@ -43,14 +38,14 @@ awaited_by made (Some slot) = Some (made slot)
 
 abbrev pub forward : (address : List ℕ) → (port : ℕ) → (slot : Option ℕ) → OwnMessage
 forward address port slot = record {
-  payload = forward_payload address port (is_some slot);
+  payload = address_payload (codes "tcpip-forward") address port (is_some slot);
   awaited = awaited_by outstanding.Forward slot;
   ends = false;
 }
 
 abbrev pub cancel : (address : List ℕ) → (port : ℕ) → (slot : Option ℕ) → OwnMessage
 cancel address port slot = record {
-  payload = cancel_payload address port (is_some slot);
+  payload = address_payload (codes "cancel-tcpip-forward") address port (is_some slot);
   awaited = awaited_by outstanding.Cancel slot;
   ends = false;
 }
@@ -84,6 +79,10 @@ disconnect reason description language = record {
   awaited = None;
   ends = true;
 }
+
+-- a payload was built, which has at most 2^32 - 1 bytes (RFC 4253 section 6)
+abbrev pub IsBuilt : (payload : List ℕ) → (items : List ℕ) → Type 0
+IsBuilt payload items = (items ≡ payload) × (length payload < 2 ^ 32)
 
 -- why a payload was not built: there was no memory, or it would have more than 2^32 - 1 bytes (RFC
 -- 4253 section 6)

@@ -1,5 +1,5 @@
 -- What a payload says, by the layout of its message.
-use Rattle.std.specs.Prelude.{◌≡◌, ◌⊎◌, ℕ, Bool, List, [], Result, Ok, Err}
+use Rattle.std.specs.Prelude.{◌≡◌, ◌⊎◌, ℕ, List, [], Result, Ok, Err}
 use Rattle.ssh_wire.specs.declared.error.WireError.{WireError}
 use Rattle.ssh_wire.specs.declared.error.LayoutError.TheVariants.{Wire, Inconsistent}
 use Rattle.ssh_wire.specs.declared.open.OpenChannelMessage.{OpenChannelMessage}

@@ -1,8 +1,7 @@
 -- What serving does, and how a session stands for a world.
 use Rattle.std.specs.Prelude.{◌≡◌, ◌≤◌, ℕ, Bool, true, false, not, List, [], ◌++◌, map}
 use Rattle.std.specs.Prelude.{option_to_list, Result, Ok, Err}
-use Rattle.ssh_link.specs.Frames.{Frame}
-use Rattle.ssh_link.specs.declared.link.TraceEntry.TheVariants.{Sent}
+use Rattle.ssh_link.specs.declared.link.TraceEntry.{TraceEntry}
 use Rattle.ssh_link.specs.Faults.{Rose}
 use Rattle.ssh_link.specs.Told.{Adds, ToldBy}
 use Rattle.ssh_auth.specs.declared.call.Call.{Call}
@@ -51,10 +50,10 @@ lends session = record {
 abbrev pub IsSuited : (suits : Config → List ℕ → Type 0) → Session → Type 0
 IsSuited suits session = suits session.common.config session.common.remote_sshid
 
--- the config and the peer are the same
-abbrev pub IsSamePeer : Session → Session → Type 0
-IsSamePeer before after = (after.common.config ≡ before.common.config)
-    × (after.common.remote_sshid ≡ before.common.remote_sshid)
+-- it is a server that is set up as before, for the same peer, and spent where it was
+abbrev pub IsSameSession : Session → Session → Type 0
+IsSameSession before after = (after.common.config ≡ before.common.config)
+    × (after.common.remote_sshid ≡ before.common.remote_sshid) × (after.spent ≡ before.spent)
 
 -- the session, which is not spent, is in this world
 pub record Refines (session : Session) (w : World) : Type 0 where
@@ -72,6 +71,10 @@ pub record Refines (session : Session) (w : World) : Type 0 where
   pub keepalives : session.keepalives ≡ w.keepalives
   pub disconnected : session.common.disconnected ≡ w.disconnected
   pub live : session.spent ≡ false
+
+-- the session stands for each world that it stood for
+abbrev pub IsUnchanged : Session → Session → Type 0
+IsUnchanged before after = (w : World) → Refines before w → Refines after w
 
 -- the session is before its first input, and the handler suits its config and its peer
 abbrev pub BeginsSuited : (suits : Config → List ℕ → Type 0) → Session → Type 0
@@ -186,12 +189,13 @@ abbrev pub Puts : {E : Type 0} → (question : Question) → Heard E → Heard E
 Puts {E} question before after answer = (call : Call E) × IsAnsweredBy question answer call
     × Calls before after answer call
 
--- these frames were handed on, whatever follows them
-abbrev pub SendsEach : {E : Type 0} → List Frame → Heard E → Heard E
+-- the link was told each of these, as frames that are handed on or as notices, whatever follows
+abbrev pub TellsEach : {A E : Type 0} → (as_what : A → TraceEntry) → List A → Heard E → Heard E
     → Result (Unit {0}) (RunError E) → Type 0
-SendsEach {E} frames before after result = (w : World) (session : Session) → Refines session w
-    → (next : Plan Outcome) →
-    Serves (tell_all (map Sent frames) next) (λ (_ : Unit {0}) _. next) before after session result
+TellsEach {E = E} as_what items before after result = (w : World) (session : Session)
+    → Refines session w → (next : Plan Outcome) →
+    Serves (tell_all (map as_what items) next) (λ (_ : Unit {0}) _. next) before after session
+    result
 
 -- the command did this, or there was no memory
 abbrev pub HasEffect : {E : Type 0} → Effect → Session → Result Done (RunError E) → Type 0

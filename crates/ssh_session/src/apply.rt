@@ -1,5 +1,5 @@
 // What one command does, or why it is refused (RFC 4254 section 5).
-ghost use Rattle.std.specs.Prelude.{◌≡◌, None};
+ghost use Rattle.std.specs.Prelude.{◌≡◌, None, OnErr};
 ghost use Rattle.ssh_session.specs.World.{World};
 ghost use Rattle.ssh_session.specs.Opens.{opening_of};
 ghost use Rattle.ssh_wire.specs.Open.{open_failure};
@@ -8,7 +8,7 @@ ghost use Rattle.ssh_session.specs.Effect.{not_usable, effect, done_by, needs, l
 ghost use Rattle.ssh_session.specs.Effect.{Closing, Opening_of, answers, confirms};
 ghost use Rattle.ssh_session.specs.Effect.{fails_open, failure_of, refused_for, apart_needs};
 ghost use Rattle.ssh_session.specs.Effect.{done_apart};
-ghost use Rattle.ssh_session.specs.Serve.{Refines, HasEffect, IsSamePeer};
+ghost use Rattle.ssh_session.specs.Serve.{Refines, HasEffect, IsSameSession, IsUnchanged};
 
 use crate::channel_frames::{confirmation_frame, failure_frame};
 use crate::outstanding::Outstanding;
@@ -62,10 +62,11 @@ pub(crate) fn unusable(confirmed: bool, ended: bool) -> Option<Refusal>
 
 impl Session {
     /// Does one command, or refuses it.
-    pub(crate) fn apply<E>(&mut self, command: Command) -> Result<Done, RunError<E>>
+    pub(crate) fn carry_out<E>(&mut self, command: Command) -> Result<Done, RunError<E>>
         ensures does { (w : World) → Refines self.old w →
             HasEffect (effect w command) self.new result }
-        ensures peer { IsSamePeer self.old self.new }
+        ensures unchanged { OnErr result (IsUnchanged self.old self.new) }
+        ensures peer { IsSameSession self.old self.new }
     {
         match self.refused_for(&command) {
             Some(why) => {
@@ -149,7 +150,8 @@ impl Session {
     fn do_command<E>(&mut self, command: Command) -> Result<Done, RunError<E>>
         ensures does { (w : World) → Refines self.old w →
             HasEffect (done_by w command) self.new result }
-        ensures peer { IsSamePeer self.old self.new }
+        ensures unchanged { OnErr result (IsUnchanged self.old self.new) }
+        ensures peer { IsSameSession self.old self.new }
     {
         match command {
             Command::Data { channel, bytes } => {
@@ -189,7 +191,7 @@ impl Session {
                 error_message,
                 language,
             } => self.exit_signal(channel, &signal, core_dumped, &error_message, &language),
-            Command::Answer(answer) => self.answer_open(answer),
+            Command::Answer(answer) => self.decide_open(answer),
             other => {
                 let done = self.do_apart(&other);
                 drop(other);
@@ -202,7 +204,8 @@ impl Session {
     fn do_apart<E>(&mut self, command: &Command) -> Result<Done, RunError<E>>
         ensures does { (w : World) → Refines self.old w →
             HasEffect (done_apart w command.now) self.new result }
-        ensures peer { IsSamePeer self.old self.new }
+        ensures unchanged { OnErr result (IsUnchanged self.old self.new) }
+        ensures peer { IsSameSession self.old self.new }
     {
         match command {
             Command::TcpipForward {
@@ -223,21 +226,22 @@ impl Session {
                 always_display,
                 message,
                 language,
-            } => self.debug(*always_display, message, language),
+            } => self.say_debug(*always_display, message, language),
             Command::Disconnect {
                 reason,
                 description,
                 language,
-            } => self.disconnect(*reason, description, language),
+            } => self.say_disconnect(*reason, description, language),
             other => self.do_open(other),
         }
     }
 
     /// The answer to an open of the peer (RFC 4254 section 5.1).
-    fn answer_open<E>(&mut self, answer: OpenAnswer) -> Result<Done, RunError<E>>
+    fn decide_open<E>(&mut self, answer: OpenAnswer) -> Result<Done, RunError<E>>
         ensures does { (w : World) → Refines self.old w →
             HasEffect (answers answer (opening_of answer.channel.0 w) w) self.new result }
-        ensures peer { IsSamePeer self.old self.new }
+        ensures unchanged { OnErr result (IsUnchanged self.old self.new) }
+        ensures peer { IsSameSession self.old self.new }
     {
         let OpenAnswer {
             channel,
@@ -257,7 +261,8 @@ impl Session {
     fn confirm_open<E>(&mut self, number: ChannelId, said: PeerOpen) -> Result<Done, RunError<E>>
         ensures does { (w : World) → Refines self.old w →
             HasEffect (confirms number.0 said w) self.new result }
-        ensures peer { IsSamePeer self.old self.new }
+        ensures unchanged { OnErr result (IsUnchanged self.old self.new) }
+        ensures peer { IsSameSession self.old self.new }
     {
         let room = self.common.config.window_size;
         let own_packet = self.common.config.maximum_packet_size;
@@ -271,9 +276,8 @@ impl Session {
             said.packet,
             own_packet,
         );
-        self.table.insert(params)?;
+        self.table.insert_with(params, frame)?;
         let _ = self.opens.remove(&number.0);
-        self.table.stage(frame)?;
         Ok(Done {
             notice: Some(Notice::Ready {
                 channel: number,
@@ -294,7 +298,8 @@ impl Session {
     ) -> Result<Done, RunError<E>>
         ensures does { (w : World) → Refines self.old w →
             HasEffect (fails_open number.0 (failure_of said reason texts) w) self.new result }
-        ensures peer { IsSamePeer self.old self.new }
+        ensures unchanged { OnErr result (IsUnchanged self.old self.new) }
+        ensures peer { IsSameSession self.old self.new }
     {
         match texts {
             Some((description, language)) => {
@@ -321,7 +326,8 @@ impl Session {
         ensures does { (w : World) → Refines self.old w →
             HasEffect (fails_open number.0 (open_failure said.peer (open_failure_code reason)
             description.now language.now) w) self.new result }
-        ensures peer { IsSamePeer self.old self.new }
+        ensures unchanged { OnErr result (IsUnchanged self.old self.new) }
+        ensures peer { IsSameSession self.old self.new }
     {
         let alloc = self.alloc;
         match failure_frame(alloc, number, said.peer, reason, description, language) {

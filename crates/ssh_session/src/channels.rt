@@ -3,9 +3,10 @@ ghost use Rattle.std.specs.Prelude.{◌≡◌, ◌∷◌, [], false, length, OnO
 ghost use Rattle.ssh_channels.specs.declared.error.TableError.TheVariants.{NoMemory};
 ghost use Rattle.ssh_channels.specs.Lines.{find, takes_grant, takes_in, peer_closes, goes_on};
 ghost use Rattle.ssh_channels.specs.Lines.{wants};
-ghost use Rattle.ssh_session.specs.World.{World, lined, writes, is_there};
-ghost use Rattle.ssh_channels.specs.Does.{credit_after, coming_of, goes_out};
-ghost use Rattle.ssh_session.specs.Serve.{Refines, IsSamePeer, is_spent};
+ghost use Rattle.ssh_session.specs.World.{World, lined, writes, is_there, unless_ended};
+ghost use Rattle.ssh_session.specs.Between.{goes_out_unless_ended};
+ghost use Rattle.ssh_channels.specs.Does.{credit_after, coming_of};
+ghost use Rattle.ssh_session.specs.Serve.{Refines, IsSameSession, IsUnchanged, is_spent};
 
 use crate::Session;
 use bytes::Bytes;
@@ -29,7 +30,8 @@ impl Session {
         ensures world { OnOk result ((w : World) → Refines self.old w →
             Refines self.new (writes (frame ∷ []) w)) }
         ensures memory { IfErr result (λ e. e ≡ NoMemory) }
-        ensures peer { IsSamePeer self.old self.new }
+        ensures unchanged { OnErr result (IsUnchanged self.old self.new) }
+        ensures peer { IsSameSession self.old self.new }
     {
         self.table.stage(frame)
     }
@@ -46,7 +48,7 @@ impl Session {
         ensures world { OnOk result ((w : World) → Refines self.old w →
             Refines self.new (lined (takes_grant channel.0 amount) w)) }
         ensures memory { IfErr result (λ e. e ≡ NoMemory) }
-        ensures peer { IsSamePeer self.old self.new }
+        ensures peer { IsSameSession self.old self.new }
     {
         self.table.grant(channel, amount, false)
     }
@@ -64,7 +66,7 @@ impl Session {
         ensures world { OnOk result ((w : World) → Refines self.old w →
             Refines self.new (lined (takes_in channel.0 (length bytes.now) w.channels.target) w)) }
         ensures memory { IfErr result (λ e. e ≡ NoMemory) }
-        ensures peer { IsSamePeer self.old self.new }
+        ensures peer { IsSameSession self.old self.new }
     {
         self.table
             .adjust_window_size(channel, bytes.as_slice(), self.target)
@@ -77,7 +79,7 @@ impl Session {
         ensures world { OnOk result ((w : World) → Refines self.old w →
             Refines self.new (lined (peer_closes channel.0) w)) }
         ensures memory { IfErr result (λ e. e ≡ NoMemory) }
-        ensures peer { IsSamePeer self.old self.new }
+        ensures peer { IsSameSession self.old self.new }
     {
         self.table.peer_close(channel)
     }
@@ -86,7 +88,7 @@ impl Session {
     pub(crate) fn want_reply(&mut self, channel: ChannelId, wanted: bool)
         ensures world { (w : World) → Refines self.old w →
             Refines self.new (lined (wants channel.0 wanted) w) }
-        ensures peer { IsSamePeer self.old self.new }
+        ensures peer { IsSameSession self.old self.new }
     {
         let _is_there = self.table.set_wants_reply(channel, wanted);
     }
@@ -94,18 +96,22 @@ impl Session {
     /// What waits on the channel is written as far as the credit goes, and then the EOF and the
     /// CLOSE that waited behind it; with the CLOSE the channel is gone (RFC 4254 sections 5.2 and
     /// 5.3). Answers how many bytes of data were written, and 0 where there is no such channel.
-    /// `NoMemory` is the only error, and leaves the session as it was. What is written is handed on
-    /// at the end of the next input. The session must not be spent.
+    /// Behind a DISCONNECT nothing is written, and the answer is 0. `NoMemory` is the only error,
+    /// and leaves the session as it was. What is written is handed on at the end of the next input.
+    /// The session must not be spent.
     pub fn flush_pending(&mut self, channel: ChannelId) -> Result<usize, TableError>
         requires live { is_spent self.old ≡ false }
         ensures framed { (w : World) → Refines self.old w →
-            IfOk result (λ count. count ≡ goes_out (find channel.0 w.channels.lines.entries)) }
+            IfOk result (λ count. count ≡ goes_out_unless_ended w channel.0) }
         ensures world { OnOk result ((w : World) → Refines self.old w →
-            Refines self.new (lined (goes_on channel.0) w)) }
+            Refines self.new (unless_ended (lined (goes_on channel.0)) w)) }
         ensures unchanged { OnErr result (self.new ≡ self.old) }
         ensures memory { IfErr result (λ e. e ≡ NoMemory) }
-        ensures peer { IsSamePeer self.old self.new }
+        ensures peer { IsSameSession self.old self.new }
     {
+        if self.common.disconnected {
+            return Ok(0);
+        }
         self.table.flush_pending(channel)
     }
 }

@@ -8,7 +8,7 @@ ghost use Rattle.ssh_session.specs.World.{World};
 ghost use Rattle.ssh_session.specs.Acts.{done_all, tell_all, tell_done};
 ghost use Rattle.ssh_session.specs.Run.{command_row};
 ghost use Rattle.ssh_session.specs.Heard.{AreSame};
-ghost use Rattle.ssh_session.specs.Serve.{Refines, Serves, Completes, IsSamePeer};
+ghost use Rattle.ssh_session.specs.Serve.{Refines, Serves, Completes, IsSameSession};
 
 use crate::apply::Done;
 use crate::outside::Outside;
@@ -27,7 +27,7 @@ impl Session {
             (O.heard outside.old) (O.heard outside.new) self.new result }
         ensures same { AreSame (O.heard outside.old) (O.heard outside.new) }
     {
-        let Done { notice, outcome } = self.apply(command)?;
+        let Done { notice, outcome } = self.carry_out(command)?;
         self.give(outside, notice)?;
         outside.answer(ticket, outcome)?;
         Ok(Flow::Continue)
@@ -42,7 +42,7 @@ impl Session {
         ensures does { (w : World) → Refines self.old w → (next : World → Plan Outcome) →
             Serves (done_all 0 commands w next) (λ _. next) (O.heard outside.old)
             (O.heard outside.new) self.new result }
-        ensures peer { IsSamePeer self.old self.new }
+        ensures peer { IsSameSession self.old self.new }
         ensures same { AreSame (O.heard outside.old) (O.heard outside.new) }
     {
         for place in 0..commands.len() {
@@ -68,10 +68,10 @@ impl Session {
             Serves (done_all place (command ∷ later) w next)
             (λ _ world. done_all (place + 1) later world next)
             (O.heard outside.old) (O.heard outside.new) self.new result }
-        ensures peer { IsSamePeer self.old self.new }
+        ensures peer { IsSameSession self.old self.new }
         ensures same { AreSame (O.heard outside.old) (O.heard outside.new) }
     {
-        let Done { notice, outcome } = self.apply(command)?;
+        let Done { notice, outcome } = self.carry_out(command)?;
         self.give(outside, notice)?;
         self.tell_done(outside, place, outcome)
     }

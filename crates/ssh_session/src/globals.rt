@@ -1,6 +1,6 @@
 // Global requests of the peer and their replies, and what comes of those of this side (RFC 4254
 // section 4).
-ghost use Rattle.std.specs.Prelude.{◌≡◌, OnOk, IfOk, IfErr};
+ghost use Rattle.std.specs.Prelude.{◌≡◌, OnOk, OnErr, IfOk, IfErr};
 ghost use Rattle.ssh_session.specs.declared.error.RunError.TheVariants.{NoMemory};
 ghost use Rattle.ssh_session.specs.declared.messages.Spoken.TheVariants.{AsksToForward};
 ghost use Rattle.ssh_session.specs.declared.messages.Spoken.TheVariants.{AsksGlobally};
@@ -12,7 +12,8 @@ ghost use Rattle.ssh_session.specs.World.{settled_first};
 ghost use Rattle.ssh_session.specs.Effect.{accepts};
 ghost use Rattle.ssh_session.specs.Rows.{spoken_acts, bound_to, global_reply};
 ghost use Rattle.ssh_session.specs.Heard.{AreSame};
-ghost use Rattle.ssh_session.specs.Serve.{Refines, Does, Turned, HasEffect, IsSamePeer, IsSuited};
+ghost use Rattle.ssh_session.specs.Serve.{Refines, Does, Turned, HasEffect, IsSameSession, IsSuited};
+ghost use Rattle.ssh_session.specs.Serve.{IsUnchanged};
 
 use crate::apply::Done;
 use crate::outside::Outside;
@@ -55,7 +56,7 @@ impl Session {
     fn want_global(&mut self, wanted: bool)
         ensures world { (w : World) → Refines self.old w →
             Refines self.new (wants_global wanted w) }
-        ensures peer { IsSamePeer self.old self.new }
+        ensures peer { IsSameSession self.old self.new }
     {
         self.common.wants_reply = wanted;
     }
@@ -65,7 +66,8 @@ impl Session {
         ensures world { OnOk result ((w : World) → Refines self.old w →
             Refines self.new (settles_global (global_reply granted port) w)) }
         ensures memory { IfErr result (λ e. e ≡ NoMemory) }
-        ensures peer { IsSamePeer self.old self.new }
+        ensures unchanged { OnErr result (IsUnchanged self.old self.new) }
+        ensures peer { IsSameSession self.old self.new }
     {
         if !self.common.wants_reply {
             return Ok(());
@@ -84,7 +86,7 @@ impl Session {
         ensures world { OnOk result ((w : World) → Refines self.old w →
             Refines self.new (unless_ended (settles_global (global_reply granted port)) w)) }
         ensures memory { IfErr result (λ e. e ≡ NoMemory) }
-        ensures peer { IsSamePeer self.old self.new }
+        ensures peer { IsSameSession self.old self.new }
     {
         if self.common.disconnected {
             return Ok(());
@@ -96,7 +98,8 @@ impl Session {
     pub(crate) fn reply_globally<E>(&mut self, granted: bool) -> Result<Done, RunError<E>>
         ensures does { (w : World) → Refines self.old w →
             HasEffect (accepts (settles_global (global_reply granted None) w)) self.new result }
-        ensures peer { IsSamePeer self.old self.new }
+        ensures unchanged { OnErr result (IsUnchanged self.old self.new) }
+        ensures peer { IsSameSession self.old self.new }
     {
         self.settle_global(granted, None)?;
         Ok(Done::accepted())
@@ -143,7 +146,7 @@ impl Session {
     pub(crate) fn asked_globally_unknown<E>(&mut self, wanted: bool) -> Result<(), RunError<E>>
         ensures does { (w : World) → Refines self.old w →
             Turned (spoken_acts w (AsksGloballyUnknown wanted)) w self.new result }
-        ensures peer { IsSamePeer self.old self.new }
+        ensures peer { IsSameSession self.old self.new }
     {
         self.want_global(wanted);
         self.settle_global(false, None)
@@ -167,7 +170,7 @@ impl Session {
     /// The oldest one waits no longer.
     fn settle_first(&mut self)
         ensures world { (w : World) → Refines self.old w → Refines self.new (settled_first w) }
-        ensures peer { IsSamePeer self.old self.new }
+        ensures peer { IsSameSession self.old self.new }
     {
         let _settled = self.outstanding.pop_front();
     }

@@ -180,7 +180,7 @@ impl Session {
             Spoken::Nothing => Ok(()),
             Spoken::Failed(channel, reason) => self.peer_fails(outside, channel, reason),
             Spoken::Grant(channel, amount) => self.grant(outside, channel, amount),
-            Spoken::Data(channel, piece) => self.data(outside, channel, piece),
+            Spoken::Data(channel, piece) => self.peer_data(outside, channel, piece),
             Spoken::Tells(channel, message, happening) => {
                 self.tell_on(outside, channel, message, happening)
             }

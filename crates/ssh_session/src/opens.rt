@@ -10,7 +10,7 @@ ghost use Rattle.ssh_session.specs.Types.{handling, opening_by, type_refusal};
 ghost use Rattle.ssh_session.specs.Reading.{Said, SaysOpen, Open};
 ghost use Rattle.ssh_session.specs.Rows.{row, owed, waits, asks_first, turns_first};
 ghost use Rattle.ssh_session.specs.Heard.{AreSame};
-ghost use Rattle.ssh_session.specs.Serve.{Refines, Does, Completes, Turned, IsSuited, IsSamePeer};
+ghost use Rattle.ssh_session.specs.Serve.{Refines, Does, Completes, Turned, IsSuited, IsSameSession};
 
 use crate::channel_frames::type_refusal_frame;
 use crate::outside::Outside;
@@ -154,7 +154,7 @@ impl Session {
         ensures full { (w : World) → Refines self.old w → IsErrOf result TableError.Full →
             next_number w.channels.lines ≡ None }
         ensures errors { IfErr result (λ e. (e ≡ NoMemory) ⊎ (e ≡ TableError.Full)) }
-        ensures peer { IsSamePeer self.old self.new }
+        ensures peer { IsSameSession self.old self.new }
     {
         let number = self.table.new_channel_id()?;
         self.opens.insert(number.0, said)?;

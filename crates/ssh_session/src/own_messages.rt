@@ -1,14 +1,16 @@
 // Messages of no channel that this side sends: global requests (RFC 4254 sections 4 and 7.1), and
 // those of the transport (RFC 4253 section 11).
-ghost use Rattle.std.specs.Prelude.{◌≡◌, ◌≤◌, ◌<◌, ◌^◌, ◌⊎◌, Some, length, IfOk, IfErr, OnOk};
+ghost use Rattle.std.specs.Prelude.{◌≡◌, ◌≤◌, ◌<◌, ◌^◌, ◌⊎◌, Some, length, IfOk, IfErr};
+ghost use Rattle.std.specs.Prelude.{OnOk, OnErr};
+ghost use Rattle.std.specs.VecDeque.{deque_len, deque_capacity};
 ghost use Rattle.ssh_session.specs.declared.error.RunError.TheVariants as error;
 ghost use Rattle.ssh_wire.specs.declared.error.WireError.TheVariants.{NoMemory, TooLong};
 ghost use Rattle.ssh_session.specs.declared.outstanding.Outstanding.TheVariants as outstanding;
 ghost use Rattle.ssh_session.specs.World.{World, awaits, ends_by};
 ghost use Rattle.ssh_session.specs.Effect.{said, sends};
-ghost use Rattle.ssh_session.specs.OwnMessages.{OwnMessage, IsUnbuilt, awaited_by};
+ghost use Rattle.ssh_session.specs.OwnMessages.{OwnMessage, IsBuilt, IsUnbuilt, awaited_by};
 ghost use Rattle.ssh_session.specs.OwnMessages as own;
-ghost use Rattle.ssh_session.specs.Serve.{Refines, HasEffect, IsSamePeer};
+ghost use Rattle.ssh_session.specs.Serve.{Refines, HasEffect, IsSameSession, IsUnchanged};
 
 use crate::apply::Done;
 use crate::frames::frame_at_once;
@@ -21,7 +23,7 @@ use std::alloc::Global;
 
 /// A payload, or `TooLong` where it has more than 2^32 - 1 bytes.
 fn within(payload: Vec<u8>) -> Result<Vec<u8>, WireError>
-    ensures ok { IfOk result (λ p. (p.items ≡ payload.items) × (length payload.items < 2 ^ 32)) }
+    ensures ok { IfOk result (λ p. IsBuilt payload.items p.items) }
     ensures refused { IfErr result (λ e. (e ≡ TooLong) × (2 ^ 32 ≤ length payload.items)) }
 {
     if u32::try_from(payload.len()).is_err() {
@@ -42,40 +44,23 @@ pub(crate) fn keepalive_payload(alloc: Global) -> Result<Vec<u8>, WireError>
     Ok(payload)
 }
 
-/// The request that connections to an address are forwarded (RFC 4254 section 7.1).
-fn forward_payload(
+/// A request of this name about an address (RFC 4254 section 7.1).
+fn address_payload(
     alloc: Global,
+    name: &str,
     address: &Text,
     port: u32,
     wanted: bool,
 ) -> Result<Vec<u8>, WireError>
-    ensures ok { IfOk result (λ p. (p.items ≡ own.forward_payload address.now port wanted)
-        × (length (own.forward_payload address.now port wanted) < 2 ^ 32)) }
-    ensures refused { IfErr result (IsUnbuilt (own.forward_payload address.now port wanted)) }
+    requires short { length name.now < 2 ^ 32 }
+    ensures ok { IfOk result (λ p.
+        IsBuilt (own.address_payload name.now address.now port wanted) p.items) }
+    ensures refused { IfErr result
+        (IsUnbuilt (own.address_payload name.now address.now port wanted)) }
 {
     let mut payload = Vec::new(alloc);
     put_u8(&mut payload, GLOBAL_REQUEST)?;
-    put_text(&mut payload, "tcpip-forward")?;
-    put_u8(&mut payload, wanted as u8)?;
-    put_text(&mut payload, address.as_str())?;
-    put_u32(&mut payload, port)?;
-    within(payload)
-}
-
-/// The request that they are forwarded no longer (RFC 4254 section 7.1).
-fn cancel_payload(
-    alloc: Global,
-    address: &Text,
-    port: u32,
-    wanted: bool,
-) -> Result<Vec<u8>, WireError>
-    ensures ok { IfOk result (λ p. (p.items ≡ own.cancel_payload address.now port wanted)
-        × (length (own.cancel_payload address.now port wanted) < 2 ^ 32)) }
-    ensures refused { IfErr result (IsUnbuilt (own.cancel_payload address.now port wanted)) }
-{
-    let mut payload = Vec::new(alloc);
-    put_u8(&mut payload, GLOBAL_REQUEST)?;
-    put_text(&mut payload, "cancel-tcpip-forward")?;
+    put_text(&mut payload, name)?;
     put_u8(&mut payload, wanted as u8)?;
     put_text(&mut payload, address.as_str())?;
     put_u32(&mut payload, port)?;
@@ -89,8 +74,8 @@ fn debug_payload(
     text: &Text,
     language: &Text,
 ) -> Result<Vec<u8>, WireError>
-    ensures ok { IfOk result (λ p. (p.items ≡ (own.debug always text.now language.now).payload)
-        × (length (own.debug always text.now language.now).payload < 2 ^ 32)) }
+    ensures ok { IfOk result (λ p.
+        IsBuilt (own.debug always text.now language.now).payload p.items) }
     ensures refused { IfErr result (IsUnbuilt (own.debug always text.now language.now).payload) }
 {
     let mut payload = Vec::new(alloc);
@@ -108,9 +93,10 @@ fn disconnect_payload(
     description: &Text,
     language: &Text,
 ) -> Result<Vec<u8>, WireError>
-    ensures ok { IfOk result (λ p. (p.items ≡ (own.disconnect reason description.now language.now).payload)
-        × (length (own.disconnect reason description.now language.now).payload < 2 ^ 32)) }
-    ensures refused { IfErr result (IsUnbuilt (own.disconnect reason description.now language.now).payload) }
+    ensures ok { IfOk result (λ p.
+        IsBuilt (own.disconnect reason description.now language.now).payload p.items) }
+    ensures refused { IfErr result
+        (IsUnbuilt (own.disconnect reason description.now language.now).payload) }
 {
     let mut payload = Vec::new(alloc);
     put_u8(&mut payload, DISCONNECT)?;
@@ -150,9 +136,11 @@ impl Session {
     ) -> Result<Done, RunError<E>>
         ensures does { (w : World) → Refines self.old w →
             HasEffect (sends (own.forward address.now port slot) w) self.new result }
-        ensures peer { IsSamePeer self.old self.new }
+        ensures unchanged { OnErr result (IsUnchanged self.old self.new) }
+        ensures peer { IsSameSession self.old self.new }
     {
-        let payload = forward_payload(self.alloc, address, port, slot.is_some());
+        let alloc = self.alloc;
+        let payload = address_payload(alloc, "tcpip-forward", address, port, slot.is_some());
         self.send(payload, forward_under(slot), false)
     }
 
@@ -165,9 +153,12 @@ impl Session {
     ) -> Result<Done, RunError<E>>
         ensures does { (w : World) → Refines self.old w →
             HasEffect (sends (own.cancel address.now port slot) w) self.new result }
-        ensures peer { IsSamePeer self.old self.new }
+        ensures unchanged { OnErr result (IsUnchanged self.old self.new) }
+        ensures peer { IsSameSession self.old self.new }
     {
-        let payload = cancel_payload(self.alloc, address, port, slot.is_some());
+        let alloc = self.alloc;
+        let name = "cancel-tcpip-forward";
+        let payload = address_payload(alloc, name, address, port, slot.is_some());
         self.send(payload, cancel_under(slot), false)
     }
 
@@ -175,14 +166,15 @@ impl Session {
     pub(crate) fn ask_alive<E>(&mut self, awaited: Outstanding) -> Result<Done, RunError<E>>
         ensures does { (w : World) → Refines self.old w →
             HasEffect (sends (own.alive awaited) w) self.new result }
-        ensures peer { IsSamePeer self.old self.new }
+        ensures unchanged { OnErr result (IsUnchanged self.old self.new) }
+        ensures peer { IsSameSession self.old self.new }
     {
         let payload = keepalive_payload(self.alloc);
         self.send(payload, Some(awaited), false)
     }
 
     /// Tells the peer something for people to read.
-    pub(crate) fn debug<E>(
+    pub(crate) fn say_debug<E>(
         &mut self,
         always: bool,
         text: &Text,
@@ -190,14 +182,15 @@ impl Session {
     ) -> Result<Done, RunError<E>>
         ensures does { (w : World) → Refines self.old w →
             HasEffect (sends (own.debug always text.now language.now) w) self.new result }
-        ensures peer { IsSamePeer self.old self.new }
+        ensures unchanged { OnErr result (IsUnchanged self.old self.new) }
+        ensures peer { IsSameSession self.old self.new }
     {
         let payload = debug_payload(self.alloc, always, text, language);
         self.send(payload, None, false)
     }
 
     /// Ends the connection: nothing goes out behind this.
-    pub(crate) fn disconnect<E>(
+    pub(crate) fn say_disconnect<E>(
         &mut self,
         reason: Disconnect,
         description: &Text,
@@ -206,7 +199,8 @@ impl Session {
         ensures does { (w : World) → Refines self.old w →
             HasEffect (sends (own.disconnect reason description.now language.now) w) self.new
             result }
-        ensures peer { IsSamePeer self.old self.new }
+        ensures unchanged { OnErr result (IsUnchanged self.old self.new) }
+        ensures peer { IsSameSession self.old self.new }
     {
         let payload = disconnect_payload(self.alloc, reason, description, language);
         self.send(payload, None, true)
@@ -220,11 +214,12 @@ impl Session {
         ends: bool,
     ) -> Result<Done, RunError<E>>
         ensures does { (message : OwnMessage) →
-            IfOk payload (λ p. (p.items ≡ message.payload) × (length message.payload < 2 ^ 32)) →
+            IfOk payload (λ p. IsBuilt message.payload p.items) →
             IfErr payload (IsUnbuilt message.payload) → message.awaited ≡ awaited →
             message.ends ≡ ends → (w : World) → Refines self.old w →
             HasEffect (sends message w) self.new result }
-        ensures peer { IsSamePeer self.old self.new }
+        ensures unchanged { OnErr result (IsUnchanged self.old self.new) }
+        ensures peer { IsSameSession self.old self.new }
     {
         match payload {
             Ok(payload) => {
@@ -247,35 +242,33 @@ impl Session {
         ensures world { OnOk result ((w : World) → Refines self.old w → Refines self.new
             (said (record { payload = payload.items; awaited = awaited; ends = ends }) w)) }
         ensures memory { IfErr result (λ e. e ≡ error.NoMemory) }
-        ensures peer { IsSamePeer self.old self.new }
+        ensures unchanged { OnErr result (IsUnchanged self.old self.new) }
+        ensures peer { IsSameSession self.old self.new }
     {
         let frame = frame_at_once(payload)?;
-        self.await_reply(awaited)?;
-        self.write(frame)?;
+        self.outstanding.reserve(1)?;
+        self.table.stage(frame)?;
+        self.await_reply(awaited);
         self.end_by(ends);
         Ok(())
     }
 
     /// The reply to a request is waited for, behind those that came before, where there is one.
-    fn await_reply<E>(&mut self, awaited: Option<Outstanding>) -> Result<(), RunError<E>>
-        ensures world { OnOk result ((w : World) → Refines self.old w →
-            Refines self.new (awaits awaited w)) }
-        ensures memory { IfErr result (λ e. e ≡ error.NoMemory) }
-        ensures peer { IsSamePeer self.old self.new }
+    /// There is room for it.
+    fn await_reply(&mut self, awaited: Option<Outstanding>)
+        requires room { deque_len self.old.outstanding < deque_capacity self.old.outstanding }
+        ensures world { (w : World) → Refines self.old w → Refines self.new (awaits awaited w) }
+        ensures peer { IsSameSession self.old self.new }
     {
-        match awaited {
-            Some(request) => {
-                self.outstanding.push_back(request)?;
-                Ok(())
-            }
-            None => Ok(()),
+        if let Some(request) = awaited {
+            self.outstanding.push_back_reserved(request);
         }
     }
 
     /// The connection is ended, or stays as it is.
     fn end_by(&mut self, ends: bool)
         ensures world { (w : World) → Refines self.old w → Refines self.new (ends_by ends w) }
-        ensures peer { IsSamePeer self.old self.new }
+        ensures peer { IsSameSession self.old self.new }
     {
         self.common.disconnected = self.common.disconnected || ends;
     }

@@ -1,5 +1,5 @@
 // Opens of this side (RFC 4254 section 5.1).
-ghost use Rattle.std.specs.Prelude.{◌≡◌, ◌≢◌, ◌<◌, ◌^◌, ℕ};
+ghost use Rattle.std.specs.Prelude.{◌≡◌, ◌≢◌, ◌<◌, ◌^◌, ℕ, OnErr};
 ghost use Rattle.ssh_session.specs.declared.messages.Spoken.TheVariants.{Failed};
 ghost use Rattle.ssh_session.specs.World.{World, is_waiting};
 ghost use Rattle.ssh_session.specs.Spelling.{IsRead};
@@ -10,7 +10,7 @@ ghost use Rattle.ssh_session.specs.OwnOpens.{asking};
 ghost use Rattle.ssh_session.specs.Effect.{no_user, lacks, opens_need, opens_or_not, opens};
 ghost use Rattle.ssh_session.specs.Heard.{AreSame};
 ghost use Rattle.ssh_session.specs.Serve.{Refines, Does, Completes, HasEffect, IsSuited};
-ghost use Rattle.ssh_session.specs.Serve.{IsSamePeer};
+ghost use Rattle.ssh_session.specs.Serve.{IsSameSession, IsUnchanged};
 
 use crate::apply::Done;
 use crate::asked::{own_open_frame, put_own_fields, type_name};
@@ -171,7 +171,8 @@ impl Session {
     pub(crate) fn do_open<E>(&mut self, command: &Command) -> Result<Done, RunError<E>>
         ensures does { (w : World) → Refines self.old w →
             HasEffect (opens_or_not (asking command.now) w) self.new result }
-        ensures peer { IsSamePeer self.old self.new }
+        ensures unchanged { OnErr result (IsUnchanged self.old self.new) }
+        ensures peer { IsSameSession self.old self.new }
     {
         let Some(name) = type_name(command) else {
             return Ok(Done::accepted());
@@ -188,24 +189,23 @@ impl Session {
     fn open_own<E>(&mut self, name: &str, fields: &[u8]) -> Result<Done, RunError<E>>
         ensures does { (w : World) → Refines self.old w →
             HasEffect (opens (record { name = name.now; fields = fields.now }) w) self.new result }
-        ensures peer { IsSamePeer self.old self.new }
+        ensures unchanged { OnErr result (IsUnchanged self.old self.new) }
+        ensures peer { IsSameSession self.old self.new }
     {
         if name.len().saturating_add(fields.len()) > MAX_OPEN_PARTS {
             return Ok(Done::refused(Refusal::TooLong));
         }
         let window = self.common.config.window_size;
         let packet = self.common.config.maximum_packet_size;
-        match self.table.new_channel(window, packet) {
-            Ok(number) => {
-                let alloc = self.alloc;
-                let frame = own_open_frame(alloc, number, name, window, packet, fields)?;
-                self.table.stage(frame)?;
-                Ok(Done {
-                    notice: None,
-                    outcome: CommandOutcome::Opened(number),
-                })
-            }
-            Err(TableError::Full) => Ok(Done::refused(Refusal::NumbersFull)),
+        let Some(number) = self.table.next_channel_id() else {
+            return Ok(Done::refused(Refusal::NumbersFull));
+        };
+        let frame = own_open_frame(self.alloc, number, name, window, packet, fields)?;
+        match self.table.new_channel_with(window, packet, frame) {
+            Ok(channel) => Ok(Done {
+                notice: None,
+                outcome: CommandOutcome::Opened(channel),
+            }),
             Err(_) => Err(RunError::NoMemory),
         }
     }

@@ -1,6 +1,6 @@
 // Requests of this side on a channel (RFC 4254 section 5.4).
 ghost use Rattle.std.specs.Prelude.{◌≡◌, ◌≤◌, ◌<◌, ◌^◌, ◌⊎◌, ◌++◌, length, OnOk, IfOk, IfErr};
-ghost use Rattle.std.specs.Prelude.{IsErrOf};
+ghost use Rattle.std.specs.Prelude.{IsErrOf, OnErr};
 ghost use Rattle.ssh_wire.specs.declared.error.WireError.TheVariants.{NoMemory, TooLong};
 ghost use Rattle.ssh_wire.specs.Field.{Flag};
 ghost use Rattle.ssh_wire.specs.Messages.{spelling};
@@ -9,7 +9,7 @@ ghost use Rattle.ssh_session.specs.World.{World};
 ghost use Rattle.ssh_session.specs.Effect.{requests, lacks, Established};
 ghost use Rattle.ssh_session.specs.OwnRequests.{request_payload};
 ghost use Rattle.ssh_session.specs.OwnRequests as own;
-ghost use Rattle.ssh_session.specs.Serve.{Refines, HasEffect, IsSamePeer};
+ghost use Rattle.ssh_session.specs.Serve.{Refines, HasEffect, IsSameSession, IsUnchanged};
 
 use crate::apply::{Done, unusable};
 use crate::channel_frames::frame_on;
@@ -92,7 +92,8 @@ impl Session {
     ) -> Result<Done, RunError<E>>
         ensures does { (w : World) → Refines self.old w →
             HasEffect (requests channel (own.xon_xoff client_can_do) w) self.new result }
-        ensures peer { IsSamePeer self.old self.new }
+        ensures unchanged { OnErr result (IsUnchanged self.old self.new) }
+        ensures peer { IsSameSession self.old self.new }
     {
         self.request(channel, "xon-xoff", &[client_can_do as u8])
     }
@@ -105,7 +106,8 @@ impl Session {
     ) -> Result<Done, RunError<E>>
         ensures does { (w : World) → Refines self.old w →
             HasEffect (requests channel (own.exit_status exit_status) w) self.new result }
-        ensures peer { IsSamePeer self.old self.new }
+        ensures unchanged { OnErr result (IsUnchanged self.old self.new) }
+        ensures peer { IsSameSession self.old self.new }
     {
         self.request(channel, "exit-status", &exit_status.to_be_bytes())
     }
@@ -122,7 +124,8 @@ impl Session {
         ensures does { (w : World) → Refines self.old w →
             HasEffect (requests channel
             (own.exit_signal signal.now core_dumped message.now language.now) w) self.new result }
-        ensures peer { IsSamePeer self.old self.new }
+        ensures unchanged { OnErr result (IsUnchanged self.old self.new) }
+        ensures peer { IsSameSession self.old self.new }
     {
         let mut fields = Vec::new(self.alloc);
         match put_exit_signal(&mut fields, signal, core_dumped, message, language) {
@@ -143,7 +146,8 @@ impl Session {
         ensures does { (w : World) → Refines self.old w →
             HasEffect (requests channel (record { name = name.now; fields = fields.now }) w)
             self.new result }
-        ensures peer { IsSamePeer self.old self.new }
+        ensures unchanged { OnErr result (IsUnchanged self.old self.new) }
+        ensures peer { IsSameSession self.old self.new }
     {
         if name.len().saturating_add(fields.len()) > MAX_REQUEST_PARTS {
             return Ok(Done::refused(Refusal::TooLong));

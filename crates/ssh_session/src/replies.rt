@@ -1,5 +1,5 @@
 // Replies to the requests of the peer (RFC 4254 section 5.4).
-ghost use Rattle.std.specs.Prelude.{◌≡◌, ◌&&◌, OnOk, IfErr};
+ghost use Rattle.std.specs.Prelude.{◌≡◌, ◌&&◌, OnOk, OnErr, IfErr};
 ghost use Rattle.ssh_channels.specs.declared.error.TableError.TheVariants.{NoMemory};
 ghost use Rattle.ssh_session.specs.declared.messages.Spoken.TheVariants.{Asks, AsksForAgent};
 ghost use Rattle.ssh_session.specs.declared.messages.Spoken.TheVariants.{AsksUnknown};
@@ -7,7 +7,8 @@ ghost use Rattle.ssh_session.specs.World.{World, lined, replies, wants_reply, un
 ghost use Rattle.ssh_session.specs.Effect.{accepts};
 ghost use Rattle.ssh_session.specs.Rows.{spoken_acts, reply_of};
 ghost use Rattle.ssh_session.specs.Heard.{AreSame};
-ghost use Rattle.ssh_session.specs.Serve.{Refines, Does, Turned, HasEffect, IsSamePeer, IsSuited};
+ghost use Rattle.ssh_session.specs.Serve.{Refines, Does, Turned, HasEffect, IsSameSession, IsSuited};
+ghost use Rattle.ssh_session.specs.Serve.{IsUnchanged};
 
 use crate::apply::Done;
 use crate::outside::Outside;
@@ -53,7 +54,8 @@ impl Session {
         ensures world { OnOk result ((w : World) → Refines self.old w →
             Refines self.new (lined (replies channel.0 message) w)) }
         ensures memory { IfErr result (λ e. e ≡ NoMemory) }
-        ensures peer { IsSamePeer self.old self.new }
+        ensures unchanged { OnErr result (IsUnchanged self.old self.new) }
+        ensures peer { IsSameSession self.old self.new }
     {
         if !self.wants_reply(channel) {
             return Ok(());
@@ -68,7 +70,7 @@ impl Session {
         ensures world { OnOk result ((w : World) → Refines self.old w →
             Refines self.new (unless_ended (lined (replies channel.0 message)) w)) }
         ensures memory { IfErr result (λ e. e ≡ NoMemory) }
-        ensures peer { IsSamePeer self.old self.new }
+        ensures peer { IsSameSession self.old self.new }
     {
         if self.common.disconnected {
             return Ok(());
@@ -84,7 +86,8 @@ impl Session {
     ) -> Result<Done, RunError<E>>
         ensures does { (w : World) → Refines self.old w →
             HasEffect (accepts (lined (replies channel.0 (reply_of granted)) w)) self.new result }
-        ensures peer { IsSamePeer self.old self.new }
+        ensures unchanged { OnErr result (IsUnchanged self.old self.new) }
+        ensures peer { IsSameSession self.old self.new }
     {
         self.take_reply(channel, reply_of(granted))?;
         Ok(Done::accepted())
@@ -117,7 +120,7 @@ impl Session {
     ) -> Result<(), RunError<E>>
         ensures does { (w : World) → Refines self.old w →
             Turned (spoken_acts w (AsksUnknown channel wanted)) w self.new result }
-        ensures peer { IsSamePeer self.old self.new }
+        ensures peer { IsSameSession self.old self.new }
     {
         self.want_reply(channel, wanted);
         self.take_reply(channel, CHANNEL_FAILURE)?;

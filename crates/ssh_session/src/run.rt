@@ -53,7 +53,7 @@ fn run_inputs<H: Handler, V: Verifier, L: Link>(
 {
     for _ in 0..max_inputs {
         let input = link.next(session.commands_wanted(), session.replies_wanted())?;
-        match session.step(handler, verifier, link, input) {
+        match session.step_on(handler, verifier, link, input) {
             Ok(Flow::Continue) => {}
             Ok(Flow::Ended) => return Ok(()),
             Err(e) => return Err(e),

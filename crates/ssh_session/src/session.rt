@@ -7,6 +7,7 @@ use crate::state::{CommonSession, EncryptedState};
 use bytes::Bytes;
 use ssh_channels::Encrypted;
 use ssh_handler::Config;
+use ssh_link::Notice;
 use ssh_wire::{Text, WireError};
 use std::alloc::Global;
 use std::collections::{BTreeMap, VecDeque};
@@ -30,15 +31,18 @@ pub struct Session {
     pub(crate) outstanding: VecDeque<Outstanding>,
     /// How many keepalive ticks came since the peer was heard last.
     pub(crate) keepalives: u64,
+    /// The notices that commands between inputs gave, which the next input tells first.
+    pub(crate) untold: VecDeque<Notice>,
     pub(crate) spent: bool,
     ghost session_id_fits: { length session_id < 2 ^ 32 },
 }
 
 impl Session {
-    ghost use Rattle.std.specs.Prelude.{◌≡◌, ◌<◌, ◌^◌, length, IfOk, IfErr};
+    ghost use Rattle.std.specs.Prelude.{◌≡◌, ◌<◌, ◌^◌, [], length, IfOk, IfErr};
     ghost use Rattle.ssh_wire.specs.declared.error.WireError.TheVariants.{NoMemory};
     ghost use Rattle.ssh_session.specs.World.{World, settings_of, opening_world};
     ghost use Rattle.ssh_session.specs.Serve.{Refines, is_spent};
+    ghost use Rattle.ssh_session.specs.Between.{untold};
 
     /// A session before its first input. `session_id` is that of the key exchange (RFC 4253 section
     /// 7.2), `remote_sshid` the peer's identification line.
@@ -52,6 +56,7 @@ impl Session {
         ensures opens { IfOk result (λ session.
             Refines session (opening_world (settings_of config.now session_id.now
             remote_sshid.now))) }
+        ensures told { IfOk result (λ session. untold session ≡ []) }
         ensures memory { IfErr result (λ e. e ≡ NoMemory) }
     {
         Ok(Session {
@@ -74,6 +79,7 @@ impl Session {
             target: config.window_size,
             outstanding: VecDeque::new(alloc),
             keepalives: 0,
+            untold: VecDeque::new(alloc),
             spent: false,
         })
     }

@@ -1,5 +1,5 @@
 // One input, taken and finished.
-ghost use Rattle.std.specs.Prelude.{◌≡◌, ◌≢◌, Ok, Err, true, drop};
+ghost use Rattle.std.specs.Prelude.{◌≡◌, ◌≢◌, [], Ok, Err, OnOk, true, drop};
 ghost use Rattle.ssh_auth.specs.Plan.{Plan};
 ghost use Rattle.ssh_session.specs.Outcome.{Outcome};
 ghost use Rattle.ssh_session.specs.World.{World, circumstances, hears};
@@ -8,20 +8,25 @@ ghost use Rattle.ssh_session.specs.Reading.{Said, Says};
 ghost use Rattle.ssh_session.specs.Rows.{row};
 ghost use Rattle.ssh_session.specs.Run.{OwesKind, Owes};
 ghost use Rattle.ssh_session.specs.Heard.{AreSame};
+ghost use Rattle.ssh_session.specs.Between.{StepsBehind, TakesBehind, OwesUnlessEnded, untold};
 ghost use Rattle.ssh_session.specs.Account.{told_by, Steps, StepsBy, TellsNothing};
-ghost use Rattle.ssh_session.specs.Serve.{Refines, Completes, is_spent, IsSuited, IsSamePeer};
+ghost use Rattle.ssh_session.specs.Serve.{Refines, Completes, is_spent, IsSuited, IsSameSession};
 
+use crate::finish::tell_each;
 use crate::gate::Gate;
 use crate::outside::{Both, Outside};
 use crate::{Flow, RunError, Session};
 use ssh_handler::Handler;
 use ssh_keys::Verifier;
-use ssh_link::{Command, Input, InputKind, Link};
+use ssh_link::{Command, Input, InputKind, Link, Notice};
 use ssh_wire::fields_of;
+use std::collections::VecDeque;
 
 impl Session {
-    /// Takes one input and finishes it: makes the callbacks that it owes, and then hands its frames
-    /// on. After an error or `Ended` the session is spent, and each later call answers
+    /// Takes one input and finishes it: tells the notices that commands since the last one gave,
+    /// makes the callbacks that the input owes, and then hands its frames on. Where such a command
+    /// ended the connection, the input is not looked at: what was written is handed on, and the run
+    /// is over. After an error or `Ended` the session is spent, and each later call answers
     /// `Inconsistent`, calls nothing and hands nothing on. The handler has to suit the config and
     /// the peer of the session (`Handler::suits`).
     pub fn step<H: Handler, V: Verifier, L: Link>(
@@ -32,14 +37,16 @@ impl Session {
         input: Input,
     ) -> Result<Flow, RunError<H::Error>>
         requires suits { is_spent self.old ≢ true → IsSuited H.suits self.old }
-        ensures taken { (w : World) → Refines self.old w → StepsBy (V.accepts verifier.now) w
-            input (told_by H.AuthHandler.told L.trace L.faults) handler.old link.old
+        ensures taken { (w : World) → Refines self.old w →
+            StepsBehind (untold self.old) (V.accepts verifier.now) w input
+            (told_by H.AuthHandler.told L.trace L.faults) handler.old link.old
             handler.new link.new self.new result }
+        ensures told { OnOk result (untold self.new ≡ []) }
         ensures spends { is_spent self.old ≢ true → result ≢ Ok Flow.Continue →
             is_spent self.new ≡ true }
         ensures refused { is_spent self.old ≡ true → result ≡ Err RunError.Inconsistent }
         ensures unchanged { is_spent self.old ≡ true → self.new ≡ self.old }
-        ensures untold { is_spent self.old ≡ true →
+        ensures silent { is_spent self.old ≡ true →
             TellsNothing (told_by H.AuthHandler.told L.trace L.faults) handler.old link.old
             handler.new link.new }
     {
@@ -47,7 +54,89 @@ impl Session {
             return Err(RunError::Inconsistent);
         }
         let mut both = Both::new(handler, link);
+        let mut notices = self.take_untold();
+        let outcome = self.step_behind(&mut both, verifier, &mut notices, input);
+        self.keep_untold(notices);
+        outcome
+    }
+
+    /// An input of a run, between whose inputs nothing is done. The session is not spent.
+    pub(crate) fn step_on<H: Handler, V: Verifier, L: Link>(
+        &mut self,
+        handler: &mut H,
+        verifier: &V,
+        link: &mut L,
+        input: Input,
+    ) -> Result<Flow, RunError<H::Error>>
+        requires suits { IsSuited H.suits self.old }
+        ensures taken { (w : World) → Refines self.old w →
+            StepsBy (Owes (V.accepts verifier.now) w input)
+            (told_by H.AuthHandler.told L.trace L.faults) handler.old link.old
+            handler.new link.new self.new result }
+    {
+        let mut both = Both::new(handler, link);
         self.take_over(&mut both, verifier, input)
+    }
+
+    /// An input behind these notices, over these two.
+    fn step_behind<H: Handler, V: Verifier, L: Link>(
+        &mut self,
+        both: &mut Both<'_, H, L>,
+        verifier: &V,
+        notices: &mut VecDeque<Notice>,
+        input: Input,
+    ) -> Result<Flow, RunError<H::Error>>
+        requires suits { IsSuited H.suits self.old }
+        ensures same_handler { both.new.handler.ghost_name ≡ both.old.handler.ghost_name }
+        ensures same_link { both.new.link.ghost_name ≡ both.old.link.ghost_name }
+        ensures taken { (w : World) → Refines self.old w →
+            StepsBehind notices.old.items (V.accepts verifier.now) w input
+            (told_by H.AuthHandler.told L.trace L.faults) both.old.handler.now both.old.link.now
+            both.new.handler.now both.new.link.now self.new result }
+        ensures told { OnOk result (notices.new.items ≡ []) }
+        ensures spends { result ≢ Ok Flow.Continue → is_spent self.new ≡ true }
+    {
+        let outcome = self.take_behind(both, verifier, notices, input);
+        self.note_end(&outcome);
+        outcome
+    }
+
+    /// An input behind these notices, of a session that is not spent.
+    fn take_behind<O: Outside, V: Verifier>(
+        &mut self,
+        outside: &mut O,
+        verifier: &V,
+        notices: &mut VecDeque<Notice>,
+        input: Input,
+    ) -> Result<Flow, RunError<O::Error>>
+        requires suits { IsSuited O.suits self.old }
+        ensures does { (w : World) → Refines self.old w →
+            TakesBehind notices.old.items (V.accepts verifier.now) w input (O.heard outside.old)
+            (O.heard outside.new) self.new result }
+        ensures told { OnOk result (notices.new.items ≡ []) }
+        ensures same { AreSame (O.heard outside.old) (O.heard outside.new) }
+    {
+        tell_each(outside, notices)?;
+        self.take_unless_ended(outside, verifier, input)
+    }
+
+    /// An input, which is looked at unless a command ended the connection since the last one.
+    fn take_unless_ended<O: Outside, V: Verifier>(
+        &mut self,
+        outside: &mut O,
+        verifier: &V,
+        input: Input,
+    ) -> Result<Flow, RunError<O::Error>>
+        requires suits { IsSuited O.suits self.old }
+        ensures does { (w : World) → Refines self.old w → (plan : Plan Outcome)
+            × OwesUnlessEnded w.disconnected (V.accepts verifier.now) w input plan
+            × Completes plan (O.heard outside.old) (O.heard outside.new) self.new result }
+        ensures same { AreSame (O.heard outside.old) (O.heard outside.new) }
+    {
+        if self.common.disconnected {
+            return self.end_run(outside);
+        }
+        self.take(outside, verifier, input)
     }
 
     /// An input of a session that is not spent, over these two.
@@ -60,7 +149,8 @@ impl Session {
         requires suits { IsSuited H.suits self.old }
         ensures same_handler { both.new.handler.ghost_name ≡ both.old.handler.ghost_name }
         ensures same_link { both.new.link.ghost_name ≡ both.old.link.ghost_name }
-        ensures taken { (w : World) → Refines self.old w → Steps (V.accepts verifier.now) w input
+        ensures taken { (w : World) → Refines self.old w →
+            Steps (Owes (V.accepts verifier.now) w input)
             (told_by H.AuthHandler.told L.trace L.faults both.old.handler.now both.old.link.now)
             (told_by H.AuthHandler.told L.trace L.faults both.new.handler.now both.new.link.now)
             self.new result }
@@ -139,7 +229,7 @@ impl Session {
     fn hear(&mut self, payload: &[u8])
         ensures world { (w : World) → Refines self.old w →
             Refines self.new (hears payload.now w) }
-        ensures peer { IsSamePeer self.old self.new }
+        ensures peer { IsSameSession self.old self.new }
     {
         if !payload.is_empty() {
             self.keepalives = 0;

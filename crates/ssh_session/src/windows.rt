@@ -108,7 +108,7 @@ impl Session {
     }
 
     /// Data come in: those that are larger than the room are dropped.
-    pub(crate) fn data<O: Outside>(
+    pub(crate) fn peer_data<O: Outside>(
         &mut self,
         outside: &mut O,
         channel: ChannelId,

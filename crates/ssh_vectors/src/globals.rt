@@ -1,282 +1,237 @@
-// Messages of no channel (RFC 4254 section 4, RFC 4253 section 11) and ticks: sessions that are
-// driven input by input, and what they tell their link.
-mod asked;
-mod disconnects;
-mod own;
-mod refusals;
-mod scripts;
-mod ticks;
-
-use crate::deciding::{Deciding, Plan};
-use crate::sessions::{LOGIN, is_sent};
-use crate::wishes::{Wish, command};
-use bytes::Bytes;
-use ssh_handler::Config;
-use ssh_keys::TableVerifier;
-use ssh_link::{
-    Calls, CommandOutcome, Frame, Input, InputKind, Inputs, MemoryLink, Notice, TraceEntry,
-};
-use ssh_session::{Flow, RunError, Session};
-use std::alloc::Global;
+// Scripts with global requests, ticks and the end of a connection, and what the program writes.
+use crate::scripts::{Case, Row};
 use std::test::Fail;
 
-// What comes to a session.
-#[derive(Clone, Copy)]
-enum Comes {
-    Payload(&'static [u8]),
-    Command(Wish),
-    KeepaliveTick,
-    InactivityTick,
-    RekeyTick,
-}
+static BEFORE_LOGIN: [Case; 4] = [
+    Case {
+        shows: "the second tick ends the run where one may go unanswered",
+        script: b"config keepalive 1\ntick keepalive\ntick keepalive\n",
+        status: 1,
+        written: b"\
+            input 1\n\
+            send - 50000000156b656570616c697665406f70656e7373682e636f6d01\n\
+            input 2\n\
+            error KeepaliveTimeout\n",
+    },
+    Case {
+        shows: "a tick for too long a silence ends the run",
+        script: b"tick inactivity\n",
+        status: 1,
+        written: b"input 1\nerror InactivityTimeout\n",
+    },
+    Case {
+        shows: "the connection is ended before anything else",
+        script: b"disconnect 11 627965\nrecv 050000000c7373682d7573657261757468\n",
+        status: 0,
+        written: b"\
+            input 1\n\
+            done 1 accepted\n\
+            send - 010000000b0000000362796500000000\n\
+            ok\n",
+    },
+    Case {
+        shows: "a tick before the login asks, and its reply has nothing behind its number",
+        script: b"\
+            answer none accept\n\
+            forward 61 0 5\n\
+            tick keepalive\n\
+            recv 050000000c7373682d7573657261757468\n\
+            recv 3200000005616c6963650000000e7373682d636f6e6e656374696f6e000000046e6f6e65\n\
+            recv 52\n\
+            recv 5200\n",
+        status: 1,
+        written: b"\
+            call authentication_banner\n\
+            call auth_none 616c696365\n\
+            call auth_succeeded\n\
+            input 1\n\
+            done 1 refused NotAuthenticated\n\
+            input 2\n\
+            send - 50000000156b656570616c697665406f70656e7373682e636f6d01\n\
+            input 3\n\
+            send - 060000000c7373682d7573657261757468\n\
+            input 4\n\
+            send - 34\n\
+            input 5\n\
+            input 6\n\
+            error Encoding\n",
+    },
+];
 
-// How an input ends.
-#[derive(Clone, Copy, PartialEq, Eq)]
-enum Ends {
-    GoesOn,
-    Over,
-    Encoding,
-    Inconsistent,
-    KeepaliveTimeout,
-    InactivityTimeout,
-    NotBuilt,
-    Otherwise,
-}
-
-// What a link is told.
-#[derive(Clone, Copy, PartialEq, Eq)]
-enum Tells {
-    Takes,
-    // A frame of no channel, and one of a channel.
-    Sends(&'static [u8]),
-    SendsOn(u32, &'static [u8]),
-    // What came of a command.
-    Answers(CommandOutcome),
-    // A notice about a channel.
-    Notes(u32),
-    // What came of a request of this side, by its slot.
-    Forwarded(u64, Option<u32>),
-    Cancelled(u64, bool),
-    Pong(u64),
-}
-
-// The ticket of each command.
-const TICKET: u64 = 23;
-
-const ACCEPTED: Tells = Tells::Answers(CommandOutcome::Accepted);
-
-// The request for a sign of life.
-const KEEPALIVE: Tells = Tells::Sends(b"\x50\0\0\0\x15keepalive@openssh.com\x01");
-
-// A handler that grants nothing and records nothing.
-const QUIET: Plan = Plan {
-    grants: false,
-    port: None,
-    records: &[],
-};
-
-type Turn = (Comes, Ends, &'static [Tells]);
-
-// What comes, behind a login or before it, how it ends, and what the link is then told; where so
-// many keepalive ticks are allowed. And what the handler was asked, and what it was told of its
-// commands.
-#[derive(Clone, Copy)]
-struct Row {
-    shows: &'static str,
-    logged_in: bool,
-    allowed: usize,
-    plan: Plan,
-    turns: &'static [Turn],
-    asked: &'static [u8],
-    done: &'static [(usize, CommandOutcome)],
-}
-
-// Behind a login, with such a handler, where three ticks are allowed.
-const STANDARD: Row = Row {
-    shows: "",
-    logged_in: true,
-    allowed: 3,
-    plan: QUIET,
-    turns: &[],
-    asked: b"",
-    done: &[],
-};
-
-// A session with its outside.
-#[derive(Drop)]
-struct Side {
-    alloc: Global,
-    session: Session,
-    handler: Deciding,
-    verifier: TableVerifier,
-    link: MemoryLink,
-}
-
-fn not_begun(alloc: Global, allowed: usize, plan: Plan) -> Result<Side, Fail> {
-    let link = MemoryLink::new(alloc, Inputs::new(alloc), Calls::new(alloc))?;
-    let mut config = Config::standard();
-    config.keepalive_max = allowed;
-    Ok(Side {
-        alloc,
-        session: Session::new(alloc, &config, b"", b"")?,
-        handler: Deciding::new(alloc, plan),
-        verifier: TableVerifier::new(alloc),
-        link,
-    })
-}
-
-fn payload(alloc: Global, bytes: &[u8]) -> Result<InputKind, Fail> {
-    Ok(InputKind::Payload(Bytes::copy_from_slice(alloc, bytes)?))
-}
-
-fn kind(alloc: Global, comes: Comes) -> Result<InputKind, Fail> {
-    Ok(match comes {
-        Comes::Payload(bytes) => payload(alloc, bytes)?,
-        Comes::Command(wish) => InputKind::Command(TICKET, command(alloc, wish)?),
-        Comes::KeepaliveTick => InputKind::KeepaliveTick,
-        Comes::InactivityTick => InputKind::InactivityTick,
-        Comes::RekeyTick => InputKind::RekeyTick,
-    })
-}
-
-fn end_of<E>(answer: &Result<Flow, RunError<E>>) -> Ends {
-    match answer {
-        Ok(Flow::Continue) => Ends::GoesOn,
-        Ok(Flow::Ended) => Ends::Over,
-        Err(RunError::Encoding(_)) => Ends::Encoding,
-        Err(RunError::Inconsistent) => Ends::Inconsistent,
-        Err(RunError::KeepaliveTimeout) => Ends::KeepaliveTimeout,
-        Err(RunError::InactivityTimeout) => Ends::InactivityTimeout,
-        Err(RunError::NotBuilt) => Ends::NotBuilt,
-        Err(_) => Ends::Otherwise,
+#[test]
+fn scripts_without_a_login_or_before_it(rt: HostRuntime) -> Result<(), Fail> {
+    for case in &BEFORE_LOGIN {
+        assert!(rt; case.holds(rt.alloc())?, "{}", case.shows);
     }
+    Ok(())
 }
 
-fn give(side: &mut Side, kind: InputKind) -> Ends {
-    let input = Input { moment: 0, kind };
-    let result = side
-        .session
-        .step(&mut side.handler, &side.verifier, &mut side.link, input);
-    let answer = end_of(&result);
-    drop(result);
-    answer
-}
+static BEHIND_LOGIN: [Row; 6] = [
+    Row {
+        shows: "the port is told where the peer left it to this side",
+        settings: b"answer forward yes 4022\n",
+        inputs: b"\
+            recv 500000000d74637069702d666f72776172640100000002616100000000\n\
+            recv 500000000d74637069702d666f72776172640100000002616100000016\n",
+        status: 0,
+        calls: b"call tcpip_forward 6161 0\ncall tcpip_forward 6161 22\n",
+        trace: b"\
+            input 3\n\
+            send - 5100000fb6\n\
+            input 4\n\
+            send - 51\n\
+            input 5\n\
+            ok\n",
+    },
+    Row {
+        shows: "each request to forward, or no longer, is granted where the script says so",
+        settings: b"answer forward no\nanswer forward yes 0\n",
+        inputs: b"\
+            recv 500000000d74637069702d666f72776172640100000002616100000000\n\
+            recv 500000001463616e63656c2d74637069702d666f72776172640100000002616100000016\n\
+            recv 500000001f73747265616d6c6f63616c2d666f7277617264406f70656e7373682e636f6d01\
+            000000022f61\n\
+            recv 500000002663616e63656c2d73747265616d6c6f63616c2d666f7277617264406f70656e\
+            7373682e636f6d01000000022f61\n\
+            recv 500000002663616e63656c2d73747265616d6c6f63616c2d666f7277617264406f70656e\
+            7373682e636f6d00000000022f61\n",
+        status: 0,
+        calls: b"\
+            call tcpip_forward 6161 0\n\
+            call cancel_tcpip_forward 6161 22\n\
+            call streamlocal_forward 2f61\n\
+            call cancel_streamlocal_forward 2f61\n\
+            call cancel_streamlocal_forward 2f61\n",
+        trace: b"\
+            input 3\n\
+            send - 51\n\
+            input 4\n\
+            send - 51\n\
+            input 5\n\
+            send - 51\n\
+            input 6\n\
+            send - 51\n\
+            input 7\n\
+            input 8\n\
+            ok\n",
+    },
+    Row {
+        shows: "each is denied where it says nothing, and so is one that is not known",
+        settings: b"",
+        inputs: b"\
+            recv 500000000d74637069702d666f72776172640100000002616100000000\n\
+            recv 500000001463616e63656c2d74637069702d666f72776172640100000002616100000016\n\
+            recv 500000001f73747265616d6c6f63616c2d666f7277617264406f70656e7373682e636f6d01\
+            000000022f61\n\
+            recv 500000002663616e63656c2d73747265616d6c6f63616c2d666f7277617264406f70656e\
+            7373682e636f6d01000000022f61\n\
+            recv 50000000017801ff\n",
+        status: 0,
+        calls: b"\
+            call tcpip_forward 6161 0\n\
+            call cancel_tcpip_forward 6161 22\n\
+            call streamlocal_forward 2f61\n\
+            call cancel_streamlocal_forward 2f61\n",
+        trace: b"\
+            input 3\n\
+            send - 52\n\
+            input 4\n\
+            send - 52\n\
+            input 5\n\
+            send - 52\n\
+            input 6\n\
+            send - 52\n\
+            input 7\n\
+            send - 52\n\
+            input 8\n\
+            ok\n",
+    },
+    Row {
+        shows: "replies come in the order of the requests, and one more does nothing",
+        settings: b"",
+        inputs: b"\
+            tick keepalive\n\
+            forward 61 0 5\n\
+            recv 51\n\
+            recv 5100000fb6\n\
+            recv 51\n",
+        status: 0,
+        calls: b"",
+        trace: b"\
+            input 3\n\
+            send - 50000000156b656570616c697665406f70656e7373682e636f6d01\n\
+            input 4\n\
+            done 1 accepted\n\
+            send - 500000000d74637069702d666f727761726401000000016100000000\n\
+            input 5\n\
+            input 6\n\
+            notice - Forwarded 5 4022\n\
+            input 7\n\
+            input 8\n\
+            ok\n",
+    },
+    Row {
+        shows: "a success that tells what is no port counts as a refusal",
+        settings: b"",
+        inputs: b"\
+            forward 61 0 5\n\
+            forward - 4294967295 18446744073709551615\n\
+            recv 51000fb6\n\
+            recv 52\n",
+        status: 0,
+        calls: b"",
+        trace: b"\
+            input 3\n\
+            done 1 accepted\n\
+            send - 500000000d74637069702d666f727761726401000000016100000000\n\
+            input 4\n\
+            done 2 accepted\n\
+            send - 500000000d74637069702d666f72776172640100000000ffffffff\n\
+            input 5\n\
+            notice - Forwarded 5 denied\n\
+            input 6\n\
+            notice - Forwarded 18446744073709551615 denied\n\
+            input 7\n\
+            ok\n",
+    },
+    Row {
+        shows: "data that wait keep the end of the connection waiting",
+        settings: b"",
+        inputs: b"\
+            recv 5a0000000773657373696f6e000000070000000300008000\n\
+            data 2 68656c6c6f\n\
+            disconnect 1 -\n\
+            tick keepalive\n\
+            recv 5d0000000200000002\n\
+            recv 5d0000000200000002\n",
+        status: 0,
+        calls: b"\
+            call channel_open_session 2\n\
+            call window_adjusted 2 0\n",
+        trace: b"\
+            input 3\n\
+            notice 2 Ready 3 32768\n\
+            send 2 5b00000007000000020020000000008000\n\
+            input 4\n\
+            done 1 accepted\n\
+            send 2 5e000000070000000368656c\n\
+            input 5\n\
+            send - 50000000156b656570616c697665406f70656e7373682e636f6d01\n\
+            input 6\n\
+            notice 2 Granted 2\n\
+            notice 2 WindowAdjusted 0\n\
+            send 2 5e00000007000000026c6f\n\
+            input 7\n\
+            done 2 accepted\n\
+            send - 01000000010000000000000000\n\
+            ok\n",
+    },
+];
 
-fn is_logged_in(side: &mut Side) -> Result<bool, Fail> {
-    for bytes in LOGIN {
-        let request = payload(side.alloc, bytes)?;
-        if give(side, request) != Ends::GoesOn {
-            return Ok(false);
-        }
+#[test]
+fn scripts_behind_a_login(rt: HostRuntime) -> Result<(), Fail> {
+    for row in &BEHIND_LOGIN {
+        assert!(rt; row.holds(rt.alloc())?, "{}", row.shows);
     }
-    Ok(true)
-}
-
-// What a notice says, of a channel no more than which it is.
-fn noted(notice: &Notice) -> Tells {
-    match notice {
-        Notice::Channel(channel, _) => Tells::Notes(channel.0),
-        Notice::Granted { channel, .. } => Tells::Notes(channel.0),
-        Notice::Ready { channel, .. } => Tells::Notes(channel.0),
-        Notice::Forwarded { slot, port } => Tells::Forwarded(*slot, *port),
-        Notice::Cancelled { slot, ok } => Tells::Cancelled(*slot, *ok),
-        Notice::Pong { slot } => Tells::Pong(*slot),
-    }
-}
-
-fn is_frame(alloc: Global, frame: &Frame, wanted: Tells) -> Result<bool, Fail> {
-    match wanted {
-        Tells::Sends(payload) => is_sent(alloc, frame, (None, payload)),
-        Tells::SendsOn(channel, payload) => is_sent(alloc, frame, (Some(channel), payload)),
-        _ => Ok(false),
-    }
-}
-
-fn is_told(alloc: Global, entry: &TraceEntry, wanted: Tells) -> Result<bool, Fail> {
-    match entry {
-        TraceEntry::Took { .. } => Ok(wanted == Tells::Takes),
-        TraceEntry::Sent(frame) => is_frame(alloc, frame, wanted),
-        TraceEntry::Noticed(notice) => Ok(wanted == noted(notice)),
-        TraceEntry::Answered(ticket, outcome) => {
-            Ok(*ticket == TICKET && wanted == Tells::Answers(*outcome))
-        }
-    }
-}
-
-// Whether a link was told this behind its first entries, and nothing more.
-fn are_told(
-    alloc: Global,
-    link: &MemoryLink,
-    skipped: usize,
-    wanted: &[Tells],
-) -> Result<bool, Fail> {
-    let mut count: usize = 0;
-    for entry in link.trace().iter().skip(skipped) {
-        let Some(tells) = wanted.get(count) else {
-            return Ok(false);
-        };
-        if !is_told(alloc, entry, *tells)? {
-            return Ok(false);
-        }
-        count = count.saturating_add(1);
-    }
-    Ok(count == wanted.len())
-}
-
-// Whether an input ends so, and the link is told this.
-fn ends_telling(
-    side: &mut Side,
-    kind: InputKind,
-    end: Ends,
-    wanted: &[Tells],
-) -> Result<bool, Fail> {
-    let skipped = side.link.trace().len();
-    let ended = give(side, kind);
-    Ok(ended == end && are_told(side.alloc, &side.link, skipped, wanted)?)
-}
-
-fn goes(side: &mut Side, turns: &[Turn]) -> Result<bool, Fail> {
-    for (comes, end, wanted) in turns {
-        let kind = kind(side.alloc, *comes)?;
-        if !ends_telling(side, kind, *end, *wanted)? {
-            return Ok(false);
-        }
-    }
-    Ok(true)
-}
-
-// Whether the row is so.
-fn holds(alloc: Global, row: Row) -> Result<bool, Fail> {
-    let mut side = not_begun(alloc, row.allowed, row.plan)?;
-    if row.logged_in && !is_logged_in(&mut side)? {
-        return Ok(false);
-    }
-    let goes = goes(&mut side, row.turns)?;
-    Ok(goes && side.handler.asked() == row.asked && side.handler.done() == row.done)
-}
-
-// What comes of an input: how it ends, what the link is told, and what the handler is asked.
-#[derive(Clone, Copy)]
-struct Outcome<'a> {
-    end: Ends,
-    told: &'a [Tells],
-    asked: &'a [u8],
-}
-
-// It does not fit its layout, and nobody is asked or told anything.
-const MISFIT: Outcome<'static> = Outcome {
-    end: Ends::Encoding,
-    told: &[],
-    asked: b"",
-};
-
-// Whether this comes of a payload behind a login.
-fn comes_to(alloc: Global, plan: Plan, bytes: &[u8], wanted: Outcome<'_>) -> Result<bool, Fail> {
-    let mut side = not_begun(alloc, 3, plan)?;
-    if !is_logged_in(&mut side)? {
-        return Ok(false);
-    }
-    let request = payload(alloc, bytes)?;
-    let holds = ends_telling(&mut side, request, wanted.end, wanted.told)?;
-    Ok(holds && side.handler.asked() == wanted.asked)
+    Ok(())
 }

@@ -1,5 +1,6 @@
-//! Worked examples across the crates, as tests: whole scripts with the bytes that they print, runs
-//! over links and handlers that fail, and single calls of the wire.
+//! Worked examples across the crates, as tests: whole scripts with the bytes that they print, and
+//! single calls of the wire. Those of sessions that no script drives stand in
+//! `ssh_session_vectors`.
 #![tactic(auto)]
 
 #[cfg(test)]
@@ -9,13 +10,9 @@ mod calls;
 #[cfg(test)]
 mod channels;
 #[cfg(test)]
-mod deciding;
-#[cfg(test)]
 mod documented;
 #[cfg(test)]
 mod globals;
-#[cfg(test)]
-mod handlers;
 #[cfg(test)]
 mod keys;
 #[cfg(test)]
@@ -25,14 +22,6 @@ mod prompts;
 #[cfg(test)]
 mod requests;
 #[cfg(test)]
-mod runs;
-#[cfg(test)]
 mod scripts;
 #[cfg(test)]
-mod sessions;
-#[cfg(test)]
-mod taking;
-#[cfg(test)]
 mod transcripts;
-#[cfg(test)]
-mod wishes;

@@ -1,8 +1,7 @@
-use Rattle.std.proofs.Common.{◌∙◌, inr, refl, ap, subst}
+use Rattle.std.proofs.Common.{subst}
 use Rattle.ssh_wire.specs.Field.{Values}
 use Rattle.ssh_session.specs.ChannelRequests.{terminal, to_the_end, terminal_asked}
-use Rattle.ssh_session.specs.Spelling.{Spells, IsRead}
-use Rattle.ssh_session.specs.Terminal.{modes_of}
+use Rattle.ssh_session.specs.Spelling.{IsRead}
 use Rattle.ssh_session.proofs.Requesting.{fields_then, fields_lost, fields_misread}
 use Rattle.ssh_session.proofs.channel_requests.ask_terminal.Goals as goal
 

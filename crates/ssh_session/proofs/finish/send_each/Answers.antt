@@ -2,15 +2,16 @@ use Rattle.std.proofs.Common.{rules, ◌≡◌, ◌++◌, ◌∷◌, [], Ok, Err
 use Rattle.std.proofs.Common.{append_assoc}
 use Rattle.std.proofs.lemmas.List.{append-nil, nil_from_length}
 use Rattle.std.proofs.lemmas.Result.{err_from_is_err_and}
+use Rattle.ssh_link.specs.declared.link.TraceEntry.TheVariants.{Sent}
 use Rattle.ssh_session.specs.Failure.{error_of_link}
-use Rattle.ssh_session.specs.Serve.{SendsEach}
-use Rattle.ssh_session.proofs.Finishing.{sent_more, not_sent, none_sent}
+use Rattle.ssh_session.specs.Serve.{TellsEach}
+use Rattle.ssh_session.proofs.Finishing.{told_more, not_told, none_told}
 use Rattle.ssh_session.proofs.finish.send_each.Goals as goal
 
 pub loop-frame-init : goal.loop-frame-init
 loop-frame-init g c = record {
   items = search rules;
-  does = none_sent (g.O.Outside.heard c.args.outside.now);
+  does = none_told Sent (g.O.Outside.heard c.args.outside.now);
   same = (refl, refl);
 }
 
@@ -19,7 +20,7 @@ loop-frame-preserved g c = record {
   items = append_assoc c.loop-frame.yielded (c.in-Some.frame ∷ []) c.next.new.self.rest.items
       ∙ ap (λ l. c.loop-frame.yielded ++ l) (sym c.in-Some.ensures.steps.0)
       ∙ c.loop-frame.invariant.items;
-  does = sent_more c.loop-frame.yielded c.in-Some.frame _ _ _ c.loop-frame.invariant.does
+  does = told_more Sent c.loop-frame.yielded c.in-Some.frame _ _ _ c.loop-frame.invariant.does
       c.in_ok-send.ensures;
   same = let a = c.loop-frame.invariant.same in let b = c.in_ok-send.ensures.0 in
       (b.0 ∙ a.0, b.1 ∙ a.1);
@@ -28,13 +29,14 @@ loop-frame-preserved g c = record {
 pub returns-in_err-send-clause-does : goal.returns-in_err-send-clause-does
 returns-in_err-send-clause-does g c =
     let p = err_from_is_err_and c.from_residual.result c.from_residual.ensures.1 in
-    subst (λ x. SendsEach c.args.frames.items (g.O.Outside.heard c.args.outside.now)
+    subst (λ x. TellsEach Sent c.args.frames.items (g.O.Outside.heard c.args.outside.now)
     (g.O.Outside.heard c.send.new.self) x)
     (sym (p.1 ∙ ap Err p.2))
-    (subst (λ l. SendsEach l (g.O.Outside.heard c.args.outside.now)
+    (subst (λ l. TellsEach Sent l (g.O.Outside.heard c.args.outside.now)
     (g.O.Outside.heard c.send.new.self) (Err (error_of_link c.in_err-send.field-0.0)))
     c.loop-frame.invariant.items
-    (not_sent c.loop-frame.yielded c.loop-frame.frame-iterator.rest.items c.in-Some.frame _ _ _ _
+    (not_told Sent c.loop-frame.yielded c.loop-frame.frame-iterator.rest.items c.in-Some.frame _ _
+    _ _
     c.loop-frame.invariant.does
     c.in_err-send.ensures))
 
@@ -44,6 +46,6 @@ returns-clause-does g c =
     nil_from_length c.loop-frame.frame-iterator.rest.items (search rules) in
     let e : c.loop-frame.yielded ≡ c.args.frames.items = sym (append-nil c.loop-frame.yielded)
     ∙ ap (λ l. c.loop-frame.yielded ++ l) (sym none) ∙ c.loop-frame.invariant.items in
-    subst (λ l. SendsEach l (g.O.Outside.heard c.args.outside.now)
+    subst (λ l. TellsEach Sent l (g.O.Outside.heard c.args.outside.now)
     (g.O.Outside.heard c.loop-frame.outside) (Ok tt)) e
     c.loop-frame.invariant.does

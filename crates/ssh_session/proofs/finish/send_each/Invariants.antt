@@ -1,11 +1,13 @@
 use Rattle.std.proofs.Common.{◌≡◌, ◌++◌, Ok}
+use Rattle.ssh_link.specs.declared.link.TraceEntry.TheVariants.{Sent}
 use Rattle.ssh_session.specs.Heard.{AreSame}
-use Rattle.ssh_session.specs.Serve.{SendsEach}
+use Rattle.ssh_session.specs.Serve.{TellsEach}
 use Rattle.ssh_session.proofs.finish.send_each.Given as goal
 
 abbrev pub invariant-loop-frame : goal.invariant-loop-frame
 invariant-loop-frame g l = record {
   items : l.yielded ++ l.frame-iterator.rest.items ≡ l.fn.frames.items;
-  does : SendsEach l.yielded (g.O.Outside.heard l.fn.outside) (g.O.Outside.heard l.outside) (Ok tt);
+  does : TellsEach Sent l.yielded (g.O.Outside.heard l.fn.outside) (g.O.Outside.heard l.outside)
+      (Ok tt);
   same : AreSame (g.O.Outside.heard l.fn.outside) (g.O.Outside.heard l.outside);
 }

@@ -1,5 +1,5 @@
 use Rattle.std.proofs.Common.{◌≡◌, ◌∷◌, [], true, false, refl, subst}
-use Rattle.ssh_wire.specs.Field.{Bytes, Flag, Number, Text, MisfitsAll, MisfitsWhole, Values}
+use Rattle.ssh_wire.specs.Field.{Number, MisfitsWhole, Values}
 use Rattle.ssh_wire.proofs.Fields.{spells_more_all, misfit_here_all, misfit_later_all}
 use Rattle.ssh_wire.proofs.Fields.{misfits_whole, trailing}
 use Rattle.ssh_session.specs.ChannelRequests.{window_change}

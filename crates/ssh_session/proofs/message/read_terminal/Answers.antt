@@ -1,7 +1,6 @@
-use Rattle.std.proofs.Common.{◌≡◌, ◌∷◌, [], true, false, refl, subst}
-use Rattle.ssh_wire.specs.Field.{Bytes, Flag, Number, Text, MisfitsAll, MisfitsWhole}
-use Rattle.ssh_wire.proofs.Fields.{spells_more_all, misfit_here_all, misfit_later_all}
-use Rattle.ssh_wire.proofs.Fields.{misfits_whole, trailing}
+use Rattle.std.proofs.Common.{◌∷◌, [], subst}
+use Rattle.ssh_wire.specs.Field.{Bytes, Number, Text, MisfitsAll}
+use Rattle.ssh_wire.proofs.Fields.{misfit_here_all, misfit_later_all}
 use Rattle.ssh_session.specs.ChannelRequests.{terminal}
 use Rattle.ssh_session.proofs.Reading.{misfit_at}
 use Rattle.ssh_session.proofs.message.read_terminal.Goals as goal

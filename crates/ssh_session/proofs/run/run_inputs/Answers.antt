@@ -12,11 +12,11 @@ pub loop-init : goal.loop-init
 loop-init g c settings r = starts g.row.H-Error.Denot (g.V.Verifier.accepts c.args.verifier.now)
     settings _ c.args.session.now r
 
-pub step-requires : goal.step-requires
-step-requires g c =
+pub step_on-requires : goal.step_on-requires
+step_on-requires g c =
     let settings = c.requires.begins.0 in
     record {
-      suits = λ live. still_suits g.H.Handler.suits
+      suits = still_suits g.H.Handler.suits
           (g.V.Verifier.accepts c.args.verifier.now) settings _ _ c.loop.counter
           c.loop.session (c.loop.invariant settings c.requires.begins.1) c.requires.begins.2;
     }
@@ -35,7 +35,7 @@ returns-in_err-input g c settings r =
 pub returns-in-Ok-Ended : goal.returns-in-Ok-Ended
 returns-in-Ok-Ended g c settings r =
     ends (g.V.Verifier.accepts c.args.verifier.now) settings _ _ _ _ c.loop.counter
-    c.args.max_inputs c.loop.session c.step.new.self
+    c.args.max_inputs c.loop.session c.step_on.new.self
     c.commands_wanted.result c.in_ok-input.input (c.loop.invariant settings r)
     (record {
       took = subst (λ replies. AddsOne (g.L.Link.trace c.loop.link)
@@ -53,7 +53,7 @@ returns-in-Ok-Ended g c settings r =
 pub returns-in-Err : goal.returns-in-Err
 returns-in-Err g c settings r =
     stopped (g.V.Verifier.accepts c.args.verifier.now) settings _ _ _ _ c.loop.counter
-    c.args.max_inputs c.loop.session c.step.new.self
+    c.args.max_inputs c.loop.session c.step_on.new.self
     c.commands_wanted.result c.in_ok-input.input c.in-Err.e (c.loop.invariant settings r)
     (record {
       took = subst (λ replies. AddsOne (g.L.Link.trace c.loop.link)
@@ -71,7 +71,7 @@ returns-in-Err g c settings r =
 pub loop-preserved : goal.loop-preserved
 loop-preserved g c settings r =
     goes_on (g.V.Verifier.accepts c.args.verifier.now) settings _ _ _ _ c.loop.counter
-    c.loop.session c.step.new.self
+    c.loop.session c.step_on.new.self
     c.commands_wanted.result c.in_ok-input.input (c.loop.invariant settings r)
     (record {
       took = subst (λ replies. AddsOne (g.L.Link.trace c.loop.link)

@@ -1,4 +1,4 @@
-use Rattle.std.proofs.Common.{◌≡◌, ◌-◌, ◌∙◌, ◌∷◌, Bool, Some, None, cond, drop, take, length, sym}
+use Rattle.std.proofs.Common.{◌≡◌, ◌-◌, ◌∙◌, ◌∷◌, Bool, drop, take, length, sym}
 use Rattle.std.proofs.Common.{ap, rules}
 use Rattle.ssh_session.specs.Terminal.{preceded, modes_of, behind}
 use Rattle.ssh_session.proofs.Refining.{if_ok}

@@ -1,4 +1,4 @@
-use Rattle.std.proofs.Common.{◌∙◌, refl, sym, ap, Some, None}
+use Rattle.std.proofs.Common.{◌∙◌, sym, ap}
 use Rattle.ssh_session.specs.Terminal.{valued}
 use Rattle.ssh_session.proofs.Terminals.{mode_read}
 use Rattle.ssh_session.proofs.terminal.mode_of.Goals as goal

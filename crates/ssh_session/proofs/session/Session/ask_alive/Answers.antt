@@ -1,6 +1,5 @@
-use Rattle.std.proofs.Common.{◌<◌, refl, inl, arith}
+use Rattle.std.proofs.Common.{◌<◌, refl, arith}
 use Rattle.std.specs.Prelude.{◌^◌, length}
-use Rattle.std.specs.Prelude.{IfErr}
 use Rattle.ssh_session.specs.OwnMessages.{alive}
 use Rattle.ssh_session.proofs.Effects.{kept_short, kept_unbuilt}
 use Rattle.ssh_session.proofs.session.Session.ask_alive.Goals as goal
@@ -12,5 +11,6 @@ returns-clause-does g c = λ w r.
     c.send.ensures.does message
     (kept_short (λ p. p.items) message.payload c.keepalive_payload-payload.result short
     c.keepalive_payload-payload.ensures.ok)
-    (kept_unbuilt message.payload c.keepalive_payload-payload.result c.keepalive_payload-payload.ensures.memory)
+    (kept_unbuilt message.payload c.keepalive_payload-payload.result
+    c.keepalive_payload-payload.ensures.memory)
     refl refl w r

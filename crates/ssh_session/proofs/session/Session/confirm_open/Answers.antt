@@ -27,21 +27,21 @@ returns-clause-does g c = λ w r.
     let framed : c.in_ok-frame.frame ≡ frame = c.in_ok-frame.ensures.ok
     ∙ ap (λ (k : Config). confirmation_frame n o.peer k.window_size k.maximum_packet_size)
     r.config in
-    let stands = confirms_stands c.stage.new.self old w o.peer a.number o.window
+    let stands = confirms_stands c.insert_with.new.self old w o.peer a.number o.window
     old.common.config.window_size o.packet
     old.common.config.maximum_packet_size c.in_ok-frame.frame c.said.invariant.0 c.said.invariant.1
-    (c.in_ok-stage.ensures.table ∙ ap (stage c.in_ok-frame.frame)
-    (c.in_ok-insert.ensures.table ∙ ap (λ p. insert p old.table) c.new-params.ensures)) r in (
+    (c.in_ok-insert_with.ensures.table
+    ∙ ap (λ p. stage c.in_ok-frame.frame (insert p old.table)) c.new-params.ensures) r in (
       writes (frame ∷ []) (lined (adds (opened n o.peer o.window room o.packet)) (answered n w)),
       ap (λ s. confirms n s w) (sym c.said.view_is),
       changed old _ w (remove_entry (is_at (nat_cmp n)) w.channels.opens)
           (write (frame ∷ []) (adds (opened n o.peer o.window room o.packet) lines)) refl refl refl
           refl refl refl refl refl
           (c.remove.ensures.entries ∙ ap (remove_entry (is_at (nat_cmp n))) r.opens)
-          (subst (λ (k : Config). Stands c.stage.new.self
+          (subst (λ (k : Config). Stands c.insert_with.new.self
           (write (frame ∷ []) (adds (opened n o.peer o.window k.window_size o.packet) lines)))
           r.config
-          (subst (λ (f : Frame). Stands c.stage.new.self
+          (subst (λ (f : Frame). Stands c.insert_with.new.self
           (write (f ∷ []) (adds (opened n o.peer o.window old.common.config.window_size o.packet)
           lines)))
           framed stands)) r,

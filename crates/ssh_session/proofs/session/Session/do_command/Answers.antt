@@ -101,8 +101,8 @@ returns-in-ExitSignal-clause-does g c = λ w r.
 
 pub returns-in-Answer-clause-does : goal.returns-in-Answer-clause-does
 returns-in-Answer-clause-does g c = λ w r.
-    subst (λ d. HasEffect d c.answer_open.new.self c.answer_open.result)
-    (sym (ap (done_by w) c.in-Answer.is)) (c.answer_open.ensures.does w r)
+    subst (λ d. HasEffect d c.decide_open.new.self c.decide_open.result)
+    (sym (ap (done_by w) c.in-Answer.is)) (c.decide_open.ensures.does w r)
 
 pub returns-in_default-clause-does : goal.returns-in_default-clause-does
 returns-in_default-clause-does g c = λ w r.

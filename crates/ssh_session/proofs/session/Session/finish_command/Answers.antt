@@ -18,9 +18,9 @@ returns-in_err-notice-clause-does g c = λ w r later next.
     λ outcome world. tell_done c.args.place outcome (done_all (c.args.place + 1) later world next)
     in
     passed (done_all c.args.place (c.args.command ∷ later) w next) finish finish _ _
-    c.apply.new.self c.apply.new.self _ _
+    c.carry_out.new.self c.carry_out.new.self _ _
     c.from_residual.ensures.1
-    (not_done (effect w c.args.command) onward finish _ c.apply.new.self c.apply.new.self _
+    (not_done (effect w c.args.command) onward finish _ c.carry_out.new.self c.carry_out.new.self _
     (c.in_err-notice.ensures.does w r))
 
 pub returns-in_err-give-clause-does : goal.returns-in_err-give-clause-does
@@ -32,9 +32,10 @@ returns-in_err-give-clause-does g c = λ w r later next.
     in
     let made : Done = c.in_ok-notice.field-0 in
     passed (done_all c.args.place (c.args.command ∷ later) w next) finish finish _ _
-    c.apply.new.self c.apply.new.self _ _
+    c.carry_out.new.self c.carry_out.new.self _ _
     c.from_residual-in_err-give.ensures.1
-    (not_noticed (effect w c.args.command) onward finish made _ _ c.apply.new.self c.apply.new.self
+    (not_noticed (effect w c.args.command) onward finish made _ _ c.carry_out.new.self
+    c.carry_out.new.self
     _
     (c.in_ok-notice.ensures.does w r) (λ v q l. c.in_err-give.ensures.does v q l))
 
@@ -46,9 +47,10 @@ returns-clause-does g c = λ w r later next.
     λ outcome world. tell_done c.args.place outcome (done_all (c.args.place + 1) later world next)
     in
     let made : Done = c.in_ok-notice.field-0 in
-    commanded (effect w c.args.command) onward finish made _ _ _ c.apply.new.self c.apply.new.self
+    commanded (effect w c.args.command) onward finish made _ _ _ c.carry_out.new.self
+    c.carry_out.new.self
     c.tell_done.result
     (c.in_ok-notice.ensures.does w r) (λ v q l. c.in_ok-give.ensures.does v q l)
     (λ v q. settled_by (onward made.outcome v) (λ u. done_all (c.args.place + 1) later u next) _ _ v
-    c.apply.new.self
+    c.carry_out.new.self
     c.tell_done.result q (c.tell_done.ensures.does v q (done_all (c.args.place + 1) later v next)))

@@ -4,7 +4,7 @@ use Rattle.ssh_session.specs.World.{World}
 use Rattle.ssh_session.specs.Acts.{done_all}
 use Rattle.ssh_session.specs.Heard.{AreSame}
 use Rattle.ssh_session.specs.Outcome.{Outcome}
-use Rattle.ssh_session.specs.Serve.{Refines, Serves, IsSamePeer}
+use Rattle.ssh_session.specs.Serve.{Refines, Serves, IsSameSession}
 use Rattle.ssh_session.proofs.session.Session.finish_commands.Given as goal
 
 abbrev pub invariant-loop-place : goal.invariant-loop-place
@@ -14,6 +14,6 @@ invariant-loop-place g l = record {
       Serves (done_all 0 l.fn.commands w next) (λ (_ : Unit {0}) world. done_all l.place l.commands
       world next)
       (g.O.Outside.heard l.fn.outside) (g.O.Outside.heard l.outside) l.self (Ok tt);
-  peer : IsSamePeer l.fn.self l.self;
+  peer : IsSameSession l.fn.self l.self;
   same : AreSame (g.O.Outside.heard l.fn.outside) (g.O.Outside.heard l.outside);
 }

@@ -19,10 +19,10 @@ returns-in_err-notice-clause-does g c = λ w r.
     let finish : Flow → World → Plan Outcome = λ flow world. Finish (comes flow world) in
     let onward : CommandOutcome → World → Plan Outcome =
     λ outcome world. Tell (Answered c.args.ticket outcome) (Finish (Goes world)) in
-    passed (command_row w c.args.ticket c.args.command) finish finish _ _ c.apply.new.self
-    c.apply.new.self _ _
+    passed (command_row w c.args.ticket c.args.command) finish finish _ _ c.carry_out.new.self
+    c.carry_out.new.self _ _
     c.from_residual.ensures.1
-    (not_done (effect w c.args.command) onward finish _ c.apply.new.self c.apply.new.self _
+    (not_done (effect w c.args.command) onward finish _ c.carry_out.new.self c.carry_out.new.self _
     (c.in_err-notice.ensures.does w r))
 
 pub returns-in_err-give-clause-does : goal.returns-in_err-give-clause-does
@@ -31,10 +31,11 @@ returns-in_err-give-clause-does g c = λ w r.
     let onward : CommandOutcome → World → Plan Outcome =
     λ outcome world. Tell (Answered c.args.ticket outcome) (Finish (Goes world)) in
     let made : Done = c.in_ok-notice.field-0 in
-    passed (command_row w c.args.ticket c.args.command) finish finish _ _ c.apply.new.self
-    c.apply.new.self _ _
+    passed (command_row w c.args.ticket c.args.command) finish finish _ _ c.carry_out.new.self
+    c.carry_out.new.self _ _
     c.from_residual-in_err-give.ensures.1
-    (not_noticed (effect w c.args.command) onward finish made _ _ c.apply.new.self c.apply.new.self
+    (not_noticed (effect w c.args.command) onward finish made _ _ c.carry_out.new.self
+    c.carry_out.new.self
     _
     (c.in_ok-notice.ensures.does w r) (λ v q l. c.in_err-give.ensures.does v q l))
 
@@ -44,14 +45,15 @@ returns-in_err-answer-clause-does g c = λ w r.
     let onward : CommandOutcome → World → Plan Outcome =
     λ outcome world. Tell (Answered c.args.ticket outcome) (Finish (Goes world)) in
     let made : Done = c.in_ok-notice.field-0 in
-    passed (command_row w c.args.ticket c.args.command) finish finish _ _ c.apply.new.self
-    c.apply.new.self _ _
+    passed (command_row w c.args.ticket c.args.command) finish finish _ _ c.carry_out.new.self
+    c.carry_out.new.self _ _
     c.from_residual-in_err-answer.ensures.1
-    (commanded (effect w c.args.command) onward finish made _ _ _ c.apply.new.self c.apply.new.self
+    (commanded (effect w c.args.command) onward finish made _ _ _ c.carry_out.new.self
+    c.carry_out.new.self
     (Err _)
     (c.in_ok-notice.ensures.does w r) (λ v q l. c.in_ok-give.ensures.does v q l)
     (λ v q. not_given (Answered c.args.ticket made.outcome) (onward made.outcome v) finish _ _
-    c.apply.new.self _
+    c.carry_out.new.self _
     c.in_err-answer.ensures))
 
 pub returns-clause-does : goal.returns-clause-does
@@ -60,9 +62,10 @@ returns-clause-does g c = λ w r.
     let onward : CommandOutcome → World → Plan Outcome =
     λ outcome world. Tell (Answered c.args.ticket outcome) (Finish (Goes world)) in
     let made : Done = c.in_ok-notice.field-0 in
-    commanded (effect w c.args.command) onward finish made _ _ _ c.apply.new.self c.apply.new.self
+    commanded (effect w c.args.command) onward finish made _ _ _ c.carry_out.new.self
+    c.carry_out.new.self
     (Ok Continue)
     (c.in_ok-notice.ensures.does w r) (λ v q l. c.in_ok-give.ensures.does v q l)
-    (λ v q. settled Continue (onward made.outcome v) finish _ _ v c.apply.new.self q
-    (given (Answered c.args.ticket made.outcome) (Finish (Goes v)) _ _ v c.apply.new.self q
+    (λ v q. settled Continue (onward made.outcome v) finish _ _ v c.carry_out.new.self q
+    (given (Answered c.args.ticket made.outcome) (Finish (Goes v)) _ _ v c.carry_out.new.self q
     c.in_ok-answer.ensures))

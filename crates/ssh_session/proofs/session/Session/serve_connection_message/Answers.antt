@@ -5,7 +5,6 @@ use Rattle.ssh_session.specs.Messages.{message_layout}
 use Rattle.ssh_session.specs.Outcome.{Goes}
 use Rattle.ssh_session.specs.Reading.{Connection}
 use Rattle.ssh_session.specs.Rows.{row, spoken_acts}
-use Rattle.ssh_session.specs.World.{is_there}
 use Rattle.ssh_session.specs.Serve.{comes}
 use Rattle.ssh_session.proofs.Reading.{unserved}
 use Rattle.ssh_session.proofs.Serving.{passed, goes_on, completes}

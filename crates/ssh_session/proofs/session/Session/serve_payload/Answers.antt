@@ -6,7 +6,7 @@ use Rattle.ssh_session.specs.Reading.{Says, Nothing, Disconnect, Over_cap, Unbui
 use Rattle.ssh_session.specs.Reading.{Service, Connection, said_of}
 use Rattle.ssh_session.specs.Rows.{row}
 use Rattle.ssh_session.specs.Serve.{comes}
-use Rattle.ssh_session.specs.World.{circumstances, is_there}
+use Rattle.ssh_session.specs.World.{circumstances}
 use Rattle.ssh_session.proofs.Serving.{serves_nothing, unbuilt_input, quiet}
 use Rattle.ssh_session.proofs.session.Session.serve_payload.Goals as goal
 

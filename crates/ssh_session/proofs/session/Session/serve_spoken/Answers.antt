@@ -19,7 +19,7 @@ pub returns-in-Grant-clause-does : goal.returns-in-Grant-clause-does
 returns-in-Grant-clause-does g c = λ w r later. rw c.in-Grant.is (c.grant.ensures.does w r later)
 
 pub returns-in-Data-clause-does : goal.returns-in-Data-clause-does
-returns-in-Data-clause-does g c = λ w r later. rw c.in-Data.is (c.data.ensures.does w r later)
+returns-in-Data-clause-does g c = λ w r later. rw c.in-Data.is (c.peer_data.ensures.does w r later)
 
 pub returns-in-Tells-clause-does : goal.returns-in-Tells-clause-does
 returns-in-Tells-clause-does g c = λ w r later. rw c.in-Tells.is (c.tell_on.ensures.does w r later)

@@ -1,8 +1,9 @@
-use Rattle.ssh_session.proofs.Stepping.{noted}
+use Rattle.ssh_session.specs.Run.{Owes}
+use Rattle.ssh_session.proofs.Stepping.{noted, unchanged_by}
 use Rattle.ssh_session.proofs.session.Session.take_over.Goals as goal
 
 pub returns-clause-taken : goal.returns-clause-taken
 returns-clause-taken g c = λ w r.
-    noted (g.V.Verifier.accepts c.args.verifier.now) w c.args.input _ _ c.take-outcome.new.self
-    c.note_end.new.self c.take-outcome.result
-    c.note_end.ensures.continues (c.take-outcome.ensures.does w r)
+    noted (Owes (g.V.Verifier.accepts c.args.verifier.now) w c.args.input) _ _
+    c.take-outcome.new.self c.note_end.new.self c.take-outcome.result
+    (λ goes. unchanged_by _ _ (c.note_end.ensures.continues goes)) (c.take-outcome.ensures.does w r)

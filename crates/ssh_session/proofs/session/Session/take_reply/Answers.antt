@@ -1,4 +1,4 @@
-use Rattle.std.proofs.Common.{◌∙◌, false, sym, subst}
+use Rattle.std.proofs.Common.{◌∙◌, sym, subst}
 use Rattle.ssh_channels.specs.Calls.{Byte}
 use Rattle.ssh_channels.specs.Lines.{says}
 use Rattle.ssh_session.specs.Serve.{Refines}

@@ -1,0 +1,121 @@
+-- The peer gets no more replies than its global requests want, by induction over a run (RFC 4254
+-- section 4).
+use Rattle.std.proofs.Common.{◌≡◌, ◌≤◌, ◌+◌, ℕ, List, [], ◌++◌, Bool, true, false, cond}
+use Rattle.std.proofs.Common.{Option, Result, refl, ap, arith}
+use Rattle.std.specs.Prelude.{option_to_list}
+use Rattle.ssh_link.specs.declared.frame.InputKind.TheVariants as input
+use Rattle.ssh_auth.specs.Publickey.{Acceptance}
+use Rattle.ssh_channels.specs.Layout.{bare_frame}
+use Rattle.ssh_channels.specs.Lines.{Lines, find, put, wants}
+use Rattle.ssh_session.specs.declared.error.RunError.{RunError}
+use Rattle.ssh_session.specs.Account.{Closes}
+use Rattle.ssh_session.specs.Answered.{how_many}
+use Rattle.ssh_session.specs.GlobalReplied.{is_global_reply, wants_global_reply, GlobalReplied}
+use Rattle.ssh_session.specs.Layout.{at_once}
+use Rattle.ssh_session.specs.Opens.{failure_frame}
+use Rattle.ssh_session.specs.Reading.{Said}
+use Rattle.ssh_session.specs.Run.{Turn, Run}
+use Rattle.ssh_session.specs.World.{Settings, World, wants_global, opening_world}
+use Rattle.ssh_session.proofs.Accepting.{run_walks, last_walks}
+use Rattle.ssh_session.proofs.Counting.{still_low}
+use Rattle.ssh_session.proofs.Measures.{Measure, LinesOwe, one_if, no_more, lines_owe, found}
+use Rattle.ssh_session.proofs.Measures.{silent_more}
+use Rattle.ssh_session.proofs.Measuring.{owing, OwesUpTo, RequestOwes, lined_upto, same_lines}
+use Rattle.ssh_session.proofs.Measured.{OfRead, read_weaker}
+use Rattle.ssh_session.proofs.Repaying.{Owed, left_with, Repays, past_few, span_few}
+use Rattle.ssh_session.proofs.Wanting.{BytesSay}
+
+-- ---- the measure
+
+one_most : (b : Bool) → one_if b + 0 ≤ 1
+one_most true = omega arith
+one_most false = omega arith
+
+-- replies to global requests, and whether the peer's last one wants one; no question makes one
+abbrev global_replies : Measure
+global_replies = record {
+  such = is_global_reply;
+  due = λ entries. 0;
+  waiting = λ opens. 0;
+  globally = λ wanted. one_if wanted;
+  asks = λ question. false;
+  untagged = λ frame is unlike. unlike;
+  other = λ frame no_answer no_reply. no_reply.1;
+  kept = λ e f entries at same. omega arith;
+  parted = λ m entries. omega arith;
+  begun = λ e entries none. omega arith;
+  replied = λ message e entries unlike at wanted.
+      no_more (is_global_reply (bare_frame message e.number e.peer)) 0 unlike.1;
+  answered = λ m payload opening opens unlike is.
+      no_more (is_global_reply (failure_frame m payload)) 0 unlike.1;
+  settled = λ payload. one_most (is_global_reply (at_once payload));
+}
+
+-- ---- requests
+
+-- a request on a channel makes none
+wants_owe : (m : ℕ) (wanted : Bool) (l : Lines) →
+    LinesOwe global_replies (lines_owe global_replies l) (wants m wanted l)
+wants_owe m wanted l =
+    let k = lines_owe global_replies l in
+    found (find m l.entries) global_replies k m _ l refl
+    (λ e is. silent_more global_replies k l.written [] l.entries
+    (put (record e { wants_reply = wanted }) l.entries) tt (omega arith)
+    (same_lines global_replies l)) (same_lines global_replies l)
+
+-- a request makes one where it wants one
+wanted_step : (b wanted : Bool) (left : ℕ) (w : World) → b ≡ wanted →
+    Owed global_replies left w → OwesUpTo global_replies (cond b 1 left) (wants_global wanted w)
+wanted_step true true left w is h =
+    let none : how_many is_global_reply w.channels.lines.written ≡ 0 =
+    ap (how_many is_global_reply) h.none in
+    omega (arith, none)
+wanted_step false false left w is h =
+    let most = h.covered in
+    let none : how_many is_global_reply w.channels.lines.written ≡ 0 =
+    ap (how_many is_global_reply) h.none in
+    omega (arith, none)
+wanted_step true false left w is h = absurd (cc)
+wanted_step false true left w is h = absurd (cc)
+
+request_reads : (left : ℕ) (w : World) (payload : List ℕ) (said : Said) →
+    OfRead (BytesSay w payload) said → Owed global_replies left w →
+    OfRead (RequestOwes global_replies (left_with wants_global_reply left
+    (input.Payload payload)) w) said
+request_reads left w payload said q h =
+    let b = wants_global_reply (input.Payload payload) in
+    read_weaker (BytesSay w payload) (RequestOwes global_replies (cond b 1 left) w) said
+    (λ channel wanted is. lined_upto global_replies (cond b 1 left) (wants channel.0 wanted) w
+    (wants_owe channel.0 wanted w.channels.lines)
+    (still_low b (owing global_replies w) left h.covered h.one))
+    (λ wanted is. wanted_step b wanted left w is h) (λ told is. tt) q
+
+replies_repay : Repays global_replies wants_global_reply
+replies_repay = record {
+  never = λ question. refl;
+  none_wait = λ opens. refl;
+  apart = λ m payload unlike. unlike.1;
+  reads = λ left w payload said q h. request_reads left w payload said q h;
+}
+
+-- a run sends no more replies than its global requests want
+pub globally_replied : {E : Type 0} (accepts : Acceptance) (settings : Settings)
+    (turns : List (Turn E)) (world : World) (count max : ℕ) (last : Option (Turn E))
+    (rose : Type 0) (result : Result (Unit {0}) (RunError E)) →
+    Run accepts (opening_world settings) turns world →
+    Closes accepts world count max last rose result →
+    GlobalReplied (turns ++ option_to_list last)
+globally_replied accepts settings turns world count max last rose result run closes =
+    let all = run_walks accepts (opening_world settings) turns world (option_to_list last) run
+    (last_walks accepts world count max last rose result closes) in
+    let first : Owed global_replies 0 (opening_world settings) =
+    record { none = refl; one = omega arith; covered = omega arith } in
+    record {
+      never_more = λ past more is.
+          let few = past_few global_replies wants_global_reply replies_repay accepts 0
+          (turns ++ option_to_list last) (opening_world settings) all first past more is in
+          omega (arith, few);
+      one_each = λ past span more is none.
+          span_few global_replies wants_global_reply replies_repay accepts 0
+          (turns ++ option_to_list last) (opening_world settings) all first past span more is none;
+    }

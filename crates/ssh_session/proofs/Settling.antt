@@ -1,0 +1,343 @@
+-- What an input asks waits behind what waited, and a reply takes the oldest one (RFC 4254 section
+-- 4).
+use Rattle.std.proofs.Common.{◌≡◌, ◌⊎◌, ℕ, List, [], ◌∷◌, ◌++◌, map, Bool, true}
+use Rattle.std.proofs.Common.{false, Option, refl, sym, ◌∙◌, ap, subst}
+use Rattle.std.proofs.Common.{inl, inr}
+use Rattle.std.specs.Prelude.{drop, flat_map, if◌then◌else◌, option_to_list}
+use Rattle.std.specs.List.{list_any}
+use Rattle.std.proofs.lemmas.List.{append-nil}
+use Rattle.ssh_link.specs.Frames.{Frame}
+use Rattle.ssh_link.specs.declared.command.Command.{Command}
+use Rattle.ssh_link.specs.declared.command.Command.TheVariants as command
+use Rattle.ssh_link.specs.declared.frame.InputKind.{InputKind}
+use Rattle.ssh_link.specs.declared.frame.InputKind.TheVariants as input
+use Rattle.ssh_link.specs.declared.link.TraceEntry.TheVariants.{Noticed, Sent, Answered}
+use Rattle.ssh_link.specs.declared.notice.Notice.{Notice}
+use Rattle.ssh_link.specs.declared.open_answer.OpenAnswer.{OpenAnswer}
+use Rattle.ssh_link.specs.declared.outcome.CommandOutcome.{CommandOutcome}
+use Rattle.ssh_link.specs.declared.outcome.CommandOutcome.TheVariants.{Accepted, Opened, Refused}
+use Rattle.ssh_auth.specs.Plan.{Plan, Finish, Ask, Tell, Event, Follows, after}
+use Rattle.ssh_auth.specs.Publickey.{Acceptance}
+use Rattle.ssh_session.specs.declared.messages.Spoken.TheVariants as spoken
+use Rattle.ssh_session.specs.declared.outstanding.Outstanding.{Outstanding}
+use Rattle.ssh_session.specs.declared.outstanding.Outstanding.TheVariants.{Keepalive}
+use Rattle.ssh_session.specs.Acts.{Turns, Is_over, Stops, tell_all, done, acts}
+use Rattle.ssh_session.specs.Effect.{Effect, Does, effect, said}
+use Rattle.ssh_session.specs.InOrder.{asked_by, asked_outside, asked_within, is_refused}
+use Rattle.ssh_session.specs.InOrder.{replied_in, replies_told, with_notice, is_own_reply}
+use Rattle.ssh_session.specs.Outcome.{Outcome, Goes, Ends, Fails, Keepalive_timeout, Not_built}
+use Rattle.ssh_session.specs.OwnMessages.{keepalive}
+use Rattle.ssh_session.specs.Reading.{Said, Connection}
+use Rattle.ssh_session.specs.Rows.{row, notes}
+use Rattle.ssh_session.specs.Run.{OwesKind, command_row, finish_input, handed_on}
+use Rattle.ssh_session.specs.Run.{goes_unless_ended}
+use Rattle.ssh_session.specs.Ticks.{inactivity_acts, is_too_many, one_more, ticked}
+use Rattle.ssh_session.specs.World.{World, circumstances, hears}
+use Rattle.ssh_session.specs.World.{settled_first}
+use Rattle.ssh_session.proofs.Acting.{goes_or_ends}
+use Rattle.ssh_session.proofs.Measured.{OfRead}
+use Rattle.ssh_session.proofs.Queueing.{Asks, effect_asks, AreUnlent}
+use Rattle.ssh_session.proofs.Queued.{Waits, RefuseNone, calling_waits}
+use Rattle.ssh_session.proofs.QueuedRows.{SaysNoReply, row_waits}
+use Rattle.ssh_session.proofs.Untold.{TellsNone, row_tells, command_tells, tick_tells}
+use Rattle.ssh_session.proofs.Wanting.{BytesSay, payload_says}
+
+-- ---- the end of an input
+
+-- a plan, and then the one that its outcome leads to
+pub record Parts {E : Type 0} (plan : Plan Outcome) (later : Outcome → Plan Outcome)
+    (events : List (Event E ⊥)) (outcome : Outcome) : Type 0 where
+  pub early : List (Event E ⊥)
+  pub rest : List (Event E ⊥)
+  pub between : Outcome
+  pub is : events ≡ early ++ rest
+  pub first : Follows plan early between
+  pub second : Follows (later between) rest outcome
+
+parts_more : {E : Type 0} (plan next : Plan Outcome) (later : Outcome → Plan Outcome)
+    (event : Event E ⊥) (events : List (Event E ⊥)) (outcome : Outcome)
+    (p : Parts next later events outcome) → Follows plan (event ∷ p.early) p.between →
+    Parts plan later (event ∷ events) outcome
+parts_more plan next later event events outcome p f = record {
+  early = event ∷ p.early;
+  rest = p.rest;
+  between = p.between;
+  is = ap (λ l. event ∷ l) p.is;
+  first = f;
+  second = p.second;
+}
+
+pub parts_of : {E : Type 0} (plan : Plan Outcome) (later : Outcome → Plan Outcome)
+    (events : List (Event E ⊥)) (outcome : Outcome) → Follows (after plan later) events outcome →
+    Parts plan later events outcome
+parts_of (Finish between) later events outcome f = record {
+  early = [];
+  rest = events;
+  between = between;
+  is = refl;
+  first = refl;
+  second = f;
+}
+parts_of (Ask question next) later [] outcome f = absurd (cc)
+parts_of (Ask question next) later (event ∷ events) outcome f =
+    let p = parts_of (next f.0) later events outcome f.2 in
+    parts_more (Ask question next) (next f.0) later event events outcome p (f.0, f.1, p.first)
+parts_of (Tell entry next) later [] outcome f = absurd (cc)
+parts_of (Tell entry next) later (event ∷ events) outcome f =
+    let p = parts_of next later events outcome f.1 in
+    parts_more (Tell entry next) next later event events outcome p (f.0, p.first)
+
+-- the frames are handed on, and nothing else happens
+pub record Handed {E : Type 0} (waiting : List Outstanding) (events : List (Event E ⊥))
+    (outcome : Outcome) : Type 0 where
+  pub same : Waits waiting outcome
+  pub unlent : AreUnlent events
+  pub none : RefuseNone events
+  pub unrefused : list_any is_refused events ≡ false
+  pub untold : replies_told events ≡ []
+
+frames_handed : {E : Type 0} (waiting : List Outstanding) (frames : List Frame) (final : Outcome)
+    (events : List (Event E ⊥)) (outcome : Outcome) → Waits waiting final →
+    Follows (tell_all (map Sent frames) (Finish final)) events outcome →
+    Handed waiting events outcome
+frames_handed waiting [] final [] outcome h f =
+    let same : final ≡ outcome = cc in
+    record {
+      same = subst (Waits waiting) same h;
+      unlent = tt;
+      none = λ place. refl;
+      unrefused = refl;
+      untold = refl;
+    }
+frames_handed waiting [] final (event ∷ events) outcome h f = absurd f
+frames_handed waiting (frame ∷ frames) final [] outcome h f = absurd (cc)
+frames_handed waiting (frame ∷ frames) final (event ∷ events) outcome h f =
+    let more = frames_handed waiting frames final events outcome h f.1 in
+    subst (λ x. Handed waiting (x ∷ events) outcome) (sym f.0) (record {
+      same = more.same;
+      unlent = (refl, more.unlent);
+      none = more.none;
+      unrefused = more.unrefused;
+      untold = more.untold;
+    })
+
+pub finish_handed : {E : Type 0} (waiting : List Outstanding) (between : Outcome)
+    (events : List (Event E ⊥)) (outcome : Outcome) → Waits waiting between →
+    Follows (finish_input between) events outcome → Handed waiting events outcome
+finish_handed waiting (Goes w) events outcome h f =
+    frames_handed waiting w.channels.lines.written (goes_unless_ended (handed_on w)) events outcome
+    (goes_or_ends (Waits waiting) (handed_on w) w.disconnected h tt) f
+finish_handed waiting (Ends w) events outcome h f =
+    frames_handed waiting w.channels.lines.written (Ends (handed_on w)) events outcome tt f
+finish_handed waiting (Fails why) events outcome h f =
+    frames_handed waiting [] (Fails why) events outcome tt f
+
+-- ---- inputs that settle nothing
+
+-- behind what waited waits what is asked
+abbrev pub AsksSo : {E : Type 0} → World → InputKind → List (Event E ⊥) → Outcome → Type 0
+AsksSo w kind events outcome =
+    Waits (w.globals.outstanding ++ (asked_outside kind events ++ asked_within events)) outcome
+
+answered_so : {E : Type 0} (w v : World) (ticket : ℕ) (one : Command) (done_so : CommandOutcome)
+    (notices : List Notice) (events : List (Event E ⊥)) (outcome : Outcome) →
+    Asks w.globals.outstanding (asked_by one) (Does notices done_so v) →
+    Follows (Tell (Answered ticket done_so) (Finish (Goes v))) events outcome →
+    AsksSo w (input.Command ticket one) events outcome
+answered_so w v ticket one done_so notices [] outcome a f = absurd (cc)
+answered_so w v ticket one done_so notices (event ∷ other ∷ events) outcome a f = absurd f.1
+answered_so w v ticket one Accepted notices (event ∷ []) outcome a f =
+    let same : Goes v ≡ outcome = let e = f.1 in cc in
+    subst (λ x. AsksSo w (input.Command ticket one) (x ∷ []) outcome) (sym f.0)
+    (subst (Waits (w.globals.outstanding ++ (asked_by one ++ []))) same
+    (a.1 ∙ ap (λ l. w.globals.outstanding ++ l) (sym (append-nil (asked_by one)))))
+answered_so w v ticket one (Opened channel) notices (event ∷ []) outcome a f =
+    let same : Goes v ≡ outcome = let e = f.1 in cc in
+    subst (λ x. AsksSo w (input.Command ticket one) (x ∷ []) outcome) (sym f.0)
+    (subst (Waits (w.globals.outstanding ++ (asked_by one ++ []))) same
+    (a.1 ∙ ap (λ l. w.globals.outstanding ++ l) (sym (append-nil (asked_by one)))))
+answered_so w v ticket one (Refused why) notices (event ∷ []) outcome a f =
+    let same : Goes v ≡ outcome = let e = f.1 in cc in
+    subst (λ x. AsksSo w (input.Command ticket one) (x ∷ []) outcome) (sym f.0)
+    (subst (Waits (w.globals.outstanding ++ [])) same
+    (a.1 ∙ sym (append-nil w.globals.outstanding)))
+
+noticed_so : {E : Type 0} (w : World) (ticket : ℕ) (one : Command) (notices : List Notice)
+    (plan : Plan Outcome) (events : List (Event E ⊥)) (outcome : Outcome) →
+    Follows (tell_all (map Noticed notices) plan) events outcome →
+    ((rest : List (Event E ⊥)) → Follows plan rest outcome →
+    AsksSo w (input.Command ticket one) rest outcome) →
+    AsksSo w (input.Command ticket one) events outcome
+noticed_so w ticket one [] plan events outcome f k = k events f
+noticed_so w ticket one (notice ∷ notices) plan [] outcome f k = absurd (cc)
+noticed_so w ticket one (notice ∷ notices) plan (event ∷ events) outcome f k =
+    subst (λ x. AsksSo w (input.Command ticket one) (x ∷ events) outcome) (sym f.0)
+    (noticed_so w ticket one notices plan events outcome f.1 k)
+
+effect_so : {E : Type 0} (w : World) (ticket : ℕ) (one : Command) (does : Effect)
+    (events : List (Event E ⊥)) (outcome : Outcome) →
+    Asks w.globals.outstanding (asked_by one) does →
+    Follows (done does (λ done_so v. Tell (Answered ticket done_so) (Finish (Goes v)))) events
+    outcome → AsksSo w (input.Command ticket one) events outcome
+effect_so w ticket one (Does notices done_so v) events outcome a f =
+    noticed_so w ticket one notices (Tell (Answered ticket done_so) (Finish (Goes v))) events
+    outcome f (λ rest g. answered_so w v ticket one done_so notices rest outcome a g)
+
+tick_step : {E : Type 0} (w : World) (many : Bool) (events : List (Event E ⊥))
+    (outcome : Outcome) →
+    Follows (acts (if many then Stops Keepalive_timeout ∷ []
+    else Turns (λ v. said keepalive (ticked v)) ∷ []) w) events outcome →
+    AsksSo w input.KeepaliveTick events outcome
+tick_step w true [] outcome f =
+    let same : Fails Keepalive_timeout ≡ outcome = cc in
+    subst (Waits (w.globals.outstanding ++ Keepalive ∷ [])) same tt
+tick_step w true (event ∷ events) outcome f = absurd f
+tick_step w false [] outcome f =
+    let same : Goes (said keepalive (ticked w)) ≡ outcome = cc in
+    subst (Waits (w.globals.outstanding ++ Keepalive ∷ [])) same refl
+tick_step w false (event ∷ events) outcome f = absurd f
+
+-- ---- what an input settles
+
+-- such a plan tells of no reply, and what it asks waits behind what waited
+pub record IsPlain (E : Type 0) (w : World) (kind : InputKind) (plan : Plan Outcome) : Type 0 where
+  pub asks : (events : List (Event E ⊥)) (outcome : Outcome) → Follows plan events outcome
+      → AsksSo w kind events outcome
+  pub tells : TellsNone plan
+
+-- .. and such a one tells of a reply to the oldest, which waits no longer, and nothing else
+pub record IsSettling (w : World) (payload : List ℕ) (plan : Plan Outcome) : Type 0 where
+  pub v : World
+  pub note : Option Notice
+  pub first : Outstanding
+  pub later : List Outstanding
+  pub is : plan ≡ acts (notes note) v
+  pub waited : w.globals.outstanding ≡ first ∷ later
+  pub left : v.globals.outstanding ≡ later
+  pub says : flat_map replied_in (option_to_list note) ≡ with_notice first
+  pub reply : is_own_reply (input.Payload payload) ≡ true
+
+abbrev pub Settles : World → InputKind → Plan Outcome → Type 0
+Settles w (input.Payload payload) plan = IsSettling w payload plan
+Settles w _ plan = ⊥
+
+reply_or_not : (said : Said) →
+    SaysNoReply said ⊎ ((note : Option Notice) × (said ≡ Connection (spoken.Settles note)))
+reply_or_not (Connection (spoken.Settles note)) = inr (note, refl)
+reply_or_not (Connection _) = inl tt
+reply_or_not _ = inl tt
+
+settles_so : (w : World) (payload : List ℕ) (note : Option Notice) →
+    OfRead (BytesSay w payload) (Connection (spoken.Settles note)) → (moment : ℕ) →
+    IsSettling w payload (row w moment (Connection (spoken.Settles note)))
+settles_so w payload note q moment = record {
+  v = settled_first w;
+  note = note;
+  first = q.1.0;
+  later = q.1.1;
+  is = refl;
+  waited = q.1.2;
+  left = ap (drop 1) q.1.2;
+  says = q.1.3;
+  reply = q.0;
+}
+
+said_is : (E : Type 0) (w : World) (moment : ℕ) (payload : List ℕ) (said : Said) →
+    OfRead (BytesSay w payload) said →
+    SaysNoReply said ⊎ ((note : Option Notice) × (said ≡ Connection (spoken.Settles note))) →
+    IsPlain E w (input.Payload payload) (row w moment said)
+    ⊎ Settles w (input.Payload payload) (row w moment said)
+said_is E w moment payload said q (inl none) = inl (record {
+  asks = λ events outcome f. row_waits w moment said events outcome none f;
+  tells = row_tells w moment said none;
+})
+said_is E w moment payload said q (inr is) =
+    inr (subst (λ s. IsSettling w payload (row w moment s)) (sym is.1)
+    (settles_so w payload is.0 (subst (OfRead (BytesSay w payload)) is.1 q) moment))
+
+command_plain : (E : Type 0) (w : World) (ticket : ℕ) (one : Command) →
+    IsPlain E w (input.Command ticket one) (command_row w ticket one)
+command_plain E w ticket one = record {
+  asks = λ events outcome f. effect_so w ticket one (effect w one) events outcome
+      (effect_asks w one) f;
+  tells = command_tells w ticket one;
+}
+
+-- an answer to an open asks nothing
+either_none : (b : Bool) (P : List Outstanding → Type 0) →
+    P (if b then [] else []) → P []
+either_none true P h = h
+either_none false P h = h
+
+unasked_so : {E : Type 0} (w : World) (ticket : ℕ) (answer : OpenAnswer)
+    (events : List (Event E ⊥)) (outcome : Outcome) →
+    AsksSo w (input.Command ticket (command.Answer answer)) events outcome →
+    AsksSo w (input.OpenReply ticket answer) events outcome
+unasked_so w ticket answer events outcome h =
+    either_none (list_any is_refused events)
+    (λ l. Waits (w.globals.outstanding ++ (l ++ asked_within events)) outcome) h
+
+reply_plain : (E : Type 0) (w : World) (ticket : ℕ) (answer : OpenAnswer) →
+    IsPlain E w (input.OpenReply ticket answer) (command_row w ticket (command.Answer answer))
+reply_plain E w ticket answer = record {
+  asks = λ events outcome f. unasked_so w ticket answer events outcome
+      (effect_so w ticket (command.Answer answer) (effect w (command.Answer answer)) events outcome
+      (effect_asks w (command.Answer answer)) f);
+  tells = command_tells w ticket (command.Answer answer);
+}
+
+-- that the peer was heard changes nothing of what waits
+heard_is : (E : Type 0) (w : World) (payload : List ℕ) (plan : Plan Outcome) →
+    IsPlain E (hears payload w) (input.Payload payload) plan
+    ⊎ IsSettling (hears payload w) payload plan →
+    IsPlain E w (input.Payload payload) plan ⊎ IsSettling w payload plan
+heard_is E w payload plan (inl h) = inl (record { asks = h.asks; tells = h.tells })
+heard_is E w payload plan (inr h) = inr (record {
+  v = h.v;
+  note = h.note;
+  first = h.first;
+  later = h.later;
+  is = h.is;
+  waited = h.waited;
+  left = h.left;
+  says = h.says;
+  reply = h.reply;
+})
+
+pub kind_is : (E : Type 0) (accepts : Acceptance) (w : World) (moment : ℕ) (kind : InputKind)
+    (plan : Plan Outcome) → OwesKind accepts w moment kind plan →
+    IsPlain E w kind plan ⊎ Settles w kind plan
+kind_is E accepts w moment input.End plan o = inl (record {
+  asks = λ events outcome f. calling_waits (Is_over ∷ []) w events outcome tt
+      (subst (λ p. Follows p events outcome) o f);
+  tells = subst TellsNone (sym o) tt;
+})
+kind_is E accepts w moment (input.Payload payload) plan o =
+    let v = hears payload w in
+    let said = o.0 in
+    let is = said_is E v moment payload said
+    (payload_says (circumstances accepts v.settings moment) v payload said o.1)
+    (reply_or_not said) in
+    subst (λ p. IsPlain E w (input.Payload payload) p ⊎ IsSettling w payload p) (sym o.2)
+    (heard_is E w payload (row v moment said) is)
+kind_is E accepts w moment (input.Command ticket one) plan o =
+    inl (subst (IsPlain E w (input.Command ticket one)) (sym o) (command_plain E w ticket one))
+kind_is E accepts w moment (input.OpenReply ticket answer) plan o =
+    inl (subst (IsPlain E w (input.OpenReply ticket answer)) (sym o)
+    (reply_plain E w ticket answer))
+kind_is E accepts w moment input.KeepaliveTick plan o =
+    inl (subst (IsPlain E w input.KeepaliveTick) (sym o) (record {
+      asks = λ events outcome f. tick_step w
+          (is_too_many w.settings.config (one_more w.keepalives)) events outcome f;
+      tells = tick_tells w;
+    }))
+kind_is E accepts w moment input.InactivityTick plan o = inl (record {
+  asks = λ events outcome f. calling_waits inactivity_acts w events outcome tt
+      (subst (λ p. Follows p events outcome) o f);
+  tells = subst TellsNone (sym o) tt;
+})
+kind_is E accepts w moment input.RekeyTick plan o = inl (record {
+  asks = λ events outcome f. calling_waits (Stops Not_built ∷ []) w events outcome tt
+      (subst (λ p. Follows p events outcome) o f);
+  tells = subst TellsNone (sym o) tt;
+})

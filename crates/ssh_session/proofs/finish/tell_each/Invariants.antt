@@ -1,0 +1,13 @@
+use Rattle.std.proofs.Common.{◌≡◌, ◌++◌, ◌+◌, List, Ok, length}
+use Rattle.ssh_link.specs.declared.link.TraceEntry.TheVariants.{Noticed}
+use Rattle.ssh_link.specs.declared.notice.Notice.{Notice}
+use Rattle.ssh_session.specs.Heard.{AreSame}
+use Rattle.ssh_session.specs.Serve.{TellsEach}
+use Rattle.ssh_session.proofs.finish.tell_each.Given as goal
+
+abbrev pub invariant-loop-told : goal.invariant-loop-told
+invariant-loop-told g l = (told : List Notice)
+    × (told ++ l.notices.items ≡ l.fn.notices.items)
+    × (l._told + length l.notices.items ≡ length l.fn.notices.items)
+    × TellsEach Noticed told (g.O.Outside.heard l.fn.outside) (g.O.Outside.heard l.outside) (Ok tt)
+    × AreSame (g.O.Outside.heard l.fn.outside) (g.O.Outside.heard l.outside)

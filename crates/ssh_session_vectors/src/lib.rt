@@ -1,0 +1,20 @@
+//! Worked examples of sessions, as tests: sessions that are driven input by input and by commands
+//! between inputs, runs over links and handlers that fail, and what is told of callbacks.
+#![tactic(auto)]
+
+#[cfg(test)]
+mod callbacks;
+#[cfg(test)]
+mod deciding;
+#[cfg(test)]
+mod globals;
+#[cfg(test)]
+mod handlers;
+#[cfg(test)]
+mod runs;
+#[cfg(test)]
+mod sessions;
+#[cfg(test)]
+mod taking;
+#[cfg(test)]
+mod wishes;
