@@ -13,7 +13,9 @@ use ssh_link::Frame;
 use ssh_wire::ChannelId;
 
 impl Encrypted {
-    /// `insert`, and `stage` of this frame: both, or neither.
+    /// `insert`, and `stage` of this frame: both, or neither, so that the peer is told of a channel
+    /// exactly where it is there. `Inconsistent`: the peer's packet size is 0. `NoMemory`: there was
+    /// none for the frame or the entry. Either leaves the table as it was.
     pub fn insert_with(&mut self, params: ChannelParams, frame: Frame) -> Result<bool, TableError>
         ensures answer { IfOk result (λ r. r
             ≡ not (table.is_live params.sender_channel.0 self.old)) }
@@ -35,7 +37,8 @@ impl Encrypted {
     }
 
     /// `new_channel`, and `stage` of this frame: both, or neither. The number is that which
-    /// `next_channel_id` told.
+    /// `next_channel_id` told. `Full`: all numbers are taken. `NoMemory`: there was none for the
+    /// frame or the entry. Either leaves the table as it was.
     pub fn new_channel_with(
         &mut self,
         window_size: u32,
