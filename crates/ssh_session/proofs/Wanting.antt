@@ -2,7 +2,7 @@
 -- section 5.4).
 use Rattle.std.proofs.Common.{◌≡◌, ◌==◌, ◌&&◌, ℕ, List, [], ◌∷◌, ◌++◌, Bool, true}
 use Rattle.std.proofs.Common.{false, not, cond, Option, Some, None, Result, Ok, Err, get_or}
-use Rattle.std.proofs.Common.{drop, refl, sym, ◌∙◌, ap, subst, inl, inr}
+use Rattle.std.proofs.Common.{arith, drop, refl, sym, ◌∙◌, ap, subst, inl, inr}
 use Rattle.std.specs.Prelude.{if◌then◌else◌, ◌||◌, ◌⊎◌, bytes_eq, find, flat_map, option_to_list}
 use Rattle.std.proofs.lemmas.Bool.{eqb-true}
 use Rattle.std.proofs.lemmas.Nat.{from_be_bytes-to_be_bytes_4}
@@ -37,7 +37,7 @@ use Rattle.ssh_session.specs.ChannelRequests.{exec, subsystem, window_change, si
 use Rattle.ssh_session.specs.Gate.{gate_of, state_gate, authentication_gate, connection_gate}
 use Rattle.ssh_session.specs.Gate.{is_over_cap, of_connection}
 use Rattle.ssh_session.specs.Globals.{KnownGlobal, globally_asked_by, global_named}
-use Rattle.ssh_session.specs.Globals.{oldest, success, failure, denied, says_so, Globally, Listens}
+use Rattle.ssh_session.specs.Globals.{oldest, success, denial, denied, says_so, Globally, Listens}
 use Rattle.ssh_session.specs.Globals.{port_told}
 use Rattle.ssh_session.specs.InOrder.{is_own_reply, replied_in, with_notice}
 use Rattle.ssh_session.specs.Globals.{Judges}
@@ -293,23 +293,20 @@ message_says so w message.RequestSuccess fields read q g s h =
     read_says so (success (oldest w.globals.outstanding)) fields read
     (success_say so w.globals.outstanding (s (inl refl))) h
 message_says so w message.RequestFailure fields read q g s h =
-    read_says so (failure (oldest w.globals.outstanding)) fields read
+    read_says so (denial (oldest w.globals.outstanding)) fields read
     (λ values. denied_say so w.globals.outstanding (s (inr refl))) h
 message_says so w message.OpenFailure fields read q g s h =
     read_says so (message_layout w message.OpenFailure) fields read
     (λ channel code texts. tt) h
-message_says so w message.WindowAdjust fields read q g s h =
-    read_says so (message_layout w message.WindowAdjust) fields read (λ values. tt) h
 message_says so w message.Data fields read q g s h =
     read_says so (message_layout w message.Data) fields read
     (λ channel. data_say so (is_there w channel.0) channel.0) h
 message_says so w message.ExtendedData fields read q g s h =
     read_says so (message_layout w message.ExtendedData) fields read
     (λ channel. extended_say so (is_there w channel.0) channel.0) h
-message_says so w message.Eof fields read q g s h =
-    read_says so (message_layout w message.Eof) fields read (λ values. tt) h
-message_says so w message.Close fields read q g s h =
-    read_says so (message_layout w message.Close) fields read (λ values. tt) h
+-- of the others, which are read whole, nothing is claimed
+message_says so w m fields read q g s h =
+    read_says so (message_layout w m) fields read (λ values. tt) h
 
 -- ---- gates
 
@@ -327,19 +324,28 @@ picked : {A : Type 0} (b : Bool) (P : A → Type 0) (at other : A) → (b ≡ tr
 picked true P at other h k = h refl
 picked false P at other h k = k
 
+request_numbered : (n : ℕ) → connection_message n ≡ Some message.Request → n ≡ 98
+request_numbered n is = grind (arith, eqb-true)
+
+global_numbered : (n : ℕ) → connection_message n ≡ Some message.GlobalRequest → n ≡ 80
+global_numbered n is = grind (arith, eqb-true)
+
+success_numbered : (n : ℕ) → connection_message n ≡ Some message.RequestSuccess → n ≡ 81
+success_numbered n is = grind (arith, eqb-true)
+
+failure_numbered : (n : ℕ) → connection_message n ≡ Some message.RequestFailure → n ≡ 82
+failure_numbered n is = grind (arith, eqb-true)
+
+numbered : (n : ℕ) (found : Option ConnectionMessage) → connection_message n ≡ found →
+    NumbersRequest n (of_connection found)
+numbered n (Some message.Request) is = request_numbered n is
+numbered n (Some message.GlobalRequest) is = global_numbered n is
+numbered n (Some message.RequestSuccess) is = success_numbered n is
+numbered n (Some message.RequestFailure) is = failure_numbered n is
+numbered n _ is = tt
+
 message_numbers : (n : ℕ) → NumbersRequest n (of_connection (connection_message n))
-message_numbers n =
-    let P : Option ConnectionMessage → Type 0 = λ o. NumbersRequest n (of_connection o) in
-    picked (n == 80) P (Some message.GlobalRequest) _ (eqb-true n 80)
-    (picked (n == 81) P (Some message.RequestSuccess) _ (eqb-true n 81)
-    (picked (n == 82) P (Some message.RequestFailure) _ (eqb-true n 82)
-    (picked (n == 92) P (Some message.OpenFailure) _ (λ is. tt)
-    (picked (n == 93) P (Some message.WindowAdjust) _ (λ is. tt)
-    (picked (n == 94) P (Some message.Data) _ (λ is. tt)
-    (picked (n == 95) P (Some message.ExtendedData) _ (λ is. tt)
-    (picked (n == 96) P (Some message.Eof) _ (λ is. tt)
-    (picked (n == 97) P (Some message.Close) _ (λ is. tt)
-    (picked (n == 98) P (Some message.Request) None (eqb-true n 98) tt)))))))))
+message_numbers n = numbered n (connection_message n) refl
 
 connection_numbers : (n : ℕ) → NumbersRequest n (connection_gate n)
 connection_numbers n =

@@ -41,7 +41,7 @@ pub record Applies (command : Command) (before after : Session)
   pub does : (w : World) → Refines before w → IfOk result (Applied (effect w command) before after)
   pub memory : IfErr result (λ e. e ≡ NoMemory)
   pub unchanged : OnErr result (IsUnchanged before after × (untold after ≡ untold before))
-  pub peer : IsSameSession before after
+  pub session : IsSameSession before after
 
 abbrev pub is_accepted : CommandOutcome → Bool
 is_accepted Accepted = true
@@ -54,7 +54,7 @@ pub record AppliesData (command : Command) (before after : Session)
       × (accepted ≡ is_accepted outcome) × Applied (effect w command) before after outcome)
   pub memory : IfErr result (λ e. e ≡ NoMemory)
   pub unchanged : OnErr result (IsUnchanged before after × (untold after ≡ untold before))
-  pub peer : IsSameSession before after
+  pub session : IsSameSession before after
 
 -- an input owes its row, unless a command ended the connection since the last one: then the frames
 -- that were written are handed on and the run is over, whatever the input is (RFC 4253 section

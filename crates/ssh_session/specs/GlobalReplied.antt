@@ -11,11 +11,13 @@ use Rattle.ssh_session.specs.Answered.{how_many, sends}
 use Rattle.ssh_session.specs.Replied.{events_of}
 use Rattle.ssh_session.specs.Run.{Turn}
 
--- a frame that replies to a global request: REQUEST_SUCCESS is 81, REQUEST_FAILURE 82 (section 4)
+-- a payload that replies to a global request: REQUEST_SUCCESS is 81, REQUEST_FAILURE 82 (section 4)
+abbrev pub replies_globally : (payload : List ℕ) → Bool
+replies_globally payload = (message_of payload == request_success.number)
+    || (message_of payload == request_failure.number)
+
 abbrev pub is_global_reply : Frame → Bool
-is_global_reply frame =
-    (message_of frame.payload == request_success.number)
-    || (message_of frame.payload == request_failure.number)
+is_global_reply frame = replies_globally frame.payload
 
 -- of the bytes behind a request's number: string request name, boolean want reply; a boolean is
 -- false exactly at 0 (RFC 4251 section 5), and one that is not there wants none

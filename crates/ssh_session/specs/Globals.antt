@@ -111,5 +111,5 @@ denied (Some (Ping slot)) = spoken.Settles (Some (notice.Pong slot))
 denied (Some (Cancel slot)) = spoken.Settles (Some (notice.Cancelled slot false))
 denied (Some (Forward slot)) = spoken.Settles (Some (notice.Forwarded slot None))
 
-abbrev pub failure : Option Outstanding → Layout Spoken
-failure first = Whole [] (λ _. denied first)
+abbrev pub denial : Option Outstanding → Layout Spoken
+denial first = Whole [] (λ _. denied first)

@@ -1,9 +1,8 @@
 -- Replies to this side's global requests are taken in the order of the requests: first in, first
 -- out (RFC 4254 section 4).
-use Rattle.std.specs.Prelude.{◌≡◌, ◌≤◌, ◌+◌, ◌==◌, ◌||◌, ℕ, List, [], ◌∷◌, ◌++◌, length, flat_map}
+use Rattle.std.specs.Prelude.{◌≡◌, ◌≤◌, ◌+◌, ◌==◌, ℕ, List, [], ◌∷◌, ◌++◌, length, flat_map}
 use Rattle.std.specs.Prelude.{Bool, true, false, if◌then◌else◌, option_to_list}
 use Rattle.std.specs.List.{list_any}
-use Rattle.ssh_wire.specs.Messages.{request_success, request_failure}
 use Rattle.ssh_link.specs.declared.command.Command.{Command}
 use Rattle.ssh_link.specs.declared.command.Command.TheVariants as command
 use Rattle.ssh_link.specs.declared.frame.InputKind.{InputKind}
@@ -16,10 +15,10 @@ use Rattle.ssh_link.specs.declared.outcome.CommandOutcome.TheVariants.{Refused}
 use Rattle.ssh_auth.specs.Plan.{Event, Called, Told}
 use Rattle.ssh_auth.specs.Publickey.{Acceptance}
 use Rattle.ssh_auth.specs.Was.{Was, Done_so, was}
-use Rattle.ssh_channels.specs.Sent.{message_of}
 use Rattle.ssh_session.specs.declared.outstanding.Outstanding.{Outstanding}
 use Rattle.ssh_session.specs.declared.outstanding.Outstanding.TheVariants as outstanding
 use Rattle.ssh_session.specs.Answered.{how_many}
+use Rattle.ssh_session.specs.GlobalReplied.{replies_globally}
 use Rattle.ssh_session.specs.OwnMessages.{awaited_by}
 use Rattle.ssh_session.specs.Replied.{events_of}
 use Rattle.ssh_session.specs.Run.{Turn, Run}
@@ -107,11 +106,9 @@ abbrev pub with_notice : Outstanding → List Outstanding
 with_notice outstanding.Keepalive = []
 with_notice request = request ∷ []
 
--- REQUEST_SUCCESS is 81, REQUEST_FAILURE 82 (section 4)
+-- the peer replies to a request of this side
 abbrev pub is_own_reply : InputKind → Bool
-is_own_reply (input.Payload payload) =
-    (message_of payload == request_success.number)
-    || (message_of payload == request_failure.number)
+is_own_reply (input.Payload payload) = replies_globally payload
 is_own_reply _ = false
 
 abbrev pub replies_to_own : {E : Type 0} → Turn E → Bool

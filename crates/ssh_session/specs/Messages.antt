@@ -17,8 +17,7 @@ use Rattle.ssh_session.specs.declared.messages.ConnectionMessage.TheVariants as 
 use Rattle.ssh_session.specs.declared.messages.Spoken.{Spoken}
 use Rattle.ssh_session.specs.declared.messages.Spoken.TheVariants as spoken
 use Rattle.ssh_session.specs.ChannelRequests.{request_named, asked_by}
-use Rattle.ssh_session.specs.Globals.{asks_globally, oldest, success}
-use Rattle.ssh_session.specs.Globals as globals
+use Rattle.ssh_session.specs.Globals.{asks_globally, oldest, success, denial}
 use Rattle.ssh_session.specs.Opens.{own}
 use Rattle.ssh_session.specs.Spelling.{Layout, Leaves, Whole, Fields}
 use Rattle.ssh_session.specs.World.{World, is_there}
@@ -98,7 +97,7 @@ request is_there = Fields channel_request.fields (λ (channel, (name, (wanted, _
 abbrev pub message_layout : World → ConnectionMessage → Layout Spoken
 message_layout w message.GlobalRequest = asks_globally
 message_layout w message.RequestSuccess = success (oldest w.globals.outstanding)
-message_layout w message.RequestFailure = globals.failure (oldest w.globals.outstanding)
+message_layout w message.RequestFailure = denial (oldest w.globals.outstanding)
 message_layout w message.OpenFailure = failure
 message_layout w message.WindowAdjust = grant
 message_layout w message.Data = plain_data (is_there w)

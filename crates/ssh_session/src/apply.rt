@@ -66,7 +66,7 @@ impl Session {
         ensures does { (w : World) → Refines self.old w →
             HasEffect (effect w command) self.new result }
         ensures unchanged { OnErr result (IsUnchanged self.old self.new) }
-        ensures peer { IsSameSession self.old self.new }
+        ensures session { IsSameSession self.old self.new }
     {
         match self.refused_for(&command) {
             Some(why) => {
@@ -151,7 +151,7 @@ impl Session {
         ensures does { (w : World) → Refines self.old w →
             HasEffect (done_by w command) self.new result }
         ensures unchanged { OnErr result (IsUnchanged self.old self.new) }
-        ensures peer { IsSameSession self.old self.new }
+        ensures session { IsSameSession self.old self.new }
     {
         match command {
             Command::Data { channel, bytes } => {
@@ -205,7 +205,7 @@ impl Session {
         ensures does { (w : World) → Refines self.old w →
             HasEffect (done_apart w command.now) self.new result }
         ensures unchanged { OnErr result (IsUnchanged self.old self.new) }
-        ensures peer { IsSameSession self.old self.new }
+        ensures session { IsSameSession self.old self.new }
     {
         match command {
             Command::TcpipForward {
@@ -241,7 +241,7 @@ impl Session {
         ensures does { (w : World) → Refines self.old w →
             HasEffect (answers answer (opening_of answer.channel.0 w) w) self.new result }
         ensures unchanged { OnErr result (IsUnchanged self.old self.new) }
-        ensures peer { IsSameSession self.old self.new }
+        ensures session { IsSameSession self.old self.new }
     {
         let OpenAnswer {
             channel,
@@ -262,7 +262,7 @@ impl Session {
         ensures does { (w : World) → Refines self.old w →
             HasEffect (confirms number.0 said w) self.new result }
         ensures unchanged { OnErr result (IsUnchanged self.old self.new) }
-        ensures peer { IsSameSession self.old self.new }
+        ensures session { IsSameSession self.old self.new }
     {
         let room = self.common.config.window_size;
         let own_packet = self.common.config.maximum_packet_size;
@@ -299,7 +299,7 @@ impl Session {
         ensures does { (w : World) → Refines self.old w →
             HasEffect (fails_open number.0 (failure_of said reason texts) w) self.new result }
         ensures unchanged { OnErr result (IsUnchanged self.old self.new) }
-        ensures peer { IsSameSession self.old self.new }
+        ensures session { IsSameSession self.old self.new }
     {
         match texts {
             Some((description, language)) => {
@@ -327,7 +327,7 @@ impl Session {
             HasEffect (fails_open number.0 (open_failure said.peer (open_failure_code reason)
             description.now language.now) w) self.new result }
         ensures unchanged { OnErr result (IsUnchanged self.old self.new) }
-        ensures peer { IsSameSession self.old self.new }
+        ensures session { IsSameSession self.old self.new }
     {
         let alloc = self.alloc;
         match failure_frame(alloc, number, said.peer, reason, description, language) {

@@ -54,7 +54,7 @@ impl Session {
         ensures memory { IfErr result (λ e. e ≡ NoMemory) }
         ensures unchanged { OnErr result (IsUnchanged self.old self.new) }
         ensures kept { OnErr result (notices.new.items ≡ notices.old.items) }
-        ensures peer { IsSameSession self.old self.new }
+        ensures session { IsSameSession self.old self.new }
     {
         notices.reserve(1)?;
         match self.carry_out::<()>(command) {
@@ -70,7 +70,7 @@ impl Session {
     pub(crate) fn take_untold(&mut self) -> VecDeque<Notice>
         ensures notices { result.items ≡ untold self.old }
         ensures unchanged { IsUnchanged self.old self.new }
-        ensures peer { IsSameSession self.old self.new }
+        ensures session { IsSameSession self.old self.new }
     {
         mem::replace(&mut self.untold, VecDeque::new(self.alloc))
     }
@@ -79,7 +79,7 @@ impl Session {
     pub(crate) fn keep_untold(&mut self, notices: VecDeque<Notice>)
         ensures notices { untold self.new ≡ notices.items }
         ensures unchanged { IsUnchanged self.old self.new }
-        ensures peer { IsSameSession self.old self.new }
+        ensures session { IsSameSession self.old self.new }
         ensures spent { is_spent self.new ≡ is_spent self.old }
     {
         self.untold = notices;

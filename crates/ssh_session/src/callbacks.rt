@@ -111,7 +111,7 @@ impl Session {
         requires suits { IsSuited O.suits self.old }
         ensures does { (w : World) → Refines self.old w →
             Does (Calls lent ∷ []) w (O.heard outside.old) (O.heard outside.new) self.new result }
-        ensures peer { IsSameSession self.old self.new }
+        ensures session { IsSameSession self.old self.new }
         ensures same { AreSame (O.heard outside.old) (O.heard outside.new) }
     {
         match self.put(outside, lent) {
@@ -132,7 +132,7 @@ impl Session {
             Serves (Ask (Judges judged) (λ judgement. done_all 0 judgement.commands w
             (next judgement.granted))) next (O.heard outside.old) (O.heard outside.new) self.new
             result }
-        ensures peer { IsSameSession self.old self.new }
+        ensures session { IsSameSession self.old self.new }
         ensures same { AreSame (O.heard outside.old) (O.heard outside.new) }
     {
         match self.put_judged(outside, judged) {
@@ -159,7 +159,7 @@ impl Session {
             (next listening.granted listening.port)))
             (λ given. next given.0 given.1) (O.heard outside.old) (O.heard outside.new) self.new
             result }
-        ensures peer { IsSameSession self.old self.new }
+        ensures session { IsSameSession self.old self.new }
         ensures same { AreSame (O.heard outside.old) (O.heard outside.new) }
     {
         match self.put_listening(outside, address, port) {
@@ -183,7 +183,7 @@ impl Session {
         ensures does { (w : World) → Refines self.old w →
             Does (told channel message happening) w (O.heard outside.old) (O.heard outside.new)
             self.new result }
-        ensures peer { IsSameSession self.old self.new }
+        ensures session { IsSameSession self.old self.new }
         ensures same { AreSame (O.heard outside.old) (O.heard outside.new) }
     {
         self.note(outside, Notice::Channel(channel, message))?;
@@ -200,7 +200,7 @@ impl Session {
         ensures does { (w : World) → Refines self.old w →
             Does (Adjusts_by channel current aims ∷ []) w (O.heard outside.old)
             (O.heard outside.new) self.new result }
-        ensures peer { IsSameSession self.old self.new }
+        ensures session { IsSameSession self.old self.new }
         ensures same { AreSame (O.heard outside.old) (O.heard outside.new) }
     {
         match outside.adjust_window(channel, current) {
@@ -215,7 +215,7 @@ impl Session {
     /// Windows are filled up to so many bytes from now on; 0 leaves them as they are.
     fn aim_at(&mut self, window: u32)
         ensures world { (w : World) → Refines self.old w → Refines self.new (aims window w) }
-        ensures peer { IsSameSession self.old self.new }
+        ensures session { IsSameSession self.old self.new }
     {
         if window != 0 {
             self.target = window;

@@ -31,7 +31,7 @@ impl Session {
             Refines self.new (writes (frame ∷ []) w)) }
         ensures memory { IfErr result (λ e. e ≡ NoMemory) }
         ensures unchanged { OnErr result (IsUnchanged self.old self.new) }
-        ensures peer { IsSameSession self.old self.new }
+        ensures session { IsSameSession self.old self.new }
     {
         self.table.stage(frame)
     }
@@ -48,7 +48,7 @@ impl Session {
         ensures world { OnOk result ((w : World) → Refines self.old w →
             Refines self.new (lined (takes_grant channel.0 amount) w)) }
         ensures memory { IfErr result (λ e. e ≡ NoMemory) }
-        ensures peer { IsSameSession self.old self.new }
+        ensures session { IsSameSession self.old self.new }
     {
         self.table.grant(channel, amount, false)
     }
@@ -66,7 +66,7 @@ impl Session {
         ensures world { OnOk result ((w : World) → Refines self.old w →
             Refines self.new (lined (takes_in channel.0 (length bytes.now) w.channels.target) w)) }
         ensures memory { IfErr result (λ e. e ≡ NoMemory) }
-        ensures peer { IsSameSession self.old self.new }
+        ensures session { IsSameSession self.old self.new }
     {
         self.table
             .adjust_window_size(channel, bytes.as_slice(), self.target)
@@ -79,7 +79,7 @@ impl Session {
         ensures world { OnOk result ((w : World) → Refines self.old w →
             Refines self.new (lined (peer_closes channel.0) w)) }
         ensures memory { IfErr result (λ e. e ≡ NoMemory) }
-        ensures peer { IsSameSession self.old self.new }
+        ensures session { IsSameSession self.old self.new }
     {
         self.table.peer_close(channel)
     }
@@ -88,7 +88,7 @@ impl Session {
     pub(crate) fn want_reply(&mut self, channel: ChannelId, wanted: bool)
         ensures world { (w : World) → Refines self.old w →
             Refines self.new (lined (wants channel.0 wanted) w) }
-        ensures peer { IsSameSession self.old self.new }
+        ensures session { IsSameSession self.old self.new }
     {
         let _is_there = self.table.set_wants_reply(channel, wanted);
     }
@@ -107,7 +107,7 @@ impl Session {
             Refines self.new (unless_ended (lined (goes_on channel.0)) w)) }
         ensures unchanged { OnErr result (self.new ≡ self.old) }
         ensures memory { IfErr result (λ e. e ≡ NoMemory) }
-        ensures peer { IsSameSession self.old self.new }
+        ensures session { IsSameSession self.old self.new }
     {
         if self.common.disconnected {
             return Ok(0);

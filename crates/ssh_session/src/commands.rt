@@ -42,7 +42,7 @@ impl Session {
         ensures does { (w : World) → Refines self.old w → (next : World → Plan Outcome) →
             Serves (done_all 0 commands w next) (λ _. next) (O.heard outside.old)
             (O.heard outside.new) self.new result }
-        ensures peer { IsSameSession self.old self.new }
+        ensures session { IsSameSession self.old self.new }
         ensures same { AreSame (O.heard outside.old) (O.heard outside.new) }
     {
         for place in 0..commands.len() {
@@ -68,7 +68,7 @@ impl Session {
             Serves (done_all place (command ∷ later) w next)
             (λ _ world. done_all (place + 1) later world next)
             (O.heard outside.old) (O.heard outside.new) self.new result }
-        ensures peer { IsSameSession self.old self.new }
+        ensures session { IsSameSession self.old self.new }
         ensures same { AreSame (O.heard outside.old) (O.heard outside.new) }
     {
         let Done { notice, outcome } = self.carry_out(command)?;

@@ -56,7 +56,7 @@ impl Session {
     fn want_global(&mut self, wanted: bool)
         ensures world { (w : World) → Refines self.old w →
             Refines self.new (wants_global wanted w) }
-        ensures peer { IsSameSession self.old self.new }
+        ensures session { IsSameSession self.old self.new }
     {
         self.common.wants_reply = wanted;
     }
@@ -67,7 +67,7 @@ impl Session {
             Refines self.new (settles_global (global_reply granted port) w)) }
         ensures memory { IfErr result (λ e. e ≡ NoMemory) }
         ensures unchanged { OnErr result (IsUnchanged self.old self.new) }
-        ensures peer { IsSameSession self.old self.new }
+        ensures session { IsSameSession self.old self.new }
     {
         if !self.common.wants_reply {
             return Ok(());
@@ -86,7 +86,7 @@ impl Session {
         ensures world { OnOk result ((w : World) → Refines self.old w →
             Refines self.new (unless_ended (settles_global (global_reply granted port)) w)) }
         ensures memory { IfErr result (λ e. e ≡ NoMemory) }
-        ensures peer { IsSameSession self.old self.new }
+        ensures session { IsSameSession self.old self.new }
     {
         if self.common.disconnected {
             return Ok(());
@@ -99,7 +99,7 @@ impl Session {
         ensures does { (w : World) → Refines self.old w →
             HasEffect (accepts (settles_global (global_reply granted None) w)) self.new result }
         ensures unchanged { OnErr result (IsUnchanged self.old self.new) }
-        ensures peer { IsSameSession self.old self.new }
+        ensures session { IsSameSession self.old self.new }
     {
         self.settle_global(granted, None)?;
         Ok(Done::accepted())
@@ -146,7 +146,7 @@ impl Session {
     pub(crate) fn asked_globally_unknown<E>(&mut self, wanted: bool) -> Result<(), RunError<E>>
         ensures does { (w : World) → Refines self.old w →
             Turned (spoken_acts w (AsksGloballyUnknown wanted)) w self.new result }
-        ensures peer { IsSameSession self.old self.new }
+        ensures session { IsSameSession self.old self.new }
     {
         self.want_global(wanted);
         self.settle_global(false, None)
@@ -170,7 +170,7 @@ impl Session {
     /// The oldest one waits no longer.
     fn settle_first(&mut self)
         ensures world { (w : World) → Refines self.old w → Refines self.new (settled_first w) }
-        ensures peer { IsSameSession self.old self.new }
+        ensures session { IsSameSession self.old self.new }
     {
         let _settled = self.outstanding.pop_front();
     }

@@ -154,7 +154,7 @@ impl Session {
         ensures full { (w : World) → Refines self.old w → IsErrOf result TableError.Full →
             next_number w.channels.lines ≡ None }
         ensures errors { IfErr result (λ e. (e ≡ NoMemory) ⊎ (e ≡ TableError.Full)) }
-        ensures peer { IsSameSession self.old self.new }
+        ensures session { IsSameSession self.old self.new }
     {
         let number = self.table.new_channel_id()?;
         self.opens.insert(number.0, said)?;

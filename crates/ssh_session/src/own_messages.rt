@@ -137,7 +137,7 @@ impl Session {
         ensures does { (w : World) → Refines self.old w →
             HasEffect (sends (own.forward address.now port slot) w) self.new result }
         ensures unchanged { OnErr result (IsUnchanged self.old self.new) }
-        ensures peer { IsSameSession self.old self.new }
+        ensures session { IsSameSession self.old self.new }
     {
         let alloc = self.alloc;
         let payload = address_payload(alloc, "tcpip-forward", address, port, slot.is_some());
@@ -154,7 +154,7 @@ impl Session {
         ensures does { (w : World) → Refines self.old w →
             HasEffect (sends (own.cancel address.now port slot) w) self.new result }
         ensures unchanged { OnErr result (IsUnchanged self.old self.new) }
-        ensures peer { IsSameSession self.old self.new }
+        ensures session { IsSameSession self.old self.new }
     {
         let alloc = self.alloc;
         let name = "cancel-tcpip-forward";
@@ -167,7 +167,7 @@ impl Session {
         ensures does { (w : World) → Refines self.old w →
             HasEffect (sends (own.alive awaited) w) self.new result }
         ensures unchanged { OnErr result (IsUnchanged self.old self.new) }
-        ensures peer { IsSameSession self.old self.new }
+        ensures session { IsSameSession self.old self.new }
     {
         let payload = keepalive_payload(self.alloc);
         self.send(payload, Some(awaited), false)
@@ -183,7 +183,7 @@ impl Session {
         ensures does { (w : World) → Refines self.old w →
             HasEffect (sends (own.debug always text.now language.now) w) self.new result }
         ensures unchanged { OnErr result (IsUnchanged self.old self.new) }
-        ensures peer { IsSameSession self.old self.new }
+        ensures session { IsSameSession self.old self.new }
     {
         let payload = debug_payload(self.alloc, always, text, language);
         self.send(payload, None, false)
@@ -200,7 +200,7 @@ impl Session {
             HasEffect (sends (own.disconnect reason description.now language.now) w) self.new
             result }
         ensures unchanged { OnErr result (IsUnchanged self.old self.new) }
-        ensures peer { IsSameSession self.old self.new }
+        ensures session { IsSameSession self.old self.new }
     {
         let payload = disconnect_payload(self.alloc, reason, description, language);
         self.send(payload, None, true)
@@ -219,7 +219,7 @@ impl Session {
             message.ends ≡ ends → (w : World) → Refines self.old w →
             HasEffect (sends message w) self.new result }
         ensures unchanged { OnErr result (IsUnchanged self.old self.new) }
-        ensures peer { IsSameSession self.old self.new }
+        ensures session { IsSameSession self.old self.new }
     {
         match payload {
             Ok(payload) => {
@@ -243,7 +243,7 @@ impl Session {
             (said (record { payload = payload.items; awaited = awaited; ends = ends }) w)) }
         ensures memory { IfErr result (λ e. e ≡ error.NoMemory) }
         ensures unchanged { OnErr result (IsUnchanged self.old self.new) }
-        ensures peer { IsSameSession self.old self.new }
+        ensures session { IsSameSession self.old self.new }
     {
         let frame = frame_at_once(payload)?;
         self.outstanding.reserve(1)?;
@@ -258,7 +258,7 @@ impl Session {
     fn await_reply(&mut self, awaited: Option<Outstanding>)
         requires room { deque_len self.old.outstanding < deque_capacity self.old.outstanding }
         ensures world { (w : World) → Refines self.old w → Refines self.new (awaits awaited w) }
-        ensures peer { IsSameSession self.old self.new }
+        ensures session { IsSameSession self.old self.new }
     {
         if let Some(request) = awaited {
             self.outstanding.push_back_reserved(request);
@@ -268,7 +268,7 @@ impl Session {
     /// The connection is ended, or stays as it is.
     fn end_by(&mut self, ends: bool)
         ensures world { (w : World) → Refines self.old w → Refines self.new (ends_by ends w) }
-        ensures peer { IsSameSession self.old self.new }
+        ensures session { IsSameSession self.old self.new }
     {
         self.common.disconnected = self.common.disconnected || ends;
     }

@@ -172,7 +172,7 @@ impl Session {
         ensures does { (w : World) → Refines self.old w →
             HasEffect (opens_or_not (asking command.now) w) self.new result }
         ensures unchanged { OnErr result (IsUnchanged self.old self.new) }
-        ensures peer { IsSameSession self.old self.new }
+        ensures session { IsSameSession self.old self.new }
     {
         let Some(name) = type_name(command) else {
             return Ok(Done::accepted());
@@ -190,7 +190,7 @@ impl Session {
         ensures does { (w : World) → Refines self.old w →
             HasEffect (opens (record { name = name.now; fields = fields.now }) w) self.new result }
         ensures unchanged { OnErr result (IsUnchanged self.old self.new) }
-        ensures peer { IsSameSession self.old self.new }
+        ensures session { IsSameSession self.old self.new }
     {
         if name.len().saturating_add(fields.len()) > MAX_OPEN_PARTS {
             return Ok(Done::refused(Refusal::TooLong));

@@ -93,7 +93,7 @@ impl Session {
         ensures does { (w : World) → Refines self.old w →
             HasEffect (requests channel (own.xon_xoff client_can_do) w) self.new result }
         ensures unchanged { OnErr result (IsUnchanged self.old self.new) }
-        ensures peer { IsSameSession self.old self.new }
+        ensures session { IsSameSession self.old self.new }
     {
         self.request(channel, "xon-xoff", &[client_can_do as u8])
     }
@@ -107,7 +107,7 @@ impl Session {
         ensures does { (w : World) → Refines self.old w →
             HasEffect (requests channel (own.exit_status exit_status) w) self.new result }
         ensures unchanged { OnErr result (IsUnchanged self.old self.new) }
-        ensures peer { IsSameSession self.old self.new }
+        ensures session { IsSameSession self.old self.new }
     {
         self.request(channel, "exit-status", &exit_status.to_be_bytes())
     }
@@ -125,7 +125,7 @@ impl Session {
             HasEffect (requests channel
             (own.exit_signal signal.now core_dumped message.now language.now) w) self.new result }
         ensures unchanged { OnErr result (IsUnchanged self.old self.new) }
-        ensures peer { IsSameSession self.old self.new }
+        ensures session { IsSameSession self.old self.new }
     {
         let mut fields = Vec::new(self.alloc);
         match put_exit_signal(&mut fields, signal, core_dumped, message, language) {
@@ -147,7 +147,7 @@ impl Session {
             HasEffect (requests channel (record { name = name.now; fields = fields.now }) w)
             self.new result }
         ensures unchanged { OnErr result (IsUnchanged self.old self.new) }
-        ensures peer { IsSameSession self.old self.new }
+        ensures session { IsSameSession self.old self.new }
     {
         if name.len().saturating_add(fields.len()) > MAX_REQUEST_PARTS {
             return Ok(Done::refused(Refusal::TooLong));

@@ -55,7 +55,7 @@ impl Session {
             Refines self.new (lined (replies channel.0 message) w)) }
         ensures memory { IfErr result (λ e. e ≡ NoMemory) }
         ensures unchanged { OnErr result (IsUnchanged self.old self.new) }
-        ensures peer { IsSameSession self.old self.new }
+        ensures session { IsSameSession self.old self.new }
     {
         if !self.wants_reply(channel) {
             return Ok(());
@@ -70,7 +70,7 @@ impl Session {
         ensures world { OnOk result ((w : World) → Refines self.old w →
             Refines self.new (unless_ended (lined (replies channel.0 message)) w)) }
         ensures memory { IfErr result (λ e. e ≡ NoMemory) }
-        ensures peer { IsSameSession self.old self.new }
+        ensures session { IsSameSession self.old self.new }
     {
         if self.common.disconnected {
             return Ok(());
@@ -87,7 +87,7 @@ impl Session {
         ensures does { (w : World) → Refines self.old w →
             HasEffect (accepts (lined (replies channel.0 (reply_of granted)) w)) self.new result }
         ensures unchanged { OnErr result (IsUnchanged self.old self.new) }
-        ensures peer { IsSameSession self.old self.new }
+        ensures session { IsSameSession self.old self.new }
     {
         self.take_reply(channel, reply_of(granted))?;
         Ok(Done::accepted())
@@ -120,7 +120,7 @@ impl Session {
     ) -> Result<(), RunError<E>>
         ensures does { (w : World) → Refines self.old w →
             Turned (spoken_acts w (AsksUnknown channel wanted)) w self.new result }
-        ensures peer { IsSameSession self.old self.new }
+        ensures session { IsSameSession self.old self.new }
     {
         self.want_reply(channel, wanted);
         self.take_reply(channel, CHANNEL_FAILURE)?;

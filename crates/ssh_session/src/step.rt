@@ -229,7 +229,7 @@ impl Session {
     fn hear(&mut self, payload: &[u8])
         ensures world { (w : World) → Refines self.old w →
             Refines self.new (hears payload.now w) }
-        ensures peer { IsSameSession self.old self.new }
+        ensures session { IsSameSession self.old self.new }
     {
         if !payload.is_empty() {
             self.keepalives = 0;

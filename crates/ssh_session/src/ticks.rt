@@ -22,7 +22,7 @@ impl Session {
     pub(crate) fn keepalive_tick<E>(&mut self) -> Result<(), RunError<E>>
         ensures does { (w : World) → Refines self.old w →
             Turned (keepalive_acts w) w self.new result }
-        ensures peer { IsSameSession self.old self.new }
+        ensures session { IsSameSession self.old self.new }
     {
         self.count_tick();
         if self.is_timed_out() {
@@ -44,7 +44,7 @@ impl Session {
     /// One more tick came since the peer was heard.
     fn count_tick(&mut self)
         ensures world { (w : World) → Refines self.old w → Refines self.new (ticked w) }
-        ensures peer { IsSameSession self.old self.new }
+        ensures session { IsSameSession self.old self.new }
     {
         self.keepalives = self.keepalives.saturating_add(1);
     }

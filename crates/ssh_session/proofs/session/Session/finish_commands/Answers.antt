@@ -13,7 +13,7 @@ loop-place-init g c = record {
   left = omega arith;
   does = λ w r next. serves_nothing tt (λ (_ : Unit {0}) world. done_all 0 c.args.commands world
       next) _ w c.args.self.now r;
-  peer = (refl, refl, refl);
+  session = (refl, refl, refl);
   same = (refl, refl);
 }
 
@@ -32,7 +32,7 @@ loop-place-preserved g c = record {
       (c.loop-place.invariant.does w r next)
       (λ v q. rw c.in-Some.ensures (c.in_default-finish_command.ensures.does v q
       c.take_first.new.self next));
-  peer = let a = c.loop-place.invariant.peer in let b = c.finish_command.ensures.peer in
+  session = let a = c.loop-place.invariant.session in let b = c.finish_command.ensures.session in
       (b.0 ∙ a.0, b.1 ∙ a.1, b.2 ∙ a.2);
   same = let a = c.loop-place.invariant.same in let b = c.finish_command.ensures.same in
       (b.0 ∙ a.0, b.1 ∙ a.1);

@@ -14,6 +14,6 @@ invariant-loop-place g l = record {
       Serves (done_all 0 l.fn.commands w next) (λ (_ : Unit {0}) world. done_all l.place l.commands
       world next)
       (g.O.Outside.heard l.fn.outside) (g.O.Outside.heard l.outside) l.self (Ok tt);
-  peer : IsSameSession l.fn.self l.self;
+  session : IsSameSession l.fn.self l.self;
   same : AreSame (g.O.Outside.heard l.fn.outside) (g.O.Outside.heard l.outside);
 }
