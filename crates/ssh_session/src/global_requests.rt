@@ -4,7 +4,7 @@ ghost use Rattle.std.specs.Prelude.{◌≡◌, Some};
 ghost use Rattle.ssh_session.specs.World.{World};
 ghost use Rattle.ssh_session.specs.Spelling.{IsRead};
 ghost use Rattle.ssh_session.specs.Globals.{asks_globally, globally_asked_by, global_named};
-ghost use Rattle.ssh_session.specs.Globals.{port_told, success, failure, oldest};
+ghost use Rattle.ssh_session.specs.Globals.{port_told, success, denial, oldest};
 ghost use Rattle.ssh_session.specs.Globals as known;
 ghost use Rattle.ssh_session.specs.Serve.{Refines};
 
@@ -151,7 +151,7 @@ impl Session {
     /// REQUEST_FAILURE.
     pub(crate) fn failure_message(&self, fields: &[u8]) -> Result<Spoken, WireError>
         ensures { (w : World) → Refines self.now w →
-            IsRead (failure (oldest w.globals.outstanding)) fields.now result }
+            IsRead (denial (oldest w.globals.outstanding)) fields.now result }
     {
         read_end(fields)?;
         match self.outstanding.front() {
