@@ -5,7 +5,7 @@ use ssh_auth::{Auth, AuthHandler, Unwritten};
 use ssh_handler::{Commands, Config, Handler};
 use ssh_keys::TableVerifier;
 use ssh_link::{
-    Calls, ChannelOpenHandle, Command, Input, InputKind, Inputs, MemoryLink, TraceEntry,
+    Calls, ChannelOpenHandle, Command, Input, InputKind, Inputs, MemoryLink, PlainKex, TraceEntry,
 };
 use ssh_session::{Flow, Session};
 use ssh_wire::message::{CHANNEL_DATA, CHANNEL_OPEN, CHANNEL_WINDOW_ADJUST};
@@ -133,6 +133,7 @@ struct Served {
     session: Session,
     handler: Accepting,
     verifier: TableVerifier,
+    kex: PlainKex,
     link: MemoryLink,
 }
 
@@ -146,6 +147,7 @@ impl Served {
             session: Session::new(alloc, &config, b"", b"")?,
             handler: Accepting,
             verifier: TableVerifier::new(alloc),
+            kex: PlainKex::new(alloc, false),
             link: MemoryLink::new(alloc, Inputs::new(alloc), Calls::new(alloc))?,
         })
     }
@@ -154,9 +156,13 @@ impl Served {
     fn takes(&mut self, kind: InputKind) -> bool {
         let before = self.link.trace().len();
         let input = Input { moment: 0, kind };
-        let result = self
-            .session
-            .step(&mut self.handler, &self.verifier, &mut self.link, input);
+        let result = self.session.step(
+            &mut self.handler,
+            &self.verifier,
+            &mut self.kex,
+            &mut self.link,
+            input,
+        );
         let goes_on = matches!(&result, Ok(Flow::Continue));
         drop(result);
         goes_on && self.link.trace().len() > before

@@ -8,7 +8,7 @@ use bytes::Bytes;
 use server::ExecServer;
 use ssh_handler::Config;
 use ssh_keys::TableVerifier;
-use ssh_link::{Calls, Frame, Input, InputKind, Inputs, MemoryLink, TraceEntry};
+use ssh_link::{Calls, Frame, Input, InputKind, Inputs, MemoryLink, PlainKex, TraceEntry};
 use ssh_session::run_stream;
 use ssh_wire::WireError;
 use std::alloc::{AllocError, Global};
@@ -49,6 +49,7 @@ fn serve(alloc: Global, link: &mut MemoryLink) -> bool {
     let config = Config::standard();
     let verifier = TableVerifier::new(alloc);
     let mut server = ExecServer::new(alloc);
+    let mut kex = PlainKex::new(alloc, false);
     let run = run_stream(
         alloc,
         &config,
@@ -56,6 +57,7 @@ fn serve(alloc: Global, link: &mut MemoryLink) -> bool {
         b"SSH-2.0-example",
         &mut server,
         &verifier,
+        &mut kex,
         link,
         1_000_000,
     );

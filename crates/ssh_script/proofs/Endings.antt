@@ -3,6 +3,7 @@ use Rattle.std.proofs.Common.{◌≡◌, ◌<◌, ◌≤◌, ◌+◌, ◌∙◌,
 use Rattle.std.proofs.Common.{Err, length, take, min, arith, refl, ap, subst, inl, inr}
 use Rattle.std.proofs.lemmas.List.{length-take, take_all}
 use Rattle.ssh_link.specs.Told.{Adds}
+use Rattle.ssh_link.specs.declared.plain_kex.PlainKexError.{PlainKexError}
 use Rattle.ssh_handler.specs.declared.recorded.RecordError.TheVariants as record_error
 use Rattle.ssh_session.specs.declared.error.RunError.{RunError}
 use Rattle.ssh_session.specs.declared.error.RunError.TheVariants as error
@@ -37,8 +38,8 @@ owed_refusal words left status text w s t = owed_always words left status text
 some_small : (n status : ℕ) → n < 2 → Some n ≡ Some status → status < 3
 some_small n status l e = let z : n ≡ status = cc in omega arith
 
-status_small : (result : Result (Unit {0}) (RunError Failure)) (status : ℕ) → status_of result
-    ≡ Some status → status < 3
+status_small : (result : Result (Unit {0}) (RunError Failure PlainKexError)) (status : ℕ)
+    → status_of result ≡ Some status → status < 3
 status_small (Ok done) status h = some_small 0 status (omega arith) h
 status_small (Err error.NoMemory) status h = absurd (let z : None ≡ Some status = h in cc)
 status_small (Err error.LinkFault) status h = some_small 1 status (omega arith) h
@@ -51,6 +52,7 @@ status_small (Err (error.Handler record_error.NoMemory)) status h =
     absurd (let z : None ≡ Some status = h in cc)
 status_small (Err (error.Handler (record_error.Inner e))) status h = some_small 1 status
     (omega arith) h
+status_small (Err (error.Kex e)) status h = some_small 1 status (omega arith) h
 status_small (Err error.ChannelsFull) status h = some_small 1 status (omega arith) h
 status_small (Err error.KeepaliveTimeout) status h = some_small 1 status (omega arith) h
 status_small (Err error.InactivityTimeout) status h = some_small 1 status (omega arith) h

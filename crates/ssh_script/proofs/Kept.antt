@@ -6,10 +6,12 @@ use Rattle.std.specs.Prelude.{flat_map, option_to_list}
 use Rattle.std.proofs.lemmas.List.{append-nil}
 use Rattle.std.proofs.lemmas.List.Concat.{flat_map-append}
 use Rattle.ssh_link.specs.declared.frame.Input.{Input}
+use Rattle.ssh_link.specs.declared.kex.KexCall.{KexCall}
 use Rattle.ssh_link.specs.declared.link.TraceEntry.{TraceEntry}
 use Rattle.ssh_link.specs.declared.link.TraceEntry.TheVariants as entry
 use Rattle.ssh_link.specs.Supply.{Supply, left_until, after_next}
-use Rattle.ssh_link.specs.Told.{ToldBy}
+use Rattle.ssh_link.specs.declared.plain_kex.PlainKexError.{PlainKexError}
+use Rattle.ssh_link.specs.Told.{Adds, ToldBy}
 use Rattle.ssh_auth.specs.declared.call.Call.{Call}
 use Rattle.ssh_auth.specs.declared.call.Call.TheVariants as call
 use Rattle.ssh_auth.specs.declared.question.Question.{Question}
@@ -30,16 +32,18 @@ use Rattle.ssh_session.specs.Serve.{
   Limit_reached,
   Faulty,
   Refused_by,
+  Broken_by,
   cause_of,
   IsCaused,
   may_stop,
 }
-use Rattle.ssh_session.specs.Run.{Turn, calls_of, entries}
+use Rattle.ssh_session.specs.Run.{Turn, calls_of, steps_of, entries}
 use Rattle.ssh_session.specs.Account.{Told, Concludes, Closes, Ran}
 use Rattle.ssh_script.specs.Scene.{Scene}
 use Rattle.ssh_script.specs.Played.{Failure, Queues, banner_answer, interactive_answer, verdict_on}
 use Rattle.ssh_script.specs.Played.{records, grants, listened, answered, after, played, IsAnswered}
 use Rattle.ssh_script.specs.Played.{heading, told_of}
+use Rattle.ssh_script.specs.Exchanged.{IsExchanged}
 use Rattle.ssh_script.specs.Given.{IsGiven, as_given, trace_of}
 use Rattle.ssh_script.specs.Given.{heading as input_heading}
 use Rattle.ssh_script.specs.CallLines.{question_line, call_line}
@@ -145,7 +149,7 @@ told_some : (may_stop : Bool) (old new calls : List (Call Failure)) → ToldBy m
 told_some true old new calls h = h
 told_some false old new calls h = let z : Some new ≡ Some (old ++ calls) = h in cc
 
-told_is : (result : Result (Unit {0}) (RunError Failure)) (lost lost' : Bool)
+told_is : (result : Result (Unit {0}) (RunError Failure PlainKexError)) (lost lost' : Bool)
     (queues queues' : Queues) (old all : List Question) (calls : List (Call Failure)) →
     lost ≡ false → lost' ≡ false → old ≡ [] → ToldBy (may_stop result) (told_of lost queues old)
     (told_of lost' queues' all) calls → (queues' ≡ queues) × (played queues' all ≡ calls)
@@ -160,6 +164,13 @@ told_is result false false queues queues' old all calls l m o h =
     let f : heading queues ++ played queues old ≡ heading queues =
     ap (λ x. heading queues ++ played queues x) o ∙ append-nil (heading queues) in
     heads queues' queues (played queues' all) calls (e ∙ ap (λ x. x ++ calls) f)
+
+stepped_is : (old all calls : List (KexCall PlainKexError)) → old ≡ []
+    → Adds (Some old) (Some all) calls → all ≡ calls
+stepped_is old all calls o h =
+    let z : Some all ≡ Some (old ++ calls) = h in
+    let e : all ≡ old ++ calls = cc in
+    e ∙ ap (λ x. x ++ calls) o
 
 traced_is : (inputs inputs' : List Input) (moment moment' : ℕ) (old all entries : List TraceEntry)
     → old ≡ [] →
@@ -185,23 +196,24 @@ given_same inputs inputs' moment moment' all entries e f g h =
     (is_given (left_until moment' inputs') all))
 
 -- where no fault rose, a run ends as one of a link without faults
-uncaused : {E : Type 0} (cause : Cause E) (plan : Plan Outcome) (rose : Type 0)
-    (events : List (Event E ⊥)) → (rose → ⊥) → IsCaused cause plan rose events
+uncaused : {E F : Type 0} (cause : Cause E F) (plan : Plan Outcome) (rose : Type 0)
+    (events : List (Event E F)) → (rose → ⊥) → IsCaused cause plan rose events
     → IsCaused cause plan ⊥ events
 uncaused Wants_memory plan rose events n c = c
 uncaused Link_failed plan rose events n c = absurd (n c.0)
 uncaused Limit_reached plan rose events n c = c
 uncaused (Faulty fault) plan rose events n c = c
 uncaused (Refused_by e) plan rose events n c = c
+uncaused (Broken_by e) plan rose events n c = c
 
-concludes : {E : Type 0} (plan : Plan Outcome) (rose : Type 0) (events : List (Event E ⊥))
-    (result : Result (Unit {0}) (RunError E)) → (rose → ⊥) → Concludes plan events rose result
+concludes : {E F : Type 0} (plan : Plan Outcome) (rose : Type 0) (events : List (Event E F))
+    (result : Result (Unit {0}) (RunError E F)) → (rose → ⊥) → Concludes plan events rose result
     → Concludes plan events ⊥ result
 concludes plan rose events (Ok _) n c = c
 concludes plan rose events (Err e) n c = uncaused (cause_of e) plan rose events n c
 
-without_faults : {E : Type 0} (accepts : Acceptance) (w : World) (count max : ℕ)
-    (last : Option (Turn E)) (rose : Type 0) (result : Result (Unit {0}) (RunError E))
+without_faults : {E F : Type 0} (accepts : Acceptance) (w : World) (count max : ℕ)
+    (last : Option (Turn E F)) (rose : Type 0) (result : Result (Unit {0}) (RunError E F))
     → (rose → ⊥) → Closes accepts w count max last rose result
     → Closes accepts w count max last ⊥ result
 without_faults accepts w count max (Some turn) rose result n c =
@@ -214,37 +226,43 @@ without_faults accepts w count max None rose _ n c = absurd c
 not_below : 0 < 0 → ⊥
 not_below h = absurd (omega (arith, h))
 
--- what a handler that was asked so and a link with these entries have told
-abbrev told : (lost : Bool) → Queues → List Question → List Input → (moment : ℕ)
-    → List TraceEntry → Told Failure
-told lost queues all inputs moment trace = record {
+-- what a handler that was asked so, an exchange with these calls and a link with these entries have
+-- told
+abbrev told : (lost : Bool) → Queues → List Question → List (KexCall PlainKexError) → List Input
+    → (moment : ℕ) → List TraceEntry → Told Failure PlainKexError
+told lost queues all steps inputs moment trace = record {
   calls = told_of lost queues all;
+  steps = Some steps;
   trace = trace_of inputs moment trace;
   faults = 0;
 }
 
-pub kept : (scene : Scene) (status : ℕ) (result : Result (Unit {0}) (RunError Failure))
+pub kept : (scene : Scene) (status : ℕ)
+    (result : Result (Unit {0}) (RunError Failure PlainKexError))
     (lost lost' : Bool) (queues queues' : Queues) (old all : List Question)
-    (inputs inputs' : List Input) (moment moment' : ℕ) (trace trace' : List TraceEntry)
-    (id text : List ℕ) → lost ≡ false → lost' ≡ false → queues ≡ scene.queues → old ≡ [] →
-    inputs ≡ scene.inputs → moment ≡ scene.moment → trace ≡ [] →
+    (steps steps' : List (KexCall PlainKexError)) (inputs inputs' : List Input)
+    (moment moment' : ℕ) (trace trace' : List TraceEntry) (id text : List ℕ) →
+    lost ≡ false → lost' ≡ false → queues ≡ scene.queues → old ≡ [] →
+    steps ≡ [] → IsExchanged false steps' → inputs ≡ scene.inputs → moment ≡ scene.moment →
+    trace ≡ [] →
     as_given (left_until moment' inputs') trace' ≡ trace' → status_of result ≡ Some status →
     id ≡ scene.session_id →
     Ran (scene_accepts scene) (settings_of scene.config id [])
-    (told lost queues old inputs moment trace) (told lost' queues' all inputs' moment' trace')
-    scene.max_inputs result →
+    (told lost queues old steps inputs moment trace)
+    (told lost' queues' all steps' inputs' moment' trace') scene.max_inputs result →
     text ≡ flat_map question_line all ++ entry_lines 0 trace' ++ last_line result →
     IsRun scene status text
-kept scene status result lost lost' queues queues' old all inputs inputs' moment moment' trace
-    trace' id text l m qe oe ie me te given h de given_ran texts =
-    let before : Told Failure = told lost queues old inputs moment trace in
-    let after : Told Failure = told lost' queues' all inputs' moment' trace' in
+kept scene status result lost lost' queues queues' old all steps steps' inputs inputs' moment
+    moment' trace trace' id text l m qe oe se exchanged ie me te given h de given_ran texts =
+    let before : Told Failure PlainKexError = told lost queues old steps inputs moment trace in
+    let after : Told Failure PlainKexError = told lost' queues' all steps' inputs' moment' trace' in
     let ran : Ran (scene_accepts scene) (scene_settings scene) before after scene.max_inputs
     result =
     subst (λ x. Ran (scene_accepts scene) (settings_of scene.config x []) before after
     scene.max_inputs result) de given_ran in
-    let calls = flat_map (calls_of {E = Failure}) (ran.turns ++ option_to_list ran.last) in
-    let told = flat_map (entries {E = Failure}) (ran.turns ++ option_to_list ran.last) in
+    let calls = flat_map calls_of (ran.turns ++ option_to_list ran.last) in
+    let asked = flat_map steps_of (ran.turns ++ option_to_list ran.last) in
+    let told = flat_map entries (ran.turns ++ option_to_list ran.last) in
     let t = told_is result lost lost' queues queues' old all calls l m oe ran.called in
     let u = traced_is inputs inputs' moment moment' trace trace' told te ran.told in
     let c : played scene.queues all ≡ calls = ap (λ q. played q all) (sym (t.0 ∙ qe)) ∙ t.1 in
@@ -260,6 +278,8 @@ kept scene status result lost lost' queues queues' old all inputs inputs' moment
       closes = without_faults (scene_accepts scene) ran.world (length ran.turns)
           scene.max_inputs ran.last (0 < 0) result not_below ran.closes;
       answered = subst (IsAnswered scene.queues) c (is_answered scene.queues all);
+      exchanged = subst (IsExchanged false) (stepped_is steps steps' asked se ran.stepped)
+          exchanged;
       given = given_same scene.inputs inputs' scene.moment moment' trace' told (u.0 ∙ ie)
           (u.1 ∙ me) u.2 given;
       status_is = h;

@@ -6,6 +6,7 @@ pub mod Reasons
 pub mod Queues
 pub mod Telling
 pub mod Giving
+pub mod Exchanging
 pub mod Cutting
 pub mod LinesOnce
 pub mod Signatures

@@ -6,6 +6,7 @@ pub mod Queue
 pub mod Played
 pub mod Telling
 pub mod Given
+pub mod Exchanged
 pub mod Words
 pub mod Happenings
 pub mod CallLines

@@ -76,7 +76,7 @@ entry_lines taken (entry.Answered ticket result ∷ entries) = answer_line ticke
     ++ entry_lines taken entries
 
 -- how the error of a run is named
-abbrev pub variant_name : {E : Type 0} → RunError E → List ℕ
+abbrev pub variant_name : {E F : Type 0} → RunError E F → List ℕ
 variant_name error.NoMemory = codes "NoMemory"
 variant_name error.LinkFault = codes "LinkFault"
 variant_name error.InputLimit = codes "InputLimit"
@@ -85,17 +85,18 @@ variant_name error.Inconsistent = codes "Inconsistent"
 variant_name (error.Key why) = codes "Key"
 variant_name error.UnsupportedAuthMethod = codes "UnsupportedAuthMethod"
 variant_name (error.Handler e) = codes "Handler"
+variant_name (error.Kex e) = codes "Kex"
 variant_name error.ChannelsFull = codes "ChannelsFull"
 variant_name error.KeepaliveTimeout = codes "KeepaliveTimeout"
 variant_name error.InactivityTimeout = codes "InactivityTimeout"
 variant_name error.NotBuilt = codes "NotBuilt"
 
 -- how a run ended
-abbrev pub last_line : {E : Type 0} → Result (Unit {0}) (RunError E) → List ℕ
+abbrev pub last_line : {E F : Type 0} → Result (Unit {0}) (RunError E F) → List ℕ
 last_line (Ok done) = codes "ok\n"
 last_line (Err e) = codes "error " ++ variant_name e ++ codes "\n"
 
 -- a run: its callbacks, its trace, and how it ended
-abbrev pub printed : {E : Type 0} → List (Call E) → List TraceEntry → Result (Unit {0}) (RunError E)
-    → List ℕ
+abbrev pub printed : {E F : Type 0} → List (Call E) → List TraceEntry
+    → Result (Unit {0}) (RunError E F) → List ℕ
 printed calls trace result = flat_map call_line calls ++ entry_lines 0 trace ++ last_line result

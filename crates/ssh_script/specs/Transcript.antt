@@ -1,29 +1,31 @@
 -- What the program owes: its status, and the text that it writes.
 use Rattle.std.specs.Prelude.{◌≡◌, ◌≢◌, ◌<◌, ◌≤◌, ◌⊎◌, ℕ, List, [], ◌∷◌, ◌++◌, codes, flat_map}
-use Rattle.std.specs.Prelude.{length, Option, Some}
+use Rattle.std.specs.Prelude.{length, false, Option, Some}
 use Rattle.std.specs.Prelude.{None, option_to_list, Result, Ok, Err}
 use Rattle.std.specs.Fmt.{decimal}
 use Rattle.ssh_link.specs.Told.{Adds}
 use Rattle.ssh_link.specs.Faults.{RoseOrFull}
 use Rattle.ssh_keys.specs.Tables.{IsListed}
+use Rattle.ssh_link.specs.declared.plain_kex.PlainKexError.{PlainKexError}
 use Rattle.ssh_link.specs.Supply.{Supply, left_until}
 use Rattle.ssh_auth.specs.Publickey.{Acceptance}
 use Rattle.ssh_handler.specs.declared.recorded.RecordError.TheVariants as record_error
 use Rattle.ssh_session.specs.declared.error.RunError.{RunError}
 use Rattle.ssh_session.specs.declared.error.RunError.TheVariants as error
 use Rattle.ssh_session.specs.World.{Settings, settings_of, World, opening_world}
-use Rattle.ssh_session.specs.Run.{Turn, Run, calls_of, entries}
+use Rattle.ssh_session.specs.Run.{Turn, Run, calls_of, steps_of, entries}
 use Rattle.ssh_session.specs.Account.{Closes}
 use Rattle.ssh_script.specs.declared.task.Task.{Task}
 use Rattle.ssh_script.specs.declared.task.Task.TheVariants as task
 use Rattle.ssh_script.specs.Transfer.{IsAll, AddsPart}
 use Rattle.ssh_script.specs.Scene.{Scene, opening_scene, lines_of, Gives}
 use Rattle.ssh_script.specs.Played.{Failure, IsAnswered}
+use Rattle.ssh_script.specs.Exchanged.{IsExchanged}
 use Rattle.ssh_script.specs.Given.{IsGiven}
 use Rattle.ssh_script.specs.Print.{printed}
 
 -- the status of a run: 0 where it is Ok, 1 where it ended by an error; want of memory has none
-abbrev pub status_of : Result (Unit {0}) (RunError Failure) → Option ℕ
+abbrev pub status_of : Result (Unit {0}) (RunError Failure PlainKexError) → Option ℕ
 status_of (Ok done) = Some 0
 status_of (Err error.NoMemory) = None
 status_of (Err (error.Handler record_error.NoMemory)) = None
@@ -42,17 +44,17 @@ abbrev pub scene_supply : Scene → Supply
 scene_supply scene = left_until scene.moment scene.inputs
 
 -- this is the status and the text of a run of the scene, in which each callback is answered by the
--- scene and each input
--- is the scene's
+-- scene, the keys are exchanged without cryptography, and each input is the scene's
 pub record IsRun (scene : Scene) (status : ℕ) (text : List ℕ) : Type 0 where
-  pub turns : List (Turn Failure)
+  pub turns : List (Turn Failure PlainKexError)
   pub world : World
   pub run : Run (scene_accepts scene) (opening_world (scene_settings scene)) turns world
-  pub last : Option (Turn Failure)
-  pub result : Result (Unit {0}) (RunError Failure)
+  pub last : Option (Turn Failure PlainKexError)
+  pub result : Result (Unit {0}) (RunError Failure PlainKexError)
   -- a script's link has no faults
   pub closes : Closes (scene_accepts scene) world (length turns) scene.max_inputs last ⊥ result
   pub answered : IsAnswered scene.queues (flat_map calls_of (turns ++ option_to_list last))
+  pub exchanged : IsExchanged false (flat_map steps_of (turns ++ option_to_list last))
   pub given : IsGiven (scene_supply scene) (flat_map entries (turns ++ option_to_list last))
   pub status_is : status_of result ≡ Some status
   pub text_is : text ≡ printed (flat_map calls_of (turns ++ option_to_list last))

@@ -24,6 +24,7 @@ mod run;
 mod scene;
 mod script;
 mod script_handler;
+mod script_kex;
 mod script_link;
 mod task;
 mod transfer;

@@ -16,11 +16,12 @@ use crate::print_call::print_calls;
 use crate::scene::read_script;
 use crate::script::Script;
 use crate::script_handler::{ScriptError, ScriptHandler};
+use crate::script_kex::ScriptKex;
 use crate::script_link::ScriptLink;
 use crate::task::{Task, task_of};
 use crate::transfer::{ReadError, read_front, write_all};
 use ssh_handler::RecordError;
-use ssh_link::{Sink, Source};
+use ssh_link::{PlainKexError, Sink, Source};
 use ssh_session::{RunError, run_stream};
 use std::alloc::{AllocError, Global};
 
@@ -53,7 +54,7 @@ struct Report {
 }
 
 /// How the error of a run is named.
-fn variant_name(error: &RunError<RecordError<ScriptError>>) -> &'static str
+fn variant_name(error: &RunError<RecordError<ScriptError>, PlainKexError>) -> &'static str
     ensures { result.now ≡ variant_name error.now }
 {
     match error {
@@ -65,6 +66,7 @@ fn variant_name(error: &RunError<RecordError<ScriptError>>) -> &'static str
         RunError::Key(_) => "Key",
         RunError::UnsupportedAuthMethod => "UnsupportedAuthMethod",
         RunError::Handler(_) => "Handler",
+        RunError::Kex(_) => "Kex",
         RunError::ChannelsFull => "ChannelsFull",
         RunError::KeepaliveTimeout => "KeepaliveTimeout",
         RunError::InactivityTimeout => "InactivityTimeout",
@@ -75,7 +77,7 @@ fn variant_name(error: &RunError<RecordError<ScriptError>>) -> &'static str
 /// How a run ended.
 fn print_last(
     out: &mut String,
-    run: &Result<(), RunError<RecordError<ScriptError>>>,
+    run: &Result<(), RunError<RecordError<ScriptError>, PlainKexError>>,
 ) -> Result<(), AllocError>
     ensures { OnOk result (string_bytes out.new ≡ string_bytes out.old ++ last_line run.now) }
 {
@@ -88,7 +90,7 @@ fn print_last(
 }
 
 /// The status of a run; none where memory was wanting.
-fn status_of(run: &Result<(), RunError<RecordError<ScriptError>>>) -> Option<u8>
+fn status_of(run: &Result<(), RunError<RecordError<ScriptError>, PlainKexError>>) -> Option<u8>
     ensures { result ≡ status_of run.now }
 {
     match run {
@@ -108,6 +110,7 @@ fn run_scene(alloc: Global, script: Script) -> Result<Report, AllocError>
     let Ok(mut link) = ScriptLink::new(alloc, script.inputs, script.moment) else {
         return Err(AllocError);
     };
+    let mut kex = ScriptKex::new(alloc);
     let run = run_stream(
         alloc,
         &script.config,
@@ -115,6 +118,7 @@ fn run_scene(alloc: Global, script: Script) -> Result<Report, AllocError>
         &[],
         &mut handler,
         &script.verifier,
+        &mut kex,
         &mut link,
         script.max_inputs,
     );

@@ -4,7 +4,8 @@ use Rattle.std.proofs.Common.{refl, sym, ◌∙◌, ap, subst, inl, inr, append_
 use Rattle.std.specs.Prelude.{option_to_list}
 use Rattle.ssh_link.specs.declared.frame.InputKind.{InputKind}
 use Rattle.ssh_auth.specs.declared.call.Call.{Call}
-use Rattle.ssh_auth.specs.Plan.{Plan, Event, Called, Stepped, Told, Handler_error, Follows}
+use Rattle.ssh_auth.specs.Plan.{Plan, Event, Called, Stepped, Told, Handler_error, Exchange_error}
+use Rattle.ssh_auth.specs.Plan.{Follows}
 use Rattle.ssh_auth.specs.Plan.{calls_in}
 use Rattle.ssh_auth.specs.Publickey.{Acceptance, Circumstances}
 use Rattle.ssh_session.specs.declared.error.RunError.{RunError}
@@ -17,7 +18,7 @@ use Rattle.ssh_session.specs.Authorised.{LastNamed, SomeoneIsIn, Authorised}
 use Rattle.ssh_session.specs.Outcome.{Outcome, Goes, Ends, Fails}
 use Rattle.ssh_session.specs.Run.{Turn, Run, Owes}
 use Rattle.ssh_session.specs.Serve.{Cause, Wants_memory, Link_failed, Limit_reached, Faulty}
-use Rattle.ssh_session.specs.Serve.{Refused_by, cause_of, IsCaused}
+use Rattle.ssh_session.specs.Serve.{Refused_by, Broken_by, cause_of, IsCaused}
 use Rattle.ssh_session.specs.World.{Settings, World, circumstances, opening_world}
 use Rattle.ssh_session.proofs.Admitted.{owed_guarded}
 use Rattle.ssh_session.proofs.Guards.{Guarded, IsBefore, IsClear, NamesLast, SomeAccepts, Walks}
@@ -29,38 +30,39 @@ use Rattle.ssh_session.proofs.Settled.{stays_set}
 -- ---- inputs one after another
 
 -- these inputs were taken, and each but the last was finished
-abbrev pub AllWalk : {E : Type 0} → Acceptance → World → List (Turn E) → Type 0
+abbrev pub AllWalk : {E F : Type 0} → Acceptance → World → List (Turn E F) → Type 0
 AllWalk accepts w [] = Unit {0}
 AllWalk accepts w (turn ∷ turns) = (plan : Plan Outcome) × Owes accepts w turn.input plan
     × Walks plan turn.events
     × ((turns ≡ []) ⊎ ((mid : World) × Follows plan turn.events (Goes mid)
     × AllWalk accepts mid turns))
 
-caused_walks : {E : Type 0} (cause : Cause E) (plan : Plan Outcome) (rose : Type 0)
-    (events : List (Event E ⊥)) →
+caused_walks : {E F : Type 0} (cause : Cause E F) (plan : Plan Outcome) (rose : Type 0)
+    (events : List (Event E F)) →
     IsCaused cause plan rose events → Walks plan events
 caused_walks Wants_memory plan rose events h = begins_walks plan events h
 caused_walks Link_failed plan rose events h = begins_walks plan events h.1
 caused_walks Limit_reached plan rose events h = absurd h
 caused_walks (Faulty fault) plan rose events h = follows_walks plan events (Fails fault) h
 caused_walks (Refused_by e) plan rose events h = breaks_walks plan events (Handler_error e) h
+caused_walks (Broken_by e) plan rose events h = breaks_walks plan events (Exchange_error e) h
 
-concluded_walks : {E : Type 0} (plan : Plan Outcome) (events : List (Event E ⊥)) (rose : Type 0)
-    (result : Result (Unit {0}) (RunError E)) → Concludes plan events rose result
+concluded_walks : {E F : Type 0} (plan : Plan Outcome) (events : List (Event E F)) (rose : Type 0)
+    (result : Result (Unit {0}) (RunError E F)) → Concludes plan events rose result
     → Walks plan events
 concluded_walks plan events rose (Ok done) h = follows_walks plan events (Ends h.0) h.1
 concluded_walks plan events rose (Err e) h = caused_walks (cause_of e) plan rose events h
 
-pub last_walks : {E : Type 0} (accepts : Acceptance) (w : World) (count max : ℕ)
-    (last : Option (Turn E)) (rose : Type 0)
-    (result : Result (Unit {0}) (RunError E)) → Closes accepts w count max last rose result →
+pub last_walks : {E F : Type 0} (accepts : Acceptance) (w : World) (count max : ℕ)
+    (last : Option (Turn E F)) (rose : Type 0)
+    (result : Result (Unit {0}) (RunError E F)) → Closes accepts w count max last rose result →
     AllWalk accepts w (option_to_list last)
 last_walks accepts w count max None rose result h = tt
 last_walks accepts w count max (Some turn) rose result h =
     let c = h.2 in (c.0, c.1, concluded_walks c.0 turn.events rose result c.2, inl refl)
 
-pub run_walks : {E : Type 0} (accepts : Acceptance) (w : World) (turns : List (Turn E))
-    (world : World) (last : List (Turn E)) →
+pub run_walks : {E F : Type 0} (accepts : Acceptance) (w : World) (turns : List (Turn E F))
+    (world : World) (last : List (Turn E F)) →
     Run accepts w turns world → AllWalk accepts world last → AllWalk accepts w (turns ++ last)
 run_walks accepts w [] world last run h = subst (λ v. AllWalk accepts v last) run h
 run_walks accepts w (turn ∷ turns) world last run h =
@@ -73,12 +75,12 @@ run_walks accepts w (turn ∷ turns) world last run h =
 
 -- ---- who was named last
 
-none_more : {E : Type 0} (turns : List (Turn E)) (turn : Turn E) → NoneRequests turns →
+none_more : {E F : Type 0} (turns : List (Turn E F)) (turn : Turn E F) → NoneRequests turns →
     ((user : List ℕ) → IsRequestOf user turn.input.kind → ⊥) → NoneRequests (turns ++ turn ∷ [])
 none_more [] turn h k = (k, tt)
 none_more (t ∷ turns) turn h k = (h.0, none_more turns turn h.1 k)
 
-named_more : {E : Type 0} (before : List (Turn E)) (turn : Turn E) (user : List ℕ) →
+named_more : {E F : Type 0} (before : List (Turn E F)) (turn : Turn E F) (user : List ℕ) →
     NamesLast (LastNamed before) turn.input.kind user → LastNamed (before ++ turn ∷ []) user
 named_more before turn user (inl request) = (before, [], turn, refl, request, tt)
 named_more before turn user (inr h) =
@@ -99,7 +101,7 @@ before_weak named other (WaitingAuthRequest auth) f h = λ principal is.
     f principal.user (h principal is)
 before_weak named other _ f h = absurd h
 
-clear_more : {E : Type 0} (before : List (Turn E)) (turn : Turn E) (w : World) →
+clear_more : {E F : Type 0} (before : List (Turn E F)) (turn : Turn E F) (w : World) →
     IsClear (NamesLast (LastNamed before) turn.input.kind) w
     → IsClear (LastNamed (before ++ turn ∷ [])) w
 clear_more before turn w h = (
@@ -113,8 +115,8 @@ clear_more before turn w h = (
 
 -- ---- who is in
 
-someone_earlier : {E : Type 0} (accepts : Acceptance) (settings : Settings)
-    (before more : List (Turn E)) →
+someone_earlier : {E F : Type 0} (accepts : Acceptance) (settings : Settings)
+    (before more : List (Turn E F)) →
     SomeoneIsIn accepts settings before → SomeoneIsIn accepts settings (before ++ more)
 someone_earlier accepts settings before more h =
     let s = h in (
@@ -130,8 +132,8 @@ someone_earlier accepts settings before more h =
     )
 
 -- the calls around one that accepts
-some_split : {E : Type 0} (given : Circumstances) (named : List ℕ → Type 0) (kind : InputKind)
-    (events : List (Event E ⊥)) →
+some_split : {E F : Type 0} (given : Circumstances) (named : List ℕ → Type 0) (kind : InputKind)
+    (events : List (Event E F)) →
     SomeAccepts given named kind events →
     (earlier later : List (Call E)) × (call : Call E) × (calls_in events ≡ earlier ++ call ∷ later)
     × IsAccepting given named kind call
@@ -148,9 +150,9 @@ some_split given named kind (Called call ∷ events) (inr h) =
 some_split given named kind (Stepped step ∷ events) h = some_split given named kind events h
 some_split given named kind (Told entry ∷ events) h = some_split given named kind events h
 
-someone_now : {E : Type 0} (accepts : Acceptance) (settings : Settings) (before : List (Turn E))
-    (turn : Turn E)
-    (past : List (Event E ⊥)) →
+someone_now : {E F : Type 0} (accepts : Acceptance) (settings : Settings) (before : List (Turn E F))
+    (turn : Turn E F)
+    (past : List (Event E F)) →
     SomeoneIsIn accepts settings before
     ⊎ SomeAccepts (circumstances accepts settings turn.input.moment) (LastNamed before)
     turn.input.kind past →
@@ -164,8 +166,9 @@ someone_now accepts settings before turn past (inr h) =
 
 -- ---- a run
 
-turn_guarded : {E : Type 0} (accepts : Acceptance) (settings : Settings) (before : List (Turn E))
-    (turn : Turn E) (w : World)
+turn_guarded : {E F : Type 0} (accepts : Acceptance) (settings : Settings)
+    (before : List (Turn E F))
+    (turn : Turn E F) (w : World)
     (plan : Plan Outcome) → w.settings ≡ settings → SomeoneIsIn accepts settings before
     ⊎ IsClear (LastNamed before) w →
     Owes accepts w turn.input plan →
@@ -181,8 +184,8 @@ turn_guarded accepts settings before turn w plan set h o =
     turn.input.kind o.0
     (owed_guarded accepts named a w turn.input.moment turn.input.kind o.0 o.1 h)))
 
-goes_on : {E : Type 0} (accepts : Acceptance) (settings : Settings) (before : List (Turn E))
-    (turn : Turn E) (mid : World) →
+goes_on : {E F : Type 0} (accepts : Acceptance) (settings : Settings) (before : List (Turn E F))
+    (turn : Turn E F) (mid : World) →
     (SomeoneIsIn accepts settings before
     ⊎ SomeAccepts (circumstances accepts settings turn.input.moment) (LastNamed before)
     turn.input.kind turn.events)
@@ -197,12 +200,12 @@ nothing_left : {A : Type 0} (xs : List A) (y : A) (ys : List A) → xs ++ y ∷ 
 nothing_left [] y ys h = cc
 nothing_left (x ∷ xs) y ys h = cc
 
-turns_authorised : {E : Type 0} (accepts : Acceptance) (settings : Settings)
-    (before turns : List (Turn E)) (w : World) →
+turns_authorised : {E F : Type 0} (accepts : Acceptance) (settings : Settings)
+    (before turns : List (Turn E F)) (w : World) →
     w.settings ≡ settings → SomeoneIsIn accepts settings before ⊎ IsClear (LastNamed before) w
     → AllWalk accepts w turns →
-    (pre post : List (Turn E)) (turn : Turn E) → turns ≡ pre ++ turn ∷ post →
-    (past more : List (Event E ⊥)) (event : Event E ⊥) → turn.events ≡ past ++ event ∷ more
+    (pre post : List (Turn E F)) (turn : Turn E F) → turns ≡ pre ++ turn ∷ post →
+    (past more : List (Event E F)) (event : Event E F) → turn.events ≡ past ++ event ∷ more
     → NeedsUser event →
     SomeoneIsIn accepts settings (before ++ (pre ++ record turn { events = past } ∷ []))
 turns_authorised accepts settings before [] w set h all [] post turn is past more event splits needs
@@ -242,9 +245,10 @@ turns_authorised accepts settings before (t ∷ turns) w set h (plan, owes, walk
     pre post turn rest past more event splits needs)
 
 -- a run is authorised
-pub authorised : {E : Type 0} (accepts : Acceptance) (settings : Settings) (turns : List (Turn E))
+pub authorised : {E F : Type 0} (accepts : Acceptance) (settings : Settings)
+    (turns : List (Turn E F))
     (world : World) (count max : ℕ)
-    (last : Option (Turn E)) (rose : Type 0) (result : Result (Unit {0}) (RunError E)) →
+    (last : Option (Turn E F)) (rose : Type 0) (result : Result (Unit {0}) (RunError E F)) →
     Run accepts (opening_world settings) turns world → Closes accepts world count max last rose
     result →
     Authorised accepts settings (turns ++ option_to_list last)

@@ -29,7 +29,8 @@ use Rattle.ssh_session.specs.Acts.{done, acts, tell_all, Stops, Turns}
 use Rattle.ssh_session.specs.Authorised.{IsRequestOf}
 use Rattle.ssh_session.specs.Effect.{Effect, Does, effect, refused_or, refused_for, no_sending}
 use Rattle.ssh_session.specs.Effect.{no_closing, no_open, done_by, done_apart, no_user, lacks}
-use Rattle.ssh_session.specs.Effect.{opens_need, opens, opens_or_not, needs, apart_needs, sends, said}
+use Rattle.ssh_session.specs.Effect.{opens_need, opens, opens_or_not, needs, apart_needs, sends}
+use Rattle.ssh_session.specs.Effect.{said}
 use Rattle.ssh_session.specs.Effect.{Need, Sending, Closing, Established, Opening_of, User}
 use Rattle.ssh_session.specs.Effect.{no_established}
 use Rattle.ssh_session.specs.OwnMessages.{OwnMessage, forward, cancel, keepalive, ping, debug}
@@ -211,7 +212,8 @@ done_guarded given named a kind ticket (Does notices outcome world) none clear =
     (Tell (traced.Answered ticket outcome) (Finish (Goes world)))
     (λ n. absurd n, inr (unnamed named kind world none clear))
 
--- a command that comes before an accepted authentication opens nothing and says nothing on a channel
+-- a command that comes before an accepted authentication opens nothing and says nothing on a
+-- channel
 command_guarded : (given : Circumstances) (named : List ℕ → Type 0) (a : Type 0) (kind : InputKind)
     (w : World) (ticket : ℕ)
     (commanded : Commanded) → ((other : List ℕ) → IsRequestOf other kind → ⊥) → IsClear named w →

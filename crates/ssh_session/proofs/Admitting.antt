@@ -38,7 +38,8 @@ use Rattle.ssh_session.specs.Reading.{Said, Says, Service, said_of}
 use Rattle.ssh_session.specs.Rows.{row, greeting, greets, is_short, concluded}
 use Rattle.ssh_session.specs.Rows.{asked_of, rejection_hold, moment_after}
 use Rattle.ssh_session.specs.World.{World}
-use Rattle.ssh_session.proofs.Gates.{IsLetIn, IsOfConnection, IsForRequest, is_userauth, is_response}
+use Rattle.ssh_session.proofs.Gates.{IsLetIn, IsOfConnection, IsForRequest, is_userauth}
+use Rattle.ssh_session.proofs.Gates.{is_response}
 use Rattle.ssh_session.proofs.Gates.{is_for_request, is_let_in}
 use Rattle.ssh_session.proofs.Guards.{Accepts, AreLow, IsBefore, IsClear, NamesLast, Guarded}
 use Rattle.ssh_session.proofs.Guards.{plan_accepted}

@@ -149,7 +149,7 @@ kind_uncalled accepts w moment (input.Payload payload) plan o is none =
 kind_uncalled accepts w moment kind plan o is none = absurd (cc)
 
 -- a callback is an event of its own
-lent_called : {E : Type 0} (question : Question) (event : Event E ⊥) (events : List (Event E ⊥)) →
+lent_called : {E F : Type 0} (question : Question) (event : Event E F) (events : List (Event E F)) →
     IsLent question → asked_in event ≡ Some question →
     is_none (calls_in (event ∷ events)) ≡ true → ⊥
 lent_called question (Called call) events lent is none = cc
@@ -168,7 +168,7 @@ few_more true n m h = omega (arith, h)
 few_more false n m h = h
 
 -- no more answers are sent than were written
-frames_few : {E : Type 0} (frames : List Frame) (outcome : Outcome) (events : List (Event E ⊥)) →
+frames_few : {E F : Type 0} (frames : List Frame) (outcome : Outcome) (events : List (Event E F)) →
     Walks (tell_all (map Sent frames) (Finish outcome)) events →
     how_many (sends is_answer) events ≤ how_many is_answer frames
 frames_few frames outcome [] w = omega arith
@@ -179,7 +179,7 @@ frames_few (frame ∷ frames) outcome (event ∷ events) w =
     (few_more (is_answer frame) (how_many (sends is_answer) events) (how_many is_answer frames)
     (frames_few frames outcome events w.1))
 
-uncalled_few : {E : Type 0} (w : World) (plan : Plan Outcome) (events : List (Event E ⊥)) →
+uncalled_few : {E F : Type 0} (w : World) (plan : Plan Outcome) (events : List (Event E F)) →
     IsUncalled w plan → Walks (after plan finish_input) events →
     is_none (calls_in events) ≡ true → how_many (sends is_answer) events ≤ 1
 uncalled_few w plan [] u h none = omega arith
@@ -201,7 +201,7 @@ abbrev KeepsOpens : World → Outcome → Type 0
 KeepsOpens w (Goes v) = v.channels.opens ≡ w.channels.opens
 KeepsOpens w _ = Unit {0}
 
-uncalled_same : {E : Type 0} (w : World) (plan : Plan Outcome) (events : List (Event E ⊥))
+uncalled_same : {E F : Type 0} (w : World) (plan : Plan Outcome) (events : List (Event E F))
     (world : World) → IsUncalled w plan →
     Follows (after plan finish_input) events (Goes world) →
     is_none (calls_in events) ≡ true → world.channels.opens ≡ w.channels.opens
@@ -210,7 +210,7 @@ uncalled_same w (Finish (Goes v)) events world u f none =
     (told_comes (KeepsOpens w) (map Sent v.channels.lines.written) (goes_unless_ended (handed_on v))
     (goes_or_ends (KeepsOpens w) (handed_on v) v.disconnected u.1 tt)) f
 uncalled_same w (Finish (Ends v)) events world u f none = absurd u
-uncalled_same {E} w (Finish (Fails fault)) events world u f none =
+uncalled_same {E} {F} w (Finish (Fails fault)) events world u f none =
     comes_of (λ outcome. KeepsOpens w outcome) (Finish (Fails fault)) events (Goes world) tt f
 uncalled_same w (Ask question next) [] world u f none = absurd (cc)
 uncalled_same w (Ask question next) (event ∷ events) world u f none =
@@ -224,7 +224,7 @@ both_true true true h = (refl, refl)
 both_true true false h = absurd (cc)
 both_true false b h = absurd (cc)
 
-turn_uncalled : {E : Type 0} (accepts : Acceptance) (w : World) (turn : Turn E)
+turn_uncalled : {E F : Type 0} (accepts : Acceptance) (w : World) (turn : Turn E F)
     (plan : Plan Outcome) → Owes accepts w turn.input plan → w.channels.lines.written ≡ [] →
     is_uncalled turn ≡ true →
     (first : Plan Outcome) × IsUncalled w first × (plan ≡ after first finish_input)
@@ -234,23 +234,23 @@ turn_uncalled accepts w turn plan o none is =
     let first = kind_uncalled accepts w turn.input.moment turn.input.kind o.0 o.1 both.0 none in
     (o.0, first, o.2, both.1)
 
-turn_few : {E : Type 0} (accepts : Acceptance) (w : World) (turn : Turn E) (plan : Plan Outcome) →
-    Owes accepts w turn.input plan → w.channels.lines.written ≡ [] → Walks plan turn.events →
+turn_few : {E F : Type 0} (accepts : Acceptance) (w : World) (turn : Turn E F) (plan : Plan Outcome)
+    → Owes accepts w turn.input plan → w.channels.lines.written ≡ [] → Walks plan turn.events →
     is_uncalled turn ≡ true → how_many (sends is_answer) turn.events ≤ 1
 turn_few accepts w turn plan o none walks is =
     let u = turn_uncalled accepts w turn plan o none is in
     uncalled_few w u.0 turn.events u.1 (subst (λ p. Walks p turn.events) u.2 walks) u.3
 
 -- a plan that asks nothing makes no call
-told_uncalled : {E : Type 0} (entries : List TraceEntry) (outcome : Outcome)
-    (events : List (Event E ⊥)) → Walks (tell_all entries (Finish outcome)) events →
+told_uncalled : {E F : Type 0} (entries : List TraceEntry) (outcome : Outcome)
+    (events : List (Event E F)) → Walks (tell_all entries (Finish outcome)) events →
     is_none (calls_in events) ≡ true
 told_uncalled entries outcome [] h = refl
 told_uncalled [] outcome (event ∷ events) h = absurd h
 told_uncalled (entry ∷ entries) outcome (event ∷ events) h =
     rw h.0 (told_uncalled entries outcome events h.1)
 
-finished_uncalled : {E : Type 0} (outcome : Outcome) (events : List (Event E ⊥)) →
+finished_uncalled : {E F : Type 0} (outcome : Outcome) (events : List (Event E F)) →
     Walks (finish_input outcome) events → is_none (calls_in events) ≡ true
 finished_uncalled (Goes w) events h = told_uncalled (map Sent w.channels.lines.written)
     (goes_unless_ended (handed_on w)) events h
@@ -258,8 +258,8 @@ finished_uncalled (Ends w) events h = told_uncalled (map Sent w.channels.lines.w
     (Ends (handed_on w)) events h
 finished_uncalled (Fails fault) events h = told_uncalled [] (Fails fault) events h
 
-called_allowed : {E : Type 0} (number left : ℕ) (plan : Plan Outcome) (events : List (Event E ⊥)) →
-    SendsNone plan → CoveredOnce number left plan → Walks (after plan finish_input) events →
+called_allowed : {E F : Type 0} (number left : ℕ) (plan : Plan Outcome) (events : List (Event E F))
+    → SendsNone plan → CoveredOnce number left plan → Walks (after plan finish_input) events →
     is_none (calls_in events) ≡ false → Allowed (answers_on number) left (after plan finish_input)
 called_allowed number left (Finish outcome) events s c h called =
     absurd (let none = finished_uncalled outcome events h in cc)
@@ -272,7 +272,7 @@ other_false : (a b : Bool) → (a && b) ≡ false → a ≡ true → b ≡ false
 other_false true b h is = h
 other_false false b h is = absurd (cc)
 
-allowed_step : {E : Type 0} (number left : ℕ) (turn : Turn E) (first : Plan Outcome) →
+allowed_step : {E F : Type 0} (number left : ℕ) (turn : Turn E F) (first : Plan Outcome) →
     ((is_open turn.input.kind ≡ true) × CoveredOnce number left first)
     ⊎ Covered (answers_on number) left first →
     SendsNone first → Walks (after first finish_input) turn.events → is_uncalled turn ≡ false →
@@ -283,7 +283,7 @@ allowed_step number left turn first (inl c) s walks is =
 allowed_step number left turn first (inr c) s walks is =
     input_allowed (answers_on number) left first s c
 
-turn_allowed : {E : Type 0} (accepts : Acceptance) (number left : ℕ) (w : World) (turn : Turn E)
+turn_allowed : {E F : Type 0} (accepts : Acceptance) (number left : ℕ) (w : World) (turn : Turn E F)
     (plan : Plan Outcome) → Owes accepts w turn.input plan → Left number left w →
     Walks plan turn.events → is_uncalled turn ≡ false → Allowed (answers_on number) left plan
 turn_allowed accepts number left w turn plan o h walks is =
@@ -292,8 +292,8 @@ turn_allowed accepts number left w turn plan o h walks is =
     (kind_silent accepts w turn.input.moment turn.input.kind o.0 o.1)
     (subst (λ p. Walks p turn.events) o.2 walks) is)
 
-turn_within : {E : Type 0} (uncalled : Bool) (accepts : Acceptance) (number left : ℕ) (w : World)
-    (turn : Turn E) (plan : Plan Outcome) → is_uncalled turn ≡ uncalled →
+turn_within : {E F : Type 0} (uncalled : Bool) (accepts : Acceptance) (number left : ℕ) (w : World)
+    (turn : Turn E F) (plan : Plan Outcome) → is_uncalled turn ≡ uncalled →
     Owes accepts w turn.input plan → Left number left w → Walks plan turn.events →
     Within (answers_on number) left (cond uncalled [] turn.events)
 turn_within true accepts number left w turn plan is o h walks = tt
@@ -301,24 +301,24 @@ turn_within false accepts number left w turn plan is o h walks =
     walks_within (answers_on number) left plan turn.events
     (turn_allowed accepts number left w turn plan o h walks is) walks
 
-turn_covered : {E : Type 0} (uncalled : Bool) (accepts : Acceptance) (number left : ℕ) (w : World)
-    (turn : Turn E) (plan : Plan Outcome) (mid : World) → is_uncalled turn ≡ uncalled →
+turn_covered : {E F : Type 0} (uncalled : Bool) (accepts : Acceptance) (number left : ℕ) (w : World)
+    (turn : Turn E F) (plan : Plan Outcome) (mid : World) → is_uncalled turn ≡ uncalled →
     Owes accepts w turn.input plan → Left number left w → Walks plan turn.events →
     Follows plan turn.events (Goes mid) → mid.channels.lines.written ≡ [] →
     owing (answers_on number) mid
     ≤ left_through (answers_on number) left (cond uncalled [] turn.events)
-turn_covered {E} true accepts number left w turn plan mid is o h walks f emptied =
+turn_covered {E} {F} true accepts number left w turn plan mid is o h walks f emptied =
     let u = turn_uncalled accepts w turn plan o h.none is in
     let same = uncalled_same w u.0 turn.events mid u.1
-    (subst (λ p. Follows {E = E} {F = ⊥} p turn.events (Goes mid)) u.2 f) u.3 in
+    (subst (λ p. Follows {E = E} {F = F} p turn.events (Goes mid)) u.2 f) u.3 in
     let most = h.covered in
     rw (emptied, same) (omega (arith, most))
 turn_covered false accepts number left w turn plan mid is o h walks f emptied =
     follows_covered (answers_on number) left plan turn.events mid
     (turn_allowed accepts number left w turn plan o h walks is) f
 
-turns_within : {E : Type 0} (accepts : Acceptance) (number left : ℕ) (past : List TraceEntry)
-    (turns : List (Turn E)) (w : World) → AllWalk accepts w turns → Kept past w →
+turns_within : {E F : Type 0} (accepts : Acceptance) (number left : ℕ) (past : List TraceEntry)
+    (turns : List (Turn E F)) (w : World) → AllWalk accepts w turns → Kept past w →
     w.channels.lines.written ≡ [] → left ≤ 1 → owing (answers_on number) w ≤ left →
     Within (answers_on number) left (called_events turns)
 turns_within accepts number left past [] w all k none one l = tt
@@ -344,9 +344,9 @@ turns_within accepts number left past (turn ∷ turns) w (plan, owes, walks, inr
     (turn_covered (is_uncalled turn) accepts number left w turn plan mid refl owes h walks next.1
     emptied))
 
-turns_few : {E : Type 0} (accepts : Acceptance) (turns : List (Turn E)) (w : World) →
+turns_few : {E F : Type 0} (accepts : Acceptance) (turns : List (Turn E F)) (w : World) →
     AllWalk accepts w turns → w.channels.lines.written ≡ [] →
-    (before after : List (Turn E)) (turn : Turn E) → turns ≡ before ++ turn ∷ after →
+    (before after : List (Turn E F)) (turn : Turn E F) → turns ≡ before ++ turn ∷ after →
     is_uncalled turn ≡ true → how_many (sends is_answer) turn.events ≤ 1
 turns_few accepts [] w all none before after turn is uncalled =
     absurd (nothing_left before turn after (sym is))
@@ -365,14 +365,14 @@ turns_few accepts (t ∷ turns) w (plan, owes, walks, inr next) none (b ∷ befo
     after turn rest uncalled
 
 -- the callback of an open of the number returned where the question about it was answered
-returned_same : {E : Type 0} (number : ℕ) (event : Event E ⊥) →
+returned_same : {E F : Type 0} (number : ℕ) (event : Event E F) →
     returned (asks_open number) event ≡ open_returned_on number event
 returned_same number (Called call) = refl
 returned_same number (Stepped (kex.Begun answer)) = refl
 returned_same number (Stepped (kex.Stepped payload answer)) = refl
 returned_same number (Told entry) = refl
 
-few_answers : {E : Type 0} (number left : ℕ) (events : List (Event E ⊥)) →
+few_answers : {E F : Type 0} (number left : ℕ) (events : List (Event E F)) →
     Within (answers_on number) left events → how_many (sends (is_answer_on number)) events
     ≤ left + how_many (open_returned_on number) events
 few_answers number left events h =
@@ -385,7 +385,7 @@ few_answers number left events h =
     omega (arith, few, same)
 
 -- while no callback of an open of the number returns, at most one answer is sent on it
-span_one : {E : Type 0} (number : ℕ) (past span more : List (Event E ⊥)) →
+span_one : {E F : Type 0} (number : ℕ) (past span more : List (Event E F)) →
     Within (answers_on number) 0 (past ++ (span ++ more)) →
     how_many (open_returned_on number) span ≡ 0 →
     how_many (sends (is_answer_on number)) span ≤ 1
@@ -396,15 +396,15 @@ span_one number past span more h none =
     let one = through_one (answers_on number) 0 past (omega arith) in
     omega (arith, few, one, none)
 
-past_few : {E : Type 0} (number : ℕ) (past more : List (Event E ⊥)) →
+past_few : {E F : Type 0} (number : ℕ) (past more : List (Event E F)) →
     Within (answers_on number) 0 (past ++ more) →
     how_many (sends (is_answer_on number)) past ≤ how_many (open_returned_on number) past
 past_few number past more h =
     let few = few_answers number 0 past (within_first (answers_on number) 0 past more h) in
     omega (arith, few)
 
-turns_called : {E : Type 0} (accepts : Acceptance) (turns : List (Turn E)) (w : World) →
-    AllWalk accepts w turns → (before after : List (Turn E)) (turn : Turn E) →
+turns_called : {E F : Type 0} (accepts : Acceptance) (turns : List (Turn E F)) (w : World) →
+    AllWalk accepts w turns → (before after : List (Turn E F)) (turn : Turn E F) →
     turns ≡ before ++ turn ∷ after →
     how_many open_returned turn.events ≤ (if is_open turn.input.kind then 1 else 0)
 turns_called accepts [] w all before after turn is =
@@ -421,9 +421,9 @@ turns_called accepts (t ∷ turns) w (plan, owes, walks, inr next) (b ∷ before
     turns_called accepts turns next.0 next.2 before after turn rest
 
 -- a run answers each open once at most
-pub answered : {E : Type 0} (accepts : Acceptance) (settings : Settings) (turns : List (Turn E))
-    (world : World) (count max : ℕ) (last : Option (Turn E)) (rose : Type 0)
-    (result : Result (Unit {0}) (RunError E)) →
+pub answered : {E F : Type 0} (accepts : Acceptance) (settings : Settings) (turns : List (Turn E F))
+    (world : World) (count max : ℕ) (last : Option (Turn E F)) (rose : Type 0)
+    (result : Result (Unit {0}) (RunError E F)) →
     Run accepts (opening_world settings) turns world →
     Closes accepts world count max last rose result →
     Answered (turns ++ option_to_list last)

@@ -289,7 +289,8 @@ module _ (law : Law)
 
     pub row_beside : (w : World) (moment : ℕ) (said : Said) → IsOther said → law.holds w
         → PlanComes law.such law.comes (row w moment said)
-    row_beside w moment (Service name) is h = service_beside w (bytes_eq name (codes "ssh-userauth")) h
+    row_beside w moment (Service name) is h = service_beside w
+        (bytes_eq name (codes "ssh-userauth")) h
     row_beside w moment (Request asked) is h =
         asked_beside w.user.state (λ auth. verdict_on auth asked) w moment true h
     row_beside w moment (Response responded) is h =

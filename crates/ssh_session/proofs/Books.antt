@@ -104,25 +104,25 @@ row_books past (Tell entry next) s k = row_books (past ++ entry ∷ []) next s.1
     (plan_quiet past entry next s.0 k)
 
 -- an answered question is no notice
-never_told : {E : Type 0} (question : Question) (answer : Answer question) (entry : TraceEntry) →
-    Answered {E = E} {F = ⊥} question answer (Told entry) → ⊥
+never_told : {E F : Type 0} (question : Question) (answer : Answer question) (entry : TraceEntry) →
+    Answered {E = E} {F = F} question answer (Told entry) → ⊥
 never_told question answer entry h = let e = asked_so question answer (Told entry) h in cc
 
-follows_books : {E : Type 0} (past : List TraceEntry) (plan : Plan Outcome)
-    (events : List (Event E ⊥)) (w : World) →
+follows_books : {E F : Type 0} (past : List TraceEntry) (plan : Plan Outcome)
+    (events : List (Event E F)) (w : World) →
     Books past plan → Follows plan events (Goes w) → Kept (past ++ told_in events) w
 follows_books past plan [] w k h = subst (λ t. Kept t w) (sym (append-nil past))
     (subst (Books past) h k)
 follows_books past (Finish other) (event ∷ events) w k h = absurd h
-follows_books {E} past (Ask question next) (Called call ∷ events) w k h = follows_books past
+follows_books {E} {F} past (Ask question next) (Called call ∷ events) w k h = follows_books past
     (next h.0) events w (k h.0) h.2
-follows_books {E} past (Ask question next) (Stepped step ∷ events) w k h = follows_books past
+follows_books {E} {F} past (Ask question next) (Stepped step ∷ events) w k h = follows_books past
     (next h.0) events w (k h.0) h.2
-follows_books {E} past (Ask question next) (Told entry ∷ events) w k h =
+follows_books {E} {F} past (Ask question next) (Told entry ∷ events) w k h =
     absurd (never_told question h.0 entry h.1)
 follows_books past (Tell entry next) (Called call ∷ events) w k h = absurd (let e = h.0 in cc)
 follows_books past (Tell entry next) (Stepped step ∷ events) w k h = absurd (let e = h.0 in cc)
-follows_books {E} past (Tell entry next) (Told told ∷ events) w k h =
+follows_books {E} {F} past (Tell entry next) (Told told ∷ events) w k h =
     let same : told ≡ entry = let e = h.0 in cc in
     subst (λ t. Kept t w) (append_assoc past (told ∷ []) (told_in events))
     (follows_books (past ++ told ∷ []) next events w (subst (λ t. Books (past ++ t ∷ []) next)
@@ -194,8 +194,8 @@ kind_kept accepts past w moment input.KeepaliveTick plan o k = rw o (tick_kept p
 kind_kept accepts past w moment input.InactivityTick plan o k = rw o tt
 kind_kept accepts past w moment input.RekeyTick plan o k = rw o tt
 
-pub owed_kept : {E : Type 0} (accepts : Acceptance) (past : List TraceEntry) (w : World)
-    (turn : Turn E) (plan : Plan Outcome) (world : World) → Owes accepts w turn.input plan
+pub owed_kept : {E F : Type 0} (accepts : Acceptance) (past : List TraceEntry) (w : World)
+    (turn : Turn E F) (plan : Plan Outcome) (world : World) → Owes accepts w turn.input plan
     → Follows plan turn.events (Goes world) → Kept past w → Kept (past ++ entries turn) world
 owed_kept accepts past w turn plan world owes follows k =
     let took = Took turn.commands true turn.input in
@@ -208,13 +208,14 @@ owed_kept accepts past w turn plan world owes follows k =
     (follows_books (past ++ took ∷ []) plan turn.events world (subst (Books (past ++ took ∷ []))
     (sym owes.2) books) follows)
 
-turn_kept : {E : Type 0} (accepts : Acceptance) (past : List TraceEntry) (w : World) (turn : Turn E)
+turn_kept : {E F : Type 0} (accepts : Acceptance) (past : List TraceEntry) (w : World)
+    (turn : Turn E F)
     (world : World) →
     Turns accepts w turn world → Kept past w → Kept (past ++ entries turn) world
 turn_kept accepts past w turn world t k = owed_kept accepts past w turn t.0 world t.1 t.2 k
 
-run_kept : {E : Type 0} (accepts : Acceptance) (past : List TraceEntry) (w : World)
-    (turns : List (Turn E)) (world : World) →
+run_kept : {E F : Type 0} (accepts : Acceptance) (past : List TraceEntry) (w : World)
+    (turns : List (Turn E F)) (world : World) →
     Run accepts w turns world → Kept past w → Kept (past ++ flat_map entries turns) world
 run_kept accepts past w [] world run k =
     subst (λ t. Kept t world) (sym (append-nil past)) (subst (Kept past) (sym run) k)
@@ -224,7 +225,7 @@ run_kept accepts past w (turn ∷ turns) world run k =
     (turn_kept accepts past w turn run.0 run.1 k))
 
 -- the first inputs of a run are a run
-pub run_front : {E : Type 0} (accepts : Acceptance) (w : World) (earlier later : List (Turn E))
+pub run_front : {E F : Type 0} (accepts : Acceptance) (w : World) (earlier later : List (Turn E F))
     (world : World) →
     Run accepts w (earlier ++ later) world → (mid : World) × Run accepts w earlier mid
 run_front accepts w [] later world run = (w, refl)
@@ -236,9 +237,9 @@ pub nothing_kept : (settings : Settings) → Kept [] (opening_world settings)
 nothing_kept settings = record { ledger = λ n. tt; due = λ n. tt; waiting = tt }
 
 -- after each of its inputs
-pub ledgered : {E : Type 0} (accepts : Acceptance) (settings : Settings) (turns : List (Turn E))
+pub ledgered : {E F : Type 0} (accepts : Acceptance) (settings : Settings) (turns : List (Turn E F))
     (world : World) →
-    Run accepts (opening_world settings) turns world → (earlier later : List (Turn E)) → turns
+    Run accepts (opening_world settings) turns world → (earlier later : List (Turn E F)) → turns
     ≡ earlier ++ later →
     Ledgered_after accepts settings earlier
 ledgered accepts settings turns world run earlier later is =

@@ -16,7 +16,7 @@ use Rattle.ssh_session.proofs.Calling.{input_upto}
 
 -- ---- events
 
-beside_none : {E : Type 0} (plan : Plan Outcome) (events : List (Event E ⊥)) →
+beside_none : {E F : Type 0} (plan : Plan Outcome) (events : List (Event E F)) →
     AsksOnly IsBeside plan → Walks plan events → how_many open_returned events ≡ 0
 beside_none plan [] h w = refl
 beside_none (Finish outcome) (event ∷ events) h w = absurd w
@@ -31,7 +31,7 @@ one_more : (b : Bool) (n : ℕ) → n ≡ 0 → cond b (n + 1) n ≤ 1
 one_more true n h = omega (arith, h)
 one_more false n h = omega (arith, h)
 
-once_one : {E : Type 0} (plan : Plan Outcome) (events : List (Event E ⊥)) → AsksOnce plan →
+once_one : {E F : Type 0} (plan : Plan Outcome) (events : List (Event E F)) → AsksOnce plan →
     Walks plan events → how_many open_returned events ≤ 1
 once_one plan [] h w = omega arith
 once_one (Finish outcome) (event ∷ events) h w = absurd w
@@ -42,13 +42,13 @@ once_one (Ask question next) (event ∷ events) h (inr w) =
     one_more (open_returned event) (how_many open_returned events) (ap (how_many open_returned) w.2)
 once_one (Tell entry next) (event ∷ events) h w = rw w.0 (once_one next events h w.1)
 
-upto_count : {E : Type 0} (b : Bool) (plan : Plan Outcome) (events : List (Event E ⊥)) →
+upto_count : {E F : Type 0} (b : Bool) (plan : Plan Outcome) (events : List (Event E F)) →
     AsksUpTo b plan → Walks plan events → how_many open_returned events ≤ (if b then 1 else 0)
 upto_count true plan events h w = once_one plan events h w
 upto_count false plan events h w = let none = beside_none plan events h w in omega (arith, none)
 
 -- a CHANNEL_OPEN makes the callback of an open once at most, and another input never
-pub turn_called : {E : Type 0} (accepts : Acceptance) (w : World) (turn : Turn E)
+pub turn_called : {E F : Type 0} (accepts : Acceptance) (w : World) (turn : Turn E F)
     (plan : Plan Outcome) → Owes accepts w turn.input plan → Walks plan turn.events →
     how_many open_returned turn.events ≤ (if is_open turn.input.kind then 1 else 0)
 turn_called accepts w turn plan o walks =

@@ -88,7 +88,7 @@ no_step (kex.Begun answer) = refl
 no_step (kex.Stepped payload answer) = refl
 
 -- an event in which this was asked is about the same open
-pub asked_open : {E : Type 0} (event : Event E ⊥) (question : Question) →
+pub asked_open : {E F : Type 0} (event : Event E F) (question : Question) →
     asked_in event ≡ Some question → open_of event ≡ open_asked question
 asked_open (Called call) question is =
     let e : Some (asked_of call) ≡ Some question = is in
@@ -101,7 +101,7 @@ asked_open (Stepped step) question is =
 asked_open (Told entry) question is = absurd (let e : None ≡ Some question = is in cc)
 
 -- and nothing was sent in it
-pub asked_silent : {E : Type 0} (such : Frame → Bool) (event : Event E ⊥) (question : Question) →
+pub asked_silent : {E F : Type 0} (such : Frame → Bool) (event : Event E F) (question : Question) →
     asked_in event ≡ Some question → sends such event ≡ false
 asked_silent such (Called call) question is = refl
 asked_silent such (Stepped step) question is = refl

@@ -19,8 +19,8 @@ use Rattle.ssh_session.specs.Acts.{done, tell_all, tell_done}
 use Rattle.ssh_session.specs.Serve.{Refines, Serves, Puts, HasEffect}
 use Rattle.ssh_session.proofs.Serving.{asked, asked_in_vain, served_both, starves}
 
-told_done : {E : Type 0} (place : ℕ) (outcome : CommandOutcome) (next : Plan Outcome)
-    (a b : Heard E) (w : World)
+told_done : {E F : Type 0} (place : ℕ) (outcome : CommandOutcome) (next : Plan Outcome)
+    (a b : Heard E F) (w : World)
     (session : Session) → (outcome ≡ Accepted → ⊥) → Refines session w → Puts (Done place outcome) a
     b (Ok tt) →
     Serves (tell_done place outcome next) (λ (_ : Unit {0}) _. next) a b session (Ok tt)
@@ -30,8 +30,8 @@ told_done place (Opened channel) next a b w session n r h =
 told_done place (Refused why) next a b w session n r h =
     asked (Done place (Refused why)) tt (λ _. next) a b w session r h
 
-told_in_vain : {E : Type 0} (place : ℕ) (outcome : CommandOutcome) (next : Plan Outcome)
-    (a b : Heard E) (session : Session) (e : E) →
+told_in_vain : {E F : Type 0} (place : ℕ) (outcome : CommandOutcome) (next : Plan Outcome)
+    (a b : Heard E F) (session : Session) (e : E) →
     (outcome ≡ Accepted → ⊥) → Puts (Done place outcome) a b (Err e) →
     Serves (tell_done place outcome next) (λ (_ : Unit {0}) _. next) a b session
     (Err (error.Handler e))
@@ -44,16 +44,16 @@ told_in_vain place (Refused why) next a b session e n h =
     h
 
 -- the handler was told what came of a command, or answered an error
-pub told_so : {E : Type 0} (place : ℕ) (outcome : CommandOutcome) (next : Plan Outcome)
-    (a b : Heard E) (w : World)
+pub told_so : {E F : Type 0} (place : ℕ) (outcome : CommandOutcome) (next : Plan Outcome)
+    (a b : Heard E F) (w : World)
     (session : Session) → (outcome ≡ Accepted → ⊥) → Refines session w →
     Calls {T = Unit {0}} a b (Ok tt) (CommandDone place outcome (Ok tt)) →
     Serves (tell_done place outcome next) (λ (_ : Unit {0}) _. next) a b session (Ok tt)
 told_so place outcome next a b w session n r h =
     told_done place outcome next a b w session n r (CommandDone place outcome (Ok tt), refl, h)
 
-pub not_told_so : {E : Type 0} (place : ℕ) (outcome : CommandOutcome) (next : Plan Outcome)
-    (a b : Heard E)
+pub not_told_so : {E F : Type 0} (place : ℕ) (outcome : CommandOutcome) (next : Plan Outcome)
+    (a b : Heard E F)
     (session : Session) (e : E) → (outcome ≡ Accepted → ⊥) →
     Calls {T = Unit {0}} a b (Err e) (CommandDone place outcome (Err e)) →
     Serves (tell_done place outcome next) (λ (_ : Unit {0}) _. next) a b session
@@ -62,10 +62,11 @@ not_told_so place outcome next a b session e n h =
     told_in_vain place outcome next a b session e n (CommandDone place outcome (Err e), refl, h)
 
 -- a command was done, its notice was given, and then the next
-pub commanded : {T E : Type 0} (does : Effect) (next : CommandOutcome → World → Plan Outcome)
+pub commanded : {T E F : Type 0} (does : Effect) (next : CommandOutcome → World → Plan Outcome)
     (finish : T → World → Plan Outcome)
-    (made : Made) (a b c : Heard E) (session session' : Session) (result : Result T (RunError E)) →
-    HasEffect {E = E} does session (Ok made) →
+    (made : Made) (a b c : Heard E F) (session session' : Session)
+    (result : Result T (RunError E F)) →
+    HasEffect {E = E} {F = F} does session (Ok made) →
     ((w : World) → Refines session w → (later : Plan Outcome) →
     Serves (tell_all (map Noticed (option_to_list made.notice)) later) (λ (_ : Unit {0}) _. later) a
     b session (Ok tt)) →
@@ -79,10 +80,10 @@ commanded does next finish made a b c session session' result h g k =
     session' result (g h.0 h.2 then) (λ _ _. k h.0 h.2))
 
 -- .. or its notice was not
-pub not_noticed : {T E : Type 0} (does : Effect) (next : CommandOutcome → World → Plan Outcome)
+pub not_noticed : {T E F : Type 0} (does : Effect) (next : CommandOutcome → World → Plan Outcome)
     (finish : T → World → Plan Outcome)
-    (made : Made) (a b : Heard E) (session session' : Session) (e : RunError E)
-    → HasEffect {E = E} does session (Ok made) →
+    (made : Made) (a b : Heard E F) (session session' : Session) (e : RunError E F)
+    → HasEffect {E = E} {F = F} does session (Ok made) →
     ((w : World) → Refines session w → (later : Plan Outcome) →
     Serves (tell_all (map Noticed (option_to_list made.notice)) later) (λ (_ : Unit {0}) _. later) a
     b session (Err e)) →
@@ -92,9 +93,10 @@ not_noticed {T} does next finish made a b session session' e h g =
     (g h.0 h.2 (next made.outcome h.0))
 
 -- .. or it was not done
-pub not_done : {T E : Type 0} (does : Effect) (next : CommandOutcome → World → Plan Outcome)
+pub not_done : {T E F : Type 0} (does : Effect) (next : CommandOutcome → World → Plan Outcome)
     (finish : T → World → Plan Outcome)
-    (a : Heard E) (session session' : Session) (e : RunError E) → HasEffect {E = E} does session
+    (a : Heard E F) (session session' : Session) (e : RunError E F)
+    → HasEffect {E = E} {F = F} does session
     (Err e) →
     Serves {T = T} (done does next) finish a a session' (Err e)
 not_done does next finish a session session' error.NoMemory h = starves (done does next) finish a
@@ -106,6 +108,7 @@ not_done does next finish a session session' error.Inconsistent h = absurd h
 not_done does next finish a session session' (error.Key why) h = absurd h
 not_done does next finish a session session' error.UnsupportedAuthMethod h = absurd h
 not_done does next finish a session session' (error.Handler e) h = absurd h
+not_done does next finish a session session' (error.Kex e) h = absurd h
 not_done does next finish a session session' error.ChannelsFull h = absurd h
 not_done does next finish a session session' error.KeepaliveTimeout h = absurd h
 not_done does next finish a session session' error.InactivityTimeout h = absurd h

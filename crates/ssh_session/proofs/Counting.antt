@@ -129,37 +129,37 @@ abbrev pub asks_in : (asks : Question → Bool) → Option Question → Bool
 asks_in asks None = false
 asks_in asks (Some question) = asks question
 
-abbrev pub returned : {E : Type 0} → (asks : Question → Bool) → Event E ⊥ → Bool
+abbrev pub returned : {E F : Type 0} → (asks : Question → Bool) → Event E F → Bool
 returned asks event = asks_in asks (asked_in event)
 
 -- so many may be sent after an event: one less after such a frame, and one after a question that
 -- makes one
-abbrev pub left_after : {E : Type 0} → Measure → (left : ℕ) → Event E ⊥ → ℕ
+abbrev pub left_after : {E F : Type 0} → Measure → (left : ℕ) → Event E F → ℕ
 left_after of left event = cond (sends of.such event) (left - 1)
     (cond (returned of.asks event) 1 left)
 
 -- and after these events
-abbrev pub left_through : {E : Type 0} → Measure → (left : ℕ) → List (Event E ⊥) → ℕ
+abbrev pub left_through : {E F : Type 0} → Measure → (left : ℕ) → List (Event E F) → ℕ
 left_through of left [] = left
 left_through of left (event ∷ events) = left_through of (left_after of left event) events
 
 -- each of these frames that is sent may be
-abbrev pub Within : {E : Type 0} → Measure → (left : ℕ) → List (Event E ⊥) → Type 0
+abbrev pub Within : {E F : Type 0} → Measure → (left : ℕ) → List (Event E F) → Type 0
 Within of left [] = Unit {0}
 Within of left (event ∷ events) = (one_if (sends of.such event) ≤ left)
     × Within of (left_after of left event) events
 
-pub within_both : {E : Type 0} (of : Measure) (left : ℕ) (xs ys : List (Event E ⊥)) →
+pub within_both : {E F : Type 0} (of : Measure) (left : ℕ) (xs ys : List (Event E F)) →
     Within of left xs → Within of (left_through of left xs) ys → Within of left (xs ++ ys)
 within_both of left [] ys h k = k
 within_both of left (x ∷ xs) ys h k = (h.0, within_both of (left_after of left x) xs ys h.1 k)
 
-pub within_rest : {E : Type 0} (of : Measure) (left : ℕ) (past more : List (Event E ⊥)) →
+pub within_rest : {E F : Type 0} (of : Measure) (left : ℕ) (past more : List (Event E F)) →
     Within of left (past ++ more) → Within of (left_through of left past) more
 within_rest of left [] more h = h
 within_rest of left (x ∷ past) more h = within_rest of (left_after of left x) past more h.1
 
-pub within_first : {E : Type 0} (of : Measure) (left : ℕ) (past more : List (Event E ⊥)) →
+pub within_first : {E F : Type 0} (of : Measure) (left : ℕ) (past more : List (Event E F)) →
     Within of left (past ++ more) → Within of left past
 within_first of left [] more h = tt
 within_first of left (x ∷ past) more h =
@@ -171,7 +171,7 @@ after_one false true left h = omega arith
 after_one false false left h = h
 
 -- it is never more than one
-pub through_one : {E : Type 0} (of : Measure) (left : ℕ) (events : List (Event E ⊥)) → left ≤ 1 →
+pub through_one : {E F : Type 0} (of : Measure) (left : ℕ) (events : List (Event E F)) → left ≤ 1 →
     left_through of left events ≤ 1
 through_one of left [] h = h
 through_one of left (x ∷ events) h =
@@ -188,7 +188,7 @@ few_step false false left n t c h k = k
 
 -- so no more are sent than are left, and one for each question that makes one, but for those that
 -- are left then
-pub within_few : {E : Type 0} (of : Measure) (left : ℕ) (events : List (Event E ⊥)) →
+pub within_few : {E F : Type 0} (of : Measure) (left : ℕ) (events : List (Event E F)) →
     Within of left events → how_many (sends of.such) events + left_through of left events
     ≤ left + how_many (returned of.asks) events
 within_few of left [] h = omega arith
@@ -201,26 +201,26 @@ within_few of left (x ∷ events) h =
 -- ---- plans and their events
 
 -- an event in which this was asked sends nothing, and counts as the question does
-asked_counts : {E : Type 0} (of : Measure) (event : Event E ⊥) (question : Question) →
+asked_counts : {E F : Type 0} (of : Measure) (event : Event E F) (question : Question) →
     asked_in event ≡ Some question →
     (sends of.such event ≡ false) × (returned of.asks event ≡ of.asks question)
 asked_counts of event question is =
     (asked_silent of.such event question is, ap (asks_in of.asks) is)
 
-told_counts : (E : Type 0) (such : Frame → Bool) (entry : TraceEntry) →
-    sends {E = E} such (Told entry) ≡ is_told such entry
-told_counts E such (Sent frame) = refl
-told_counts E such _ = refl
+told_counts : (E F : Type 0) (such : Frame → Bool) (entry : TraceEntry) →
+    sends {E = E} {F = F} such (Told entry) ≡ is_told such entry
+told_counts E F such (Sent frame) = refl
+told_counts E F such _ = refl
 
 -- an answered question
-asked_within : {E : Type 0} (of : Measure) (left : ℕ) (question : Question) (event : Event E ⊥)
-    (events : List (Event E ⊥)) → asked_in event ≡ Some question →
+asked_within : {E F : Type 0} (of : Measure) (left : ℕ) (question : Question) (event : Event E F)
+    (events : List (Event E F)) → asked_in event ≡ Some question →
     Within of (asked_more of left question) events → Within of left (event ∷ events)
 asked_within of left question event events is h =
     let c = asked_counts of event question is in rw (c.0, c.1) (omega arith, h)
 
-pub walks_within : {E : Type 0} (of : Measure) (left : ℕ) (plan : Plan Outcome)
-    (events : List (Event E ⊥)) → Allowed of left plan → Walks plan events → Within of left events
+pub walks_within : {E F : Type 0} (of : Measure) (left : ℕ) (plan : Plan Outcome)
+    (events : List (Event E F)) → Allowed of left plan → Walks plan events → Within of left events
 walks_within of left plan [] h w = tt
 walks_within of left (Finish outcome) (event ∷ events) h w = absurd w
 walks_within of left (Ask question next) (event ∷ events) h (inl w) =
@@ -229,14 +229,14 @@ walks_within of left (Ask question next) (event ∷ events) h (inl w) =
 walks_within of left (Ask question next) (event ∷ events) h (inr w) =
     asked_within of left question event events (refused_so question w.0 event w.1)
     (subst (Within of (asked_more of left question)) (sym w.2) tt)
-walks_within {E} of left (Tell entry next) (event ∷ events) h w =
+walks_within {E} {F} of left (Tell entry next) (event ∷ events) h w =
     subst (λ x. Within of left (x ∷ events)) (sym w.0)
-    (rw (told_counts E of.such entry)
+    (rw (told_counts E F of.such entry)
     (h.0, walks_within of (told_more of left entry) next events h.1 w.1))
 
 -- what may still come in the world that it came to is covered
-pub follows_covered : {E : Type 0} (of : Measure) (left : ℕ) (plan : Plan Outcome)
-    (events : List (Event E ⊥)) (world : World) → Allowed of left plan →
+pub follows_covered : {E F : Type 0} (of : Measure) (left : ℕ) (plan : Plan Outcome)
+    (events : List (Event E F)) (world : World) → Allowed of left plan →
     Follows plan events (Goes world) → owing of world ≤ left_through of left events
 follows_covered of left plan [] world h f = subst (Allowed of left) f h
 follows_covered of left (Finish other) (event ∷ events) world h f = absurd f
@@ -244,7 +244,7 @@ follows_covered of left (Ask question next) (event ∷ events) world h f =
     let c = asked_counts of event question (asked_so question f.0 event f.1) in
     rw (c.0, c.1) (follows_covered of (asked_more of left question) (next f.0) events world
     (h f.0) f.2)
-follows_covered {E} of left (Tell entry next) (event ∷ events) world h f =
+follows_covered {E} {F} of left (Tell entry next) (event ∷ events) world h f =
     subst (λ x. owing of world ≤ left_through of left (x ∷ events)) (sym f.0)
-    (rw (told_counts E of.such entry)
+    (rw (told_counts E F of.such entry)
     (follows_covered of (told_more of left entry) next events world h.1 f.1))

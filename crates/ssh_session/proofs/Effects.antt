@@ -24,7 +24,8 @@ use Rattle.ssh_session.specs.declared.error.RunError.TheVariants.{NoMemory}
 use Rattle.ssh_session.specs.declared.session.Session.{Session}
 use Rattle.ssh_session.specs.Effect.{Effect, Does, effect, lacks, needs, done_by, accepts}
 use Rattle.ssh_session.specs.Effect.{refuses, refused_or, fails_open, is_too_long, opens_need}
-use Rattle.ssh_session.specs.Effect.{opens_or_not, apart_needs, done_apart, refused_for, said, sends}
+use Rattle.ssh_session.specs.Effect.{opens_or_not, apart_needs, done_apart, refused_for, said}
+use Rattle.ssh_session.specs.Effect.{sends}
 use Rattle.ssh_session.specs.OwnMessages.{OwnMessage, IsUnbuilt}
 use Rattle.ssh_session.specs.OwnOpens.{asking}
 use Rattle.ssh_session.specs.Opens.{answered, failure_frame}
@@ -32,25 +33,26 @@ use Rattle.ssh_session.specs.Serve.{Refines, HasEffect}
 use Rattle.ssh_session.specs.World.{World, lined, writes}
 
 -- a command that was done, and gives no notice
-pub accepted : (E : Type 0) (does : Effect) (world : World) (session : Session) (made : Done) → does
+pub accepted : (E F : Type 0) (does : Effect) (world : World) (session : Session) (made : Done)
+    → does
     ≡ accepts world →
     made ≡ record { notice = None; outcome = Accepted } → Refines session world
-    → HasEffect {E = E} does session (Ok made)
-accepted E does world session made d m r =
+    → HasEffect {E = E} {F = F} does session (Ok made)
+accepted E F does world session made d m r =
     (world, d ∙ ap (λ (x : Done). Does (option_to_list x.notice) x.outcome world) (sym m), r)
 
 -- .. or was refused
-pub refused : (E : Type 0) (does : Effect) (world : World) (why : Refusal) (session : Session)
+pub refused : (E F : Type 0) (does : Effect) (world : World) (why : Refusal) (session : Session)
     (made : Done) →
     does ≡ refuses why world → made ≡ record { notice = None; outcome = Refused why }
     → Refines session world →
-    HasEffect {E = E} does session (Ok made)
-refused E does world why session made d m r =
+    HasEffect {E = E} {F = F} does session (Ok made)
+refused E F does world why session made d m r =
     (world, d ∙ ap (λ (x : Done). Does (option_to_list x.notice) x.outcome world) (sym m), r)
 
 -- memory was wanting
-pub starved_effect : {E : Type 0} (does : Effect) (session : Session) (e : RunError E)
-    (result : Result Done (RunError E)) →
+pub starved_effect : {E F : Type 0} (does : Effect) (session : Session) (e : RunError E F)
+    (result : Result Done (RunError E F)) →
     IsErrAnd result (λ x. x ≡ e) → e ≡ NoMemory → HasEffect does session result
 starved_effect does session e result h is =
     let p = err_from_is_err_and result h in

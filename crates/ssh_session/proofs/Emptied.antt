@@ -17,8 +17,8 @@ pub told_comes : (comes : Outcome → Type 0) (entries : List TraceEntry) (outco
 told_comes comes [] outcome h = h
 told_comes comes (entry ∷ entries) outcome h = told_comes comes entries outcome h
 
-pub comes_of : {E : Type 0} (comes : Outcome → Type 0) (plan : Plan Outcome)
-    (events : List (Event E ⊥)) (outcome : Outcome) → PlanComes Anything comes plan →
+pub comes_of : {E F : Type 0} (comes : Outcome → Type 0) (plan : Plan Outcome)
+    (events : List (Event E F)) (outcome : Outcome) → PlanComes Anything comes plan →
     Follows plan events outcome → comes outcome
 comes_of comes plan [] outcome h f = subst (PlanComes Anything comes) f h
 comes_of comes (Finish other) (event ∷ events) outcome h f = absurd f
@@ -42,10 +42,10 @@ emptied (Finish (Fails fault)) = tt
 emptied (Ask question next) = λ answer s. emptied (next answer)
 emptied (Tell entry next) = emptied next
 
-pub owed_emptied : {E : Type 0} (accepts : Acceptance) (w : World) (turn : Turn E)
+pub owed_emptied : {E F : Type 0} (accepts : Acceptance) (w : World) (turn : Turn E F)
     (plan : Plan Outcome) (mid : World) → Owes accepts w turn.input plan →
     Follows plan turn.events (Goes mid) → mid.channels.lines.written ≡ []
-owed_emptied {E} accepts w turn plan mid o f =
+owed_emptied {E} {F} accepts w turn plan mid o f =
     comes_of IsEmptied plan turn.events (Goes mid)
     (subst (PlanComes Anything IsEmptied) (sym o.2) (emptied o.0)) f
 

@@ -166,20 +166,20 @@ first_mild : {E : Type 0} (call : Call E) (calls : List (Call E)) → AreMild (c
     → (list_any disconnects (recorded_so (was call)) ≡ false) × AreMild calls
 first_mild call calls h = mild_step (call_disconnects call) (list_any call_disconnects calls) h
 
-mild_answer : {E : Type 0} (question : Question) (answer : Answer question)
-    (events : List (Event E ⊥)) → AreMild (calls_in (answered question answer ∷ events))
+mild_answer : {E F : Type 0} (question : Question) (answer : Answer question)
+    (events : List (Event E F)) → AreMild (calls_in (answered question answer ∷ events))
     → IsMildAnswer question answer × AreMild (calls_in events)
 mild_answer ask.Banner answer events h = (tt, h)
-mild_answer {E} (ask.Admits admission) answer events h =
+mild_answer {E} {F} (ask.Admits admission) answer events h =
     (tt, (first_mild {E = E} (admission_call admission (Ok answer)) (calls_in events) h).1)
-mild_answer {E} (ask.Lends lent) commands events h =
+mild_answer {E} {F} (ask.Lends lent) commands events h =
     let both = first_mild {E = E} (lent_call lent (Ok tt) commands) (calls_in events) h in
     let same = lent_back E lent (Ok tt) commands in (
       all_mild commands (subst (λ x. list_any disconnects (recorded_so {E = E} x) ≡ false) same
           both.0),
       both.1,
     )
-mild_answer {E} (ask.Judges judged) answer events h =
+mild_answer {E} {F} (ask.Judges judged) answer events h =
     let both = first_mild {E = E} (judged_call judged (Ok answer.granted) answer.commands)
     (calls_in events) h in
     let same = judged_back E judged (Ok answer.granted) answer.commands in (
@@ -187,7 +187,7 @@ mild_answer {E} (ask.Judges judged) answer events h =
           (subst (λ x. list_any disconnects (recorded_so {E = E} x) ≡ false) same both.0),
       both.1,
     )
-mild_answer {E} (ask.Listens address port) answer events h =
+mild_answer {E} {F} (ask.Listens address port) answer events h =
     let both = mild_step (list_any disconnects answer.commands)
     (list_any (call_disconnects {E = E}) (calls_in events)) h in
     (all_mild answer.commands both.0, both.1)
@@ -197,16 +197,16 @@ mild_answer ask.Begins answer events h = (tt, h)
 mild_answer (ask.Steps payload) answer events h = (tt, h)
 
 -- a plan that does not end is not come to an end
-never_ends : {E : Type 0} (plan : Plan Outcome) (events : List (Event E ⊥)) (world : World)
+never_ends : {E F : Type 0} (plan : Plan Outcome) (events : List (Event E F)) (world : World)
     → PlanComes IsMildAnswer IsNoEnd plan → AreMild (calls_in events)
     → Follows plan events (Ends world) → ⊥
 never_ends plan [] world k mild h = subst (PlanComes IsMildAnswer IsNoEnd) h k
 never_ends (Finish other) (event ∷ events) world k mild h = h
-never_ends {E} (Ask question next) (event ∷ events) world k mild h =
+never_ends {E} {F} (Ask question next) (event ∷ events) world k mild h =
     let both = mild_answer question h.0 events
     (subst (λ e. AreMild {E = E} (calls_in (e ∷ events))) h.1 mild) in
     never_ends (next h.0) events world (k h.0 both.0) both.1 h.2
-never_ends {E} (Tell entry next) (event ∷ events) world k mild h =
+never_ends {E} {F} (Tell entry next) (event ∷ events) world k mild h =
     never_ends next events world k
     (subst (λ e. AreMild {E = E} (calls_in (e ∷ events))) h.0 mild) h.1
 
@@ -216,7 +216,7 @@ live_goes true w is h = absurd (cc)
 live_goes false w is h = is
 
 -- nor is the input that owes it
-input_on : {E : Type 0} (plan : Plan Outcome) (events : List (Event E ⊥)) (world : World)
+input_on : {E F : Type 0} (plan : Plan Outcome) (events : List (Event E F)) (world : World)
     → PlanComes IsMildAnswer IsNoEnd plan → AreMild (calls_in events)
     → Follows (after plan finish_input) events (Ends world) → ⊥
 input_on plan events world k mild h =
@@ -264,7 +264,7 @@ other_at given w gate.OpenConfirmation fields said h =
 other_at given w (gate.Connection message) fields said h =
     inr (inr (rw h.2 (read_other Connection h.0 (λ spoken. tt))))
 
-command_ends : {E : Type 0} (w : World) (ticket : ℕ) (one : Command) (events : List (Event E ⊥))
+command_ends : {E F : Type 0} (w : World) (ticket : ℕ) (one : Command) (events : List (Event E F))
     (world : World) (ends : Bool) → disconnects one ≡ ends → IsLive w → AreMild (calls_in events)
     → Follows (after (command_row w ticket one) finish_input) events (Ends world)
     → disconnects one ≡ true
@@ -278,12 +278,12 @@ gate_heard : (payload : List ℕ) (w : World) → gate_of (hears payload w) payl
 gate_heard [] w = refl
 gate_heard (n ∷ fields) w = refl
 
-kind_ends : {E : Type 0} (accepts : Acceptance) (w : World) (moment : ℕ) (kind : InputKind)
-    (first : Plan Outcome) (events : List (Event E ⊥)) (world : World)
+kind_ends : {E F : Type 0} (accepts : Acceptance) (w : World) (moment : ℕ) (kind : InputKind)
+    (first : Plan Outcome) (events : List (Event E F)) (world : World)
     → OwesKind accepts w moment kind first → IsLive w → AreMild (calls_in events)
     → Follows (after first finish_input) events (Ends world) → IsEndingKind w kind
 kind_ends accepts w moment input.End first events world o live mild f = tt
-kind_ends {E} accepts w moment (input.Payload payload) first events world o live mild f =
+kind_ends {E} {F} accepts w moment (input.Payload payload) first events world o live mild f =
     let v = hears payload w in
     elim (other_at (circumstances accepts v.settings moment) v (gate_of v payload)
     (drop 1 payload) o.0 o.1) [
@@ -291,26 +291,28 @@ kind_ends {E} accepts w moment (input.Payload payload) first events world o live
       | inr (inl over) ↦ inr (sym (gate_heard payload w) ∙ over)
       | inr (inr other) ↦ absurd (input_on (row v moment o.0) events world
           (row_on v moment o.0 other live) mild
-          (subst (λ q. Follows {E = E} {F = ⊥} (after q finish_input) events (Ends world)) o.2 f))
+          (subst (λ q. Follows {E = E} {F = F} (after q finish_input) events (Ends world)) o.2 f))
     ]
-kind_ends {E} accepts w moment (input.Command ticket one) first events world o live mild f =
+kind_ends {E} {F} accepts w moment (input.Command ticket one) first events world o live mild f =
     command_ends w ticket one events world (disconnects one) refl live mild
-    (subst (λ q. Follows {E = E} {F = ⊥} (after q finish_input) events (Ends world)) o f)
-kind_ends {E} accepts w moment (input.OpenReply ticket answer) first events world o live mild f =
+    (subst (λ q. Follows {E = E} {F = F} (after q finish_input) events (Ends world)) o f)
+kind_ends {E} {F} accepts w moment (input.OpenReply ticket answer) first events world o live mild
+    f =
     absurd (input_on (command_row w ticket (command.Answer answer)) events world
     (command_on w ticket (command.Answer answer) refl live) mild
-    (subst (λ q. Follows {E = E} {F = ⊥} (after q finish_input) events (Ends world)) o f))
-kind_ends {E} accepts w moment input.KeepaliveTick first events world o live mild f =
+    (subst (λ q. Follows {E = E} {F = F} (after q finish_input) events (Ends world)) o f))
+kind_ends {E} {F} accepts w moment input.KeepaliveTick first events world o live mild f =
     absurd (input_on (acts (keepalive_acts w) w) events world (tick_on w live) mild
-    (subst (λ q. Follows {E = E} {F = ⊥} (after q finish_input) events (Ends world)) o f))
-kind_ends {E} accepts w moment input.InactivityTick first events world o live mild f =
+    (subst (λ q. Follows {E = E} {F = F} (after q finish_input) events (Ends world)) o f))
+kind_ends {E} {F} accepts w moment input.InactivityTick first events world o live mild f =
     absurd (input_on (acts inactivity_acts w) events world tt mild
-    (subst (λ q. Follows {E = E} {F = ⊥} (after q finish_input) events (Ends world)) o f))
-kind_ends {E} accepts w moment input.RekeyTick first events world o live mild f =
+    (subst (λ q. Follows {E = E} {F = F} (after q finish_input) events (Ends world)) o f))
+kind_ends {E} {F} accepts w moment input.RekeyTick first events world o live mild f =
     absurd (input_on (Finish (Fails Not_built)) events world tt mild
-    (subst (λ q. Follows {E = E} {F = ⊥} (after q finish_input) events (Ends world)) o f))
+    (subst (λ q. Follows {E = E} {F = F} (after q finish_input) events (Ends world)) o f))
 
-turn_ends : {E : Type 0} (accepts : Acceptance) (w : World) (turn : Turn E) (first : Plan Outcome)
+turn_ends : {E F : Type 0} (accepts : Acceptance) (w : World) (turn : Turn E F)
+    (first : Plan Outcome)
     (world : World) (recorded : Bool) → list_any call_disconnects (calls_of turn) ≡ recorded
     → OwesKind accepts w turn.input.moment turn.input.kind first → IsLive w
     → Follows (after first finish_input) turn.events (Ends world) → IsEnding w turn
@@ -319,12 +321,13 @@ turn_ends accepts w turn first world false is o live f =
     inl (kind_ends accepts w turn.input.moment turn.input.kind first turn.events world o live is f)
 
 -- an input by which a run ends well is one that ends it
-pub ended : {E : Type 0} (accepts : Acceptance) (w : World) (turn : Turn E) (plan : Plan Outcome)
+pub ended : {E F : Type 0} (accepts : Acceptance) (w : World) (turn : Turn E F)
+    (plan : Plan Outcome)
     (world : World) → Owes accepts w turn.input plan → IsLive w
     → Follows plan turn.events (Ends world) → IsEnding w turn
-ended {E} accepts w turn plan world o live f =
+ended {E} {F} accepts w turn plan world o live f =
     turn_ends accepts w turn o.0 world (list_any call_disconnects (calls_of turn)) refl o.1 live
-    (subst (λ q. Follows {E = E} {F = ⊥} q turn.events (Ends world)) o.2 f)
+    (subst (λ q. Follows {E = E} {F = F} q turn.events (Ends world)) o.2 f)
 
 -- ---- a run that goes on
 
@@ -346,14 +349,14 @@ finished_live (Ends w) =
     told_comes ComesLive (map Sent w.channels.lines.written) (Ends (handed_on w)) tt
 finished_live (Fails fault) = tt
 
-turn_live : {E : Type 0} (accepts : Acceptance) (w : World) (turn : Turn E) (mid : World)
+turn_live : {E F : Type 0} (accepts : Acceptance) (w : World) (turn : Turn E F) (mid : World)
     → Turns accepts w turn mid → IsLive mid
-turn_live {E} accepts w turn mid t =
+turn_live {E} {F} accepts w turn mid t =
     comes_of ComesLive t.0 turn.events (Goes mid)
     (subst (PlanComes Anything ComesLive) (sym t.1.2)
     (comes_then Anything ComesLive t.1.0 finish_input finished_live)) t.2
 
-pub run_live : {E : Type 0} (accepts : Acceptance) (w : World) (turns : List (Turn E))
+pub run_live : {E F : Type 0} (accepts : Acceptance) (w : World) (turns : List (Turn E F))
     (world : World) → Run accepts w turns world → IsLive w → IsLive world
 run_live accepts w [] world run live = subst IsLive (sym run) live
 run_live accepts w (turn ∷ turns) world run live =

@@ -8,7 +8,7 @@ use Rattle.ssh_link.specs.declared.link.LinkFault.{LinkFault as LinkFailure}
 use Rattle.ssh_link.specs.declared.link.TraceEntry.{TraceEntry}
 use Rattle.ssh_link.specs.declared.link.TraceEntry.TheVariants.{Sent}
 use Rattle.ssh_auth.specs.Plan.{Plan, Finish, Tell, after, Event}
-use Rattle.ssh_auth.specs.Plan.{Handler_error}
+use Rattle.ssh_auth.specs.Plan.{Handler_error, Exchange_error}
 use Rattle.ssh_auth.specs.Plan.{Reaches}
 use Rattle.ssh_auth.proofs.Plans.{reaches_after}
 use Rattle.ssh_auth.proofs.Plans.{begins_after}
@@ -24,7 +24,7 @@ use Rattle.ssh_session.specs.Outcome.{Outcome, Fails}
 use Rattle.ssh_session.specs.Acts.{tell_all}
 use Rattle.ssh_session.specs.Run.{finish_input, handed_on}
 use Rattle.ssh_session.specs.Serve.{Refines, Cause, Wants_memory, Link_failed, Limit_reached}
-use Rattle.ssh_session.specs.Serve.{Faulty, Refused_by, cause_of}
+use Rattle.ssh_session.specs.Serve.{Faulty, Refused_by, Broken_by, cause_of}
 use Rattle.ssh_session.specs.Serve.{IsCaused, Serves}
 use Rattle.ssh_session.specs.Serve.{Completes, TellsEach, comes, comes_at_end}
 use Rattle.ssh_session.proofs.Serving.{reached, served_both, serves_nothing, given, not_given}
@@ -32,8 +32,8 @@ use Rattle.ssh_session.proofs.Serving.{reached, served_both, serves_nothing, giv
 -- ---- the end of an input
 
 -- what was owed is not finished, and no frame is handed on
-caused_after : {E : Type 0} (cause : Cause E) (plan : Plan Outcome) (rose : Type 0)
-    (events : List (Event E ⊥)) →
+caused_after : {E F : Type 0} (cause : Cause E F) (plan : Plan Outcome) (rose : Type 0)
+    (events : List (Event E F)) →
     IsCaused cause plan rose events → IsCaused cause (after plan finish_input) rose events
 caused_after Wants_memory plan rose events h = begins_after plan finish_input events h
 caused_after Link_failed plan rose events h = (h.0, begins_after plan finish_input events h.1)
@@ -42,9 +42,12 @@ caused_after (Faulty fault) plan rose events h = reaches_after plan (Finish (Fai
     finish_input events h
 caused_after (Refused_by e) plan rose events h = breaks_after plan finish_input events
     (Handler_error e) h
+caused_after (Broken_by e) plan rose events h = breaks_after plan finish_input events
+    (Exchange_error e) h
 
-pub unfinished : {E : Type 0} (first : Plan Outcome) (a b : Heard E) (session session' : Session)
-    (e : RunError E) →
+pub unfinished : {E F : Type 0} (first : Plan Outcome) (a b : Heard E F)
+    (session session' : Session)
+    (e : RunError E F) →
     Completes first a b session (Err e) → Completes (after first finish_input) a b session' (Err e)
 unfinished first a b session session' e h =
     (h.0, h.1, caused_after (cause_of e) first (Rose a.faults b.faults) h.0 h.2)
@@ -56,9 +59,9 @@ hands_on : (flow : Flow) (w : World) →
 hands_on Continue w = refl
 hands_on Ended w = refl
 
-pub finished : {E : Type 0} (flow : Flow) (first : Plan Outcome) (a b c : Heard E)
+pub finished : {E F : Type 0} (flow : Flow) (first : Plan Outcome) (a b c : Heard E F)
     (session session' : Session)
-    (result : Result Flow (RunError E)) → Completes first a b session (Ok flow) →
+    (result : Result Flow (RunError E F)) → Completes first a b session (Ok flow) →
     ((w : World) → Refines session w
     → Serves (tell_all (map Sent w.channels.lines.written)
     (Finish (comes_at_end flow (handed_on w))))
@@ -73,7 +76,7 @@ finished flow first a b c session session' result h k =
     (k h.2.0 h.2.2))
 
 -- behind them the run goes on, or is over
-pub at_end : {E : Type 0} (before flow : Flow) (plan : Plan Outcome) (a b : Heard E)
+pub at_end : {E F : Type 0} (before flow : Flow) (plan : Plan Outcome) (a b : Heard E F)
     (session : Session) → ((w : World) → Refines session w → comes flow w ≡ comes_at_end before w)
     → Serves plan (λ (_ : Unit {0}) world. Finish (comes_at_end before world)) a b session (Ok tt)
     → Serves plan (λ flow world. Finish (comes flow world)) a b session (Ok flow)
@@ -96,8 +99,8 @@ told_both as_what [] ys next = refl
 told_both as_what (x ∷ xs) ys next = ap (Tell (as_what x)) (told_both as_what xs ys next)
 
 -- one more was told
-pub told_more : {A E : Type 0} (as_what : A → TraceEntry) (items : List A) (item : A)
-    (a b c : Heard E) → TellsEach as_what items a b (Ok tt) →
+pub told_more : {A E F : Type 0} (as_what : A → TraceEntry) (items : List A) (item : A)
+    (a b c : Heard E F) → TellsEach as_what items a b (Ok tt) →
     Gives {T = Unit {0}} b c (as_what item) (Ok tt) →
     TellsEach as_what (items ++ item ∷ []) a c (Ok tt)
 told_more as_what items item a b c h g = λ w session r next.
@@ -109,8 +112,8 @@ told_more as_what items item a b c h g = λ w session r next.
     (Ok tt) (h w session r rest) (λ v q. given (as_what item) next b c v session q g))
 
 -- .. or was not
-pub not_told : {A E : Type 0} (as_what : A → TraceEntry) (items rest : List A) (item : A)
-    (a b c : Heard E) (fault : LinkFailure) →
+pub not_told : {A E F : Type 0} (as_what : A → TraceEntry) (items rest : List A) (item : A)
+    (a b c : Heard E F) (fault : LinkFailure) →
     TellsEach as_what items a b (Ok tt) → Gives {T = Unit {0}} b c (as_what item) (Err fault) →
     TellsEach as_what (items ++ rest) a c (Err (error_of_link fault))
 not_told as_what items rest item a b c fault h g = λ w session r next.
@@ -122,7 +125,7 @@ not_told as_what items rest item a b c fault h g = λ w session r next.
     (Err (error_of_link fault)) (h w session r more)
     (λ v q. not_given (as_what item) more (λ (_ : Unit {0}) _. next) b c session fault g))
 
-pub none_told : {A E : Type 0} (as_what : A → TraceEntry) (a : Heard E) →
+pub none_told : {A E F : Type 0} (as_what : A → TraceEntry) (a : Heard E F) →
     TellsEach as_what [] a a (Ok tt)
 none_told as_what a = λ w session r next.
     serves_nothing tt (λ (_ : Unit {0}) _. next) a w session r

@@ -30,17 +30,18 @@ pub greeted : (message : List ℕ) (w : World) (later : List Act) → length (ba
 greeted message w later h = let t : is_short (Some message) ≡ true = search rules in rw t refl
 
 -- .. and one that is not, or for which memory was wanting
-pub not_greeted : (E : Type 0) (message : List ℕ) (w : World) (later : List Act) (why : WireError)
+pub not_greeted : (E F : Type 0) (message : List ℕ) (w : World) (later : List Act) (why : WireError)
     (session : Session) →
     (why ≡ NoMemory) ⊎ ((why ≡ TooLong) × (2 ^ 32 ≤ length (banner message))) →
-    Answers {T = Unit {0}} {E = E} (acts (greets (Some message) ++ later) w) (λ (_ : Unit {0}).
+    Answers {T = Unit {0}} {E = E} {F = F} (acts (greets (Some message) ++ later) w)
+    (λ (_ : Unit {0}).
     acts later) ⊥ [] session
     (Err (run_error_of why))
-not_greeted E message w later why session (inl h) = rw h (
+not_greeted E F message w later why session (inl h) = rw h (
   acts (greets (Some message) ++ later) w,
   refl,
 )
-not_greeted E message w later why session (inr h) =
+not_greeted E F message w later why session (inr h) =
     let l = h.1 in
     let t : is_short (Some message) ≡ false = search rules in
     rw (h.0, t) refl

@@ -160,17 +160,17 @@ input_guarded given named a kind (Tell entry next) h =
 -- ---- what came of such a plan
 
 -- these are the first events of the plan; the last may be an answer that was an error
-abbrev pub Walks : {E : Type 0} → Plan Outcome → List (Event E ⊥) → Type 0
+abbrev pub Walks : {E F : Type 0} → Plan Outcome → List (Event E F) → Type 0
 Walks plan [] = Unit {0}
 Walks (Finish outcome) (event ∷ events) = ⊥
-Walks {E} (Ask question next) (event ∷ events) =
+Walks {E} {F} (Ask question next) (event ∷ events) =
     ((answer : Answer question) × Answered question answer event × Walks (next answer) events)
-    ⊎ ((error : OutsideError E ⊥) × Refused question error event × (events ≡ []))
+    ⊎ ((error : OutsideError E F) × Refused question error event × (events ≡ []))
 Walks (Tell entry next) (event ∷ events) = (event ≡ Told entry) × Walks next events
 
 -- a call among these events accepts a user
-abbrev pub SomeAccepts : {E : Type 0} → Circumstances → (named : List ℕ → Type 0) → InputKind
-    → List (Event E ⊥) → Type 0
+abbrev pub SomeAccepts : {E F : Type 0} → Circumstances → (named : List ℕ → Type 0) → InputKind
+    → List (Event E F) → Type 0
 SomeAccepts given named kind [] = ⊥
 SomeAccepts given named kind (Called call ∷ events) = IsAccepting given named kind call
     ⊎ SomeAccepts given named kind events
@@ -183,11 +183,11 @@ where_accepted P holds Accept f h = f h
 where_accepted P holds _ f h = absurd h
 
 -- an accepting answer makes an accepting call
-accepting : {E : Type 0} (given : Circumstances) (named : List ℕ → Type 0) (kind : InputKind)
+accepting : {E F : Type 0} (given : Circumstances) (named : List ℕ → Type 0) (kind : InputKind)
     (question : Question)
-    (answer : Answer question) (call : Call E) → Answered {F = ⊥} question answer (Called call) →
+    (answer : Answer question) (call : Call E) → Answered {F = F} question answer (Called call) →
     Accepts given named kind question answer → IsAccepting given named kind call
-accepting {E} given named kind (Admits admission) answer call is h =
+accepting {E} {F} given named kind (Admits admission) answer call is h =
     let P : Auth → Type 0 = λ x. IsAcceptingSo {E = E} given named kind
     (Admitted_so admission (Ok x)) in
     let made : call ≡ admission_call admission (Ok answer) = cc in
@@ -197,36 +197,37 @@ accepting {E} given named kind (Admits admission) answer call is h =
 accepting given named kind _ answer call is h = absurd h
 
 -- an event that is no call accepts nobody
-silent : {E : Type 0} (given : Circumstances) (named : List ℕ → Type 0) (kind : InputKind)
+silent : {E F : Type 0} (given : Circumstances) (named : List ℕ → Type 0) (kind : InputKind)
     (question : Question)
-    (answer : Answer question) (event : Event E ⊥) → Answered question answer event →
+    (answer : Answer question) (event : Event E F) → Answered question answer event →
     ((call : Call E) → event ≡ Called call → ⊥) → Accepts given named kind question answer → ⊥
 silent given named kind (Admits admission) answer event is none h =
     none (admission_call admission (Ok answer)) is
 silent given named kind _ answer event is none h = h
 
-accepts_now : {E : Type 0} (given : Circumstances) (named : List ℕ → Type 0) (kind : InputKind)
+accepts_now : {E F : Type 0} (given : Circumstances) (named : List ℕ → Type 0) (kind : InputKind)
     (question : Question)
-    (answer : Answer question) (event : Event E ⊥) (events : List (Event E ⊥))
+    (answer : Answer question) (event : Event E F) (events : List (Event E F))
     → Answered question answer event →
     Accepts given named kind question answer → SomeAccepts given named kind (event ∷ events)
-accepts_now given named kind question answer (Called call) events is h =
-    inl (accepting given named kind question answer call is h)
+accepts_now {E} {F} given named kind question answer (Called call) events is h =
+    inl (accepting {E = E} {F = F} given named kind question answer call is h)
 accepts_now given named kind question answer (Stepped step) events is h =
     absurd (silent given named kind question answer (Stepped step) is (λ call e. cc) h)
 accepts_now given named kind question answer (Told entry) events is h =
     absurd (silent given named kind question answer (Told entry) is (λ call e. cc) h)
 
-accepts_later : {E : Type 0} (given : Circumstances) (named : List ℕ → Type 0) (kind : InputKind)
-    (event : Event E ⊥)
-    (events : List (Event E ⊥)) → SomeAccepts given named kind events → SomeAccepts given named kind
+accepts_later : {E F : Type 0} (given : Circumstances) (named : List ℕ → Type 0) (kind : InputKind)
+    (event : Event E F)
+    (events : List (Event E F)) → SomeAccepts given named kind events → SomeAccepts given named kind
     (event ∷ events)
 accepts_later given named kind (Called call) events h = inr h
 accepts_later given named kind (Stepped step) events h = h
 accepts_later given named kind (Told entry) events h = h
 
 -- what an event of a question needs is what the question needs
-asks_user : {E : Type 0} (question : Question) (event : Event E ⊥) → asked_in event ≡ Some question
+asks_user : {E F : Type 0} (question : Question) (event : Event E F)
+    → asked_in event ≡ Some question
     → NeedsUser event →
     AsksConnection question
 asks_user question (Called call) is needs =
@@ -236,32 +237,33 @@ asks_user question (Called call) is needs =
 asks_user question (Stepped step) is needs = absurd needs
 asks_user question (Told entry) is needs = absurd (let e : None ≡ Some question = is in cc)
 
-told_user : (E : Type 0) (entry : TraceEntry) → NeedsUser {E = E} (Told entry) → NeedsEntry entry
-told_user E (Sent frame) needs = needs
-told_user E _ needs = absurd needs
+told_user : (E F : Type 0) (entry : TraceEntry) → NeedsUser {E = E} {F = F} (Told entry)
+    → NeedsEntry entry
+told_user E F (Sent frame) needs = needs
+told_user E F _ needs = absurd needs
 
 never_none : {A : Type 0} (xs : List A) (y : A) (ys : List A) → xs ++ y ∷ ys ≡ [] → ⊥
 never_none [] y ys h = cc
 never_none (x ∷ xs) y ys h = cc
 
-asked_event : {E : Type 0} (question : Question) (next : Answer question → Plan Outcome)
-    (event : Event E ⊥)
-    (events : List (Event E ⊥)) → Walks (Ask question next) (event ∷ events) → asked_in event
+asked_event : {E F : Type 0} (question : Question) (next : Answer question → Plan Outcome)
+    (event : Event E F)
+    (events : List (Event E F)) → Walks (Ask question next) (event ∷ events) → asked_in event
     ≡ Some question
 asked_event question next event events (inl h) = asked_so question h.0 event h.1
 asked_event question next event events (inr h) = refused_so question h.0 event h.1
 
 -- what needs a user has an accepting call before it
-pub walks_guarded : {E : Type 0} (given : Circumstances) (named : List ℕ → Type 0) (a : Type 0)
+pub walks_guarded : {E F : Type 0} (given : Circumstances) (named : List ℕ → Type 0) (a : Type 0)
     (kind : InputKind)
-    (plan : Plan Outcome) (past : List (Event E ⊥)) (event : Event E ⊥) (more : List (Event E ⊥)) →
+    (plan : Plan Outcome) (past : List (Event E F)) (event : Event E F) (more : List (Event E F)) →
     Guarded given named a kind plan → Walks plan (past ++ event ∷ more) → NeedsUser event → a
     ⊎ SomeAccepts given named kind past
 walks_guarded given named a kind (Finish outcome) [] event more g w needs = absurd w
 walks_guarded given named a kind (Ask question next) [] event more g w needs =
     inl (g.0 (asks_user question event (asked_event question next event more w) needs))
-walks_guarded {E} given named a kind (Tell entry next) [] event more g w needs =
-    inl (g.0 (told_user E entry (subst NeedsUser w.0 needs)))
+walks_guarded {E} {F} given named a kind (Tell entry next) [] event more g w needs =
+    inl (g.0 (told_user E F entry (subst NeedsUser w.0 needs)))
 walks_guarded given named a kind (Finish outcome) (x ∷ past) event more g w needs = absurd w
 walks_guarded given named a kind (Ask question next) (x ∷ past) event more g (inl w) needs =
     either (either (λ y. inl y) (λ y. inr (accepts_now given named kind question w.0 x past w.1 y)))
@@ -282,9 +284,9 @@ outcome_weak named a b (Ends world) f h = either (λ x. inl (f x)) (λ x. inr x)
 outcome_weak named a b (Fails fault) f h = tt
 
 -- and so has the world that it came to, or it is one before that
-pub follows_guarded : {E : Type 0} (given : Circumstances) (named : List ℕ → Type 0) (a : Type 0)
+pub follows_guarded : {E F : Type 0} (given : Circumstances) (named : List ℕ → Type 0) (a : Type 0)
     (kind : InputKind)
-    (plan : Plan Outcome) (events : List (Event E ⊥)) (outcome : Outcome) → Guarded given named a
+    (plan : Plan Outcome) (events : List (Event E F)) (outcome : Outcome) → Guarded given named a
     kind plan →
     Follows plan events outcome → GuardedOutcome (NamesLast named kind)
     (a ⊎ SomeAccepts given named kind events) outcome
@@ -309,7 +311,7 @@ follows_guarded given named a kind (Tell entry next) (event ∷ events) outcome 
 
 -- ---- how a plan is walked
 
-reaches_walks : {E : Type 0} (plan rest : Plan Outcome) (events : List (Event E ⊥))
+reaches_walks : {E F : Type 0} (plan rest : Plan Outcome) (events : List (Event E F))
     → Reaches plan events rest → Walks plan events
 reaches_walks plan rest [] h = tt
 reaches_walks (Finish outcome) rest (event ∷ events) h = absurd h
@@ -317,18 +319,18 @@ reaches_walks (Ask question next) rest (event ∷ events) h =
     inl (h.0, h.1, reaches_walks (next h.0) rest events h.2)
 reaches_walks (Tell entry next) rest (event ∷ events) h = (h.0, reaches_walks next rest events h.1)
 
-pub begins_walks : {E : Type 0} (plan : Plan Outcome) (events : List (Event E ⊥))
+pub begins_walks : {E F : Type 0} (plan : Plan Outcome) (events : List (Event E F))
     → Begins plan events → Walks plan events
 begins_walks plan events h = reaches_walks plan h.0 events h.1
 
-pub follows_walks : {E : Type 0} (plan : Plan Outcome) (events : List (Event E ⊥))
+pub follows_walks : {E F : Type 0} (plan : Plan Outcome) (events : List (Event E F))
     (outcome : Outcome) →
     Follows plan events outcome → Walks plan events
 follows_walks plan events outcome h = reaches_walks plan (Finish outcome) events h
 
-refused_walks : {E : Type 0} (plan : Plan Outcome) (question : Question) (next : Answer question
+refused_walks : {E F : Type 0} (plan : Plan Outcome) (question : Question) (next : Answer question
     → Plan Outcome)
-    (before : List (Event E ⊥)) (last : Event E ⊥) (error : OutsideError E ⊥)
+    (before : List (Event E F)) (last : Event E F) (error : OutsideError E F)
     → Reaches plan before (Ask question next) →
     Refused question error last → Walks plan (before ++ last ∷ [])
 refused_walks plan question next [] last error r h = subst (λ p. Walks p (last ∷ [])) (sym r)
@@ -339,8 +341,8 @@ refused_walks (Ask other later) question next (event ∷ before) last error r h 
 refused_walks (Tell entry later) question next (event ∷ before) last error r h =
     (r.0, refused_walks later question next before last error r.1 h)
 
-pub breaks_walks : {E : Type 0} (plan : Plan Outcome) (events : List (Event E ⊥))
-    (error : OutsideError E ⊥) →
+pub breaks_walks : {E F : Type 0} (plan : Plan Outcome) (events : List (Event E F))
+    (error : OutsideError E F) →
     Breaks plan events error → Walks plan events
 breaks_walks plan events error h =
     subst (Walks plan) (sym h.is) (refused_walks plan h.question h.next h.before h.last error

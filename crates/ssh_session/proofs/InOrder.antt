@@ -41,7 +41,7 @@ use Rattle.ssh_session.proofs.Untold.{input_tells, walks_untold}
 -- ---- an input
 
 -- what waited and what is asked is what is settled, which is told, and what waits from now on
-record Took {E : Type 0} (w mid : World) (kind : InputKind) (events : List (Event E ⊥)) : Type 0
+record Took {E F : Type 0} (w mid : World) (kind : InputKind) (events : List (Event E F)) : Type 0
   where
     pub gone : List Outstanding
     pub is : w.globals.outstanding ++ (asked_outside kind events ++ asked_within events)
@@ -50,7 +50,7 @@ record Took {E : Type 0} (w mid : World) (kind : InputKind) (events : List (Even
     pub few : length gone ≤ one_if (is_own_reply kind)
 
 -- frames behind ask nothing
-outside_front : {E : Type 0} (kind : InputKind) (xs ys : List (Event E ⊥)) →
+outside_front : {E F : Type 0} (kind : InputKind) (xs ys : List (Event E F)) →
     list_any is_refused ys ≡ false → asked_outside kind (xs ++ ys) ≡ asked_outside kind xs
 outside_front (input.Command ticket one) xs ys none =
     ap (λ b. if b then [] else asked_by one)
@@ -58,10 +58,10 @@ outside_front (input.Command ticket one) xs ys none =
     ∙ or-false (list_any is_refused xs))
 outside_front kind xs ys none = refl
 
-plain_took : {E : Type 0} (w mid : World) (kind : InputKind) (first : Plan Outcome)
-    (events : List (Event E ⊥)) → IsPlain E w kind first →
+plain_took : {E F : Type 0} (w mid : World) (kind : InputKind) (first : Plan Outcome)
+    (events : List (Event E F)) → IsPlain E F w kind first →
     Follows (after first finish_input) events (Goes mid) → Took w mid kind events
-plain_took {E} w mid kind first events plain f =
+plain_took {E} {F} w mid kind first events plain f =
     let p = parts_of first finish_input events (Goes mid) f in
     let waiting = w.globals.outstanding
     ++ (asked_outside kind p.early ++ asked_within p.early) in
@@ -82,13 +82,13 @@ plain_took {E} w mid kind first events plain f =
     }
 
 -- what a reply is told by
-record Noted {E : Type 0} (v : World) (note : Option Notice) (events : List (Event E ⊥))
+record Noted {E F : Type 0} (v : World) (note : Option Notice) (events : List (Event E F))
     (outcome : Outcome) : Type 0 where
   pub same : Waits v.globals.outstanding outcome
   pub unlent : AreUnlent events
   pub says : replies_told events ≡ flat_map replied_in (option_to_list note)
 
-noted : {E : Type 0} (v : World) (note : Option Notice) (events : List (Event E ⊥))
+noted : {E F : Type 0} (v : World) (note : Option Notice) (events : List (Event E F))
     (outcome : Outcome) → Follows (acts (notes note) v) events outcome →
     Noted v note events outcome
 noted v None [] outcome f =
@@ -107,8 +107,8 @@ noted v (Some notice) (event ∷ []) outcome f =
 noted v (Some notice) (event ∷ other ∷ events) outcome f = absurd f.1
 
 -- a reply settles the oldest
-settling_took : {E : Type 0} (w mid : World) (payload : List ℕ) (first : Plan Outcome)
-    (events : List (Event E ⊥)) → IsSettling w payload first →
+settling_took : {E F : Type 0} (w mid : World) (payload : List ℕ) (first : Plan Outcome)
+    (events : List (Event E F)) → IsSettling w payload first →
     Follows (after first finish_input) events (Goes mid) →
     Took w mid (input.Payload payload) events
 settling_took w mid payload first events s f =
@@ -132,25 +132,25 @@ settling_took w mid payload first events s f =
       few = omega (arith, one);
     }
 
-settles_took : {E : Type 0} (w mid : World) (kind : InputKind) (first : Plan Outcome)
-    (events : List (Event E ⊥)) → Settles w kind first →
+settles_took : {E F : Type 0} (w mid : World) (kind : InputKind) (first : Plan Outcome)
+    (events : List (Event E F)) → Settles w kind first →
     Follows (after first finish_input) events (Goes mid) → Took w mid kind events
 settles_took w mid (input.Payload payload) first events s f =
     settling_took w mid payload first events s f
 settles_took w mid kind first events s f = absurd s
 
-either_took : {E : Type 0} (w mid : World) (kind : InputKind) (first : Plan Outcome)
-    (events : List (Event E ⊥)) → IsPlain E w kind first ⊎ Settles w kind first →
+either_took : {E F : Type 0} (w mid : World) (kind : InputKind) (first : Plan Outcome)
+    (events : List (Event E F)) → IsPlain E F w kind first ⊎ Settles w kind first →
     Follows (after first finish_input) events (Goes mid) → Took w mid kind events
 either_took w mid kind first events (inl plain) f = plain_took w mid kind first events plain f
 either_took w mid kind first events (inr s) f = settles_took w mid kind first events s f
 
-turn_took : {E : Type 0} (accepts : Acceptance) (w mid : World) (turn : Turn E)
+turn_took : {E F : Type 0} (accepts : Acceptance) (w mid : World) (turn : Turn E F)
     (plan : Plan Outcome) → Owes accepts w turn.input plan →
     Follows plan turn.events (Goes mid) → Took w mid turn.input.kind turn.events
-turn_took {E} accepts w mid turn plan o f =
+turn_took {E} {F} accepts w mid turn plan o f =
     either_took w mid turn.input.kind o.0 turn.events
-    (kind_is E accepts w turn.input.moment turn.input.kind o.0 o.1)
+    (kind_is E F accepts w turn.input.moment turn.input.kind o.0 o.1)
     (subst (λ p. Follows p turn.events (Goes mid)) o.2 f)
 
 -- ---- a run
@@ -166,8 +166,8 @@ counts : (b : Bool) (n m k : ℕ) → n + one_if b + k ≡ m → n + cond b (k +
 counts true n m k h = omega (arith, h)
 counts false n m k h = omega (arith, h)
 
-turn_ordered : {E : Type 0} (asks says : List Outstanding) (count : ℕ) (w mid : World)
-    (turn : Turn E) → Took w mid turn.input.kind turn.events → Ordered asks says count w →
+turn_ordered : {E F : Type 0} (asks says : List Outstanding) (count : ℕ) (w mid : World)
+    (turn : Turn E F) → Took w mid turn.input.kind turn.events → Ordered asks says count w →
     Ordered (asks ++ asked turn) (says ++ replies_told turn.events)
     (count + one_if (replies_to_own turn)) mid
 turn_ordered asks says count w mid turn t o =
@@ -186,8 +186,8 @@ turn_ordered asks says count w mid turn t o =
       few = omega (arith, both, some, more);
     }
 
-run_ordered : {E : Type 0} (accepts : Acceptance) (asks says : List Outstanding) (count : ℕ)
-    (w : World) (turns : List (Turn E)) (world : World) → Run accepts w turns world →
+run_ordered : {E F : Type 0} (accepts : Acceptance) (asks says : List Outstanding) (count : ℕ)
+    (w : World) (turns : List (Turn E F)) (world : World) → Run accepts w turns world →
     Ordered asks says count w →
     Ordered (asks ++ flat_map asked turns) (says ++ replies_told (events_of turns))
     (count + how_many replies_to_own turns) world
@@ -217,9 +217,9 @@ run_ordered accepts asks says count w (turn ∷ turns) world run o =
     }
 
 -- after each of its inputs
-pub in_order : {E : Type 0} (accepts : Acceptance) (settings : Settings) (turns : List (Turn E))
+pub in_order : {E F : Type 0} (accepts : Acceptance) (settings : Settings) (turns : List (Turn E F))
     (world : World) → Run accepts (opening_world settings) turns world →
-    (earlier later : List (Turn E)) → turns ≡ earlier ++ later → InOrder accepts settings earlier
+    (earlier later : List (Turn E F)) → turns ≡ earlier ++ later → InOrder accepts settings earlier
 in_order accepts settings turns world run earlier later is =
     let front = run_front accepts (opening_world settings) earlier later world
     (subst (λ ts. Run accepts (opening_world settings) ts world) is run) in
@@ -237,14 +237,14 @@ in_order accepts settings turns world run earlier later is =
 
 -- ---- one more input
 
-none_next : {E : Type 0} (w : World) (turn : Turn E) → replies_told turn.events ≡ [] →
+none_next : {E F : Type 0} (w : World) (turn : Turn E F) → replies_told turn.events ≡ [] →
     IsNextInOrder w turn
 none_next w turn none = (
   flat_map with_notice w.globals.outstanding,
   ap (λ l. l ++ flat_map with_notice w.globals.outstanding) (sym none),
 )
 
-first_next : {E : Type 0} (w : World) (turn : Turn E) (first : Outstanding)
+first_next : {E F : Type 0} (w : World) (turn : Turn E F) (first : Outstanding)
     (later : List Outstanding) → w.globals.outstanding ≡ first ∷ later →
     replies_told turn.events ≡ with_notice first → IsNextInOrder w turn
 first_next w turn first later is says = (
@@ -253,7 +253,7 @@ first_next w turn first later is says = (
 )
 
 -- as far as it came, it told of the oldest or of none
-note_walks : {E : Type 0} (v : World) (note : Option Notice) (events : List (Event E ⊥)) →
+note_walks : {E F : Type 0} (v : World) (note : Option Notice) (events : List (Event E F)) →
     Walks (after (acts (notes note) v) finish_input) events →
     (replies_told events ≡ []) ⊎ (replies_told events ≡ flat_map replied_in (option_to_list note))
 note_walks v None events walks =
@@ -264,14 +264,14 @@ note_walks v (Some notice) (event ∷ events) walks =
     ∙ ap (λ l. replied_in notice ++ l)
     (walks_untold (finish_input (Goes v)) events (input_tells (Finish (Goes v)) tt) walks.1))
 
-said_next : {E : Type 0} (w : World) (turn : Turn E) (first : Outstanding)
+said_next : {E F : Type 0} (w : World) (turn : Turn E F) (first : Outstanding)
     (later : List Outstanding) (says : List Outstanding) →
     w.globals.outstanding ≡ first ∷ later → says ≡ with_notice first →
     (replies_told turn.events ≡ []) ⊎ (replies_told turn.events ≡ says) → IsNextInOrder w turn
 said_next w turn first later says is so (inl none) = none_next w turn none
 said_next w turn first later says is so (inr one) = first_next w turn first later is (one ∙ so)
 
-settling_next : {E : Type 0} (w : World) (turn : Turn E) (payload : List ℕ)
+settling_next : {E F : Type 0} (w : World) (turn : Turn E F) (payload : List ℕ)
     (plan : Plan Outcome) → IsSettling w payload plan →
     Walks (after plan finish_input) turn.events → IsNextInOrder w turn
 settling_next w turn payload plan s walks =
@@ -279,8 +279,8 @@ settling_next w turn payload plan s walks =
     (note_walks s.v s.note turn.events
     (subst (λ p. Walks (after p finish_input) turn.events) s.is walks))
 
-kind_next : {E : Type 0} (w : World) (turn : Turn E) (kind : InputKind) (plan : Plan Outcome) →
-    IsPlain E w kind plan ⊎ Settles w kind plan → Walks (after plan finish_input) turn.events →
+kind_next : {E F : Type 0} (w : World) (turn : Turn E F) (kind : InputKind) (plan : Plan Outcome) →
+    IsPlain E F w kind plan ⊎ Settles w kind plan → Walks (after plan finish_input) turn.events →
     IsNextInOrder w turn
 kind_next w turn kind plan (inl plain) walks =
     none_next w turn
@@ -289,17 +289,17 @@ kind_next w turn (input.Payload payload) plan (inr s) walks =
     settling_next w turn payload plan s walks
 kind_next w turn kind plan (inr s) walks = absurd s
 
-walk_next : {E : Type 0} (accepts : Acceptance) (w : World) (last : Option (Turn E)) →
+walk_next : {E F : Type 0} (accepts : Acceptance) (w : World) (last : Option (Turn E F)) →
     AllWalk accepts w (option_to_list last) → IfSome last (IsNextInOrder w)
 walk_next accepts w None all = tt
-walk_next {E} accepts w (Some turn) (plan, owes, walks, next) =
+walk_next {E} {F} accepts w (Some turn) (plan, owes, walks, next) =
     kind_next w turn turn.input.kind owes.0
-    (kind_is E accepts w turn.input.moment turn.input.kind owes.0 owes.1)
+    (kind_is E F accepts w turn.input.moment turn.input.kind owes.0 owes.1)
     (subst (λ p. Walks p turn.events) owes.2 walks)
 
 -- and what the last input tells is in order
-pub last_in_order : {E : Type 0} (accepts : Acceptance) (world : World) (count max : ℕ)
-    (last : Option (Turn E)) (rose : Type 0) (result : Result (Unit {0}) (RunError E)) →
+pub last_in_order : {E F : Type 0} (accepts : Acceptance) (world : World) (count max : ℕ)
+    (last : Option (Turn E F)) (rose : Type 0) (result : Result (Unit {0}) (RunError E F)) →
     Closes accepts world count max last rose result → IfSome last (IsNextInOrder world)
 last_in_order accepts world count max last rose result closes =
     walk_next accepts world last (last_walks accepts world count max last rose result closes)

@@ -18,20 +18,20 @@ use Rattle.ssh_session.proofs.GlobalReplied.{globally_replied}
 use Rattle.ssh_session.proofs.InOrder.{in_order, last_in_order}
 use Rattle.ssh_session.proofs.Replied.{replied}
 
-closed_ended : {E : Type 0} (accepts : Acceptance) (w : World) (count max : ℕ)
-    (last : Option (Turn E)) (rose : Type 0)
-    (result : Result (Unit {0}) (RunError E)) → Closes accepts w count max last rose result →
+closed_ended : {E F : Type 0} (accepts : Acceptance) (w : World) (count max : ℕ)
+    (last : Option (Turn E F)) (rose : Type 0)
+    (result : Result (Unit {0}) (RunError E F)) → Closes accepts w count max last rose result →
     IsLive w → OnOk result (IsSomeAnd last (IsEnding w))
 closed_ended accepts w count max (Some turn) rose (Ok done) c live =
     let o = c.2 in ended accepts w turn o.0 o.2.0 o.1 live o.2.1
 closed_ended accepts w count max None rose (Ok done) c live = absurd c
 closed_ended accepts w count max last rose (Err e) c live = tt
 
-pub lawful : {E : Type 0} (accepts : Acceptance) (settings : Settings) (before after : Told E)
+pub lawful : {E F : Type 0} (accepts : Acceptance) (settings : Settings) (before after : Told E F)
     (max : ℕ)
-    (result : Result (Unit {0}) (RunError E)) (account : Ran accepts settings before after max
+    (result : Result (Unit {0}) (RunError E F)) (account : Ran accepts settings before after max
     result) → Lawful account
-lawful {E} accepts settings before after max result account =
+lawful {E} {F} accepts settings before after max result account =
     let count = length account.turns in
     let rose = Rose before.faults after.faults in
     record {
@@ -53,6 +53,7 @@ lawful {E} accepts settings before after max result account =
           account.closes;
       complete = λ same valid. complete accepts account.world count max account.last before.faults
           after.faults result account.closes same valid;
-      link_fault = λ is. link_fault {E = E} accepts account.world count max account.last rose
+      link_fault = λ is. link_fault {E = E} {F = F} accepts account.world count max account.last
+          rose
           (subst (Closes accepts account.world count max account.last rose) is account.closes);
     }

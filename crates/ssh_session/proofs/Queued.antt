@@ -21,23 +21,23 @@ use Rattle.ssh_session.proofs.Queueing.{AreUnlent, all_done, asked_same}
 -- ---- events
 
 -- nothing was recorded in these, so nothing is asked
-pub unlent_none : {E : Type 0} (events : List (Event E ⊥)) → AreUnlent events →
+pub unlent_none : {E F : Type 0} (events : List (Event E F)) → AreUnlent events →
     asked_within events ≡ []
 unlent_none [] h = refl
 unlent_none (event ∷ events) h =
     ap (λ l. asked_from 0 l events ++ asked_within events) h.0 ∙ unlent_none events h.1
 
-pub unlent_both : {E : Type 0} (xs ys : List (Event E ⊥)) → AreUnlent xs → AreUnlent ys →
+pub unlent_both : {E F : Type 0} (xs ys : List (Event E F)) → AreUnlent xs → AreUnlent ys →
     AreUnlent (xs ++ ys)
 unlent_both [] ys h k = k
 unlent_both (x ∷ xs) ys h k = (h.0, unlent_both xs ys h.1 k)
 
 -- none of these refuses a command
-abbrev pub RefuseNone : {E : Type 0} → List (Event E ⊥) → Type 0
+abbrev pub RefuseNone : {E F : Type 0} → List (Event E F) → Type 0
 RefuseNone events = (place : ℕ) → list_any (refuses_at place) events ≡ false
 
 -- events behind that refuse none change nothing
-pub asked_front : {E : Type 0} (place : ℕ) (commands : List Command) (xs ys : List (Event E ⊥)) →
+pub asked_front : {E F : Type 0} (place : ℕ) (commands : List Command) (xs ys : List (Event E F)) →
     RefuseNone ys → asked_from place commands (xs ++ ys) ≡ asked_from place commands xs
 asked_front place commands xs ys none =
     asked_same place commands (xs ++ ys) xs
@@ -45,7 +45,7 @@ asked_front place commands xs ys none =
     ∙ ap (λ b. list_any (refuses_at p) xs || b) (none p)
     ∙ or-false (list_any (refuses_at p) xs))
 
-pub within_front : {E : Type 0} (xs ys : List (Event E ⊥)) → RefuseNone ys → AreUnlent ys →
+pub within_front : {E F : Type 0} (xs ys : List (Event E F)) → RefuseNone ys → AreUnlent ys →
     asked_within (xs ++ ys) ≡ asked_within xs
 within_front [] ys none unlent = unlent_none ys unlent
 within_front (x ∷ xs) ys none unlent =
@@ -89,14 +89,14 @@ AreCalling (Turns by ∷ later) = KeepsQueue by × AreCalling later
 AreCalling (Is_over ∷ later) = Unit {0}
 AreCalling (Stops why ∷ later) = Unit {0}
 
-pub record Stays {E : Type 0} (waiting : List Outstanding) (outcome : Outcome)
-    (events : List (Event E ⊥)) : Type 0 where
+pub record Stays {E F : Type 0} (waiting : List Outstanding) (outcome : Outcome)
+    (events : List (Event E F)) : Type 0 where
   pub same : Waits waiting outcome
   pub unlent : AreUnlent events
   pub none : RefuseNone events
 
-stays_more : {E : Type 0} (waiting : List Outstanding) (outcome : Outcome) (event : Event E ⊥)
-    (events : List (Event E ⊥)) → recorded event ≡ [] →
+stays_more : {E F : Type 0} (waiting : List Outstanding) (outcome : Outcome) (event : Event E F)
+    (events : List (Event E F)) → recorded event ≡ [] →
     ((place : ℕ) → refuses_at place event ≡ false) → Stays waiting outcome events →
     Stays waiting outcome (event ∷ events)
 stays_more waiting outcome event events unlent none h = record {
@@ -105,13 +105,13 @@ stays_more waiting outcome event events unlent none h = record {
   none = λ place. ap (λ b. b || list_any (refuses_at place) events) (none place) ∙ h.none place;
 }
 
-stays_end : {E : Type 0} (waiting : List Outstanding) (outcome other : Outcome) →
-    Waits waiting outcome → Finish outcome ≡ Finish other → Stays {E = E} waiting other []
+stays_end : {E F : Type 0} (waiting : List Outstanding) (outcome other : Outcome) →
+    Waits waiting outcome → Finish outcome ≡ Finish other → Stays {E = E} {F = F} waiting other []
 stays_end waiting outcome other h is =
     let same : outcome ≡ other = cc in
     record { same = subst (Waits waiting) same h; unlent = tt; none = λ place. refl }
 
-apart_stays : {E : Type 0} (now : List Act) (w : World) (events : List (Event E ⊥))
+apart_stays : {E F : Type 0} (now : List Act) (w : World) (events : List (Event E F))
     (outcome : Outcome) → AreApart now → Follows (acts now w) events outcome →
     Stays w.globals.outstanding outcome events
 apart_stays [] w [] outcome a f = stays_end w.globals.outstanding (Goes w) outcome refl f
@@ -142,10 +142,10 @@ apart_stays (Listens_by address port by ∷ later) w events outcome a f = absurd
 -- ---- acts with a callback
 
 -- what a callback recorded is asked, and then nothing is
-called_waits : {E : Type 0} (event : Event E ⊥) (commands : List Command) (w : World)
-    (next : World → Plan Outcome) (events : List (Event E ⊥)) (outcome : Outcome) →
+called_waits : {E F : Type 0} (event : Event E F) (commands : List Command) (w : World)
+    (next : World → Plan Outcome) (events : List (Event E F)) (outcome : Outcome) →
     recorded event ≡ commands →
-    ((v : World) (rest : List (Event E ⊥)) → Follows (next v) rest outcome →
+    ((v : World) (rest : List (Event E F)) → Follows (next v) rest outcome →
     Stays v.globals.outstanding outcome rest) →
     Follows (done_all 0 commands w next) events outcome →
     Waits (w.globals.outstanding ++ asked_within (event ∷ events)) outcome
@@ -164,8 +164,8 @@ called_waits event commands w next events outcome is stays f =
     subst (λ l. Waits l outcome) (d.grew ∙ ap (λ l. w.globals.outstanding ++ l) (sym whole)) s.same
 
 -- a quiet event before it
-pub waits_more : {E : Type 0} (waiting : List Outstanding) (outcome : Outcome) (event : Event E ⊥)
-    (events : List (Event E ⊥)) → recorded event ≡ [] →
+pub waits_more : {E F : Type 0} (waiting : List Outstanding) (outcome : Outcome) (event : Event E F)
+    (events : List (Event E F)) → recorded event ≡ [] →
     Waits (waiting ++ asked_within events) outcome →
     Waits (waiting ++ asked_within (event ∷ events)) outcome
 waits_more waiting outcome event events unlent h =
@@ -178,7 +178,7 @@ waits_end waiting outcome other h is =
     let same : outcome ≡ other = cc in
     subst (λ l. Waits l other) (sym (append-nil waiting)) (subst (Waits waiting) same h)
 
-pub calling_waits : {E : Type 0} (now : List Act) (w : World) (events : List (Event E ⊥))
+pub calling_waits : {E F : Type 0} (now : List Act) (w : World) (events : List (Event E F))
     (outcome : Outcome) → AreCalling now → Follows (acts now w) events outcome →
     Waits (w.globals.outstanding ++ asked_within events) outcome
 calling_waits [] w [] outcome a f = waits_end w.globals.outstanding (Goes w) outcome refl f
@@ -188,12 +188,12 @@ calling_waits (Notes notice ∷ later) w (event ∷ events) outcome a f =
     waits_more w.globals.outstanding outcome event events (ap recorded f.0)
     (calling_waits later w events outcome a.1 f.1)
 calling_waits (Calls lent ∷ later) w [] outcome a f = absurd (cc)
-calling_waits {E} (Calls lent ∷ later) w (event ∷ events) outcome a f =
+calling_waits {E} {F} (Calls lent ∷ later) w (event ∷ events) outcome a f =
     called_waits event f.0 w (acts later) events outcome
     (ap recorded f.1 ∙ ap recorded_so (lent_back E lent (Ok tt) f.0))
     (λ v rest g. apart_stays later v rest outcome a g) f.2
 calling_waits (Judges_by judged by ∷ later) w [] outcome a f = absurd (cc)
-calling_waits {E} (Judges_by judged by ∷ later) w (event ∷ events) outcome a f =
+calling_waits {E} {F} (Judges_by judged by ∷ later) w (event ∷ events) outcome a f =
     let answer = f.0 in
     called_waits event answer.commands w (λ v. acts later (by answer.granted v)) events outcome
     (ap recorded f.1 ∙ ap recorded_so (judged_back E judged (Ok answer.granted) answer.commands))

@@ -173,22 +173,22 @@ greets_calling message true is = rw is (λ w. refl, tt)
 greets_calling message false is = rw is tt
 
 -- a verdict asks for no commands, and then the reply is written
-verdict_waits : {E : Type 0} (waiting : List Outstanding) (plan : Plan AuthOutcome)
-    (later : AuthOutcome → Plan Outcome) (events : List (Event E ⊥)) (outcome : Outcome) →
-    EndsSo IsBeside plan → ((o : AuthOutcome) (rest : List (Event E ⊥)) →
+verdict_waits : {E F : Type 0} (waiting : List Outstanding) (plan : Plan AuthOutcome)
+    (later : AuthOutcome → Plan Outcome) (events : List (Event E F)) (outcome : Outcome) →
+    EndsSo IsBeside plan → ((o : AuthOutcome) (rest : List (Event E F)) →
     Follows (later o) rest outcome → Waits (waiting ++ asked_within rest) outcome) →
     Follows (after plan later) events outcome → Waits (waiting ++ asked_within events) outcome
 verdict_waits waiting (Finish o) later events outcome e k f = k o events f
 verdict_waits waiting (Ask question next) later [] outcome e k f = absurd (cc)
-verdict_waits {E} waiting (Ask (Admits admission) next) later (event ∷ events) outcome e k f =
+verdict_waits {E} {F} waiting (Ask (Admits admission) next) later (event ∷ events) outcome e k f =
     waits_more waiting outcome event events
     (ap recorded f.1 ∙ ap recorded_so (admitted_back E admission (Ok f.0)))
     (verdict_waits waiting (next f.0) later events outcome (e.1 f.0) k f.2)
 verdict_waits waiting (Ask other next) later (event ∷ events) outcome e k f = absurd e.0
 verdict_waits waiting (Tell entry next) later events outcome e k f = absurd e
 
-concluded_waits : {E : Type 0} (w : World) (moment : ℕ) (requested : Bool) (o : AuthOutcome)
-    (events : List (Event E ⊥)) (outcome : Outcome) →
+concluded_waits : {E F : Type 0} (w : World) (moment : ℕ) (requested : Bool) (o : AuthOutcome)
+    (events : List (Event E F)) (outcome : Outcome) →
     Follows (concluded w moment requested o) events outcome →
     Waits (w.globals.outstanding ++ asked_within events) outcome
 concluded_waits w moment requested (Replies reply v state) events outcome f =
@@ -198,8 +198,8 @@ concluded_waits w moment requested (Replies reply v state) events outcome f =
 concluded_waits w moment requested (auth.Fails fault) events outcome f =
     calling_waits (Stops (fault_of fault) ∷ []) w events outcome tt f
 
-asked_waits : {E : Type 0} (state : EncryptedState) (next : AuthRequest → Plan AuthOutcome)
-    (w : World) (moment : ℕ) (requested : Bool) (events : List (Event E ⊥)) (outcome : Outcome) →
+asked_waits : {E F : Type 0} (state : EncryptedState) (next : AuthRequest → Plan AuthOutcome)
+    (w : World) (moment : ℕ) (requested : Bool) (events : List (Event E F)) (outcome : Outcome) →
     ((auth : AuthRequest) → EndsSo IsBeside (next auth)) →
     Follows (asked_of state (λ auth. after (next auth) (concluded w moment requested)) (acts [] w))
     events outcome → Waits (w.globals.outstanding ++ asked_within events) outcome
@@ -209,7 +209,7 @@ asked_waits (WaitingAuthRequest auth) next w moment requested events outcome e f
 asked_waits _ next w moment requested events outcome e f =
     calling_waits [] w events outcome tt f
 
-service_waits : {E : Type 0} (w : World) (b : Bool) (events : List (Event E ⊥))
+service_waits : {E F : Type 0} (w : World) (b : Bool) (events : List (Event E F))
     (outcome : Outcome) →
     Follows (if b then Ask Banner (λ message. acts (greets message) w) else acts [] w) events
     outcome → Waits (w.globals.outstanding ++ asked_within events) outcome
@@ -221,7 +221,7 @@ service_waits w false events outcome f = calling_waits [] w events outcome tt f
 
 -- ---- rows
 
-pub row_waits : {E : Type 0} (w : World) (moment : ℕ) (said : Said) (events : List (Event E ⊥))
+pub row_waits : {E F : Type 0} (w : World) (moment : ℕ) (said : Said) (events : List (Event E F))
     (outcome : Outcome) → SaysNoReply said → Follows (row w moment said) events outcome →
     Waits (w.globals.outstanding ++ asked_within events) outcome
 row_waits w moment (Service name) events outcome is f =

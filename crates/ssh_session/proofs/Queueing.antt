@@ -203,16 +203,16 @@ effect_asks w one =
 -- ---- events
 
 -- it is no callback that recorded commands, and refuses none
-abbrev pub IsQuiet : {E : Type 0} → Event E ⊥ → Type 0
+abbrev pub IsQuiet : {E F : Type 0} → Event E F → Type 0
 IsQuiet event = (recorded event ≡ []) × ((place : ℕ) → refuses_at place event ≡ false)
 
 -- none of these is a callback that recorded commands
-abbrev pub AreUnlent : {E : Type 0} → List (Event E ⊥) → Type 0
+abbrev pub AreUnlent : {E F : Type 0} → List (Event E F) → Type 0
 AreUnlent [] = Unit {0}
 AreUnlent (event ∷ events) = (recorded event ≡ []) × AreUnlent events
 
 -- where the same commands are refused, the same is asked
-pub asked_same : {E : Type 0} (place : ℕ) (commands : List Command) (xs ys : List (Event E ⊥)) →
+pub asked_same : {E F : Type 0} (place : ℕ) (commands : List Command) (xs ys : List (Event E F)) →
     ((p : ℕ) → place ≤ p → list_any (refuses_at p) xs ≡ list_any (refuses_at p) ys) →
     asked_from place commands xs ≡ asked_from place commands ys
 asked_same place [] xs ys h = refl
@@ -224,11 +224,11 @@ asked_same place (one ∷ commands) xs ys h =
 
 -- what was recorded from this place on is done: these events are what is told of it, the rest
 -- follows, and what waits is what waited and what is asked
-pub record Done {E : Type 0} (next : World → Plan Outcome) (outcome : Outcome) (place : ℕ)
-    (commands : List Command) (w : World) (events : List (Event E ⊥)) : Type 0 where
+pub record Done {E F : Type 0} (next : World → Plan Outcome) (outcome : Outcome) (place : ℕ)
+    (commands : List Command) (w : World) (events : List (Event E F)) : Type 0 where
   pub world : World
-  pub early : List (Event E ⊥)
-  pub rest : List (Event E ⊥)
+  pub early : List (Event E F)
+  pub rest : List (Event E F)
   pub is : events ≡ early ++ rest
   pub follows : Follows (next world) rest outcome
   pub grew : world.globals.outstanding
@@ -237,8 +237,8 @@ pub record Done {E : Type 0} (next : World → Plan Outcome) (outcome : Outcome)
   pub low : (p : ℕ) → p < place → list_any (refuses_at p) early ≡ false
 
 -- a quiet event before it
-done_quiet : {E : Type 0} (next : World → Plan Outcome) (outcome : Outcome) (place : ℕ)
-    (commands : List Command) (w : World) (event : Event E ⊥) (events : List (Event E ⊥)) →
+done_quiet : {E F : Type 0} (next : World → Plan Outcome) (outcome : Outcome) (place : ℕ)
+    (commands : List Command) (w : World) (event : Event E F) (events : List (Event E F)) →
     IsQuiet event → Done next outcome place commands w events →
     Done next outcome place commands w (event ∷ events)
 done_quiet next outcome place commands w event events q a = record {
@@ -255,8 +255,8 @@ done_quiet next outcome place commands w event events q a = record {
 }
 
 -- a command that is accepted
-done_accepted : {E : Type 0} (next : World → Plan Outcome) (outcome : Outcome) (place : ℕ)
-    (one : Command) (commands : List Command) (w v : World) (events : List (Event E ⊥)) →
+done_accepted : {E F : Type 0} (next : World → Plan Outcome) (outcome : Outcome) (place : ℕ)
+    (one : Command) (commands : List Command) (w v : World) (events : List (Event E F)) →
     v.globals.outstanding ≡ w.globals.outstanding ++ asked_by one →
     Done next outcome (place + 1) commands v events →
     Done next outcome place (one ∷ commands) w events
@@ -286,9 +286,9 @@ lower_number : (p place : ℕ) → p < place → (p == place) ≡ false
 lower_number p place l = ne_eqb p place (λ same. omega (arith, l, same))
 
 -- a command that is refused
-done_refused : {E : Type 0} (next : World → Plan Outcome) (outcome : Outcome) (place : ℕ)
-    (one : Command) (commands : List Command) (w v : World) (event : Event E ⊥)
-    (events : List (Event E ⊥)) → v.globals.outstanding ≡ w.globals.outstanding →
+done_refused : {E F : Type 0} (next : World → Plan Outcome) (outcome : Outcome) (place : ℕ)
+    (one : Command) (commands : List Command) (w v : World) (event : Event E F)
+    (events : List (Event E F)) → v.globals.outstanding ≡ w.globals.outstanding →
     recorded event ≡ [] → ((p : ℕ) → refuses_at p event ≡ (p == place)) →
     Done next outcome (place + 1) commands v events →
     Done next outcome place (one ∷ commands) w (event ∷ events)
@@ -314,10 +314,10 @@ done_refused next outcome place one commands w v event events same none refuses 
     }
 
 -- notices before it
-done_noticed : {E : Type 0} (next : World → Plan Outcome) (outcome : Outcome) (place : ℕ)
+done_noticed : {E F : Type 0} (next : World → Plan Outcome) (outcome : Outcome) (place : ℕ)
     (commands : List Command) (w : World) (notices : List Notice) (plan : Plan Outcome)
-    (events : List (Event E ⊥)) → Follows (tell_all (map Noticed notices) plan) events outcome →
-    ((rest : List (Event E ⊥)) → Follows plan rest outcome →
+    (events : List (Event E F)) → Follows (tell_all (map Noticed notices) plan) events outcome →
+    ((rest : List (Event E F)) → Follows plan rest outcome →
     Done next outcome place commands w rest) → Done next outcome place commands w events
 done_noticed next outcome place commands w [] plan events f k = k events f
 done_noticed next outcome place commands w (notice ∷ notices) plan [] f k = absurd (cc)
@@ -327,12 +327,12 @@ done_noticed next outcome place commands w (notice ∷ notices) plan (event ∷ 
     (done_noticed next outcome place commands w notices plan events f.1 k))
 
 -- one command, of which the handler is told where it opens a channel or is refused
-told_done : {E : Type 0} (next : World → Plan Outcome) (outcome : Outcome) (place : ℕ)
+told_done : {E F : Type 0} (next : World → Plan Outcome) (outcome : Outcome) (place : ℕ)
     (one : Command) (commands : List Command) (w v : World) (done_so : CommandOutcome)
-    (notices : List Notice) (events : List (Event E ⊥)) →
+    (notices : List Notice) (events : List (Event E F)) →
     Asks w.globals.outstanding (asked_by one) (Does notices done_so v) →
     Follows (tell_done place done_so (done_all (place + 1) commands v next)) events outcome →
-    ((rest : List (Event E ⊥)) → Follows (done_all (place + 1) commands v next) rest outcome →
+    ((rest : List (Event E F)) → Follows (done_all (place + 1) commands v next) rest outcome →
     Done next outcome (place + 1) commands v rest) →
     Done next outcome place (one ∷ commands) w events
 told_done next outcome place one commands w v Accepted notices events asks f k =
@@ -348,12 +348,12 @@ told_done next outcome place one commands w v (Refused why) notices (event ∷ e
     (done_refused next outcome place one commands w v _ events asks.1 refl (λ p. refl)
     (k events f.2))
 
-effect_done : {E : Type 0} (next : World → Plan Outcome) (outcome : Outcome) (place : ℕ)
+effect_done : {E F : Type 0} (next : World → Plan Outcome) (outcome : Outcome) (place : ℕ)
     (one : Command) (commands : List Command) (w : World) (does : Effect)
-    (events : List (Event E ⊥)) → Asks w.globals.outstanding (asked_by one) does →
+    (events : List (Event E F)) → Asks w.globals.outstanding (asked_by one) does →
     Follows (done does (λ done_so v. tell_done place done_so
     (done_all (place + 1) commands v next))) events outcome →
-    ((v : World) (rest : List (Event E ⊥)) →
+    ((v : World) (rest : List (Event E F)) →
     Follows (done_all (place + 1) commands v next) rest outcome →
     Done next outcome (place + 1) commands v rest) →
     Done next outcome place (one ∷ commands) w events
@@ -363,8 +363,8 @@ effect_done next outcome place one commands w (Does notices done_so v) events as
     (λ rest g. told_done next outcome place one commands w v done_so notices rest asks g (k v))
 
 -- all that was recorded
-pub all_done : {E : Type 0} (next : World → Plan Outcome) (outcome : Outcome) (place : ℕ)
-    (commands : List Command) (w : World) (events : List (Event E ⊥)) →
+pub all_done : {E F : Type 0} (next : World → Plan Outcome) (outcome : Outcome) (place : ℕ)
+    (commands : List Command) (w : World) (events : List (Event E F)) →
     Follows (done_all place commands w next) events outcome →
     Done next outcome place commands w events
 all_done next outcome place [] w events f = record {

@@ -60,8 +60,8 @@ unkept layout bytes why read result h is spells =
 abbrev pub finish : Flow → World → Plan Outcome
 finish flow world = Finish (comes flow world)
 
-unserved_so : {E : Type 0} (w : World) (moment : ℕ) (layout : Layout Spoken) (bytes : List ℕ)
-    (why : WireError) (a : Heard E) (session : Session) → IsRead layout bytes (Err why)
+unserved_so : {E F : Type 0} (w : World) (moment : ℕ) (layout : Layout Spoken) (bytes : List ℕ)
+    (why : WireError) (a : Heard E F) (session : Session) → IsRead layout bytes (Err why)
     → (read : Result Spoken WireError) × Spells layout bytes read
     × Completes (row w moment (said_of Connection read)) a a session (Err (run_error_of why))
 unserved_so w moment layout bytes wire.NoMemory a session h =
@@ -76,16 +76,16 @@ unserved_so w moment layout bytes wire.TooLong a session h =
     (Err wire.TooLong, h, unfit wire.TooLong finish a session)
 
 -- a message that was not read is not served
-pub unserved : {E : Type 0} (w : World) (moment : ℕ) (layout : Layout Spoken) (bytes : List ℕ)
-    (why : WireError) (a : Heard E) (session : Session) (e : RunError E)
-    (result : Result Flow (RunError E)) → IsErrAnd result (λ x. x ≡ e) → e ≡ run_error_of why
+pub unserved : {E F : Type 0} (w : World) (moment : ℕ) (layout : Layout Spoken) (bytes : List ℕ)
+    (why : WireError) (a : Heard E F) (session : Session) (e : RunError E F)
+    (result : Result Flow (RunError E F)) → IsErrAnd result (λ x. x ≡ e) → e ≡ run_error_of why
     → IsRead layout bytes (Err why)
     → (read : Result Spoken WireError) × Spells layout bytes read
     × Completes (row w moment (said_of Connection read)) a a session result
-unserved {E} w moment layout bytes why a session e result h is k =
+unserved {E} {F} w moment layout bytes why a session e result h is k =
     let p = err_from_is_err_and result h in
     subst (λ r. (read : Result Spoken WireError) × Spells layout bytes read
-    × Completes {E = E} (row w moment (said_of Connection read)) a a session r)
+    × Completes {E = E} {F = F} (row w moment (said_of Connection read)) a a session r)
     (sym (p.1 ∙ ap Err (p.2 ∙ is))) (unserved_so w moment layout bytes why a session k)
 
 -- a packet size
@@ -103,8 +103,8 @@ pub agreed_by : (fields left rest : List ℕ) (message : ChannelOpenConfirmation
 agreed_by fields left rest message e h none =
     subst (λ l. SpellsConfirmation message l []) e (subst (SpellsConfirmation message left) none h)
 
-pub unfit_confirmation : {E : Type 0} (w : World) (moment : ℕ) (fields left : List ℕ)
-    (why : LayoutError) (a : Heard E) (session : Session) → left ≡ fields
+pub unfit_confirmation : {E F : Type 0} (w : World) (moment : ℕ) (fields left : List ℕ)
+    (why : LayoutError) (a : Heard E F) (session : Session) → left ≡ fields
     → MisfitsConfirmation left why → (said : Said)
     × SaysConfirmation fields said
     × Completes (row w moment said) a a session (Err (error_of_layout why))

@@ -196,10 +196,11 @@ taken_in n count session table fits w e r =
 -- ---- the end of an input
 
 -- the written frames were handed on
-pub handed : {E : Type 0} (session : Session) (table : Table) (fits : length session.session_id < 2
+pub handed : {E F : Type 0} (session : Session) (table : Table)
+    (fits : length session.session_id < 2
     ^ 32) (w : World)
-    (next : World → Plan Outcome) (frames : List Frame) (a b : Heard E)
-    (result : Result (Unit {0}) (RunError E)) →
+    (next : World → Plan Outcome) (frames : List Frame) (a b : Heard E F)
+    (result : Result (Unit {0}) (RunError E F)) →
     Refines session w → table ≡ hand_on false session.table → frames
     ≡ calls.handed false session.table →
     TellsEach Sent frames a b result →

@@ -78,7 +78,7 @@ more_step true left n m rest c h k = omega (arith, h, k)
 more_step false left n m rest c h k = omega (arith, h, k)
 
 -- where nothing comes, nothing is sent
-none_few : {E : Type 0} (of : Measure) (k : ℕ) (past span more : List (Turn E)) →
+none_few : {E F : Type 0} (of : Measure) (k : ℕ) (past span more : List (Turn E F)) →
     past ++ (span ++ more) ≡ [] → how_many (sends of.such) (events_of span) ≤ k
 none_few of k past [] more is = omega arith
 none_few of k past (turn ∷ span) more is = absurd (nothing_left past turn (span ++ more) is)
@@ -172,7 +172,7 @@ module _ (of : Measure) (wants : InputKind → Bool) (pays : Repays of wants) wh
   kind_covered accepts left w moment input.InactivityTick plan o h = rw o tt
   kind_covered accepts left w moment input.RekeyTick plan o h = rw o tt
 
-  turn_allowed : {E : Type 0} (accepts : Acceptance) (left : ℕ) (w : World) (turn : Turn E)
+  turn_allowed : {E F : Type 0} (accepts : Acceptance) (left : ℕ) (w : World) (turn : Turn E F)
       (plan : Plan Outcome) → Owes accepts w turn.input plan → Owed of left w
       → Allowed of (left_with wants left turn.input.kind) plan
   turn_allowed accepts left w turn plan o h =
@@ -183,7 +183,7 @@ module _ (of : Measure) (wants : InputKind → Bool) (pays : Repays of wants) wh
   -- ---- events
 
   -- no more replies are sent than are left
-  few_replies : {E : Type 0} (left : ℕ) (events : List (Event E ⊥)) → Within of left events
+  few_replies : {E F : Type 0} (left : ℕ) (events : List (Event E F)) → Within of left events
       → how_many (sends of.such) events + left_through of left events ≤ left
   few_replies left events h =
       let few : how_many (sends of.such) events + left_through of left events
@@ -193,7 +193,7 @@ module _ (of : Measure) (wants : InputKind → Bool) (pays : Repays of wants) wh
       (λ event. asks_never of pays.never (asked_in event)) ∙ never_many events in
       omega (arith, few, none)
 
-  turn_few : {E : Type 0} (accepts : Acceptance) (left : ℕ) (w : World) (turn : Turn E)
+  turn_few : {E F : Type 0} (accepts : Acceptance) (left : ℕ) (w : World) (turn : Turn E F)
       (plan : Plan Outcome) → Owes accepts w turn.input plan → Owed of left w
       → Walks plan turn.events → how_many (sends of.such) turn.events
       + left_through of (left_with wants left turn.input.kind) turn.events
@@ -204,7 +204,7 @@ module _ (of : Measure) (wants : InputKind → Bool) (pays : Repays of wants) wh
       (walks_within of k plan turn.events (turn_allowed accepts left w turn plan o h) walks)
 
   -- after an input as many are left as it left
-  turn_owed : {E : Type 0} (accepts : Acceptance) (left : ℕ) (w : World) (turn : Turn E)
+  turn_owed : {E F : Type 0} (accepts : Acceptance) (left : ℕ) (w : World) (turn : Turn E F)
       (plan : Plan Outcome) (mid : World) → Owes accepts w turn.input plan → Owed of left w
       → Follows plan turn.events (Goes mid)
       → Owed of (left_through of (left_with wants left turn.input.kind) turn.events) mid
@@ -220,8 +220,8 @@ module _ (of : Measure) (wants : InputKind → Bool) (pays : Repays of wants) wh
   -- ---- a run
 
   -- one input and then more
-  turns_few : {E : Type 0} (accepts : Acceptance) (left : ℕ) (w : World) (turn : Turn E)
-      (turns : List (Turn E)) (plan : Plan Outcome) → Owes accepts w turn.input plan
+  turns_few : {E F : Type 0} (accepts : Acceptance) (left : ℕ) (w : World) (turn : Turn E F)
+      (turns : List (Turn E F)) (plan : Plan Outcome) → Owes accepts w turn.input plan
       → Owed of left w → Walks plan turn.events
       → how_many (sends of.such) (events_of turns)
       ≤ left_through of (left_with wants left turn.input.kind) turn.events
@@ -237,8 +237,8 @@ module _ (of : Measure) (wants : InputKind → Bool) (pays : Repays of wants) wh
       (turn_few accepts left w turn plan o h walks) more in
       omega (arith, both, all)
 
-  pub past_few : {E : Type 0} (accepts : Acceptance) (left : ℕ) (turns : List (Turn E))
-      (w : World) → AllWalk accepts w turns → Owed of left w → (past more : List (Turn E))
+  pub past_few : {E F : Type 0} (accepts : Acceptance) (left : ℕ) (turns : List (Turn E F))
+      (w : World) → AllWalk accepts w turns → Owed of left w → (past more : List (Turn E F))
       → turns ≡ past ++ more → how_many (sends of.such) (events_of past)
       ≤ left + how_many (λ t. wants t.input.kind) past
   past_few accepts left [] w all h past more is =
@@ -261,9 +261,9 @@ module _ (of : Measure) (wants : InputKind → Bool) (pays : Repays of wants) wh
       next.0 next.2 (turn_owed accepts left w t plan next.0 owes h next.1) past more rest))
 
   -- while no request wants one, at most one is sent
-  pub span_few : {E : Type 0} (accepts : Acceptance) (left : ℕ) (turns : List (Turn E))
+  pub span_few : {E F : Type 0} (accepts : Acceptance) (left : ℕ) (turns : List (Turn E F))
       (w : World) → AllWalk accepts w turns → Owed of left w
-      → (past span more : List (Turn E)) → turns ≡ past ++ (span ++ more)
+      → (past span more : List (Turn E F)) → turns ≡ past ++ (span ++ more)
       → how_many (λ t. wants t.input.kind) span ≡ 0
       → how_many (sends of.such) (events_of span) ≤ 1
   span_few accepts left [] w all h past span more is none =

@@ -55,9 +55,9 @@ replies_repay number = record {
 }
 
 -- a run sends no more replies than its requests want
-pub replied : {E : Type 0} (accepts : Acceptance) (settings : Settings) (turns : List (Turn E))
-    (world : World) (count max : ℕ) (last : Option (Turn E)) (rose : Type 0)
-    (result : Result (Unit {0}) (RunError E)) →
+pub replied : {E F : Type 0} (accepts : Acceptance) (settings : Settings) (turns : List (Turn E F))
+    (world : World) (count max : ℕ) (last : Option (Turn E F)) (rose : Type 0)
+    (result : Result (Unit {0}) (RunError E F)) →
     Run accepts (opening_world settings) turns world →
     Closes accepts world count max last rose result →
     Replied (turns ++ option_to_list last)

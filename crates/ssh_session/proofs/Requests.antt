@@ -32,91 +32,95 @@ use Rattle.ssh_session.specs.Rows.{replied, reply_row, concluded, fault_of, aske
 use Rattle.ssh_session.specs.Rows.{response_row, user_of, lets_in, finishes}
 use Rattle.ssh_session.specs.Serve.{Refines, IsCaused, cause_of, may_stop, Hears, Serves, Does}
 use Rattle.ssh_session.specs.World.{World, circumstances, waits_for}
+use Rattle.ssh_session.proofs.CallsAlone.{calls_beside, reaches_beside, begins_beside}
+use Rattle.ssh_session.proofs.CallsAlone.{breaks_beside}
 use Rattle.ssh_session.proofs.Serving.{reached, completes}
 
 -- the handler alone was asked
-heard : {E : Type 0} (stops : Bool) (a b : Heard E) (calls : List (Call E)) → CallsAlone stops a b
+heard : {E F : Type 0} (stops : Bool) (a b : Heard E F) (calls : List (Call E))
+    → CallsAlone stops a b
     calls →
-    Hears stops a b (calls_alone calls)
-heard stops a b calls h = record {
-  called = subst (ToldBy stops a.calls b.calls) (sym (calls_of_calls ⊥ calls)) h.1;
-  told = subst (Adds a.trace b.trace) (sym (told_of_calls ⊥ calls))
-      (subst (λ t. Adds a.trace t []) (sym h.2) (adds_nil a.trace));
-  later = let x = h.3 in omega (arith, x);
-  unstepped = steps_of_calls ⊥ calls;
-  same = h.0;
+    Hears stops a b (calls_beside calls)
+heard {E} {F} stops a b calls h = record {
+  called = subst (ToldBy stops a.calls b.calls) (sym (calls_of_calls F calls)) h.1;
+  told = subst (Adds a.trace b.trace) (sym (told_of_calls F calls))
+      (subst (λ t. Adds a.trace t []) (sym h.0.2) (adds_nil a.trace));
+  later = let x = h.0.3 in omega (arith, x);
+  stepped = subst (Adds a.steps b.steps) (sym (steps_of_calls F calls))
+      (subst (λ s. Adds a.steps s []) (sym h.0.1) (adds_nil a.steps));
+  same = h.0.0;
 }
 
 -- there is a verdict, and the reply was finished
-pub answered : {E : Type 0} (w : World) (moment : ℕ) (requested : Bool) (plan : Plan AuthOutcome)
-    (a b c : Heard E)
+pub answered : {E F : Type 0} (w : World) (moment : ℕ) (requested : Bool) (plan : Plan AuthOutcome)
+    (a b c : Heard E F)
     (calls : List (Call E)) (state : AuthRequest) (step : AuthStep) (session : Session)
-    (result : Result (Unit {0}) (RunError E)) →
+    (result : Result (Unit {0}) (RunError E F)) →
     CallsAlone false a b calls → Follows plan (calls_alone calls)
     (Replies step.reply step.verdict state) →
     Does (replied (waits_for (WaitingAuthRequest state) w) moment requested step.reply step.verdict)
     (waits_for (WaitingAuthRequest state) w) b c session result →
     Serves (after plan (concluded w moment requested)) (λ (_ : Unit {0}) world. Finish (Goes world))
     a c session result
-answered w moment requested plan a b c calls state step session result h f d =
+answered {E} {F} w moment requested plan a b c calls state step session result h f d =
     let v = waits_for (WaitingAuthRequest state) w in
     reached (after plan (concluded w moment requested)) (reply_row moment requested step.reply
     step.verdict v)
-    (λ (_ : Unit {0}) world. Finish (Goes world)) a b c (calls_alone calls) session result
+    (λ (_ : Unit {0}) world. Finish (Goes world)) a b c (calls_beside calls) session result
     (heard false a b calls h)
     (reaches_after plan (Finish (Replies step.reply step.verdict state))
-    (concluded w moment requested) (calls_alone calls) f)
+    (concluded w moment requested) (calls_beside calls)
+    (reaches_beside F plan (Finish (Replies step.reply step.verdict state)) calls f))
     (completes (replied v moment requested step.reply step.verdict) v b c session result d)
 
 -- there is none
-module _ {E : Type 0} (w : World) (moment : ℕ) (requested : Bool) (plan : Plan AuthOutcome)
-    (a b : Heard E) (calls : List (Call E))
+module _ {E F : Type 0} (w : World) (moment : ℕ) (requested : Bool) (plan : Plan AuthOutcome)
+    (a b : Heard E F) (calls : List (Call E))
     (state : AuthRequest) where
   faulty : (fault : reply.Fault) → Follows plan (calls_alone {E = E} calls) (reply.Fails fault) →
-      Reaches (after plan (concluded w moment requested)) (calls_alone {E = E} calls)
+      Reaches {E = E} {F = F} (after plan (concluded w moment requested)) (calls_beside calls)
       (Finish (Fails (fault_of fault)))
   faulty fault f =
       reaches_after plan (Finish (reply.Fails fault)) (concluded w moment requested)
-      (calls_alone {E = E} calls) f
+      (calls_beside calls) (reaches_beside F plan (Finish (reply.Fails fault)) calls f)
 
   caused : (e : AuthError E) → Concludes plan (calls_alone {E = E} calls) state (Err e) →
-      IsCaused (cause_of (error_of_auth e)) (after plan (concluded w moment requested))
-      (Rose a.faults b.faults)
-      (calls_alone calls)
-  caused auth.NoMemory f = begins_after plan (concluded w moment requested)
-      (calls_alone {E = E} calls) f
+      IsCaused {E = E} {F = F} (cause_of (error_of_auth e))
+      (after plan (concluded w moment requested)) (Rose a.faults b.faults) (calls_beside calls)
+  caused auth.NoMemory f = begins_after plan (concluded w moment requested) (calls_beside calls)
+      (begins_beside F plan calls f)
   caused (auth.Encoding why) f = faulty (reply.Encoding why) f
   caused auth.Inconsistent f = faulty reply.Inconsistent f
   caused (auth.Key why) f =
-      subst (λ k. Reaches (after plan (concluded w moment requested)) (calls_alone {E = E} calls)
-      (Finish (Fails (Key k))))
+      subst (λ k. Reaches {E = E} {F = F} (after plan (concluded w moment requested))
+      (calls_beside calls) (Finish (Fails (Key k))))
       (sym f.0) (faulty reply.Key f.1)
   caused (auth.Handler e) f =
-      breaks_after plan (concluded w moment requested) (calls_alone {E = E} calls) (Handler_error e)
-      f
+      breaks_after plan (concluded w moment requested) (calls_beside calls) (Handler_error e)
+      (breaks_beside F plan calls e f)
   caused auth.UnsupportedAuthMethod f = faulty reply.Unsupported f
 
-stops_same : {E : Type 0} (e : AuthError E) →
-    served.may_stop {T = AuthStep} {E = E} (Err e) ≡ may_stop {T = Unit {0}} {E = E}
+stops_same : {E : Type 0} (F : Type 0) (e : AuthError E) →
+    served.may_stop {T = AuthStep} {E = E} (Err e) ≡ may_stop {T = Unit {0}} {E = E} {F = F}
     (Err (error_of_auth e))
-stops_same auth.NoMemory = refl
-stops_same (auth.Encoding why) = refl
-stops_same auth.Inconsistent = refl
-stops_same (auth.Key why) = refl
-stops_same (auth.Handler e) = refl
-stops_same auth.UnsupportedAuthMethod = refl
+stops_same F auth.NoMemory = refl
+stops_same F (auth.Encoding why) = refl
+stops_same F auth.Inconsistent = refl
+stops_same F (auth.Key why) = refl
+stops_same F (auth.Handler e) = refl
+stops_same F auth.UnsupportedAuthMethod = refl
 
-pub unanswered : {T E : Type 0} (w : World) (moment : ℕ) (requested : Bool)
-    (plan : Plan AuthOutcome) (a b : Heard E)
+pub unanswered : {T E F : Type 0} (w : World) (moment : ℕ) (requested : Bool)
+    (plan : Plan AuthOutcome) (a b : Heard E F)
     (next : T → World → Plan Outcome) (calls : List (Call E)) (state : AuthRequest)
     (e : AuthError E) (session : Session) →
     CallsAlone (served.may_stop {T = AuthStep} {E = E} (Err e)) a b calls →
     Concludes plan (calls_alone calls) state (Err e) →
     Serves {T = T} (after plan (concluded w moment requested)) next a b session
     (Err (error_of_auth e))
-unanswered w moment requested plan a b next calls state e session h f = (
-  calls_alone calls,
-  subst (λ stops. Hears stops a b (calls_alone calls)) (stops_same e)
+unanswered {T} {E} {F} w moment requested plan a b next calls state e session h f = (
+  calls_beside calls,
+  subst (λ stops. Hears stops a b (calls_beside calls)) (stops_same F e)
       (heard (served.may_stop {T = AuthStep} (Err e)) a b calls h),
   caused w moment requested plan a b calls state e f,
 )
@@ -210,10 +214,10 @@ noted_as requested session fits w r = record {
 
 -- ---- a request, from the state that waits for it
 
-module _ {E : Type 0} (accepts : Acceptance) (w : World) (moment : ℕ) (fields session_id : List ℕ)
+module _ {E F : Type 0} (accepts : Acceptance) (w : World) (moment : ℕ) (fields session_id : List ℕ)
     (old new : AuthRequest)
     (waits : w.user.state ≡ WaitingAuthRequest old) (is : session_id ≡ w.settings.session_id)
-    (a b : Heard E) where
+    (a b : Heard E F) where
   says_so : (asked : Asked) → SaysRequest (record {
     accepts = accepts;
     session_id = session_id;
@@ -227,8 +231,8 @@ module _ {E : Type 0} (accepts : Acceptance) (w : World) (moment : ℕ) (fields 
   }) fields asked) is h
 
   -- it has a reply
-  pub request_answered : (step : AuthStep) (c : Heard E) (session : Session)
-      (result : Result (Unit {0}) (RunError E)) →
+  pub request_answered : (step : AuthStep) (c : Heard E F) (session : Session)
+      (result : Result (Unit {0}) (RunError E F)) →
       AnswersRequest (record { accepts = accepts; session_id = session_id; moment = moment }) fields
       a b old new (Ok step) →
       Does (replied (waits_for (WaitingAuthRequest new) w) moment true step.reply step.verdict)
@@ -262,10 +266,10 @@ module _ {E : Type 0} (accepts : Acceptance) (w : World) (moment : ℕ) (fields 
 
 -- ---- a response, from the state that waits for it
 
-module _ {E : Type 0} (w : World) (moment : ℕ) (fields : List ℕ) (old new : AuthRequest)
-    (waits : w.user.state ≡ WaitingAuthRequest old) (a b : Heard E) where
-  pub response_answered : (step : AuthStep) (c : Heard E) (session : Session)
-      (result : Result (Unit {0}) (RunError E)) →
+module _ {E F : Type 0} (w : World) (moment : ℕ) (fields : List ℕ) (old new : AuthRequest)
+    (waits : w.user.state ≡ WaitingAuthRequest old) (a b : Heard E F) where
+  pub response_answered : (step : AuthStep) (c : Heard E F) (session : Session)
+      (result : Result (Unit {0}) (RunError E F)) →
       AnswersResponse fields a b old new (Ok step) →
       Does (replied (waits_for (WaitingAuthRequest new) w) moment w.user.requested step.reply
       step.verdict)

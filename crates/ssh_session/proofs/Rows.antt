@@ -125,8 +125,8 @@ not_closed n w session h r =
 abbrev pub finish : Flow → World → Plan Outcome
 finish flow world = Finish (comes flow world)
 
-pub unread_open : {E : Type 0} (w : World) (moment : ℕ) (fields : List ℕ) (why : LayoutError)
-    (a : Heard E) (session : Session)
+pub unread_open : {E F : Type 0} (w : World) (moment : ℕ) (fields : List ℕ) (why : LayoutError)
+    (a : Heard E F) (session : Session)
     → (why ≡ layout.Wire wire.NoMemory) ⊎ MisfitsOpen fields why → (said : Said)
     × SaysOpen fields said
     × Completes (row w moment said) a a session (Err (error_of_layout why))
@@ -151,30 +151,30 @@ full_row : (owes : Option ℕ → List Act) (number : Option ℕ) (later : List 
 full_row owes number later w h is =
     ap (λ o. acts (owes o ++ later) w) is ∙ ap (λ l. acts (l ++ later) w) h
 
-pub not_drawn : (E : Type 0) (w : World) (owes : Option ℕ → List Act) (e : TableError)
+pub not_drawn : (E F : Type 0) (w : World) (owes : Option ℕ → List Act) (e : TableError)
     (later : List Act) (session : Session) → IsFull owes → (e ≡ table.Inconsistent → ⊥)
     → (e ≡ table.Full → next_number w.channels.lines ≡ None) →
-    Answers {T = Unit {0}} {E = E} (acts (owes (next_number w.channels.lines) ++ later) w)
+    Answers {T = Unit {0}} {E = E} {F = F} (acts (owes (next_number w.channels.lines) ++ later) w)
     (λ _. acts later) ⊥ [] session (Err (error_of_table e))
-not_drawn E w owes table.NoMemory later session h n f =
+not_drawn E F w owes table.NoMemory later session h n f =
     (acts (owes (next_number w.channels.lines) ++ later) w, refl)
-not_drawn E w owes table.Inconsistent later session h n f = absurd (n refl)
-not_drawn E w owes table.Full later session h n f =
+not_drawn E F w owes table.Inconsistent later session h n f = absurd (n refl)
+not_drawn E F w owes table.Full later session h n f =
     full_row owes (next_number w.channels.lines) later w h (f refl)
 
-pub undrawn : {E : Type 0} (w : World) (owes : Option ℕ → List Act) (e : TableError)
-    (later : List Act) (session : Session) (error : RunError E)
-    (result : Result (Unit {0}) (RunError E)) → IsErrAnd result (λ x. x ≡ error)
+pub undrawn : {E F : Type 0} (w : World) (owes : Option ℕ → List Act) (e : TableError)
+    (later : List Act) (session : Session) (error : RunError E F)
+    (result : Result (Unit {0}) (RunError E F)) → IsErrAnd result (λ x. x ≡ error)
     → error ≡ error_of_table e → IsFull owes → (e ≡ table.Inconsistent → ⊥)
     → (e ≡ table.Full → next_number w.channels.lines ≡ None) →
     Answers (acts (owes (next_number w.channels.lines) ++ later) w)
     (λ _. acts later) ⊥ [] session result
-undrawn {E} w owes e later session error result i is h n f =
+undrawn {E} {F} w owes e later session error result i is h n f =
     let p = err_from_is_err_and result i in
-    subst (λ r. Answers {T = Unit {0}} {E = E}
+    subst (λ r. Answers {T = Unit {0}} {E = E} {F = F}
     (acts (owes (next_number w.channels.lines) ++ later) w)
     (λ _. acts later) ⊥ [] session r) (sym (p.1 ∙ ap Err (p.2 ∙ is)))
-    (not_drawn E w owes e later session h n f)
+    (not_drawn E F w owes e later session h n f)
 
 -- ---- data that come in
 

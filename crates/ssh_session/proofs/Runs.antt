@@ -10,6 +10,7 @@ use Rattle.ssh_link.specs.Faults.{Rose}
 use Rattle.ssh_link.specs.Told.{Adds, ToldBy}
 use Rattle.ssh_link.proofs.Tellings.{adds_nil, adds_both}
 use Rattle.ssh_link.specs.declared.frame.Input.{Input}
+use Rattle.ssh_link.specs.declared.kex.KexCall.{KexCall}
 use Rattle.ssh_link.specs.declared.link.LinkFault.{LinkFault}
 use Rattle.ssh_link.specs.declared.link.LinkFault.TheVariants.{Failed, NoMemory}
 use Rattle.ssh_link.specs.declared.link.TraceEntry.{TraceEntry}
@@ -24,7 +25,8 @@ use Rattle.ssh_session.specs.declared.error.RunError.TheVariants as error
 use Rattle.ssh_session.specs.declared.session.Session.{Session}
 use Rattle.ssh_session.specs.Account.{Told, Steps, Closes, Ran, Laws}
 use Rattle.ssh_session.specs.Failure.{error_of_link}
-use Rattle.ssh_session.specs.Run.{Owes, Turn, Turns, Run, calls_of, entries, nothing_waits}
+use Rattle.ssh_session.specs.Run.{Owes, Turn, Turns, Run, calls_of, steps_of, entries}
+use Rattle.ssh_session.specs.Run.{nothing_waits}
 use Rattle.ssh_session.specs.Serve.{Refines, IsSuited, cause_of, may_stop}
 use Rattle.ssh_session.specs.World.{Settings, World, opening_world}
 use Rattle.ssh_session.proofs.Lawful.{lawful}
@@ -32,26 +34,29 @@ use Rattle.ssh_session.proofs.Settled.{stays_set}
 use Rattle.ssh_session.proofs.Serving.{told_then, told_none, caused_rose}
 
 -- a run that goes on: this many inputs were finished
-pub record Going {E : Type 0} (accepts : Acceptance) (settings : Settings) (before after : Told E)
+pub record Going {E F : Type 0} (accepts : Acceptance) (settings : Settings)
+    (before after : Told E F)
     (count : ℕ) (session : Session) : Type 0 where
-  pub turns : List (Turn E)
+  pub turns : List (Turn E F)
   pub world : World
   pub run : Run accepts (opening_world settings) turns world
   pub called : Adds before.calls after.calls (flat_map calls_of turns)
+  pub stepped : Adds before.steps after.steps (flat_map steps_of turns)
   pub told : Adds before.trace after.trace (flat_map entries turns)
   pub later : before.faults ≤ after.faults
   pub counted : length turns ≡ count
   pub refines : Refines session world
   pub set : world.settings ≡ settings
 
-pub starts : (E : Type 0) (accepts : Acceptance) (settings : Settings) (before : Told E)
+pub starts : (E F : Type 0) (accepts : Acceptance) (settings : Settings) (before : Told E F)
     (session : Session) →
     Refines session (opening_world settings) → Going accepts settings before before 0 session
-starts E accepts settings before session r = record {
+starts E F accepts settings before session r = record {
   turns = [];
   world = opening_world settings;
   run = refl;
   called = adds_nil before.calls;
+  stepped = adds_nil before.steps;
   told = adds_nil before.trace;
   later = omega arith;
   counted = refl;
@@ -59,8 +64,8 @@ starts E accepts settings before session r = record {
   set = refl;
 }
 
-run_more : {E : Type 0} (accepts : Acceptance) (w : World) (turns : List (Turn E)) (mid : World)
-    (turn : Turn E) (world : World) →
+run_more : {E F : Type 0} (accepts : Acceptance) (w : World) (turns : List (Turn E F)) (mid : World)
+    (turn : Turn E F) (world : World) →
     Run accepts w turns mid → Turns accepts mid turn world → Run accepts w (turns ++ turn ∷ [])
     world
 run_more accepts w [] mid turn world h t = (
@@ -72,8 +77,9 @@ run_more accepts w (first ∷ turns) mid turn world h t =
     (h.0, h.1, run_more accepts h.0 turns mid turn world h.2 t)
 
 -- one more turn, in the calls and in the trace
-called_more : {E : Type 0} (stops : Bool) (a b c : Option (List (Call E))) (turns : List (Turn E))
-    (turn : Turn E) →
+called_more : {E F : Type 0} (stops : Bool) (a b c : Option (List (Call E)))
+    (turns : List (Turn E F))
+    (turn : Turn E F) →
     Adds a b (flat_map calls_of turns) → ToldBy stops b c (calls_of turn)
     → ToldBy stops a c (flat_map calls_of (turns ++ turn ∷ []))
 called_more stops a b c turns turn h k =
@@ -82,8 +88,16 @@ called_more stops a b c turns turn h k =
     subst (ToldBy stops a c) (sym e) (told_then stops a b c (flat_map calls_of turns)
     (calls_of turn) h k)
 
-told_more : {E : Type 0} (a b c d : Option (List TraceEntry)) (turns : List (Turn E))
-    (turn : Turn E) →
+stepped_more : {E F : Type 0} (a b c : Option (List (KexCall F))) (turns : List (Turn E F))
+    (turn : Turn E F) → Adds a b (flat_map steps_of turns) → Adds b c (steps_of turn) →
+    Adds a c (flat_map steps_of (turns ++ turn ∷ []))
+stepped_more a b c turns turn h k =
+    let e = flat_map-append steps_of turns (turn ∷ []) ∙ ap (λ l. flat_map steps_of turns ++ l)
+    (append-nil (steps_of turn)) in
+    subst (Adds a c) (sym e) (adds_both a b c (flat_map steps_of turns) (steps_of turn) h k)
+
+told_more : {E F : Type 0} (a b c d : Option (List TraceEntry)) (turns : List (Turn E F))
+    (turn : Turn E F) →
     Adds a b (flat_map entries turns) → Adds b c (Took turn.commands true turn.input ∷ [])
     → Adds c d (told_in turn.events) →
     Adds a d (flat_map entries (turns ++ turn ∷ []))
@@ -95,25 +109,26 @@ told_more a b c d turns turn h k l =
 
 -- what is known of an input that was taken: the flag with which it was asked for, and what was told
 -- then
-pub record Taken {E : Type 0} (session : Session) (before after : Told E) (commands : Bool)
+pub record Taken {E F : Type 0} (session : Session) (before after : Told E F) (commands : Bool)
     (input : Input) : Type 0 where
   pub took : Adds before.trace after.trace (Took commands true input ∷ [])
   pub uncalled : after.calls ≡ before.calls
+  pub unstepped : after.steps ≡ before.steps
   pub asked : IsAsked commands true input.kind
   pub flag : (w : World) → Refines session w → commands ≡ nothing_waits w
   pub later : before.faults ≤ after.faults
 
 -- an input was finished, and the run goes on
-pub goes_on : {E : Type 0} (accepts : Acceptance) (settings : Settings) (a b c d : Told E)
+pub goes_on : {E F : Type 0} (accepts : Acceptance) (settings : Settings) (a b c d : Told E F)
     (count : ℕ) (session session' : Session)
     (commands : Bool) (input : Input) → Going accepts settings a b count session
     → Taken session b c commands input →
     ((w : World) → Refines session w → Steps (Owes accepts w input) c d session' (Ok Continue)) →
     Going accepts settings a d (count + 1) session'
-goes_on {E} accepts settings a b c d count session session' commands input going taken step =
+goes_on {E} {F} accepts settings a b c d count session session' commands input going taken step =
     let w = going.world in
     let done = step w going.refines in
-    let turn : Turn E = record { input = input; commands = commands; events = done.events } in
+    let turn : Turn E F = record { input = input; commands = commands; events = done.events } in
     let comes = done.comes in
     record {
       turns = going.turns ++ turn ∷ [];
@@ -125,11 +140,12 @@ goes_on {E} accepts settings a b c d count session session' commands input going
         (
           taken.flag w going.refines,
           taken.asked,
-          done.unstepped,
         ),
       );
       called = called_more false a.calls b.calls d.calls going.turns turn going.called
           (subst (λ l. Adds l d.calls (calls_of turn)) taken.uncalled done.called);
+      stepped = stepped_more a.steps b.steps d.steps going.turns turn going.stepped
+          (subst (λ l. Adds l d.steps (steps_of turn)) taken.unstepped done.stepped);
       told = told_more a.trace b.trace c.trace d.trace going.turns turn going.told taken.took
           done.told;
       later = let x = going.later in let y = taken.later in let z = done.later in
@@ -141,18 +157,18 @@ goes_on {E} accepts settings a b c d count session session' commands input going
     }
 
 -- an input ended the run
-pub ends : {E : Type 0} (accepts : Acceptance) (settings : Settings) (a b c d : Told E)
+pub ends : {E F : Type 0} (accepts : Acceptance) (settings : Settings) (a b c d : Told E F)
     (count max : ℕ) (session session' : Session)
     (commands : Bool) (input : Input) → Going accepts settings a b count session
     → Taken session b c commands input →
     ((w : World) → Refines session w → Steps (Owes accepts w input) c d session' (Ok Ended)) →
     count < max
-    →
-    Ran accepts settings a d max (Ok tt)
-ends {E} accepts settings a b c d count max session session' commands input going taken step room =
+    → Ran accepts settings a d max (Ok tt)
+ends {E} {F} accepts settings a b c d count max session session' commands input going taken step
+    room =
     let w = going.world in
     let done = step w going.refines in
-    let turn : Turn E = record { input = input; commands = commands; events = done.events } in
+    let turn : Turn E F = record { input = input; commands = commands; events = done.events } in
     record {
       turns = going.turns;
       world = w;
@@ -160,11 +176,13 @@ ends {E} accepts settings a b c d count max session session' commands input goin
       last = Some turn;
       closes = (
         subst (λ n. n < max) (sym going.counted) room,
-        (taken.flag w going.refines, taken.asked, done.unstepped),
+        (taken.flag w going.refines, taken.asked),
         (done.plan, done.owes, done.comes),
       );
       called = called_more false a.calls b.calls d.calls going.turns turn going.called
           (subst (λ l. Adds l d.calls (calls_of turn)) taken.uncalled done.called);
+      stepped = stepped_more a.steps b.steps d.steps going.turns turn going.stepped
+          (subst (λ l. Adds l d.steps (steps_of turn)) taken.unstepped done.stepped);
       told = told_more a.trace b.trace c.trace d.trace going.turns turn going.told taken.took
           done.told;
       later = let x = going.later in let y = taken.later in let z = done.later in
@@ -172,18 +190,19 @@ ends {E} accepts settings a b c d count max session session' commands input goin
     }
 
 -- an input was not finished
-pub stopped : {E : Type 0} (accepts : Acceptance) (settings : Settings) (a b c d : Told E)
+pub stopped : {E F : Type 0} (accepts : Acceptance) (settings : Settings) (a b c d : Told E F)
     (count max : ℕ) (session session' : Session)
-    (commands : Bool) (input : Input) (e : RunError E) → Going accepts settings a b count session
+    (commands : Bool) (input : Input) (e : RunError E F) → Going accepts settings a b count session
     → Taken session b c commands input →
     ((w : World) → Refines session w → Steps (Owes accepts w input) c d session' (Err e)) → count <
     max →
     Ran accepts settings a d max (Err e)
-stopped {E} accepts settings a b c d count max session session' commands input e going taken step
+stopped {E} {F} accepts settings a b c d count max session session' commands input e going taken
+    step
     room =
     let w = going.world in
     let done = step w going.refines in
-    let turn : Turn E = record { input = input; commands = commands; events = done.events } in
+    let turn : Turn E F = record { input = input; commands = commands; events = done.events } in
     let rises : Rose c.faults d.faults → Rose a.faults d.faults =
     λ r. let x = going.later in let y = taken.later in omega (arith, x, y, r) in
     record {
@@ -193,7 +212,7 @@ stopped {E} accepts settings a b c d count max session session' commands input e
       last = Some turn;
       closes = (
         subst (λ n. n < max) (sym going.counted) room,
-        (taken.flag w going.refines, taken.asked, done.unstepped),
+        (taken.flag w going.refines, taken.asked),
         (
           done.plan,
           done.owes,
@@ -205,6 +224,8 @@ stopped {E} accepts settings a b c d count max session session' commands input e
           turn going.called
           (subst (λ l. ToldBy (may_stop {T = Unit {0}} (Err e)) l d.calls (calls_of turn))
           taken.uncalled done.called);
+      stepped = stepped_more a.steps b.steps d.steps going.turns turn going.stepped
+          (subst (λ l. Adds l d.steps (steps_of turn)) taken.unstepped done.stepped);
       told = told_more a.trace b.trace c.trace d.trace going.turns turn going.told taken.took
           done.told;
       later = let x = going.later in let y = taken.later in let z = done.later in
@@ -217,13 +238,13 @@ weakly stops a b xs h = subst (ToldBy stops a b) (append-nil xs)
     (told_then stops a b b xs [] h (told_none stops b))
 
 -- no further input was taken
-no_input : {E : Type 0} (accepts : Acceptance) (settings : Settings) (a b c : Told E)
-    (count max : ℕ) (session : Session) (e : RunError E) →
+no_input : {E F : Type 0} (accepts : Acceptance) (settings : Settings) (a b c : Told E F)
+    (count max : ℕ) (session : Session) (e : RunError E F) →
     Going accepts settings a b count session → Adds b.trace c.trace [] → c.calls ≡ b.calls
-    → b.faults ≤ c.faults →
+    → c.steps ≡ b.steps → b.faults ≤ c.faults →
     ((w : World) → Closes accepts w count max None (Rose a.faults c.faults) (Err e))
     → Ran accepts settings a c max (Err e)
-no_input accepts settings a b c count max session e going took uncalled later closes =
+no_input accepts settings a b c count max session e going took uncalled unstepped later closes =
     let stops = may_stop {T = Unit {0}} (Err e) in
     record {
       turns = going.turns;
@@ -237,6 +258,10 @@ no_input accepts settings a b c count max session e going took uncalled later cl
           (weakly stops a.calls c.calls (flat_map calls_of going.turns)
           (subst (λ l. Adds a.calls l (flat_map calls_of going.turns)) (sym uncalled)
           going.called));
+      stepped = subst (λ l. Adds a.steps c.steps (flat_map steps_of l))
+          (sym (append-nil going.turns))
+          (subst (λ l. Adds a.steps l (flat_map steps_of going.turns)) (sym unstepped)
+          going.stepped);
       told = subst (λ l. Adds a.trace c.trace (flat_map entries l)) (sym (append-nil going.turns))
           (subst (Adds a.trace c.trace) (append-nil (flat_map entries going.turns))
           (adds_both a.trace b.trace c.trace (flat_map entries going.turns) [] going.told took));
@@ -244,46 +269,52 @@ no_input accepts settings a b c count max session e going took uncalled later cl
     }
 
 -- the link gave no further input
-pub link_left : {E : Type 0} (accepts : Acceptance) (settings : Settings) (a b c : Told E)
+pub link_left : {E F : Type 0} (accepts : Acceptance) (settings : Settings) (a b c : Told E F)
     (count max : ℕ) (session : Session)
     (fault : LinkFault) → Going accepts settings a b count session → Adds b.trace c.trace []
-    → c.calls ≡ b.calls →
+    → c.calls ≡ b.calls → c.steps ≡ b.steps →
     b.faults ≤ c.faults → (fault ≡ Failed → b.faults < c.faults) → count < max →
     Ran accepts settings a c max (Err (error_of_link fault))
-link_left accepts settings a b c count max session Failed going took uncalled later cause room =
-    no_input accepts settings a b c count max session error.LinkFault going took uncalled later
+link_left accepts settings a b c count max session Failed going took uncalled unstepped later cause
+    room =
+    no_input accepts settings a b c count max session error.LinkFault going took uncalled unstepped
+    later
     (λ w. let rose = cause refl in let more = going.later in (omega (arith, rose, more), room))
-link_left accepts settings a b c count max session NoMemory going took uncalled later cause room =
-    no_input accepts settings a b c count max session error.NoMemory going took uncalled later
+link_left accepts settings a b c count max session NoMemory going took uncalled unstepped later
+    cause room =
+    no_input accepts settings a b c count max session error.NoMemory going took uncalled unstepped
+    later
     (λ w. tt)
 
 -- as many inputs were finished as there may be
-pub limit_reached : {E : Type 0} (accepts : Acceptance) (settings : Settings) (a b : Told E)
+pub limit_reached : {E F : Type 0} (accepts : Acceptance) (settings : Settings) (a b : Told E F)
     (count max : ℕ) (session : Session) →
     Going accepts settings a b count session → count ≡ max → Ran accepts settings a b max
     (Err error.InputLimit)
 limit_reached accepts settings a b count max session going is =
-    no_input accepts settings a b b count max session error.InputLimit going (adds_nil b.trace) refl
+    no_input accepts settings a b b count max session error.InputLimit going
+    (adds_nil b.trace) refl refl
     (omega arith) (λ w. is)
 
 -- a run that could not begin
-pub not_begun : (E : Type 0) (accepts : Acceptance) (settings : Settings) (a : Told E) (max : ℕ) →
-    Ran accepts settings a a max (Err error.NoMemory)
-not_begun E accepts settings a max = record {
+pub not_begun : (E F : Type 0) (accepts : Acceptance) (settings : Settings) (a : Told E F) (max : ℕ)
+    → Ran accepts settings a a max (Err error.NoMemory)
+not_begun E F accepts settings a max = record {
   turns = [];
   world = opening_world settings;
   run = refl;
   last = None;
   closes = tt;
   called = adds_nil a.calls;
+  stepped = adds_nil a.steps;
   told = adds_nil a.trace;
   later = omega arith;
 }
 
 -- what was run is lawful
-pub laws_of : {E : Type 0} (accepts : Acceptance) (settings : Settings) (before after : Told E)
+pub laws_of : {E F : Type 0} (accepts : Acceptance) (settings : Settings) (before after : Told E F)
     (max : ℕ)
-    (result : Result (Unit {0}) (RunError E)) → Ran accepts settings before after max result
+    (result : Result (Unit {0}) (RunError E F)) → Ran accepts settings before after max result
     → Laws accepts settings before after max result
 laws_of accepts settings before after max result account = record {
   run = account;
@@ -291,8 +322,8 @@ laws_of accepts settings before after max result account = record {
 }
 
 -- a handler that suits the config and the peer of a run suits its session
-pub still_suits : {E : Type 0} (suits : Config → List ℕ → Type 0) (accepts : Acceptance)
-    (settings : Settings) (a b : Told E)
+pub still_suits : {E F : Type 0} (suits : Config → List ℕ → Type 0) (accepts : Acceptance)
+    (settings : Settings) (a b : Told E F)
     (count : ℕ) (session : Session) → Going accepts settings a b count session
     → suits settings.config settings.remote_sshid →
     IsSuited suits session

@@ -16,7 +16,7 @@ use Rattle.ssh_link.specs.declared.link.LinkFault.TheVariants as link
 use Rattle.ssh_link.specs.declared.link.TraceEntry.{TraceEntry}
 use Rattle.ssh_auth.specs.declared.question.Question.{Question}
 use Rattle.ssh_auth.specs.Plan.{Plan, Finish, Ask, Tell, after, Answer, Event, Called, Told}
-use Rattle.ssh_auth.specs.Plan.{Handler_error, calls_in, steps_in, told_in}
+use Rattle.ssh_auth.specs.Plan.{Handler_error, Exchange_error, calls_in, steps_in, told_in}
 use Rattle.ssh_auth.specs.Plan.{Reaches}
 use Rattle.ssh_auth.proofs.Plans.{reaches_both, reaches_begins, reaches_follows}
 use Rattle.ssh_auth.proofs.Plans.{reaches_breaks}
@@ -28,20 +28,20 @@ use Rattle.ssh_session.specs.declared.error.RunError.TheVariants as error
 use Rattle.ssh_session.specs.declared.session.Session.{Session}
 use Rattle.ssh_session.specs.World.{World}
 use Rattle.ssh_session.specs.Failure.{run_error_of, error_of_link}
-use Rattle.ssh_session.specs.Heard.{Heard, Gives}
+use Rattle.ssh_session.specs.Heard.{Heard, AreSame, Gives}
 use Rattle.ssh_session.specs.Outcome.{Outcome, Goes, Fails, Encoding, Not_built}
 use Rattle.ssh_session.specs.Outcome.{Inactivity_timeout}
 use Rattle.ssh_session.specs.Acts.{Act, acts}
 use Rattle.ssh_session.specs.Serve.{Refines, Cause, Wants_memory, Link_failed, Limit_reached}
-use Rattle.ssh_session.specs.Serve.{Faulty, Refused_by, cause_of}
+use Rattle.ssh_session.specs.Serve.{Faulty, Refused_by, Broken_by, cause_of}
 use Rattle.ssh_session.specs.Serve.{IsCaused, Answers, may_stop, Hears, Serves, Does, Turned, Puts}
 use Rattle.ssh_session.specs.Serve.{Completes}
 
 -- ---- parts of plans
 
 -- a cause after the events by which a plan came to a rest
-caused_reached : {E : Type 0} (cause : Cause E) (plan mid : Plan Outcome) (rose : Type 0)
-    (xs ys : List (Event E ⊥)) →
+caused_reached : {E F : Type 0} (cause : Cause E F) (plan mid : Plan Outcome) (rose : Type 0)
+    (xs ys : List (Event E F)) →
     Reaches plan xs mid → IsCaused cause mid rose ys → IsCaused cause plan rose (xs ++ ys)
 caused_reached Wants_memory plan mid rose xs ys r h = reaches_begins plan mid xs ys r h
 caused_reached Link_failed plan mid rose xs ys r h = (h.0, reaches_begins plan mid xs ys r h.1)
@@ -50,10 +50,12 @@ caused_reached (Faulty fault) plan mid rose xs ys r h = reaches_follows plan mid
     r h
 caused_reached (Refused_by e) plan mid rose xs ys r h = reaches_breaks plan mid xs ys
     (Handler_error e) r h
+caused_reached (Broken_by e) plan mid rose xs ys r h = reaches_breaks plan mid xs ys
+    (Exchange_error e) r h
 
-answers_reached : {T E : Type 0} (plan mid : Plan Outcome) (next : T → World → Plan Outcome)
+answers_reached : {T E F : Type 0} (plan mid : Plan Outcome) (next : T → World → Plan Outcome)
     (rose : Type 0)
-    (xs ys : List (Event E ⊥)) (session : Session) (result : Result T (RunError E)) →
+    (xs ys : List (Event E F)) (session : Session) (result : Result T (RunError E F)) →
     Reaches plan xs mid → Answers mid next rose ys session result → Answers plan next rose
     (xs ++ ys) session result
 answers_reached plan mid next rose xs ys session (Ok value) r h =
@@ -62,18 +64,19 @@ answers_reached plan mid next rose xs ys session (Err e) r h = caused_reached (c
     rose xs ys r h
 
 -- a rise that began earlier
-pub caused_rose : {E : Type 0} (cause : Cause E) (plan : Plan Outcome) (rose rose' : Type 0)
-    (events : List (Event E ⊥)) →
+pub caused_rose : {E F : Type 0} (cause : Cause E F) (plan : Plan Outcome) (rose rose' : Type 0)
+    (events : List (Event E F)) →
     (rose → rose') → IsCaused cause plan rose events → IsCaused cause plan rose' events
 caused_rose Wants_memory plan rose rose' events f h = h
 caused_rose Link_failed plan rose rose' events f h = (f h.0, h.1)
 caused_rose Limit_reached plan rose rose' events f h = h
 caused_rose (Faulty fault) plan rose rose' events f h = h
 caused_rose (Refused_by e) plan rose rose' events f h = h
+caused_rose (Broken_by e) plan rose rose' events f h = h
 
-answers_rose : {T E : Type 0} (plan : Plan Outcome) (next : T → World → Plan Outcome)
+answers_rose : {T E F : Type 0} (plan : Plan Outcome) (next : T → World → Plan Outcome)
     (rose rose' : Type 0)
-    (events : List (Event E ⊥)) (session : Session) (result : Result T (RunError E)) →
+    (events : List (Event E F)) (session : Session) (result : Result T (RunError E F)) →
     (rose → rose') → Answers plan next rose events session result → Answers plan next rose' events
     session result
 answers_rose plan next rose rose' events session (Ok value) f h = h
@@ -92,7 +95,14 @@ pub told_none : {A : Type 0} (stops : Bool) (a : Option (List A)) → ToldBy sto
 told_none true a = adds_none a
 told_none false a = adds_nil a
 
-pub hears_then : {E : Type 0} (stops : Bool) (a b c : Heard E) (xs ys : List (Event E ⊥)) →
+-- the same three as before
+pub same_as : {E F : Type 0} (a : Heard E F) → AreSame a a
+same_as a = (refl, refl, refl)
+
+pub same_both : {E F : Type 0} (a b c : Heard E F) → AreSame a b → AreSame b c → AreSame a c
+same_both a b c h k = (k.0 ∙ h.0, k.1 ∙ h.1, k.2 ∙ h.2)
+
+pub hears_then : {E F : Type 0} (stops : Bool) (a b c : Heard E F) (xs ys : List (Event E F)) →
     Hears false a b xs → Hears stops b c ys → Hears stops a c (xs ++ ys)
 hears_then stops a b c xs ys h k = record {
   called = subst (ToldBy stops a.calls c.calls) (sym (calls_in_both xs ys))
@@ -100,25 +110,26 @@ hears_then stops a b c xs ys h k = record {
   told = subst (Adds a.trace c.trace) (sym (told_in_both xs ys))
       (adds_both a.trace b.trace c.trace (told_in xs) (told_in ys) h.told k.told);
   later = let x = h.later in let y = k.later in omega (arith, x, y);
-  unstepped = steps_in_both xs ys ∙ ap (λ l. l ++ steps_in ys) h.unstepped ∙ k.unstepped;
-  same = (k.same.0 ∙ h.same.0, k.same.1 ∙ h.same.1);
+  stepped = subst (Adds a.steps c.steps) (sym (steps_in_both xs ys))
+      (adds_both a.steps b.steps c.steps (steps_in xs) (steps_in ys) h.stepped k.stepped);
+  same = same_both a b c h.same k.same;
 }
 
-pub hears_nothing : {E : Type 0} (stops : Bool) (a : Heard E) → Hears stops a a []
+pub hears_nothing : {E F : Type 0} (stops : Bool) (a : Heard E F) → Hears stops a a []
 hears_nothing stops a = record {
   called = told_none stops a.calls;
   told = adds_nil a.trace;
   later = omega arith;
-  unstepped = refl;
-  same = (refl, refl);
+  stepped = adds_nil a.steps;
+  same = same_as a;
 }
 
 -- ---- one part, and then the next
 
 -- a plan has come to a rest, and from there on it was served
-pub reached : {T E : Type 0} (plan mid : Plan Outcome) (next : T → World → Plan Outcome)
-    (a b c : Heard E)
-    (xs : List (Event E ⊥)) (session : Session) (result : Result T (RunError E)) →
+pub reached : {T E F : Type 0} (plan mid : Plan Outcome) (next : T → World → Plan Outcome)
+    (a b c : Heard E F)
+    (xs : List (Event E F)) (session : Session) (result : Result T (RunError E F)) →
     Hears false a b xs → Reaches plan xs mid → Serves mid next b c session result
     → Serves plan next a c session result
 reached plan mid next a b c xs session result h r k = (
@@ -130,10 +141,10 @@ reached plan mid next a b c xs session result h r k = (
 )
 
 -- one part was served, and then the next
-pub served_both : {T U E : Type 0} (value : U) (plan : Plan Outcome) (mid : U → World
+pub served_both : {T U E F : Type 0} (value : U) (plan : Plan Outcome) (mid : U → World
     → Plan Outcome)
-    (next : T → World → Plan Outcome) (a b c : Heard E) (session session' : Session)
-    (result : Result T (RunError E)) →
+    (next : T → World → Plan Outcome) (a b c : Heard E F) (session session' : Session)
+    (result : Result T (RunError E F)) →
     Serves plan mid a b session (Ok value) →
     ((w : World) → Refines session w → Serves (mid value w) next b c session' result) →
     Serves plan next a c session' result
@@ -141,40 +152,41 @@ served_both value plan mid next a b c session session' result h k =
     reached plan (mid value h.2.0) next a b c h.0 session' result h.1 h.2.1 (k h.2.0 h.2.2)
 
 -- an error says nothing of what would have followed
-pub served_error : {T U E : Type 0} (plan : Plan Outcome) (mid : U → World → Plan Outcome)
+pub served_error : {T U E F : Type 0} (plan : Plan Outcome) (mid : U → World → Plan Outcome)
     (next : T → World → Plan Outcome)
-    (a b : Heard E) (session session' : Session) (e : RunError E) →
+    (a b : Heard E F) (session session' : Session) (e : RunError E F) →
     Serves {T = U} plan mid a b session (Err e) → Serves {T = T} plan next a b session' (Err e)
 served_error plan mid next a b session session' e h = h
 
-pub served_then_error : {T U V E : Type 0} (value : U) (plan : Plan Outcome) (mid : U → World
+pub served_then_error : {T U V E F : Type 0} (value : U) (plan : Plan Outcome) (mid : U → World
     → Plan Outcome)
-    (next : T → World → Plan Outcome) (a b c : Heard E) (session session' : Session)
-    (e : RunError E) →
+    (next : T → World → Plan Outcome) (a b c : Heard E F) (session session' : Session)
+    (e : RunError E F) →
     Serves plan mid a b session (Ok value) → (after : World → V → World → Plan Outcome) →
     ((w : World) → Refines session w → Serves {T = V} (mid value w) (after w) b c session' (Err e))
-    →
-    Serves plan next a c session' (Err e)
+    → Serves plan next a c session' (Err e)
 served_then_error value plan mid next a b c session session' e h after k =
     served_both value plan mid next a b c session session' (Err e) h
     (λ w r. served_error (mid value w) (after w) next b c session' session' e (k w r))
 
 -- nothing was told, and nothing is owed before what follows
-pub serves_nothing : {T E : Type 0} (value : T) (next : T → World → Plan Outcome) (a : Heard E)
+pub serves_nothing : {T E F : Type 0} (value : T) (next : T → World → Plan Outcome) (a : Heard E F)
     (w : World) (session : Session) →
     Refines session w → Serves (next value w) next a a session (Ok value)
 serves_nothing value next a w session r = ([], hears_nothing false a, (w, refl, r))
 
 -- memory was wanting before anything was told
-pub starves : {T E : Type 0} (plan : Plan Outcome) (next : T → World → Plan Outcome) (a : Heard E)
+pub starves : {T E F : Type 0} (plan : Plan Outcome) (next : T → World → Plan Outcome)
+    (a : Heard E F)
     (session : Session) →
     Serves {T = T} plan next a a session (Err error.NoMemory)
 starves plan next a session = ([], hears_nothing false a, (plan, refl))
 
 -- what nobody was told or asked of
-pub quiet : {T E : Type 0} (plan : Plan Outcome) (next : T → World → Plan Outcome) (a : Heard E)
+pub quiet : {T E F : Type 0} (plan : Plan Outcome) (next : T → World → Plan Outcome) (a : Heard E F)
     (session : Session)
-    (result : Result T (RunError E)) → Answers plan next ⊥ [] session result → Serves plan next a a
+    (result : Result T (RunError E F)) → Answers plan next ⊥ [] session result
+    → Serves plan next a a
     session result
 quiet plan next a session result h = (
   [],
@@ -183,8 +195,8 @@ quiet plan next a session result h = (
 )
 
 -- acts that nothing follows are the whole row
-pub completes : {E : Type 0} (now : List Act) (w : World) (a b : Heard E) (session : Session)
-    (result : Result (Unit {0}) (RunError E)) → Does now w a b session result →
+pub completes : {E F : Type 0} (now : List Act) (w : World) (a b : Heard E F) (session : Session)
+    (result : Result (Unit {0}) (RunError E F)) → Does now w a b session result →
     Serves (acts now w) (λ (_ : Unit {0}) world. Finish (Goes world)) a b session result
 completes now w a b session result h =
     subst (λ l. Serves (acts l w) (λ (_ : Unit {0}) world. Finish (Goes world)) a b session result)
@@ -193,46 +205,46 @@ completes now w a b session result h =
 -- ---- the link
 
 -- the link was given what the plan owes
-pub given : {E : Type 0} (entry : TraceEntry) (next : Plan Outcome) (a b : Heard E) (w : World)
+pub given : {E F : Type 0} (entry : TraceEntry) (next : Plan Outcome) (a b : Heard E F) (w : World)
     (session : Session) →
     Refines session w → Gives {T = Unit {0}} a b entry (Ok tt) →
     Serves (Tell entry next) (λ (_ : Unit {0}) _. next) a b session (Ok tt)
 given entry next a b w session r h = (
   Told entry ∷ [],
   record {
-    called = subst (λ c. Adds a.calls c []) (sym h.1) (adds_nil a.calls);
-    told = h.2;
-    later = h.3;
-    unstepped = refl;
-    same = h.0;
+    called = subst (λ c. Adds a.calls c []) (sym h.0.1) (adds_nil a.calls);
+    told = h.1;
+    later = h.2;
+    stepped = subst (λ s. Adds a.steps s []) (sym h.0.2) (adds_nil a.steps);
+    same = h.0.0;
   },
   (w, (refl, refl), r),
 )
 
 -- .. or failed
-pub not_given : {T E : Type 0} (entry : TraceEntry) (plan : Plan Outcome) (next : T → World
-    → Plan Outcome) (a b : Heard E)
+pub not_given : {T E F : Type 0} (entry : TraceEntry) (plan : Plan Outcome) (next : T → World
+    → Plan Outcome) (a b : Heard E F)
     (session : Session) (fault : LinkFailure) → Gives {T = Unit {0}} a b entry (Err fault) →
     Serves {T = T} plan next a b session (Err (error_of_link fault))
 not_given entry plan next a b session link.Failed h = (
   [],
   record {
-    called = subst (λ c. Adds a.calls c []) (sym h.1) (adds_nil a.calls);
-    told = h.2;
-    later = let x = h.3 in omega (arith, x);
-    unstepped = refl;
-    same = h.0;
+    called = subst (λ c. Adds a.calls c []) (sym h.0.1) (adds_nil a.calls);
+    told = h.1;
+    later = let x = h.2 in omega (arith, x);
+    stepped = subst (λ s. Adds a.steps s []) (sym h.0.2) (adds_nil a.steps);
+    same = h.0.0;
   },
-  (h.3, (plan, refl)),
+  (h.2, (plan, refl)),
 )
 not_given entry plan next a b session link.NoMemory h = (
   [],
   record {
-    called = subst (λ c. Adds a.calls c []) (sym h.1) (adds_nil a.calls);
-    told = h.2;
-    later = h.3;
-    unstepped = refl;
-    same = h.0;
+    called = subst (λ c. Adds a.calls c []) (sym h.0.1) (adds_nil a.calls);
+    told = h.1;
+    later = h.2;
+    stepped = subst (λ s. Adds a.steps s []) (sym h.0.2) (adds_nil a.steps);
+    same = h.0.0;
   },
   (plan, refl),
 )
@@ -240,35 +252,35 @@ not_given entry plan next a b session link.NoMemory h = (
 -- ---- the handler
 
 -- it was asked what the plan asks
-pub asked : {E : Type 0} (question : Question) (answer : Answer question) (next : Answer question
-    → Plan Outcome) (a b : Heard E)
+pub asked : {E F : Type 0} (question : Question) (answer : Answer question) (next : Answer question
+    → Plan Outcome) (a b : Heard E F)
     (w : World) (session : Session) → Refines session w → Puts question a b (Ok answer) →
     Serves (Ask question next) (λ given _. next given) a b session (Ok answer)
 asked question answer next a b w session r h = (
   Called h.0 ∷ [],
   record {
     called = h.2.1;
-    told = subst (λ t. Adds a.trace t []) (sym h.2.2) (adds_nil a.trace);
-    later = let x = h.2.3 in omega (arith, x);
-    unstepped = refl;
-    same = h.2.0;
+    told = subst (λ t. Adds a.trace t []) (sym h.2.0.2) (adds_nil a.trace);
+    later = let x = h.2.0.3 in omega (arith, x);
+    stepped = subst (λ s. Adds a.steps s []) (sym h.2.0.1) (adds_nil a.steps);
+    same = h.2.0.0;
   },
   (w, (answer, h.1, refl), r),
 )
 
 -- .. and answered an error
-pub asked_in_vain : {T E : Type 0} (question : Question) (next : Answer question → Plan Outcome)
+pub asked_in_vain : {T E F : Type 0} (question : Question) (next : Answer question → Plan Outcome)
     (later : T → World → Plan Outcome)
-    (a b : Heard E) (session : Session) (e : E) → Puts question a b (Err e) →
+    (a b : Heard E F) (session : Session) (e : E) → Puts question a b (Err e) →
     Serves {T = T} (Ask question next) later a b session (Err (error.Handler e))
 asked_in_vain question next later a b session e h = (
   Called h.0 ∷ [],
   record {
     called = h.2.1;
-    told = subst (λ t. Adds a.trace t []) (sym h.2.2) (adds_nil a.trace);
-    later = let x = h.2.3 in omega (arith, x);
-    unstepped = refl;
-    same = h.2.0;
+    told = subst (λ t. Adds a.trace t []) (sym h.2.0.2) (adds_nil a.trace);
+    later = let x = h.2.0.3 in omega (arith, x);
+    stepped = subst (λ s. Adds a.steps s []) (sym h.2.0.1) (adds_nil a.steps);
+    same = h.2.0.0;
   },
   breaks_first question next (Called h.0) (Handler_error e) h.1,
 )
@@ -276,27 +288,28 @@ asked_in_vain question next later a b session e h = (
 -- ---- rows
 
 -- acts that nothing follows are the whole row, and the run goes on
-pub goes_on : {E : Type 0} (now : List Act) (w : World) (a b : Heard E) (session : Session)
+pub goes_on : {E F : Type 0} (now : List Act) (w : World) (a b : Heard E F) (session : Session)
     → Does now w a b session (Ok tt) →
     Completes (acts now w) a b session (Ok Continue)
 goes_on now w a b session h = completes now w a b session (Ok tt) h
 
 -- .. or they fail
-pub stops_short : {E : Type 0} (now : List Act) (w : World) (a b : Heard E)
-    (session session' : Session) (e : RunError E) →
+pub stops_short : {E F : Type 0} (now : List Act) (w : World) (a b : Heard E F)
+    (session session' : Session) (e : RunError E F) →
     Does now w a b session (Err e) → Completes (acts now w) a b session' (Err e)
 stops_short now w a b session session' e h = completes now w a b session (Err e) h
 
 -- the same of a plan
-pub goes_on_plan : {E : Type 0} (plan : Plan Outcome) (a b : Heard E) (session : Session) →
+pub goes_on_plan : {E F : Type 0} (plan : Plan Outcome) (a b : Heard E F) (session : Session) →
     Serves plan (λ (_ : Unit {0}) world. Finish (Goes world)) a b session (Ok tt)
     → Completes plan a b session (Ok Continue)
 goes_on_plan plan a b session h = h
 
 -- fields that do not fit fail the input
-pub unfit : {T E : Type 0} (why : WireError) (next : T → World → Plan Outcome) (a : Heard E)
+pub unfit : {T E F : Type 0} (why : WireError) (next : T → World → Plan Outcome) (a : Heard E F)
     (session : Session) →
-    Serves {T = T} {E = E} (Finish (Fails (Encoding why))) next a a session (Err (run_error_of why))
+    Serves {T = T} {E = E} {F = F} (Finish (Fails (Encoding why))) next a a session
+    (Err (run_error_of why))
 unfit wire.NoMemory next a session = starves (Finish (Fails (Encoding wire.NoMemory))) next a
     session
 unfit wire.Short next a session = ([], hears_nothing false a, refl)
@@ -305,44 +318,45 @@ unfit (wire.Trailing left) next a session = ([], hears_nothing false a, refl)
 unfit wire.TooLong next a session = ([], hears_nothing false a, refl)
 
 -- .. and nobody was told or asked anything
-unfit_at : {T : Type 0} (E : Type 0) (why : WireError) (next : T → World → Plan Outcome)
+unfit_at : {T : Type 0} (E F : Type 0) (why : WireError) (next : T → World → Plan Outcome)
     (session : Session) →
-    Answers {T = T} {E = E} (Finish (Fails (Encoding why))) next ⊥ [] session
+    Answers {T = T} {E = E} {F = F} (Finish (Fails (Encoding why))) next ⊥ [] session
     (Err (run_error_of why))
-unfit_at E wire.NoMemory next session = (Finish (Fails (Encoding wire.NoMemory)), refl)
-unfit_at E wire.Short next session = refl
-unfit_at E wire.NotUtf8 next session = refl
-unfit_at E (wire.Trailing left) next session = refl
-unfit_at E wire.TooLong next session = refl
+unfit_at E F wire.NoMemory next session = (Finish (Fails (Encoding wire.NoMemory)), refl)
+unfit_at E F wire.Short next session = refl
+unfit_at E F wire.NotUtf8 next session = refl
+unfit_at E F (wire.Trailing left) next session = refl
+unfit_at E F wire.TooLong next session = refl
 
-pub unfit_quietly : {T E : Type 0} (why : WireError) (next : T → World → Plan Outcome)
-    (session : Session) (e : RunError E) (result : Result T (RunError E)) →
+pub unfit_quietly : {T E F : Type 0} (why : WireError) (next : T → World → Plan Outcome)
+    (session : Session) (e : RunError E F) (result : Result T (RunError E F)) →
     IsErrAnd result (λ x. x ≡ e) → e ≡ run_error_of why →
     Answers {T = T} (Finish (Fails (Encoding why))) next ⊥ [] session result
-unfit_quietly {T} {E} why next session e result h is =
+unfit_quietly {T} {E} {F} why next session e result h is =
     let p = err_from_is_err_and result h in
     subst (λ r. Answers {T = T} (Finish (Fails (Encoding why))) next ⊥ [] session r)
-    (sym (p.1 ∙ ap Err (p.2 ∙ is))) (unfit_at E why next session)
+    (sym (p.1 ∙ ap Err (p.2 ∙ is))) (unfit_at E F why next session)
 
 -- nobody was told or asked anything
-pub turned : {E : Type 0} (now : List Act) (w : World) (a : Heard E) (session : Session)
-    (result : Result (Unit {0}) (RunError E)) →
+pub turned : {E F : Type 0} (now : List Act) (w : World) (a : Heard E F) (session : Session)
+    (result : Result (Unit {0}) (RunError E F)) →
     Turned now w session result → Does now w a a session result
 turned now w a session result h =
     λ later. quiet (acts (now ++ later) w) (λ (_ : Unit {0}). acts later) a session result (h later)
 
 -- ---- what follows does not matter, or it does
 
-pub settled : {T E : Type 0} (value : T) (plan : Plan Outcome) (rest : T → World → Plan Outcome)
-    (a b : Heard E) (world : World)
+pub settled : {T E F : Type 0} (value : T) (plan : Plan Outcome) (rest : T → World → Plan Outcome)
+    (a b : Heard E F) (world : World)
     (session : Session) → Refines session world → Serves plan (λ (_ : Unit {0}) _. rest value world)
     a b session (Ok tt) →
     Serves plan rest a b session (Ok value)
 settled value plan rest a b world session r h = (h.0, h.1, (world, h.2.1, r))
 
-pub settled_by : {E : Type 0} (plan : Plan Outcome) (rest : World → Plan Outcome) (a b : Heard E)
+pub settled_by : {E F : Type 0} (plan : Plan Outcome) (rest : World → Plan Outcome)
+    (a b : Heard E F)
     (world : World) (session : Session)
-    (result : Result (Unit {0}) (RunError E)) → Refines session world →
+    (result : Result (Unit {0}) (RunError E F)) → Refines session world →
     Serves plan (λ (_ : Unit {0}) _. rest world) a b session result
     → Serves plan (λ (_ : Unit {0}) v. rest v) a b session result
 settled_by plan rest a b world session (Ok tt) r h = settled tt plan (λ _ v. rest v) a b world
@@ -350,16 +364,16 @@ settled_by plan rest a b world session (Ok tt) r h = settled tt plan (λ _ v. re
 settled_by plan rest a b world session (Err e) r h = h
 
 -- a part of which a value is known
-pub of_value : {T E : Type 0} (value : T) (plan : Plan Outcome) (next : T → World → Plan Outcome)
-    (a b : Heard E) (session : Session) → Serves plan (λ (_ : Unit {0}). next value) a b session
+pub of_value : {T E F : Type 0} (value : T) (plan : Plan Outcome) (next : T → World → Plan Outcome)
+    (a b : Heard E F) (session : Session) → Serves plan (λ (_ : Unit {0}). next value) a b session
     (Ok tt) → Serves plan next a b session (Ok value)
 of_value value plan next a b session h = h
 
 -- ---- an error of a part is passed on
 
-pub passed : {T U E : Type 0} (plan : Plan Outcome) (mid : U → World → Plan Outcome)
-    (next : T → World → Plan Outcome) (a b : Heard E)
-    (session session' : Session) (e : RunError E) (result : Result T (RunError E))
+pub passed : {T U E F : Type 0} (plan : Plan Outcome) (mid : U → World → Plan Outcome)
+    (next : T → World → Plan Outcome) (a b : Heard E F)
+    (session session' : Session) (e : RunError E F) (result : Result T (RunError E F))
     → IsErrAnd result (λ x. x ≡ e) →
     Serves {T = U} plan mid a b session (Err e) → Serves {T = T} plan next a b session' result
 passed {T} plan mid next a b session session' e result h k =
@@ -367,24 +381,24 @@ passed {T} plan mid next a b session session' e result h k =
     subst (λ r. Serves {T = T} plan next a b session' r) (sym (p.1 ∙ ap Err p.2)) k
 
 -- .. after a part that was served
-pub passed_later : {T U V E : Type 0} (value : U) (plan : Plan Outcome) (mid : U → World
+pub passed_later : {T U V E F : Type 0} (value : U) (plan : Plan Outcome) (mid : U → World
     → Plan Outcome) (next : T → World → Plan Outcome)
-    (later : World → V → World → Plan Outcome) (a b c : Heard E)
-    (session session' session'' : Session) (e : RunError E)
-    (result : Result T (RunError E)) → IsErrAnd result (λ x. x ≡ e) → Serves plan mid a b session
+    (later : World → V → World → Plan Outcome) (a b c : Heard E F)
+    (session session' session'' : Session) (e : RunError E F)
+    (result : Result T (RunError E F)) → IsErrAnd result (λ x. x ≡ e) → Serves plan mid a b session
     (Ok value) →
     ((w : World) → Refines session w → Serves {T = V} (mid value w) (later w) b c session' (Err e))
-    →
-    Serves {T = T} plan next a c session'' result
+    → Serves {T = T} plan next a c session'' result
 passed_later {T} value plan mid next later a b c session session' session'' e result h k l =
     let p = err_from_is_err_and result h in
     subst (λ r. Serves {T = T} plan next a c session'' r) (sym (p.1 ∙ ap Err p.2))
     (served_both value plan mid next a b c session session'' (Err e) k (λ w r. l w r))
 
 -- memory was wanting
-pub starved : {T E : Type 0} (plan : Plan Outcome) (next : T → World → Plan Outcome) (a : Heard E)
+pub starved : {T E F : Type 0} (plan : Plan Outcome) (next : T → World → Plan Outcome)
+    (a : Heard E F)
     (session : Session)
-    (e : RunError E) (result : Result T (RunError E)) → IsErrAnd result (λ x. x ≡ e) → e
+    (e : RunError E F) (result : Result T (RunError E F)) → IsErrAnd result (λ x. x ≡ e) → e
     ≡ error.NoMemory →
     Serves {T = T} plan next a a session result
 starved {T} plan next a session e result h is =
@@ -393,30 +407,31 @@ starved {T} plan next a session e result h is =
     (starves plan next a session)
 
 -- what is not built
-pub unbuilt_input : {T E : Type 0} (next : T → World → Plan Outcome) (a : Heard E)
+pub unbuilt_input : {T E F : Type 0} (next : T → World → Plan Outcome) (a : Heard E F)
     (session : Session) →
-    Serves {T = T} {E = E} (Finish (Fails Not_built)) next a a session (Err error.NotBuilt)
+    Serves {T = T} {E = E} {F = F} (Finish (Fails Not_built)) next a a session (Err error.NotBuilt)
 unbuilt_input next a session = ([], hears_nothing false a, refl)
 
 -- nothing came from the peer for too long
-pub inactive_input : {T E : Type 0} (next : T → World → Plan Outcome) (a : Heard E)
+pub inactive_input : {T E F : Type 0} (next : T → World → Plan Outcome) (a : Heard E F)
     (session : Session) →
-    Serves {T = T} {E = E} (Finish (Fails Inactivity_timeout)) next a a session
+    Serves {T = T} {E = E} {F = F} (Finish (Fails Inactivity_timeout)) next a a session
     (Err error.InactivityTimeout)
 inactive_input next a session = ([], hears_nothing false a, refl)
 
 -- the world turned, or memory was wanting, and nobody was told or asked anything
-pub turned_quietly : {E : Type 0} (later : World → Plan Outcome) (world : World)
-    (session : Session) (result : Result (Unit {0}) (RunError E)) →
+pub turned_quietly : {E F : Type 0} (later : World → Plan Outcome) (world : World)
+    (session : Session) (result : Result (Unit {0}) (RunError E F)) →
     OnOk result (Refines session world) → IfErr result (λ e. e ≡ error.NoMemory) →
     Answers (later world) (λ (_ : Unit {0}). later) ⊥ [] session result
 turned_quietly later world session (Ok tt) r memory = (world, refl, r)
-turned_quietly {E} later world session (Err e) r memory =
-    subst (λ x. Answers {E = E} (later world) (λ (_ : Unit {0}). later) ⊥ [] session (Err x))
+turned_quietly {E} {F} later world session (Err e) r memory =
+    subst (λ x. Answers {E = E} {F = F} (later world)
+    (λ (_ : Unit {0}). later) ⊥ [] session (Err x))
     (sym memory) (later world, refl)
 
-pub turns_quietly : {E : Type 0} (later : World → Plan Outcome) (world : World) (a : Heard E)
-    (session : Session) (result : Result (Unit {0}) (RunError E)) →
+pub turns_quietly : {E F : Type 0} (later : World → Plan Outcome) (world : World) (a : Heard E F)
+    (session : Session) (result : Result (Unit {0}) (RunError E F)) →
     OnOk result (Refines session world) → IfErr result (λ e. e ≡ error.NoMemory) →
     Serves (later world) (λ (_ : Unit {0}). later) a a session result
 turns_quietly later world a session result r memory =
@@ -424,9 +439,9 @@ turns_quietly later world a session result r memory =
     (turned_quietly later world session result r memory)
 
 -- .. and nobody was told or asked anything
-pub starved_quietly : {T E : Type 0} (plan : Plan Outcome) (next : T → World → Plan Outcome)
-    (session : Session) (e : RunError E)
-    (result : Result T (RunError E)) → IsErrAnd result (λ x. x ≡ e) → e ≡ error.NoMemory →
+pub starved_quietly : {T E F : Type 0} (plan : Plan Outcome) (next : T → World → Plan Outcome)
+    (session : Session) (e : RunError E F)
+    (result : Result T (RunError E F)) → IsErrAnd result (λ x. x ≡ e) → e ≡ error.NoMemory →
     Answers {T = T} plan next ⊥ [] session result
 starved_quietly {T} plan next session e result h is =
     let p = err_from_is_err_and result h in

@@ -104,7 +104,7 @@ kind_set accepts settings w moment input.InactivityTick plan o h = rw o tt
 kind_set accepts settings w moment input.RekeyTick plan o h = rw o tt
 
 -- what an input leads to has the settings of the world before it
-follows_set : {E : Type 0} (settings : Settings) (plan : Plan Outcome) (events : List (Event E ⊥))
+follows_set : {E F : Type 0} (settings : Settings) (plan : Plan Outcome) (events : List (Event E F))
     (outcome : Outcome) →
     PlanComes Anything (ComesSet settings) plan → Follows plan events outcome
     → ComesSet settings outcome
@@ -115,9 +115,9 @@ follows_set settings (Ask question next) (event ∷ events) outcome k h = follow
 follows_set settings (Tell entry next) (event ∷ events) outcome k h = follows_set settings next
     events outcome k h.1
 
-pub stays_set : {E : Type 0} (accepts : Acceptance) (settings : Settings) (w : World)
+pub stays_set : {E F : Type 0} (accepts : Acceptance) (settings : Settings) (w : World)
     (input : Input) (plan : Plan Outcome)
-    (events : List (Event E ⊥)) (world : World) → Owes accepts w input plan
+    (events : List (Event E F)) (world : World) → Owes accepts w input plan
     → Follows plan events (Goes world) →
     w.settings ≡ settings → world.settings ≡ settings
 stays_set accepts settings w input plan events world o f h =

@@ -45,17 +45,17 @@ use Rattle.ssh_session.proofs.Wanting.{BytesSay, payload_says}
 -- ---- the end of an input
 
 -- a plan, and then the one that its outcome leads to
-pub record Parts {E : Type 0} (plan : Plan Outcome) (later : Outcome → Plan Outcome)
-    (events : List (Event E ⊥)) (outcome : Outcome) : Type 0 where
-  pub early : List (Event E ⊥)
-  pub rest : List (Event E ⊥)
+pub record Parts {E F : Type 0} (plan : Plan Outcome) (later : Outcome → Plan Outcome)
+    (events : List (Event E F)) (outcome : Outcome) : Type 0 where
+  pub early : List (Event E F)
+  pub rest : List (Event E F)
   pub between : Outcome
   pub is : events ≡ early ++ rest
   pub first : Follows plan early between
   pub second : Follows (later between) rest outcome
 
-parts_more : {E : Type 0} (plan next : Plan Outcome) (later : Outcome → Plan Outcome)
-    (event : Event E ⊥) (events : List (Event E ⊥)) (outcome : Outcome)
+parts_more : {E F : Type 0} (plan next : Plan Outcome) (later : Outcome → Plan Outcome)
+    (event : Event E F) (events : List (Event E F)) (outcome : Outcome)
     (p : Parts next later events outcome) → Follows plan (event ∷ p.early) p.between →
     Parts plan later (event ∷ events) outcome
 parts_more plan next later event events outcome p f = record {
@@ -67,8 +67,8 @@ parts_more plan next later event events outcome p f = record {
   second = p.second;
 }
 
-pub parts_of : {E : Type 0} (plan : Plan Outcome) (later : Outcome → Plan Outcome)
-    (events : List (Event E ⊥)) (outcome : Outcome) → Follows (after plan later) events outcome →
+pub parts_of : {E F : Type 0} (plan : Plan Outcome) (later : Outcome → Plan Outcome)
+    (events : List (Event E F)) (outcome : Outcome) → Follows (after plan later) events outcome →
     Parts plan later events outcome
 parts_of (Finish between) later events outcome f = record {
   early = [];
@@ -88,7 +88,7 @@ parts_of (Tell entry next) later (event ∷ events) outcome f =
     parts_more (Tell entry next) next later event events outcome p (f.0, p.first)
 
 -- the frames are handed on, and nothing else happens
-pub record Handed {E : Type 0} (waiting : List Outstanding) (events : List (Event E ⊥))
+pub record Handed {E F : Type 0} (waiting : List Outstanding) (events : List (Event E F))
     (outcome : Outcome) : Type 0 where
   pub same : Waits waiting outcome
   pub unlent : AreUnlent events
@@ -96,8 +96,8 @@ pub record Handed {E : Type 0} (waiting : List Outstanding) (events : List (Even
   pub unrefused : list_any is_refused events ≡ false
   pub untold : replies_told events ≡ []
 
-frames_handed : {E : Type 0} (waiting : List Outstanding) (frames : List Frame) (final : Outcome)
-    (events : List (Event E ⊥)) (outcome : Outcome) → Waits waiting final →
+frames_handed : {E F : Type 0} (waiting : List Outstanding) (frames : List Frame) (final : Outcome)
+    (events : List (Event E F)) (outcome : Outcome) → Waits waiting final →
     Follows (tell_all (map Sent frames) (Finish final)) events outcome →
     Handed waiting events outcome
 frames_handed waiting [] final [] outcome h f =
@@ -121,8 +121,8 @@ frames_handed waiting (frame ∷ frames) final (event ∷ events) outcome h f =
       untold = more.untold;
     })
 
-pub finish_handed : {E : Type 0} (waiting : List Outstanding) (between : Outcome)
-    (events : List (Event E ⊥)) (outcome : Outcome) → Waits waiting between →
+pub finish_handed : {E F : Type 0} (waiting : List Outstanding) (between : Outcome)
+    (events : List (Event E F)) (outcome : Outcome) → Waits waiting between →
     Follows (finish_input between) events outcome → Handed waiting events outcome
 finish_handed waiting (Goes w) events outcome h f =
     frames_handed waiting w.channels.lines.written (goes_unless_ended (handed_on w)) events outcome
@@ -135,12 +135,12 @@ finish_handed waiting (Fails why) events outcome h f =
 -- ---- inputs that settle nothing
 
 -- behind what waited waits what is asked
-abbrev pub AsksSo : {E : Type 0} → World → InputKind → List (Event E ⊥) → Outcome → Type 0
+abbrev pub AsksSo : {E F : Type 0} → World → InputKind → List (Event E F) → Outcome → Type 0
 AsksSo w kind events outcome =
     Waits (w.globals.outstanding ++ (asked_outside kind events ++ asked_within events)) outcome
 
-answered_so : {E : Type 0} (w v : World) (ticket : ℕ) (one : Command) (done_so : CommandOutcome)
-    (notices : List Notice) (events : List (Event E ⊥)) (outcome : Outcome) →
+answered_so : {E F : Type 0} (w v : World) (ticket : ℕ) (one : Command) (done_so : CommandOutcome)
+    (notices : List Notice) (events : List (Event E F)) (outcome : Outcome) →
     Asks w.globals.outstanding (asked_by one) (Does notices done_so v) →
     Follows (Tell (Answered ticket done_so) (Finish (Goes v))) events outcome →
     AsksSo w (input.Command ticket one) events outcome
@@ -162,10 +162,10 @@ answered_so w v ticket one (Refused why) notices (event ∷ []) outcome a f =
     (subst (Waits (w.globals.outstanding ++ [])) same
     (a.1 ∙ sym (append-nil w.globals.outstanding)))
 
-noticed_so : {E : Type 0} (w : World) (ticket : ℕ) (one : Command) (notices : List Notice)
-    (plan : Plan Outcome) (events : List (Event E ⊥)) (outcome : Outcome) →
+noticed_so : {E F : Type 0} (w : World) (ticket : ℕ) (one : Command) (notices : List Notice)
+    (plan : Plan Outcome) (events : List (Event E F)) (outcome : Outcome) →
     Follows (tell_all (map Noticed notices) plan) events outcome →
-    ((rest : List (Event E ⊥)) → Follows plan rest outcome →
+    ((rest : List (Event E F)) → Follows plan rest outcome →
     AsksSo w (input.Command ticket one) rest outcome) →
     AsksSo w (input.Command ticket one) events outcome
 noticed_so w ticket one [] plan events outcome f k = k events f
@@ -174,8 +174,8 @@ noticed_so w ticket one (notice ∷ notices) plan (event ∷ events) outcome f k
     subst (λ x. AsksSo w (input.Command ticket one) (x ∷ events) outcome) (sym f.0)
     (noticed_so w ticket one notices plan events outcome f.1 k)
 
-effect_so : {E : Type 0} (w : World) (ticket : ℕ) (one : Command) (does : Effect)
-    (events : List (Event E ⊥)) (outcome : Outcome) →
+effect_so : {E F : Type 0} (w : World) (ticket : ℕ) (one : Command) (does : Effect)
+    (events : List (Event E F)) (outcome : Outcome) →
     Asks w.globals.outstanding (asked_by one) does →
     Follows (done does (λ done_so v. Tell (Answered ticket done_so) (Finish (Goes v)))) events
     outcome → AsksSo w (input.Command ticket one) events outcome
@@ -183,7 +183,7 @@ effect_so w ticket one (Does notices done_so v) events outcome a f =
     noticed_so w ticket one notices (Tell (Answered ticket done_so) (Finish (Goes v))) events
     outcome f (λ rest g. answered_so w v ticket one done_so notices rest outcome a g)
 
-tick_step : {E : Type 0} (w : World) (many : Bool) (events : List (Event E ⊥))
+tick_step : {E F : Type 0} (w : World) (many : Bool) (events : List (Event E F))
     (outcome : Outcome) →
     Follows (acts (if many then Stops Keepalive_timeout ∷ []
     else Turns (λ v. said keepalive (ticked v)) ∷ []) w) events outcome →
@@ -200,8 +200,9 @@ tick_step w false (event ∷ events) outcome f = absurd f
 -- ---- what an input settles
 
 -- such a plan tells of no reply, and what it asks waits behind what waited
-pub record IsPlain (E : Type 0) (w : World) (kind : InputKind) (plan : Plan Outcome) : Type 0 where
-  pub asks : (events : List (Event E ⊥)) (outcome : Outcome) → Follows plan events outcome
+pub record IsPlain (E F : Type 0) (w : World) (kind : InputKind)
+    (plan : Plan Outcome) : Type 0 where
+  pub asks : (events : List (Event E F)) (outcome : Outcome) → Follows plan events outcome
       → AsksSo w kind events outcome
   pub tells : TellsNone plan
 
@@ -242,22 +243,22 @@ settles_so w payload note q moment = record {
   reply = q.0;
 }
 
-said_is : (E : Type 0) (w : World) (moment : ℕ) (payload : List ℕ) (said : Said) →
+said_is : (E F : Type 0) (w : World) (moment : ℕ) (payload : List ℕ) (said : Said) →
     OfRead (BytesSay w payload) said →
     SaysNoReply said ⊎ ((note : Option Notice) × (said ≡ Connection (spoken.Settles note))) →
-    IsPlain E w (input.Payload payload) (row w moment said)
+    IsPlain E F w (input.Payload payload) (row w moment said)
     ⊎ Settles w (input.Payload payload) (row w moment said)
-said_is E w moment payload said q (inl none) = inl (record {
+said_is E F w moment payload said q (inl none) = inl (record {
   asks = λ events outcome f. row_waits w moment said events outcome none f;
   tells = row_tells w moment said none;
 })
-said_is E w moment payload said q (inr is) =
+said_is E F w moment payload said q (inr is) =
     inr (subst (λ s. IsSettling w payload (row w moment s)) (sym is.1)
     (settles_so w payload is.0 (subst (OfRead (BytesSay w payload)) is.1 q) moment))
 
-command_plain : (E : Type 0) (w : World) (ticket : ℕ) (one : Command) →
-    IsPlain E w (input.Command ticket one) (command_row w ticket one)
-command_plain E w ticket one = record {
+command_plain : (E F : Type 0) (w : World) (ticket : ℕ) (one : Command) →
+    IsPlain E F w (input.Command ticket one) (command_row w ticket one)
+command_plain E F w ticket one = record {
   asks = λ events outcome f. effect_so w ticket one (effect w one) events outcome
       (effect_asks w one) f;
   tells = command_tells w ticket one;
@@ -269,17 +270,17 @@ either_none : (b : Bool) (P : List Outstanding → Type 0) →
 either_none true P h = h
 either_none false P h = h
 
-unasked_so : {E : Type 0} (w : World) (ticket : ℕ) (answer : OpenAnswer)
-    (events : List (Event E ⊥)) (outcome : Outcome) →
+unasked_so : {E F : Type 0} (w : World) (ticket : ℕ) (answer : OpenAnswer)
+    (events : List (Event E F)) (outcome : Outcome) →
     AsksSo w (input.Command ticket (command.Answer answer)) events outcome →
     AsksSo w (input.OpenReply ticket answer) events outcome
 unasked_so w ticket answer events outcome h =
     either_none (list_any is_refused events)
     (λ l. Waits (w.globals.outstanding ++ (l ++ asked_within events)) outcome) h
 
-reply_plain : (E : Type 0) (w : World) (ticket : ℕ) (answer : OpenAnswer) →
-    IsPlain E w (input.OpenReply ticket answer) (command_row w ticket (command.Answer answer))
-reply_plain E w ticket answer = record {
+reply_plain : (E F : Type 0) (w : World) (ticket : ℕ) (answer : OpenAnswer) →
+    IsPlain E F w (input.OpenReply ticket answer) (command_row w ticket (command.Answer answer))
+reply_plain E F w ticket answer = record {
   asks = λ events outcome f. unasked_so w ticket answer events outcome
       (effect_so w ticket (command.Answer answer) (effect w (command.Answer answer)) events outcome
       (effect_asks w (command.Answer answer)) f);
@@ -287,12 +288,12 @@ reply_plain E w ticket answer = record {
 }
 
 -- that the peer was heard changes nothing of what waits
-heard_is : (E : Type 0) (w : World) (payload : List ℕ) (plan : Plan Outcome) →
-    IsPlain E (hears payload w) (input.Payload payload) plan
+heard_is : (E F : Type 0) (w : World) (payload : List ℕ) (plan : Plan Outcome) →
+    IsPlain E F (hears payload w) (input.Payload payload) plan
     ⊎ IsSettling (hears payload w) payload plan →
-    IsPlain E w (input.Payload payload) plan ⊎ IsSettling w payload plan
-heard_is E w payload plan (inl h) = inl (record { asks = h.asks; tells = h.tells })
-heard_is E w payload plan (inr h) = inr (record {
+    IsPlain E F w (input.Payload payload) plan ⊎ IsSettling w payload plan
+heard_is E F w payload plan (inl h) = inl (record { asks = h.asks; tells = h.tells })
+heard_is E F w payload plan (inr h) = inr (record {
   v = h.v;
   note = h.note;
   first = h.first;
@@ -304,39 +305,39 @@ heard_is E w payload plan (inr h) = inr (record {
   reply = h.reply;
 })
 
-pub kind_is : (E : Type 0) (accepts : Acceptance) (w : World) (moment : ℕ) (kind : InputKind)
+pub kind_is : (E F : Type 0) (accepts : Acceptance) (w : World) (moment : ℕ) (kind : InputKind)
     (plan : Plan Outcome) → OwesKind accepts w moment kind plan →
-    IsPlain E w kind plan ⊎ Settles w kind plan
-kind_is E accepts w moment input.End plan o = inl (record {
+    IsPlain E F w kind plan ⊎ Settles w kind plan
+kind_is E F accepts w moment input.End plan o = inl (record {
   asks = λ events outcome f. calling_waits (Is_over ∷ []) w events outcome tt
       (subst (λ p. Follows p events outcome) o f);
   tells = subst TellsNone (sym o) tt;
 })
-kind_is E accepts w moment (input.Payload payload) plan o =
+kind_is E F accepts w moment (input.Payload payload) plan o =
     let v = hears payload w in
     let said = o.0 in
-    let is = said_is E v moment payload said
+    let is = said_is E F v moment payload said
     (payload_says (circumstances accepts v.settings moment) v payload said o.1)
     (reply_or_not said) in
-    subst (λ p. IsPlain E w (input.Payload payload) p ⊎ IsSettling w payload p) (sym o.2)
-    (heard_is E w payload (row v moment said) is)
-kind_is E accepts w moment (input.Command ticket one) plan o =
-    inl (subst (IsPlain E w (input.Command ticket one)) (sym o) (command_plain E w ticket one))
-kind_is E accepts w moment (input.OpenReply ticket answer) plan o =
-    inl (subst (IsPlain E w (input.OpenReply ticket answer)) (sym o)
-    (reply_plain E w ticket answer))
-kind_is E accepts w moment input.KeepaliveTick plan o =
-    inl (subst (IsPlain E w input.KeepaliveTick) (sym o) (record {
+    subst (λ p. IsPlain E F w (input.Payload payload) p ⊎ IsSettling w payload p) (sym o.2)
+    (heard_is E F w payload (row v moment said) is)
+kind_is E F accepts w moment (input.Command ticket one) plan o =
+    inl (subst (IsPlain E F w (input.Command ticket one)) (sym o) (command_plain E F w ticket one))
+kind_is E F accepts w moment (input.OpenReply ticket answer) plan o =
+    inl (subst (IsPlain E F w (input.OpenReply ticket answer)) (sym o)
+    (reply_plain E F w ticket answer))
+kind_is E F accepts w moment input.KeepaliveTick plan o =
+    inl (subst (IsPlain E F w input.KeepaliveTick) (sym o) (record {
       asks = λ events outcome f. tick_step w
           (is_too_many w.settings.config (one_more w.keepalives)) events outcome f;
       tells = tick_tells w;
     }))
-kind_is E accepts w moment input.InactivityTick plan o = inl (record {
+kind_is E F accepts w moment input.InactivityTick plan o = inl (record {
   asks = λ events outcome f. calling_waits inactivity_acts w events outcome tt
       (subst (λ p. Follows p events outcome) o f);
   tells = subst TellsNone (sym o) tt;
 })
-kind_is E accepts w moment input.RekeyTick plan o = inl (record {
+kind_is E F accepts w moment input.RekeyTick plan o = inl (record {
   asks = λ events outcome f. calling_waits (Stops Not_built ∷ []) w events outcome tt
       (subst (λ p. Follows p events outcome) o f);
   tells = subst TellsNone (sym o) tt;

@@ -78,33 +78,33 @@ finished_short (Tell entry next) other h =
     (after h.0 finish_input, ap (λ x. after x finish_input) h.1, finished_short next h.0 h.2)
 
 -- where the one comes, the other does
-abbrev ComesNear : {E : Type 0} → Plan Outcome → List (Event E ⊥) → Plan Outcome → Type 0
+abbrev ComesNear : {E F : Type 0} → Plan Outcome → List (Event E F) → Plan Outcome → Type 0
 ComesNear other events rest = (more : Plan Outcome) × Reaches other events more
     × IsShortOf rest more
 
-reaches_near : {E : Type 0} (plan other : Plan Outcome) (events : List (Event E ⊥))
+reaches_near : {E F : Type 0} (plan other : Plan Outcome) (events : List (Event E F))
     (rest : Plan Outcome) → IsShortOf plan other → Reaches plan events rest
     → ComesNear other events rest
 reaches_near plan other [] rest s r = (other, refl, subst (λ x. IsShortOf x other) r s)
 reaches_near (Finish outcome) other (event ∷ events) rest s r = absurd r
-reaches_near {E} (Ask question next) other (event ∷ events) rest s r =
+reaches_near {E} {F} (Ask question next) other (event ∷ events) rest s r =
     let near : ComesNear (s.0 r.0) events rest =
     reaches_near (next r.0) (s.0 r.0) events rest (s.2 r.0) r.2 in
-    subst (λ x. ComesNear {E = E} x (event ∷ events) rest) (sym s.1)
+    subst (λ x. ComesNear {E = E} {F = F} x (event ∷ events) rest) (sym s.1)
     (near.0, (r.0, r.1, near.1), near.2)
-reaches_near {E} (Tell entry next) other (event ∷ events) rest s r =
+reaches_near {E} {F} (Tell entry next) other (event ∷ events) rest s r =
     let near : ComesNear s.0 events rest = reaches_near next s.0 events rest s.2 r.1 in
-    subst (λ x. ComesNear {E = E} x (event ∷ events) rest) (sym s.1)
+    subst (λ x. ComesNear {E = E} {F = F} x (event ∷ events) rest) (sym s.1)
     (near.0, (r.0, near.1), near.2)
 
-pub follows_longer : {E : Type 0} (plan other : Plan Outcome) (events : List (Event E ⊥))
+pub follows_longer : {E F : Type 0} (plan other : Plan Outcome) (events : List (Event E F))
     (outcome : Outcome) → (outcome ≢ Fails Starved) → IsShortOf plan other
     → Follows plan events outcome → Follows other events outcome
 follows_longer plan other events outcome fed s h =
     let near = reaches_near plan other events (Finish outcome) s h in
     subst (Reaches other events) (ends_as outcome near.0 fed near.2) near.1
 
-pub breaks_longer : {E : Type 0} (plan other : Plan Outcome) (events : List (Event E ⊥))
+pub breaks_longer : {E F : Type 0} (plan other : Plan Outcome) (events : List (Event E F))
     (error : E) → IsShortOf plan other → Breaks plan events (Handler_error error)
     → Breaks other events (Handler_error error)
 breaks_longer plan other events error s h =

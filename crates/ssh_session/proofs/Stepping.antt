@@ -16,12 +16,17 @@ use Rattle.ssh_session.specs.Serve.{Refines, Completes, IsUnchanged}
 use Rattle.ssh_session.specs.World.{World}
 use Rattle.ssh_link.specs.Faults.{Rose}
 
--- what the two of an outside have told
-abbrev pub told_of : {E : Type 0} → Heard E → Told E
-told_of heard = record { calls = heard.calls; trace = heard.trace; faults = heard.faults }
+-- what the three of an outside have told
+abbrev pub told_of : {E F : Type 0} → Heard E F → Told E F
+told_of heard = record {
+  calls = heard.calls;
+  steps = heard.steps;
+  trace = heard.trace;
+  faults = heard.faults;
+}
 
-comes_so : {E : Type 0} (plan : Plan Outcome) (a b : Heard E) (session session' : Session)
-    (result : Result Flow (RunError E)) →
+comes_so : {E F : Type 0} (plan : Plan Outcome) (a b : Heard E F) (session session' : Session)
+    (result : Result Flow (RunError E F)) →
     (result ≡ Ok Continue → IsUnchanged session session') → (h : Completes plan a b session result)
     →
     Comes plan h.0 (Rose a.faults b.faults) session' result
@@ -31,8 +36,8 @@ comes_so plan a b session session' (Ok Ended) same h = (h.2.0, h.2.1)
 comes_so plan a b session session' (Err e) same h = h.2
 
 -- what is owed was done, and then the session is spent or goes on
-pub noted : {E : Type 0} (IsOwed : Plan Outcome → Type 0) (a b : Heard E)
-    (session session' : Session) (result : Result Flow (RunError E)) →
+pub noted : {E F : Type 0} (IsOwed : Plan Outcome → Type 0) (a b : Heard E F)
+    (session session' : Session) (result : Result Flow (RunError E F)) →
     (result ≡ Ok Continue → IsUnchanged session session') →
     ((plan : Plan Outcome) × IsOwed plan × Completes plan a b session result) →
     Steps IsOwed (told_of a) (told_of b) session' result
@@ -43,7 +48,7 @@ noted IsOwed a b session session' result same (plan, owes, h) = record {
   called = h.1.called;
   told = h.1.told;
   later = h.1.later;
-  unstepped = h.1.unstepped;
+  stepped = h.1.stepped;
   comes = comes_so plan a b session session' result same h;
 }
 
@@ -51,8 +56,8 @@ noted IsOwed a b session session' result same (plan, owes, h) = record {
 pub unchanged_by : (session session' : Session) → session' ≡ session → IsUnchanged session session'
 unchanged_by session session' same = λ w r. subst (λ s. Refines s w) (sym same) r
 
-still_comes : {E : Type 0} (plan : Plan Outcome) (events : List (Event E ⊥)) (rose : Type 0)
-    (session session' : Session) (result : Result Flow (RunError E)) →
+still_comes : {E F : Type 0} (plan : Plan Outcome) (events : List (Event E F)) (rose : Type 0)
+    (session session' : Session) (result : Result Flow (RunError E F)) →
     IsUnchanged session session' → Comes plan events rose session result →
     Comes plan events rose session' result
 still_comes plan events rose session session' (Ok Continue) same h =
@@ -61,8 +66,8 @@ still_comes plan events rose session session' (Ok Ended) same h = h
 still_comes plan events rose session session' (Err e) same h = h
 
 -- what was done is so of a session that stands for the same worlds
-pub steps_still : {E : Type 0} (IsOwed : Plan Outcome → Type 0) (a b : Told E)
-    (session session' : Session) (result : Result Flow (RunError E)) →
+pub steps_still : {E F : Type 0} (IsOwed : Plan Outcome → Type 0) (a b : Told E F)
+    (session session' : Session) (result : Result Flow (RunError E F)) →
     IsUnchanged session session' → Steps IsOwed a b session result →
     Steps IsOwed a b session' result
 steps_still IsOwed a b session session' result same h = record {
@@ -72,16 +77,16 @@ steps_still IsOwed a b session session' result same h = record {
   called = h.called;
   told = h.told;
   later = h.later;
-  unstepped = h.unstepped;
+  stepped = h.stepped;
   comes = still_comes h.plan h.events (Rose a.faults b.faults) session session' result same h.comes;
 }
 
 -- ---- behind notices
 
 -- what was taken behind notices was done, and then the session is spent or goes on
-pub noted_behind : {E : Type 0} (notices : List Notice) (accepts : Acceptance) (w : World)
-    (input : Input) (a b : Heard E) (session session' : Session)
-    (result : Result Flow (RunError E)) → (result ≡ Ok Continue → IsUnchanged session session') →
+pub noted_behind : {E F : Type 0} (notices : List Notice) (accepts : Acceptance) (w : World)
+    (input : Input) (a b : Heard E F) (session session' : Session)
+    (result : Result Flow (RunError E F)) → (result ≡ Ok Continue → IsUnchanged session session') →
     TakesBehind notices accepts w input a b session result →
     StepsAfter notices accepts w input (told_of a) (told_of b) session' result
 noted_behind notices accepts w input a b session session' result same (inl h) =
@@ -89,9 +94,9 @@ noted_behind notices accepts w input a b session session' result same (inl h) =
 noted_behind notices accepts w input a b session session' result same (inr (e, is, h)) =
     inr (e, is, noted (OwesNotices notices w) a b session session' result same (_, refl, h))
 
-pub still_behind : {E : Type 0} (notices : List Notice) (accepts : Acceptance) (w : World)
-    (input : Input) (a b : Told E) (session session' : Session)
-    (result : Result Flow (RunError E)) → IsUnchanged session session' →
+pub still_behind : {E F : Type 0} (notices : List Notice) (accepts : Acceptance) (w : World)
+    (input : Input) (a b : Told E F) (session session' : Session)
+    (result : Result Flow (RunError E F)) → IsUnchanged session session' →
     StepsAfter notices accepts w input a b session result →
     StepsAfter notices accepts w input a b session' result
 still_behind notices accepts w input a b session session' result same (inl h) =

@@ -181,13 +181,13 @@ input_tells (Tell entry next) h = (h.0, input_tells next h.1)
 -- ---- events
 
 -- a call is no notice
-asked_untold : {E : Type 0} (question : Question) (event : Event E ⊥) →
+asked_untold : {E F : Type 0} (question : Question) (event : Event E F) →
     asked_in event ≡ Some question → told_in_event event ≡ []
 asked_untold question (Called call) is = refl
 asked_untold question (Stepped step) is = refl
 asked_untold question (Told entry) is = absurd (cc)
 
-pub walks_untold : {E : Type 0} (plan : Plan Outcome) (events : List (Event E ⊥)) →
+pub walks_untold : {E F : Type 0} (plan : Plan Outcome) (events : List (Event E F)) →
     TellsNone plan → Walks plan events → replies_told events ≡ []
 walks_untold plan [] h w = refl
 walks_untold (Finish outcome) (event ∷ events) h w = absurd w

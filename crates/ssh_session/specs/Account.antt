@@ -3,6 +3,7 @@ use Rattle.std.specs.Prelude.{◌≡◌, ◌<◌, ◌≤◌, ℕ, List, [], ◌+
 use Rattle.std.specs.Prelude.{None, option_to_list, IfSome, IsSomeAnd, OnOk, Result, Ok, Err}
 use Rattle.ssh_link.specs.Faults.{Rose}
 use Rattle.ssh_link.specs.Told.{Adds, ToldBy}
+use Rattle.ssh_link.specs.declared.kex.KexCall.{KexCall}
 use Rattle.ssh_link.specs.declared.link.TraceEntry.{TraceEntry}
 use Rattle.ssh_auth.specs.declared.call.Call.{Call}
 use Rattle.ssh_auth.specs.Publickey.{Acceptance}
@@ -19,21 +20,24 @@ use Rattle.ssh_session.specs.InOrder.{InOrder, IsNextInOrder}
 use Rattle.ssh_session.specs.Ledger.{Ledgered_after}
 use Rattle.ssh_session.specs.Outcome.{Outcome, Goes, Ends}
 use Rattle.ssh_session.specs.Replied.{Replied}
-use Rattle.ssh_session.specs.Run.{Owes, Turn, Run, IsTaken, calls_of, entries}
+use Rattle.ssh_session.specs.Run.{Owes, Turn, Run, IsTaken, calls_of, steps_of, entries}
 use Rattle.ssh_session.specs.Serve.{Refines, cause_of, IsCaused, may_stop}
 use Rattle.ssh_session.specs.Valid.{IsValid, IsComplete, IsEnding}
 use Rattle.ssh_session.specs.World.{Settings, World, opening_world}
 
--- what a handler and a link have told, and how often the link has failed
-pub record Told (E : Type 0) : Type 0 where
+-- what a handler, an exchange and a link have told, and how often the link has failed
+pub record Told (E F : Type 0) : Type 0 where
   pub calls : Option (List (Call E))
+  pub steps : Option (List (KexCall F))
   pub trace : Option (List TraceEntry)
   pub faults : ℕ
 
-abbrev pub told_by : {H L E : Type 0} → (H → Option (List (Call E)))
-    → (L → Option (List TraceEntry)) → (L → ℕ) → H → L → Told E
-told_by calls trace faults handler link = record {
+abbrev pub told_by : {H K L E F : Type 0} → (H → Option (List (Call E)))
+    → (K → Option (List (KexCall F))) → (L → Option (List TraceEntry)) → (L → ℕ) → H → K → L
+    → Told E F
+told_by calls steps trace faults handler kex link = record {
   calls = calls handler;
+  steps = steps kex;
   trace = trace link;
   faults = faults link;
 }
@@ -42,8 +46,8 @@ told_by calls trace faults handler link = record {
 
 -- with these events the input ends so: the session goes on in a world, the run is over, or it stops
 -- by a cause
-abbrev pub Comes : {E : Type 0} → Plan Outcome → List (Event E ⊥) → (rose : Type 0) → Session
-    → Result Flow (RunError E) → Type 0
+abbrev pub Comes : {E F : Type 0} → Plan Outcome → List (Event E F) → (rose : Type 0) → Session
+    → Result Flow (RunError E F) → Type 0
 Comes plan events rose session (Ok Continue) = (world : World) × Follows plan events (Goes world)
     × Refines session world
 Comes plan events rose session (Ok Ended) = (world : World) × Follows plan events (Ends world)
@@ -51,29 +55,29 @@ Comes plan events rose session (Err e) = IsCaused (cause_of e) plan rose events
 
 -- an input was taken that owes such a plan: what was called and told is that plan, and so is the
 -- answer
-pub record Steps {E : Type 0} (IsOwed : Plan Outcome → Type 0) (before after : Told E)
-    (session : Session) (result : Result Flow (RunError E)) : Type 0 where
+pub record Steps {E F : Type 0} (IsOwed : Plan Outcome → Type 0) (before after : Told E F)
+    (session : Session) (result : Result Flow (RunError E F)) : Type 0 where
   pub plan : Plan Outcome
   pub owes : IsOwed plan
-  pub events : List (Event E ⊥)
+  pub events : List (Event E F)
   pub called : ToldBy (may_stop result) before.calls after.calls (calls_in events)
   pub told : Adds before.trace after.trace (told_in events)
   pub later : before.faults ≤ after.faults
-  pub unstepped : steps_in events ≡ []
+  pub stepped : Adds before.steps after.steps (steps_in events)
   pub comes : Comes plan events (Rose before.faults after.faults) session result
 
 -- ---- a run
 
 -- how the last input ended: well, or by a cause
-abbrev pub Concludes : {E : Type 0} → Plan Outcome → List (Event E ⊥) → (rose : Type 0)
-    → Result (Unit {0}) (RunError E) → Type 0
+abbrev pub Concludes : {E F : Type 0} → Plan Outcome → List (Event E F) → (rose : Type 0)
+    → Result (Unit {0}) (RunError E F) → Type 0
 Concludes plan events rose (Ok done) = (world : World) × Follows plan events (Ends world)
 Concludes plan events rose (Err e) = IsCaused (cause_of e) plan rose events
 
 -- how a run ends: with one more input that was not finished or ended it; or with none, at the limit
 -- or as the link gave none
-abbrev pub Closes : {E : Type 0} → Acceptance → World → (count max : ℕ) → Option (Turn E)
-    → (rose : Type 0) → Result (Unit {0}) (RunError E) → Type 0
+abbrev pub Closes : {E F : Type 0} → Acceptance → World → (count max : ℕ) → Option (Turn E F)
+    → (rose : Type 0) → Result (Unit {0}) (RunError E F) → Type 0
 Closes accepts w count max (Some turn) rose result = (count < max) × IsTaken w turn
     × ((plan : Plan Outcome) × Owes accepts w turn.input plan × Concludes plan turn.events rose
     result)
@@ -83,25 +87,28 @@ Closes accepts w count max None rose (Err error.NoMemory) = Unit {0}
 Closes accepts w count max None rose _ = ⊥
 
 -- the whole run, as inputs one after another from the opening world, and one more
-pub record Ran {E : Type 0} (accepts : Acceptance) (settings : Settings) (before after : Told E)
-    (max : ℕ) (result : Result (Unit {0}) (RunError E)) : Type 0 where
+pub record Ran {E F : Type 0} (accepts : Acceptance) (settings : Settings) (before after : Told E F)
+    (max : ℕ) (result : Result (Unit {0}) (RunError E F)) : Type 0 where
   -- the inputs that were finished, each by its row
-  pub turns : List (Turn E)
+  pub turns : List (Turn E F)
   pub world : World
   pub run : Run accepts (opening_world settings) turns world
   -- and one more, which ended the run or was not finished
-  pub last : Option (Turn E)
+  pub last : Option (Turn E F)
   pub closes : Closes accepts world (length turns) max last (Rose before.faults after.faults) result
   -- the handler was called for these and for nothing else
   pub called : ToldBy (may_stop result) before.calls after.calls
       (flat_map calls_of (turns ++ option_to_list last))
+  -- the exchange was asked for these and for nothing else
+  pub stepped : Adds before.steps after.steps (flat_map steps_of (turns ++ option_to_list last))
   -- the link was asked for these inputs and told these things, and nothing else
   pub told : Adds before.trace after.trace (flat_map entries (turns ++ option_to_list last))
   pub later : before.faults ≤ after.faults
 
 -- what is so of every account of a run
-pub record Lawful {E : Type 0} {accepts : Acceptance} {settings : Settings} {before after : Told E}
-    {max : ℕ} {result : Result (Unit {0}) (RunError E)}
+pub record Lawful {E F : Type 0} {accepts : Acceptance} {settings : Settings}
+    {before after : Told E F}
+    {max : ℕ} {result : Result (Unit {0}) (RunError E F)}
     (account : Ran accepts settings before after max result) : Type 0 where
   -- Ok comes only where the last input ended the run
   pub ended : OnOk result (IsSomeAnd account.last (IsEnding account.world))
@@ -109,7 +116,7 @@ pub record Lawful {E : Type 0} {accepts : Acceptance} {settings : Settings} {bef
   pub authorised : Authorised accepts settings (account.turns ++ option_to_list account.last)
   -- after each finished input each channel has sent exactly its first min(accepted, granted) bytes,
   -- in order
-  pub ledger : (earlier later : List (Turn E)) → account.turns ≡ earlier ++ later
+  pub ledger : (earlier later : List (Turn E F)) → account.turns ≡ earlier ++ later
       → Ledgered_after accepts settings earlier
   -- an open of the peer's gets at most one answer, and none before its callback returned
   pub answered : Answered (account.turns ++ option_to_list account.last)
@@ -118,7 +125,7 @@ pub record Lawful {E : Type 0} {accepts : Acceptance} {settings : Settings} {bef
   -- and no more replies to its global requests
   pub globally_replied : GlobalReplied (account.turns ++ option_to_list account.last)
   -- the replies to this side's global requests are taken in the order of the requests
-  pub in_order : (earlier later : List (Turn E)) → account.turns ≡ earlier ++ later
+  pub in_order : (earlier later : List (Turn E F)) → account.turns ≡ earlier ++ later
       → InOrder accepts settings earlier
   pub last_in_order : IfSome account.last (IsNextInOrder account.world)
   -- where no fault of the link rose and the last input was valid, it ends well, or memory or the
@@ -129,31 +136,35 @@ pub record Lawful {E : Type 0} {accepts : Acceptance} {settings : Settings} {bef
   pub link_fault : result ≡ Err error.LinkFault → Rose before.faults after.faults
 
 -- the laws of a run
-pub record Laws {E : Type 0} (accepts : Acceptance) (settings : Settings) (before after : Told E)
-    (max : ℕ) (result : Result (Unit {0}) (RunError E)) : Type 0 where
+pub record Laws {E F : Type 0} (accepts : Acceptance) (settings : Settings)
+    (before after : Told E F)
+    (max : ℕ) (result : Result (Unit {0}) (RunError E F)) : Type 0 where
   -- the calls, the frames, the notices and the answer are those that the inputs owe, row by row
   pub run : Ran accepts settings before after max result
   -- and every such account is lawful
   pub lawful : (account : Ran accepts settings before after max result) → Lawful account
 
--- ---- by the handler and the link that tell
+-- ---- by the handler, the exchange and the link that tell
 
--- an input was taken so, with this handler and this link before it and after it
-abbrev pub StepsBy : {E H L : Type 0} → (IsOwed : Plan Outcome → Type 0)
-    → (told : H → L → Told E) → (handler : H) → (link : L) → (handler_after : H)
-    → (link_after : L) → Session → Result Flow (RunError E) → Type 0
-StepsBy IsOwed told handler link handler_after link_after session result =
-    Steps IsOwed (told handler link) (told handler_after link_after) session result
+-- an input was taken so, with these three before it and after it
+abbrev pub StepsBy : {E F H K L : Type 0} → (IsOwed : Plan Outcome → Type 0)
+    → (told : H → K → L → Told E F) → (handler : H) → (kex : K) → (link : L)
+    → (handler_after : H) → (kex_after : K) → (link_after : L) → Session
+    → Result Flow (RunError E F) → Type 0
+StepsBy IsOwed told handler kex link handler_after kex_after link_after session result =
+    Steps IsOwed (told handler kex link) (told handler_after kex_after link_after) session result
 
--- the two tell nothing more
-abbrev pub TellsNothing : {E H L : Type 0} → (told : H → L → Told E) → (handler : H) → (link : L)
-    → (handler_after : H) → (link_after : L) → Type 0
-TellsNothing told handler link handler_after link_after =
-    told handler_after link_after ≡ told handler link
+-- the three tell nothing more
+abbrev pub TellsNothing : {E F H K L : Type 0} → (told : H → K → L → Told E F) → (handler : H)
+    → (kex : K) → (link : L) → (handler_after : H) → (kex_after : K) → (link_after : L) → Type 0
+TellsNothing told handler kex link handler_after kex_after link_after =
+    told handler_after kex_after link_after ≡ told handler kex link
 
--- a run kept its laws, with this handler and this link before it and after it
-abbrev pub KeepsLaws : {E H L : Type 0} → Acceptance → Settings → (told : H → L → Told E)
-    → (handler : H) → (link : L) → (handler_after : H) → (link_after : L) → (max : ℕ)
-    → Result (Unit {0}) (RunError E) → Type 0
-KeepsLaws accepts settings told handler link handler_after link_after max result =
-    Laws accepts settings (told handler link) (told handler_after link_after) max result
+-- a run kept its laws, with these three before it and after it
+abbrev pub KeepsLaws : {E F H K L : Type 0} → Acceptance → Settings
+    → (told : H → K → L → Told E F) → (handler : H) → (kex : K) → (link : L)
+    → (handler_after : H) → (kex_after : K) → (link_after : L) → (max : ℕ)
+    → Result (Unit {0}) (RunError E F) → Type 0
+KeepsLaws accepts settings told handler kex link handler_after kex_after link_after max result =
+    Laws accepts settings (told handler kex link) (told handler_after kex_after link_after) max
+    result

@@ -33,7 +33,7 @@ abbrev pub is_answer_on : (number : ℕ) → Frame → Bool
 is_answer_on number frame = is_tagged number frame.channel && is_answer frame
 
 -- such a frame was sent
-abbrev pub sends : {E : Type 0} → (such : Frame → Bool) → Event E ⊥ → Bool
+abbrev pub sends : {E F : Type 0} → (such : Frame → Bool) → Event E F → Bool
 sends such (Told (Sent frame)) = such frame
 sends such _ = false
 
@@ -43,15 +43,15 @@ open_asked (Lends (Opens channel type)) = Some channel
 open_asked _ = None
 
 -- the channel whose open's callback returned
-abbrev pub open_of : {E : Type 0} → Event E ⊥ → Option ChannelId
+abbrev pub open_of : {E F : Type 0} → Event E F → Option ChannelId
 open_of (Called call) = open_asked (asked_of call)
 open_of _ = None
 
 -- the callback of an open returned, and of one of this number
-abbrev pub open_returned : {E : Type 0} → Event E ⊥ → Bool
+abbrev pub open_returned : {E F : Type 0} → Event E F → Bool
 open_returned event = is_some (open_of event)
 
-abbrev pub open_returned_on : {E : Type 0} → (number : ℕ) → Event E ⊥ → Bool
+abbrev pub open_returned_on : {E F : Type 0} → (number : ℕ) → Event E F → Bool
 open_returned_on number event = is_tagged number (open_of event)
 
 -- CHANNEL_OPEN is 90 (section 5.1)
@@ -64,26 +64,27 @@ is_none [] = true
 is_none (x ∷ xs) = false
 
 -- a CHANNEL_OPEN, and no callback was made in its input: its type has none
-abbrev pub is_uncalled : {E : Type 0} → Turn E → Bool
+abbrev pub is_uncalled : {E F : Type 0} → Turn E F → Bool
 is_uncalled turn = is_open turn.input.kind && is_none (calls_of turn)
 
 -- what happened in the other inputs, one after another
-abbrev pub called_events : {E : Type 0} → List (Turn E) → List (Event E ⊥)
+abbrev pub called_events : {E F : Type 0} → List (Turn E F) → List (Event E F)
 called_events turns = flat_map (λ turn. cond (is_uncalled turn) [] turn.events) turns
 
-pub record Answered {E : Type 0} (turns : List (Turn E)) : Type 0 where
+pub record Answered {E F : Type 0} (turns : List (Turn E F)) : Type 0 where
   -- a CHANNEL_OPEN makes the callback of an open at most once, and no other input does
-  pub called_once : (before after : List (Turn E)) (turn : Turn E) → turns ≡ before ++ turn ∷ after
+  pub called_once : (before after : List (Turn E F)) (turn : Turn E F)
+      → turns ≡ before ++ turn ∷ after
       → how_many open_returned turn.events ≤ (if is_open turn.input.kind then 1 else 0)
   -- an open whose type has no callback gets at most one answer in its input
-  pub at_once : (before after : List (Turn E)) (turn : Turn E) → turns ≡ before ++ turn ∷ after
+  pub at_once : (before after : List (Turn E F)) (turn : Turn E F) → turns ≡ before ++ turn ∷ after
       → is_uncalled turn ≡ true → how_many (sends is_answer) turn.events ≤ 1
   -- in the other inputs, at every moment and on each number, no more answers were sent than
   -- callbacks of opens have returned
-  pub after_call : (past more : List (Event E ⊥)) → called_events turns ≡ past ++ more
+  pub after_call : (past more : List (Event E F)) → called_events turns ≡ past ++ more
       → (number : ℕ) → how_many (sends (is_answer_on number)) past
       ≤ how_many (open_returned_on number) past
   -- and while no further one returns, at most one answer is sent
-  pub one_each : (past span more : List (Event E ⊥)) → called_events turns ≡ past ++ (span ++ more)
+  pub one_each : (past span more : List (Event E F)) → called_events turns ≡ past ++ (span ++ more)
       → (number : ℕ) → how_many (open_returned_on number) span ≡ 0
       → how_many (sends (is_answer_on number)) span ≤ 1

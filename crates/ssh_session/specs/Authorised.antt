@@ -81,25 +81,25 @@ abbrev pub IsOfChannel : Frame → Type 0
 IsOfChannel frame = (n : ℕ) × (rest : List ℕ) × (frame.payload ≡ n ∷ rest) × (90 ≤ n) × (n ≤ 100)
 
 -- what happened needs a user who was let in: a callback of the connection, or a frame of a channel
-abbrev pub NeedsUser : {E : Type 0} → Event E ⊥ → Type 0
+abbrev pub NeedsUser : {E F : Type 0} → Event E F → Type 0
 NeedsUser (Called call) = IsOfConnection call
 NeedsUser (Told (Sent frame)) = IsOfChannel frame
 NeedsUser _ = ⊥
 
 -- none of these inputs is a USERAUTH_REQUEST
-abbrev pub NoneRequests : {E : Type 0} → List (Turn E) → Type 0
+abbrev pub NoneRequests : {E F : Type 0} → List (Turn E F) → Type 0
 NoneRequests [] = Unit {0}
 NoneRequests (turn ∷ turns) = ((user : List ℕ) → IsRequestOf user turn.input.kind → ⊥)
     × NoneRequests turns
 
 -- the last USERAUTH_REQUEST among these inputs named this user
-abbrev pub LastNamed : {E : Type 0} → List (Turn E) → List ℕ → Type 0
-LastNamed {E} turns user = (before after : List (Turn E)) × (turn : Turn E)
+abbrev pub LastNamed : {E F : Type 0} → List (Turn E F) → List ℕ → Type 0
+LastNamed {E} {F} turns user = (before after : List (Turn E F)) × (turn : Turn E F)
     × (turns ≡ before ++ turn ∷ after) × IsRequestOf user turn.input.kind × NoneRequests after
 
 -- in one of these inputs a call accepted a user
-abbrev pub SomeoneIsIn : {E : Type 0} → Acceptance → Settings → List (Turn E) → Type 0
-SomeoneIsIn {E} accepts settings turns = (before after : List (Turn E)) × (turn : Turn E)
+abbrev pub SomeoneIsIn : {E F : Type 0} → Acceptance → Settings → List (Turn E F) → Type 0
+SomeoneIsIn {E} {F} accepts settings turns = (before after : List (Turn E F)) × (turn : Turn E F)
     × (turns ≡ before ++ turn ∷ after)
     × (earlier later : List (Call E)) × (call : Call E) × (calls_of turn ≡ earlier ++ call ∷ later)
     × IsAccepting (circumstances accepts settings turn.input.moment) (LastNamed before)
@@ -107,9 +107,9 @@ SomeoneIsIn {E} accepts settings turns = (before after : List (Turn E)) × (turn
 
 -- each callback of the connection, and each frame of a channel, has a call before it that accepted
 -- a user: in its own input or in an earlier one
-abbrev pub Authorised : {E : Type 0} → Acceptance → Settings → List (Turn E) → Type 0
-Authorised {E} accepts settings turns =
-    (before after : List (Turn E)) (turn : Turn E) → turns ≡ before ++ turn ∷ after →
-    (past more : List (Event E ⊥)) (event : Event E ⊥) → turn.events ≡ past ++ event ∷ more
+abbrev pub Authorised : {E F : Type 0} → Acceptance → Settings → List (Turn E F) → Type 0
+Authorised {E} {F} accepts settings turns =
+    (before after : List (Turn E F)) (turn : Turn E F) → turns ≡ before ++ turn ∷ after →
+    (past more : List (Event E F)) (event : Event E F) → turn.events ≡ past ++ event ∷ more
     → NeedsUser event →
     SomeoneIsIn accepts settings (before ++ record turn { events = past } ∷ [])

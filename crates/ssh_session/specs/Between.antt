@@ -76,20 +76,22 @@ OwesNotices notices w plan = plan ≡ tell_all (map Noticed notices) (Finish (Go
 
 -- an input was taken behind these notices; or the link failed, or had no memory, as it was told
 -- them, and the input was not looked at
-abbrev pub StepsAfter : {E : Type 0} → (notices : List Notice) → Acceptance → World → Input
-    → Told E → Told E → Session → Result Flow (RunError E) → Type 0
-StepsAfter {E} notices accepts w input before after session result =
+abbrev pub StepsAfter : {E F : Type 0} → (notices : List Notice) → Acceptance → World → Input
+    → Told E F → Told E F → Session → Result Flow (RunError E F) → Type 0
+StepsAfter {E} {F} notices accepts w input before after session result =
     Steps (OwesBehind notices accepts w input) before after session result
-    ⊎ ((e : RunError E) × (result ≡ Err e)
+    ⊎ ((e : RunError E F) × (result ≡ Err e)
     × Steps (OwesNotices notices w) before after session result)
 
--- the same, with this handler and this link before it and after it
-abbrev pub StepsBehind : {E H L : Type 0} → (notices : List Notice) → Acceptance → World → Input
-    → (told : H → L → Told E) → (handler : H) → (link : L) → (handler_after : H)
-    → (link_after : L) → Session → Result Flow (RunError E) → Type 0
-StepsBehind notices accepts w input told handler link handler_after link_after session result =
-    StepsAfter notices accepts w input (told handler link) (told handler_after link_after) session
-    result
+-- the same, with this handler, this exchange and this link before it and after it
+abbrev pub StepsBehind : {E F H K L : Type 0} → (notices : List Notice) → Acceptance → World
+    → Input → (told : H → K → L → Told E F) → (handler : H) → (kex : K) → (link : L)
+    → (handler_after : H) → (kex_after : K) → (link_after : L) → Session
+    → Result Flow (RunError E F) → Type 0
+StepsBehind notices accepts w input told handler kex link handler_after kex_after link_after session
+    result =
+    StepsAfter notices accepts w input (told handler kex link)
+    (told handler_after kex_after link_after) session result
 
 -- how many bytes of data go out on the channel as far as the credit goes, and none behind a
 -- DISCONNECT
@@ -98,10 +100,10 @@ goes_out_unless_ended w channel =
     cond w.disconnected 0 (goes_out (find channel w.channels.lines.entries))
 
 -- what was told and asked as such an input was taken
-abbrev pub TakesBehind : {E : Type 0} → (notices : List Notice) → Acceptance → World → Input
-    → Heard E → Heard E → Session → Result Flow (RunError E) → Type 0
-TakesBehind {E} notices accepts w input before after session result =
+abbrev pub TakesBehind : {E F : Type 0} → (notices : List Notice) → Acceptance → World → Input
+    → Heard E F → Heard E F → Session → Result Flow (RunError E F) → Type 0
+TakesBehind {E} {F} notices accepts w input before after session result =
     ((plan : Plan Outcome) × OwesBehind notices accepts w input plan
     × Completes plan before after session result)
-    ⊎ ((e : RunError E) × (result ≡ Err e)
+    ⊎ ((e : RunError E F) × (result ≡ Err e)
     × Completes (tell_all (map Noticed notices) (Finish (Goes w))) before after session result)

@@ -210,7 +210,8 @@ said message w =
     writes (at_once message.payload ∷ []) (ends_by message.ends (awaits message.awaited w))
 
 abbrev pub sends : OwnMessage → World → Effect
-sends message w = if is_too_long message.payload then refuses TooLong w else accepts (said message w)
+sends message w = if is_too_long message.payload then refuses TooLong w else accepts
+    (said message w)
 
 -- a command that concerns no channel that is there, and lacks nothing: one line a command; what a
 -- client alone may say is never done

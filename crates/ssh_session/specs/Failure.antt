@@ -13,11 +13,11 @@ use Rattle.ssh_channels.specs.declared.error.TableError.TheVariants as table
 use Rattle.ssh_session.specs.declared.error.RunError.{RunError}
 use Rattle.ssh_session.specs.declared.error.RunError.TheVariants as error
 
-abbrev pub run_error_of : {E : Type 0} → WireError → RunError E
+abbrev pub run_error_of : {E F : Type 0} → WireError → RunError E F
 run_error_of wire.NoMemory = error.NoMemory
 run_error_of why = error.Encoding why
 
-abbrev pub error_of_auth : {E : Type 0} → AuthError E → RunError E
+abbrev pub error_of_auth : {E F : Type 0} → AuthError E → RunError E F
 error_of_auth auth.NoMemory = error.NoMemory
 error_of_auth (auth.Encoding why) = error.Encoding why
 error_of_auth auth.Inconsistent = error.Inconsistent
@@ -25,15 +25,15 @@ error_of_auth (auth.Key why) = error.Key why
 error_of_auth (auth.Handler e) = error.Handler e
 error_of_auth auth.UnsupportedAuthMethod = error.UnsupportedAuthMethod
 
-abbrev pub error_of_layout : {E : Type 0} → LayoutError → RunError E
+abbrev pub error_of_layout : {E F : Type 0} → LayoutError → RunError E F
 error_of_layout (layout.Wire why) = run_error_of why
 error_of_layout layout.Inconsistent = error.Inconsistent
 
-abbrev pub error_of_link : {E : Type 0} → LinkFault → RunError E
+abbrev pub error_of_link : {E F : Type 0} → LinkFault → RunError E F
 error_of_link link.Failed = error.LinkFault
 error_of_link link.NoMemory = error.NoMemory
 
-abbrev pub error_of_table : {E : Type 0} → TableError → RunError E
+abbrev pub error_of_table : {E F : Type 0} → TableError → RunError E F
 error_of_table table.NoMemory = error.NoMemory
 error_of_table table.Inconsistent = error.Inconsistent
 error_of_table table.Full = error.ChannelsFull

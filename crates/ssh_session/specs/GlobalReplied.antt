@@ -33,14 +33,14 @@ wants_global_reply (Payload payload) =
     (message_of payload == global_request.number) && globally_wanted_of (drop 1 payload)
 wants_global_reply _ = false
 
-abbrev pub wants_globally : {E : Type 0} → Turn E → Bool
+abbrev pub wants_globally : {E F : Type 0} → Turn E F → Bool
 wants_globally turn = wants_global_reply turn.input.kind
 
-pub record GlobalReplied {E : Type 0} (turns : List (Turn E)) : Type 0 where
+pub record GlobalReplied {E F : Type 0} (turns : List (Turn E F)) : Type 0 where
   -- after each input, and so at every moment, no more replies were sent than global requests have
   -- come that want one
-  pub never_more : (past more : List (Turn E)) → turns ≡ past ++ more
+  pub never_more : (past more : List (Turn E F)) → turns ≡ past ++ more
       → how_many (sends is_global_reply) (events_of past) ≤ how_many wants_globally past
   -- and while no further one comes, at most one reply is sent
-  pub one_each : (past span more : List (Turn E)) → turns ≡ past ++ (span ++ more)
+  pub one_each : (past span more : List (Turn E F)) → turns ≡ past ++ (span ++ more)
       → how_many wants_globally span ≡ 0 → how_many (sends is_global_reply) (events_of span) ≤ 1

@@ -38,7 +38,7 @@ asked_by (command.Ping slot) = outstanding.Ping slot ∷ []
 asked_by _ = []
 
 -- the commands that were recorded, where this is a callback
-abbrev pub recorded : {E : Type 0} → Event E ⊥ → List Command
+abbrev pub recorded : {E F : Type 0} → Event E F → List Command
 recorded (Called call) = recorded_so (was call)
 recorded _ = []
 
@@ -47,12 +47,12 @@ abbrev pub refuses_so : {E : Type 0} → (place : ℕ) → Was E → Bool
 refuses_so place (Done_so at (Refused why) answer) = place == at
 refuses_so place _ = false
 
-abbrev pub refuses_at : {E : Type 0} → (place : ℕ) → Event E ⊥ → Bool
+abbrev pub refuses_at : {E F : Type 0} → (place : ℕ) → Event E F → Bool
 refuses_at place (Called call) = refuses_so place (was call)
 refuses_at place _ = false
 
 -- what recorded commands ask, from this place on, but for those that these events say were refused
-abbrev pub asked_from : {E : Type 0} → (place : ℕ) → List Command → List (Event E ⊥)
+abbrev pub asked_from : {E F : Type 0} → (place : ℕ) → List Command → List (Event E F)
     → List Outstanding
 asked_from place [] events = []
 asked_from place (command ∷ commands) events =
@@ -60,24 +60,24 @@ asked_from place (command ∷ commands) events =
     ++ asked_from (place + 1) commands events
 
 -- what the commands ask that callbacks recorded in these events
-abbrev pub asked_within : {E : Type 0} → List (Event E ⊥) → List Outstanding
+abbrev pub asked_within : {E F : Type 0} → List (Event E F) → List Outstanding
 asked_within [] = []
 asked_within (event ∷ events) = asked_from 0 (recorded event) events ++ asked_within events
 
 -- a command from outside was refused
-abbrev pub is_refused : {E : Type 0} → Event E ⊥ → Bool
+abbrev pub is_refused : {E F : Type 0} → Event E F → Bool
 is_refused (Told (Answered ticket (Refused why))) = true
 is_refused _ = false
 
 -- what an input asks by itself: a command from outside, or a keepalive tick
-abbrev pub asked_outside : {E : Type 0} → InputKind → List (Event E ⊥) → List Outstanding
+abbrev pub asked_outside : {E F : Type 0} → InputKind → List (Event E F) → List Outstanding
 asked_outside (input.Command ticket command) events =
     if list_any is_refused events then [] else asked_by command
 asked_outside input.KeepaliveTick events = outstanding.Keepalive ∷ []
 asked_outside _ events = []
 
 -- this side's requests of an input that want a reply, in their order
-abbrev pub asked : {E : Type 0} → Turn E → List Outstanding
+abbrev pub asked : {E F : Type 0} → Turn E F → List Outstanding
 asked turn = asked_outside turn.input.kind turn.events ++ asked_within turn.events
 
 -- ---- what is told of the replies
@@ -93,12 +93,12 @@ abbrev pub told_in_entry : TraceEntry → List Outstanding
 told_in_entry (Noticed notice) = replied_in notice
 told_in_entry _ = []
 
-abbrev pub told_in_event : {E : Type 0} → Event E ⊥ → List Outstanding
+abbrev pub told_in_event : {E F : Type 0} → Event E F → List Outstanding
 told_in_event (Told entry) = told_in_entry entry
 told_in_event _ = []
 
 -- those that are told in these events, in their order
-abbrev pub replies_told : {E : Type 0} → List (Event E ⊥) → List Outstanding
+abbrev pub replies_told : {E F : Type 0} → List (Event E F) → List Outstanding
 replies_told events = flat_map told_in_event events
 
 -- the reply to a keepalive is told to nobody
@@ -111,14 +111,14 @@ abbrev pub is_own_reply : InputKind → Bool
 is_own_reply (input.Payload payload) = replies_globally payload
 is_own_reply _ = false
 
-abbrev pub replies_to_own : {E : Type 0} → Turn E → Bool
+abbrev pub replies_to_own : {E F : Type 0} → Turn E F → Bool
 replies_to_own turn = is_own_reply turn.input.kind
 
 -- ---- the law
 
 -- after these inputs
-pub record InOrder {E : Type 0} (accepts : Acceptance) (settings : Settings)
-    (turns : List (Turn E)) : Type 0 where
+pub record InOrder {E F : Type 0} (accepts : Acceptance) (settings : Settings)
+    (turns : List (Turn E F)) : Type 0 where
   pub world : World
   pub run : Run accepts (opening_world settings) turns world
   -- what was asked is what has its reply, and behind that what waits for it
@@ -130,6 +130,6 @@ pub record InOrder {E : Type 0} (accepts : Acceptance) (settings : Settings)
   pub replied : length settled ≤ how_many replies_to_own turns
 
 -- what one more input tells is of the first that wait for their replies
-abbrev pub IsNextInOrder : {E : Type 0} → World → Turn E → Type 0
+abbrev pub IsNextInOrder : {E F : Type 0} → World → Turn E F → Type 0
 IsNextInOrder w turn = (later : List Outstanding)
     × (flat_map with_notice w.globals.outstanding ≡ replies_told turn.events ++ later)

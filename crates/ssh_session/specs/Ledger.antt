@@ -8,8 +8,8 @@ use Rattle.ssh_session.specs.World.{Settings, World, opening_world}
 
 -- in the world after these inputs, what was sent on each channel is what it has to be, and all that
 -- is due is sent
-pub record Ledgered_after {E : Type 0} (accepts : Acceptance) (settings : Settings)
-    (turns : List (Turn E)) : Type 0 where
+pub record Ledgered_after {E F : Type 0} (accepts : Acceptance) (settings : Settings)
+    (turns : List (Turn E F)) : Type 0 where
   pub world : World
   pub run : Run accepts (opening_world settings) turns world
   pub kept : Ledgered world.channels.lines (flat_map entries turns)

@@ -40,19 +40,19 @@ wants_reply_on number (Payload payload) =
     && ((number == recipient_of (drop 1 payload)) && wanted_of (drop 1 payload))
 wants_reply_on number _ = false
 
-abbrev pub wants_on : {E : Type 0} → (number : ℕ) → Turn E → Bool
+abbrev pub wants_on : {E F : Type 0} → (number : ℕ) → Turn E F → Bool
 wants_on number turn = wants_reply_on number turn.input.kind
 
 -- what happened in these inputs
-abbrev pub events_of : {E : Type 0} → List (Turn E) → List (Event E ⊥)
+abbrev pub events_of : {E F : Type 0} → List (Turn E F) → List (Event E F)
 events_of turns = flat_map (λ turn. turn.events) turns
 
-pub record Replied {E : Type 0} (turns : List (Turn E)) : Type 0 where
+pub record Replied {E F : Type 0} (turns : List (Turn E F)) : Type 0 where
   -- after each input, and so at every moment, no more replies were sent on a number than requests
   -- on it have come that want one
-  pub never_more : (past more : List (Turn E)) → turns ≡ past ++ more → (number : ℕ)
+  pub never_more : (past more : List (Turn E F)) → turns ≡ past ++ more → (number : ℕ)
       → how_many (sends (is_reply_on number)) (events_of past) ≤ how_many (wants_on number) past
   -- and while no further one comes, at most one reply is sent
-  pub one_each : (past span more : List (Turn E)) → turns ≡ past ++ (span ++ more) → (number : ℕ)
+  pub one_each : (past span more : List (Turn E F)) → turns ≡ past ++ (span ++ more) → (number : ℕ)
       → how_many (wants_on number) span ≡ 0
       → how_many (sends (is_reply_on number)) (events_of span) ≤ 1

@@ -7,6 +7,7 @@ use Rattle.ssh_link.specs.declared.frame.InputKind.{InputKind}
 use Rattle.ssh_link.specs.declared.frame.InputKind.TheVariants.{Payload, Command, OpenReply, End}
 use Rattle.ssh_link.specs.declared.frame.InputKind.TheVariants.{KeepaliveTick, InactivityTick}
 use Rattle.ssh_link.specs.declared.frame.InputKind.TheVariants.{RekeyTick}
+use Rattle.ssh_link.specs.declared.kex.KexCall.{KexCall}
 use Rattle.ssh_link.specs.declared.link.TraceEntry.{TraceEntry}
 use Rattle.ssh_link.specs.declared.link.TraceEntry.TheVariants.{Took, Sent, Answered}
 use Rattle.ssh_link.specs.declared.command.Command.{Command as Commanded}
@@ -77,36 +78,38 @@ Owes accepts w input plan =
     × (plan ≡ after first finish_input)
 
 -- an input, whether commands were asked for when it was taken, its calls and what the link was told
-pub record Turn (E : Type 0) : Type 0 where
+pub record Turn (E F : Type 0) : Type 0 where
   pub input : Input
   pub commands : Bool
-  pub events : List (Event E ⊥)
+  pub events : List (Event E F)
 
 -- on no channel data wait
 abbrev pub nothing_waits : World → Bool
 nothing_waits w = list_all all_framed w.channels.lines.entries
 
 -- commands are asked for exactly where on no channel data wait, and replies to opens always; a link
--- gives only what is asked for; and no exchange is asked for anything
-abbrev pub IsTaken : {E : Type 0} → World → Turn E → Type 0
+-- gives only what is asked for
+abbrev pub IsTaken : {E F : Type 0} → World → Turn E F → Type 0
 IsTaken w turn = (turn.commands ≡ nothing_waits w) × IsAsked turn.commands true turn.input.kind
-    × (steps_in turn.events ≡ [])
 
 -- the turn is what its input owes, and leads from world to world
-abbrev pub Turns : {E : Type 0} → Acceptance → World → Turn E → World → Type 0
+abbrev pub Turns : {E F : Type 0} → Acceptance → World → Turn E F → World → Type 0
 Turns accepts w turn world =
     (plan : Plan Outcome) × Owes accepts w turn.input plan × Follows plan turn.events (Goes world)
     × IsTaken w turn
 
 -- these turns one after another
-abbrev pub Run : {E : Type 0} → Acceptance → World → List (Turn E) → World → Type 0
+abbrev pub Run : {E F : Type 0} → Acceptance → World → List (Turn E F) → World → Type 0
 Run accepts w [] world = world ≡ w
 Run accepts w (turn ∷ turns) world = (mid : World) × Turns accepts w turn mid
     × Run accepts mid turns world
 
 -- what the link tells of a turn: the input that it gave, notices and answers, and the frames
-abbrev pub entries : {E : Type 0} → Turn E → List TraceEntry
+abbrev pub entries : {E F : Type 0} → Turn E F → List TraceEntry
 entries turn = Took turn.commands true turn.input ∷ told_in turn.events
 
-abbrev pub calls_of : {E : Type 0} → Turn E → List (Call E)
+abbrev pub calls_of : {E F : Type 0} → Turn E F → List (Call E)
 calls_of turn = calls_in turn.events
+
+abbrev pub steps_of : {E F : Type 0} → Turn E F → List (KexCall F)
+steps_of turn = steps_in turn.events

@@ -7,7 +7,8 @@ use Rattle.ssh_link.specs.Told.{Adds, ToldBy}
 use Rattle.ssh_auth.specs.declared.call.Call.{Call}
 use Rattle.ssh_auth.specs.declared.question.Question.{Question}
 use Rattle.ssh_auth.specs.Plan.{Plan, Finish, Answer, Answered, Refused, Event, Called}
-use Rattle.ssh_auth.specs.Plan.{Handler_error, calls_in, steps_in, told_in, Reaches, Begins, Breaks}
+use Rattle.ssh_auth.specs.Plan.{Handler_error, Exchange_error, calls_in, steps_in, told_in, Reaches}
+use Rattle.ssh_auth.specs.Plan.{Begins, Breaks}
 use Rattle.ssh_handler.specs.declared.config.Config.{Config}
 use Rattle.ssh_handler.specs.Loan.{Loan}
 use Rattle.ssh_channels.specs.Stands.{Stands}
@@ -83,15 +84,16 @@ BeginsSuited suits session = (settings : Settings) × Refines session (opening_w
 
 -- ---- why a session stops
 
-pub data Cause (E : Type 0) : Type 0 where
-  Wants_memory : Cause E
-  Link_failed : Cause E
-  Limit_reached : Cause E
-  Faulty : (fault : Fault) → Cause E
-  Refused_by : (error : E) → Cause E
+pub data Cause (E F : Type 0) : Type 0 where
+  Wants_memory : Cause E F
+  Link_failed : Cause E F
+  Limit_reached : Cause E F
+  Faulty : (fault : Fault) → Cause E F
+  Refused_by : (error : E) → Cause E F
+  Broken_by : (error : F) → Cause E F
 
 -- one line an error
-abbrev pub cause_of : {E : Type 0} → RunError E → Cause E
+abbrev pub cause_of : {E F : Type 0} → RunError E F → Cause E F
 cause_of error.NoMemory = Wants_memory
 cause_of error.LinkFault = Link_failed
 cause_of error.InputLimit = Limit_reached
@@ -100,65 +102,70 @@ cause_of error.Inconsistent = Faulty Inconsistent
 cause_of (error.Key why) = Faulty (Key why)
 cause_of error.UnsupportedAuthMethod = Faulty Unsupported
 cause_of (error.Handler e) = Refused_by e
+cause_of (error.Kex e) = Broken_by e
 cause_of error.ChannelsFull = Faulty Channels_full
 cause_of error.KeepaliveTimeout = Faulty Keepalive_timeout
 cause_of error.InactivityTimeout = Faulty Inactivity_timeout
 cause_of error.NotBuilt = Faulty Not_built
 
 -- with these events the plan gives this cause; rose says that the link's faults rose
-abbrev pub IsCaused : {E : Type 0} → Cause E → Plan Outcome → (rose : Type 0) → List (Event E ⊥)
+abbrev pub IsCaused : {E F : Type 0} → Cause E F → Plan Outcome → (rose : Type 0) → List (Event E F)
     → Type 0
 IsCaused Wants_memory plan rose events = Begins plan events
 IsCaused Link_failed plan rose events = rose × Begins plan events
 IsCaused Limit_reached plan rose events = ⊥
 IsCaused (Faulty fault) plan rose events = Reaches plan events (Finish (Fails fault))
 IsCaused (Refused_by e) plan rose events = Breaks plan events (Handler_error e)
+IsCaused (Broken_by e) plan rose events = Breaks plan events (Exchange_error e)
 
 -- ---- what serving does
 
 -- with these events the plan goes on as next says, by the result and in the world that the session
 -- is then in; an error says where it stopped
-abbrev pub Answers : {T E : Type 0} → Plan Outcome → (T → World → Plan Outcome) → (rose : Type 0)
-    → List (Event E ⊥) → Session → Result T (RunError E) → Type 0
+abbrev pub Answers : {T E F : Type 0} → Plan Outcome → (T → World → Plan Outcome) → (rose : Type 0)
+    → List (Event E F) → Session → Result T (RunError E F) → Type 0
 Answers plan next rose events session (Ok value) = (world : World)
     × Reaches plan events (next value world) × Refines session world
 Answers plan next rose events session (Err e) = IsCaused (cause_of e) plan rose events
 
 -- after a callback that answered an error the handler may tell nothing
-abbrev pub is_refused : {E : Type 0} → Cause E → Bool
+abbrev pub is_refused : {E F : Type 0} → Cause E F → Bool
 is_refused (Refused_by e) = true
 is_refused _ = false
 
-abbrev pub may_stop : {T E : Type 0} → Result T (RunError E) → Bool
+abbrev pub may_stop : {T E F : Type 0} → Result T (RunError E F) → Bool
 may_stop (Ok value) = false
 may_stop (Err e) = is_refused (cause_of e)
 
--- what was told meanwhile are these events, and no exchange was asked for anything
-pub record Hears {E : Type 0} (stops : Bool) (before after : Heard E) (events : List (Event E ⊥)) :
+-- what was told and asked meanwhile are these events
+pub record Hears {E F : Type 0} (stops : Bool) (before after : Heard E F)
+    (events : List (Event E F)) :
     Type 0 where
   pub called : ToldBy stops before.calls after.calls (calls_in events)
   pub told : Adds before.trace after.trace (told_in events)
   pub later : before.faults ≤ after.faults
-  pub unstepped : steps_in events ≡ []
+  pub stepped : Adds before.steps after.steps (steps_in events)
   pub same : AreSame before after
 
-abbrev pub Serves : {T E : Type 0} → Plan Outcome → (T → World → Plan Outcome) → Heard E → Heard E
-    → Session → Result T (RunError E) → Type 0
-Serves {T} {E} plan next before after session result =
-    (events : List (Event E ⊥)) × Hears (may_stop result) before after events
+abbrev pub Serves : {T E F : Type 0} → Plan Outcome → (T → World → Plan Outcome) → Heard E F
+    → Heard E F
+    → Session → Result T (RunError E F) → Type 0
+Serves {T} {E} {F} plan next before after session result =
+    (events : List (Event E F)) × Hears (may_stop result) before after events
     × Answers plan next (Rose before.faults after.faults) events session result
 
 -- these acts were done, whatever follows them
-abbrev pub Does : {E : Type 0} → List Act → World → Heard E → Heard E → Session
-    → Result (Unit {0}) (RunError E) → Type 0
+abbrev pub Does : {E F : Type 0} → List Act → World → Heard E F → Heard E F → Session
+    → Result (Unit {0}) (RunError E F) → Type 0
 Does now w before after session result = (later : List Act) → Serves (acts (now ++ later) w)
     (λ _. acts later) before after session result
 
 -- the same, where nobody was told or asked anything
-abbrev pub Turned : {E : Type 0} → List Act → World → Session → Result (Unit {0}) (RunError E)
+abbrev pub Turned : {E F : Type 0} → List Act → World → Session → Result (Unit {0}) (RunError E F)
     → Type 0
-Turned {E} now w session result =
-    (later : List Act) → Answers {E = E} (acts (now ++ later) w) (λ _. acts later) ⊥ [] session
+Turned {E} {F} now w session result =
+    (later : List Act) → Answers {E = E} {F = F} (acts (now ++ later) w)
+    (λ _. acts later) ⊥ [] session
     result
 
 -- whether the run goes on in this world
@@ -172,33 +179,33 @@ comes_at_end Continue w = goes_unless_ended w
 comes_at_end Ended w = Ends w
 
 -- the plan came to its end
-abbrev pub Completes : {E : Type 0} → Plan Outcome → Heard E → Heard E → Session
-    → Result Flow (RunError E) → Type 0
+abbrev pub Completes : {E F : Type 0} → Plan Outcome → Heard E F → Heard E F → Session
+    → Result Flow (RunError E F) → Type 0
 Completes plan before after session result = Serves plan (λ flow world. Finish (comes flow world))
     before after session result
 
 -- the question was put, and answered so
-abbrev pub IsAnsweredBy : {E : Type 0} → (question : Question) → Result (Answer question) E → Call E
-    → Type 0
-IsAnsweredBy {E} question (Ok answer) call = Answered {E = E} {F = ⊥} question answer (Called call)
-IsAnsweredBy {E} question (Err e) call = Refused {E = E} {F = ⊥} question (Handler_error e)
-    (Called call)
+abbrev pub IsAnsweredBy : {E F : Type 0} → (question : Question) → Result (Answer question) E
+    → Event E F → Type 0
+IsAnsweredBy question (Ok answer) event = Answered question answer event
+IsAnsweredBy question (Err e) event = Refused question (Handler_error e) event
 
-abbrev pub Puts : {E : Type 0} → (question : Question) → Heard E → Heard E
+abbrev pub Puts : {E F : Type 0} → (question : Question) → Heard E F → Heard E F
     → Result (Answer question) E → Type 0
-Puts {E} question before after answer = (call : Call E) × IsAnsweredBy question answer call
-    × Calls before after answer call
+Puts {E} {F} question before after answer = (call : Call E)
+    × IsAnsweredBy {E = E} {F = F} question answer (Called call) × Calls before after answer call
 
 -- the link was told each of these, as frames that are handed on or as notices, whatever follows
-abbrev pub TellsEach : {A E : Type 0} → (as_what : A → TraceEntry) → List A → Heard E → Heard E
-    → Result (Unit {0}) (RunError E) → Type 0
-TellsEach {E = E} as_what items before after result = (w : World) (session : Session)
+abbrev pub TellsEach : {A E F : Type 0} → (as_what : A → TraceEntry) → List A → Heard E F
+    → Heard E F
+    → Result (Unit {0}) (RunError E F) → Type 0
+TellsEach as_what items before after result = (w : World) (session : Session)
     → Refines session w → (next : Plan Outcome) →
     Serves (tell_all (map as_what items) next) (λ (_ : Unit {0}) _. next) before after session
     result
 
 -- the command did this, or there was no memory
-abbrev pub HasEffect : {E : Type 0} → Effect → Session → Result Done (RunError E) → Type 0
+abbrev pub HasEffect : {E F : Type 0} → Effect → Session → Result Done (RunError E F) → Type 0
 HasEffect does session (Ok done) = (world : World)
     × (does ≡ Does_so (option_to_list done.notice) done.outcome world) × Refines session world
 HasEffect does session (Err error.NoMemory) = Unit {0}

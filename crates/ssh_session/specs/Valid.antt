@@ -1,12 +1,14 @@
 -- Which inputs a session can finish, said positively.
 use Rattle.std.specs.Prelude.{◌≡◌, ◌<◌, ◌^◌, ◌⊎◌, ℕ, List, [], ◌∷◌, length, Option, Some, None}
-use Rattle.std.specs.Prelude.{Bool, true, false, not, Result, Ok, Err, codes, drop}
+use Rattle.std.specs.Prelude.{Bool, true, false, not, Result, Ok, Err, IsOk, codes, drop}
 use Rattle.std.specs.List.{list_any}
 use Rattle.ssh_wire.specs.Field.{Flag, Number, Text, SpellsAll, SpellsWhole}
 use Rattle.ssh_wire.specs.declared.open.OpenChannelMessage.{OpenChannelMessage}
 use Rattle.ssh_wire.specs.declared.open.ChannelOpenConfirmation.{ChannelOpenConfirmation}
 use Rattle.ssh_wire.specs.Open.{SpellsOpen, SpellsConfirmation}
 use Rattle.ssh_link.specs.declared.command.Command.{Command as Commanded}
+use Rattle.ssh_link.specs.declared.kex.KexCall.{KexCall}
+use Rattle.ssh_link.specs.declared.kex.KexCall.TheVariants as kex
 use Rattle.ssh_link.specs.declared.command.Command.TheVariants as command
 use Rattle.ssh_auth.specs.Requested.{Named, Is_none, Is_password, Is_publickey, Is_interactive}
 use Rattle.ssh_auth.specs.Requested.{Is_other, named_by, head_fields}
@@ -49,7 +51,7 @@ use Rattle.ssh_session.specs.Effect.{is_too_long}
 use Rattle.ssh_session.specs.Messages.{message_layout}
 use Rattle.ssh_session.specs.Spelling.{Layout, Leaves, Rest, Whole, Fields}
 use Rattle.ssh_session.specs.Ticks.{is_too_many, one_more}
-use Rattle.ssh_session.specs.Run.{Turn, calls_of}
+use Rattle.ssh_session.specs.Run.{Turn, calls_of, steps_of}
 
 -- boolean signed, string algorithm name, string blob: nothing that can be used is offered, and the
 -- rest is not read; or a usable offer is asked about; or it is signed, and string signature ends
@@ -197,15 +199,25 @@ abbrev pub AreFine : {E : Type 0} → InputKind → List (Call E) → Type 0
 AreFine kind [] = Unit {0}
 AreFine kind (call ∷ calls) = IsFine kind call × AreFine kind calls
 
+-- the exchange refused nothing
+abbrev pub IsUnrefused : {F : Type 0} → KexCall F → Type 0
+IsUnrefused (kex.Begun answer) = IsOk answer
+IsUnrefused (kex.Stepped payload answer) = IsOk answer
+
+abbrev pub AreUnrefused : {F : Type 0} → List (KexCall F) → Type 0
+AreUnrefused [] = Unit {0}
+AreUnrefused (call ∷ calls) = IsUnrefused call × AreUnrefused calls
+
 -- in this world the input is valid, and so are the answers that it got, where the verifier accepts
 -- these signatures
-abbrev pub IsValid : {E : Type 0} → Acceptance → World → Turn E → Type 0
+abbrev pub IsValid : {E F : Type 0} → Acceptance → World → Turn E F → Type 0
 IsValid accepts w turn =
     IsValidKind (circumstances accepts w.settings turn.input.moment) w turn.input.kind
     × AreFine turn.input.kind (calls_of turn)
+    × AreUnrefused (steps_of turn)
 
 -- no answer but these three
-abbrev pub IsComplete : {E : Type 0} → Result (Unit {0}) (RunError E) → Type 0
+abbrev pub IsComplete : {E F : Type 0} → Result (Unit {0}) (RunError E F) → Type 0
 IsComplete (Ok done) = Unit {0}
 IsComplete (Err error.NoMemory) = Unit {0}
 IsComplete (Err error.InputLimit) = Unit {0}
@@ -238,6 +250,6 @@ IsEndingKind w (Command ticket commanded) = disconnects commanded ≡ true
 IsEndingKind w _ = ⊥
 
 -- it does, or one of its callbacks recorded a command that ends the connection
-abbrev pub IsEnding : {E : Type 0} → World → Turn E → Type 0
+abbrev pub IsEnding : {E F : Type 0} → World → Turn E F → Type 0
 IsEnding w turn = IsEndingKind w turn.input.kind
     ⊎ (list_any call_disconnects (calls_of turn) ≡ true)

@@ -62,7 +62,7 @@ pub(crate) fn unusable(confirmed: bool, ended: bool) -> Option<Refusal>
 
 impl Session {
     /// Does one command, or refuses it.
-    pub(crate) fn carry_out<E>(&mut self, command: Command) -> Result<Done, RunError<E>>
+    pub(crate) fn carry_out<E, F>(&mut self, command: Command) -> Result<Done, RunError<E, F>>
         ensures does { (w : World) → Refines self.old w →
             HasEffect (effect w command) self.new result }
         ensures unchanged { OnErr result (IsUnchanged self.old self.new) }
@@ -147,7 +147,7 @@ impl Session {
     }
 
     /// A command that lacks nothing is done.
-    fn do_command<E>(&mut self, command: Command) -> Result<Done, RunError<E>>
+    fn do_command<E, F>(&mut self, command: Command) -> Result<Done, RunError<E, F>>
         ensures does { (w : World) → Refines self.old w →
             HasEffect (done_by w command) self.new result }
         ensures unchanged { OnErr result (IsUnchanged self.old self.new) }
@@ -201,7 +201,7 @@ impl Session {
     }
 
     /// A command that concerns no channel that is there, and lacks nothing.
-    fn do_apart<E>(&mut self, command: &Command) -> Result<Done, RunError<E>>
+    fn do_apart<E, F>(&mut self, command: &Command) -> Result<Done, RunError<E, F>>
         ensures does { (w : World) → Refines self.old w →
             HasEffect (done_apart w command.now) self.new result }
         ensures unchanged { OnErr result (IsUnchanged self.old self.new) }
@@ -237,7 +237,7 @@ impl Session {
     }
 
     /// The answer to an open of the peer (RFC 4254 section 5.1).
-    fn decide_open<E>(&mut self, answer: OpenAnswer) -> Result<Done, RunError<E>>
+    fn decide_open<E, F>(&mut self, answer: OpenAnswer) -> Result<Done, RunError<E, F>>
         ensures does { (w : World) → Refines self.old w →
             HasEffect (answers answer (opening_of answer.channel.0 w) w) self.new result }
         ensures unchanged { OnErr result (IsUnchanged self.old self.new) }
@@ -258,7 +258,11 @@ impl Session {
     }
 
     /// The open becomes a channel.
-    fn confirm_open<E>(&mut self, number: ChannelId, said: PeerOpen) -> Result<Done, RunError<E>>
+    fn confirm_open<E, F>(
+        &mut self,
+        number: ChannelId,
+        said: PeerOpen,
+    ) -> Result<Done, RunError<E, F>>
         ensures does { (w : World) → Refines self.old w →
             HasEffect (confirms number.0 said w) self.new result }
         ensures unchanged { OnErr result (IsUnchanged self.old self.new) }
@@ -289,13 +293,13 @@ impl Session {
     }
 
     /// The open is refused, with these words or those of the reason.
-    fn refuse_open<E>(
+    fn refuse_open<E, F>(
         &mut self,
         number: ChannelId,
         said: PeerOpen,
         reason: ChannelOpenFailure,
         texts: Option<(Text, Text)>,
-    ) -> Result<Done, RunError<E>>
+    ) -> Result<Done, RunError<E, F>>
         ensures does { (w : World) → Refines self.old w →
             HasEffect (fails_open number.0 (failure_of said reason texts) w) self.new result }
         ensures unchanged { OnErr result (IsUnchanged self.old self.new) }
@@ -315,14 +319,14 @@ impl Session {
         }
     }
 
-    fn fail_open<E>(
+    fn fail_open<E, F>(
         &mut self,
         number: ChannelId,
         said: PeerOpen,
         reason: ChannelOpenFailure,
         description: &str,
         language: &str,
-    ) -> Result<Done, RunError<E>>
+    ) -> Result<Done, RunError<E, F>>
         ensures does { (w : World) → Refines self.old w →
             HasEffect (fails_open number.0 (open_failure said.peer (open_failure_code reason)
             description.now language.now) w) self.new result }

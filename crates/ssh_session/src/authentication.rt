@@ -32,7 +32,7 @@ impl Session {
         verifier: &V,
         moment: u64,
         payload: &[u8],
-    ) -> Result<Flow, RunError<O::Error>>
+    ) -> Result<Flow, RunError<O::Error, O::KexError>>
         requires suits { IsSuited O.suits self.old }
         requires number { IsNumbered 50 payload.now }
         requires state { IsRequesting self.old.state }
@@ -58,7 +58,7 @@ impl Session {
         outside: &mut O,
         moment: u64,
         payload: &[u8],
-    ) -> Result<Flow, RunError<O::Error>>
+    ) -> Result<Flow, RunError<O::Error, O::KexError>>
         requires suits { IsSuited O.suits self.old }
         requires number { IsNumbered 61 payload.now }
         requires state { IsRequesting self.old.state }
@@ -85,7 +85,7 @@ impl Session {
         moment: u64,
         requested: bool,
         step: AuthStep,
-    ) -> Result<(), RunError<O::Error>>
+    ) -> Result<(), RunError<O::Error, O::KexError>>
         requires suits { IsSuited O.suits self.old }
         ensures does { (w : World) → Refines self.old w →
             Does (replied w moment requested step.reply step.verdict) w
@@ -119,12 +119,12 @@ impl Session {
     }
 
     /// A reply, held until a moment where one is given.
-    fn reply<E>(
+    fn reply<E, F>(
         &mut self,
         requested: bool,
         payload: Bytes,
         hold_until: Option<u64>,
-    ) -> Result<(), RunError<E>>
+    ) -> Result<(), RunError<E, F>>
         ensures { (w : World) → Refines self.old w →
             Turned (Turns (λ v. writes (record
             { payload = payload; hold_until = hold_until; channel = None } ∷ [])
@@ -157,7 +157,7 @@ impl Session {
         outside: &mut O,
         requested: bool,
         reply: Bytes,
-    ) -> Result<(), RunError<O::Error>>
+    ) -> Result<(), RunError<O::Error, O::KexError>>
         requires suits { IsSuited O.suits self.old }
         ensures does { (w : World) (moment : ℕ) → Refines self.old w →
             Does (replied w moment requested reply verdict.Accepted) w
@@ -173,7 +173,7 @@ impl Session {
     }
 
     /// A request after as many rejected ones as are allowed: it is not read, and ends the run.
-    pub(crate) fn serve_over_cap<E>(&mut self) -> Result<Flow, RunError<E>>
+    pub(crate) fn serve_over_cap<E, F>(&mut self) -> Result<Flow, RunError<E, F>>
         ensures { (w : World) (moment : ℕ) → Refines self.old w → Answers (row w moment Over_cap)
             (λ flow world. Finish (comes flow world)) ⊥ [] self.new result }
     {

@@ -57,7 +57,7 @@ impl Session {
         ensures session { IsSameSession self.old self.new }
     {
         notices.reserve(1)?;
-        match self.carry_out::<()>(command) {
+        match self.carry_out::<(), ()>(command) {
             Ok(Done { notice, outcome }) => {
                 add(notices, notice);
                 Ok(outcome)

@@ -92,7 +92,7 @@ impl Session {
         &self,
         outside: &mut O,
         notice: Notice,
-    ) -> Result<(), RunError<O::Error>>
+    ) -> Result<(), RunError<O::Error, O::KexError>>
         ensures does { (w : World) → Refines self.now w → (next : Plan Outcome) →
             Serves (Tell (Noticed notice) next) (λ _ _. next) (O.heard outside.old)
             (O.heard outside.new) self.now result }
@@ -107,7 +107,7 @@ impl Session {
         &mut self,
         outside: &mut O,
         lent: Lent,
-    ) -> Result<(), RunError<O::Error>>
+    ) -> Result<(), RunError<O::Error, O::KexError>>
         requires suits { IsSuited O.suits self.old }
         ensures does { (w : World) → Refines self.old w →
             Does (Calls lent ∷ []) w (O.heard outside.old) (O.heard outside.new) self.new result }
@@ -126,7 +126,7 @@ impl Session {
         &mut self,
         outside: &mut O,
         judged: Judged,
-    ) -> Result<bool, RunError<O::Error>>
+    ) -> Result<bool, RunError<O::Error, O::KexError>>
         requires suits { IsSuited O.suits self.old }
         ensures does { (w : World) → Refines self.old w → (next : Bool → World → Plan Outcome) →
             Serves (Ask (Judges judged) (λ judgement. done_all 0 judgement.commands w
@@ -151,7 +151,7 @@ impl Session {
         outside: &mut O,
         address: &str,
         port: u32,
-    ) -> Result<(bool, u32), RunError<O::Error>>
+    ) -> Result<(bool, u32), RunError<O::Error, O::KexError>>
         requires suits { IsSuited O.suits self.old }
         ensures does { (w : World) → Refines self.old w →
             (next : Bool → ℕ → World → Plan Outcome) →
@@ -178,7 +178,7 @@ impl Session {
         channel: ChannelId,
         message: ChannelMsg,
         happening: Happening,
-    ) -> Result<(), RunError<O::Error>>
+    ) -> Result<(), RunError<O::Error, O::KexError>>
         requires suits { IsSuited O.suits self.old }
         ensures does { (w : World) → Refines self.old w →
             Does (told channel message happening) w (O.heard outside.old) (O.heard outside.new)
@@ -196,7 +196,7 @@ impl Session {
         outside: &mut O,
         channel: ChannelId,
         current: u32,
-    ) -> Result<(), RunError<O::Error>>
+    ) -> Result<(), RunError<O::Error, O::KexError>>
         ensures does { (w : World) → Refines self.old w →
             Does (Adjusts_by channel current aims ∷ []) w (O.heard outside.old)
             (O.heard outside.new) self.new result }

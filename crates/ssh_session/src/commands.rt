@@ -22,7 +22,7 @@ impl Session {
         outside: &mut O,
         ticket: u64,
         command: Command,
-    ) -> Result<Flow, RunError<O::Error>>
+    ) -> Result<Flow, RunError<O::Error, O::KexError>>
         ensures does { (w : World) → Refines self.old w → Completes (command_row w ticket command)
             (O.heard outside.old) (O.heard outside.new) self.new result }
         ensures same { AreSame (O.heard outside.old) (O.heard outside.new) }
@@ -38,7 +38,7 @@ impl Session {
         &mut self,
         outside: &mut O,
         mut commands: CommandList,
-    ) -> Result<(), RunError<O::Error>>
+    ) -> Result<(), RunError<O::Error, O::KexError>>
         ensures does { (w : World) → Refines self.old w → (next : World → Plan Outcome) →
             Serves (done_all 0 commands w next) (λ _. next) (O.heard outside.old)
             (O.heard outside.new) self.new result }
@@ -62,7 +62,7 @@ impl Session {
         outside: &mut O,
         place: usize,
         command: Command,
-    ) -> Result<(), RunError<O::Error>>
+    ) -> Result<(), RunError<O::Error, O::KexError>>
         ensures does { (w : World) → Refines self.old w →
             (later : List CommandOf) (next : World → Plan Outcome) →
             Serves (done_all place (command ∷ later) w next)
@@ -81,7 +81,7 @@ impl Session {
         &self,
         outside: &mut O,
         notice: Option<Notice>,
-    ) -> Result<(), RunError<O::Error>>
+    ) -> Result<(), RunError<O::Error, O::KexError>>
         ensures does { (w : World) → Refines self.now w → (next : Plan Outcome) →
             Serves (tell_all (map Noticed (option_to_list notice)) next) (λ _ _. next)
             (O.heard outside.old) (O.heard outside.new) self.now result }
@@ -99,7 +99,7 @@ impl Session {
         outside: &mut O,
         place: usize,
         outcome: CommandOutcome,
-    ) -> Result<(), RunError<O::Error>>
+    ) -> Result<(), RunError<O::Error, O::KexError>>
         ensures does { (w : World) → Refines self.now w → (next : Plan Outcome) →
             Serves (tell_done place outcome next) (λ _ _. next) (O.heard outside.old)
             (O.heard outside.new) self.now result }

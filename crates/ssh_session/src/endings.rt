@@ -29,7 +29,7 @@ impl Session {
         &mut self,
         outside: &mut O,
         channel: ChannelId,
-    ) -> Result<(), RunError<O::Error>>
+    ) -> Result<(), RunError<O::Error, O::KexError>>
         requires suits { IsSuited O.suits self.old }
         ensures does { (w : World) → Refines self.old w →
             Does (spoken_acts w (Close channel)) w (O.heard outside.old) (O.heard outside.new)

@@ -21,9 +21,9 @@ pub enum Flow {
     Ended,
 }
 
-/// Why a session stopped. `HE` is the handler's error.
+/// Why a session stopped. `HE` is the handler's error, `KE` that of the exchange of keys.
 #[derive(Debug, Drop)]
-pub enum RunError<HE> {
+pub enum RunError<HE, KE> {
     /// There was no memory.
     NoMemory,
     /// The link failed: its count of faults rose.
@@ -44,6 +44,8 @@ pub enum RunError<HE> {
     UnsupportedAuthMethod,
     /// The handler answered this error.
     Handler(HE),
+    /// The exchange of keys cannot go on, for this reason.
+    Kex(KE),
     /// The peer opens a channel, and every number is taken.
     ChannelsFull,
     /// The peer was not heard for more keepalive ticks than `Config::keepalive_max` allows.
@@ -54,26 +56,26 @@ pub enum RunError<HE> {
     NotBuilt,
 }
 
-impl<HE> From<AllocError> for RunError<HE> {
+impl<HE, KE> From<AllocError> for RunError<HE, KE> {
     ghost from_gives = { λ _ e. e ≡ NoMemory };
 
-    fn from(_: AllocError) -> RunError<HE> {
+    fn from(_: AllocError) -> RunError<HE, KE> {
         RunError::NoMemory
     }
 }
 
-impl<HE, T: Drop> From<AllocFailed<T>> for RunError<HE> {
+impl<HE, KE, T: Drop> From<AllocFailed<T>> for RunError<HE, KE> {
     ghost from_gives = { λ _ e. e ≡ NoMemory };
 
-    fn from(_: AllocFailed<T>) -> RunError<HE> {
+    fn from(_: AllocFailed<T>) -> RunError<HE, KE> {
         RunError::NoMemory
     }
 }
 
-impl<HE> From<WireError> for RunError<HE> {
+impl<HE, KE> From<WireError> for RunError<HE, KE> {
     ghost from_gives = { λ e r. r ≡ run_error_of e };
 
-    fn from(error: WireError) -> RunError<HE> {
+    fn from(error: WireError) -> RunError<HE, KE> {
         match error {
             WireError::NoMemory => RunError::NoMemory,
             refused => RunError::Encoding(refused),
@@ -81,10 +83,10 @@ impl<HE> From<WireError> for RunError<HE> {
     }
 }
 
-impl<HE> From<LayoutError> for RunError<HE> {
+impl<HE, KE> From<LayoutError> for RunError<HE, KE> {
     ghost from_gives = { λ e r. r ≡ error_of_layout e };
 
-    fn from(error: LayoutError) -> RunError<HE> {
+    fn from(error: LayoutError) -> RunError<HE, KE> {
         match error {
             LayoutError::Wire(why) => RunError::from(why),
             LayoutError::Inconsistent => RunError::Inconsistent,
@@ -92,10 +94,10 @@ impl<HE> From<LayoutError> for RunError<HE> {
     }
 }
 
-impl<HE> From<TableError> for RunError<HE> {
+impl<HE, KE> From<TableError> for RunError<HE, KE> {
     ghost from_gives = { λ e r. r ≡ error_of_table e };
 
-    fn from(error: TableError) -> RunError<HE> {
+    fn from(error: TableError) -> RunError<HE, KE> {
         match error {
             TableError::NoMemory => RunError::NoMemory,
             TableError::Inconsistent => RunError::Inconsistent,
@@ -104,10 +106,10 @@ impl<HE> From<TableError> for RunError<HE> {
     }
 }
 
-impl<HE> From<LinkFailure> for RunError<HE> {
+impl<HE, KE> From<LinkFailure> for RunError<HE, KE> {
     ghost from_gives = { λ e r. r ≡ error_of_link e };
 
-    fn from(fault: LinkFailure) -> RunError<HE> {
+    fn from(fault: LinkFailure) -> RunError<HE, KE> {
         match fault {
             LinkFailure::Failed => RunError::LinkFault,
             LinkFailure::NoMemory => RunError::NoMemory,
@@ -115,10 +117,10 @@ impl<HE> From<LinkFailure> for RunError<HE> {
     }
 }
 
-impl<HE> From<AuthError<HE>> for RunError<HE> {
+impl<HE, KE> From<AuthError<HE>> for RunError<HE, KE> {
     ghost from_gives = { λ e r. r ≡ error_of_auth e };
 
-    fn from(error: AuthError<HE>) -> RunError<HE> {
+    fn from(error: AuthError<HE>) -> RunError<HE, KE> {
         match error {
             AuthError::NoMemory => RunError::NoMemory,
             AuthError::Encoding(refused) => RunError::Encoding(refused),

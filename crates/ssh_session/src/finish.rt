@@ -17,7 +17,10 @@ use ssh_link::{Frame, Notice};
 use std::collections::VecDeque;
 
 /// Hands frames on, in order.
-fn send_each<O: Outside>(outside: &mut O, frames: Vec<Frame>) -> Result<(), RunError<O::Error>>
+fn send_each<O: Outside>(
+    outside: &mut O,
+    frames: Vec<Frame>,
+) -> Result<(), RunError<O::Error, O::KexError>>
     ensures does { TellsEach Sent frames.items (O.heard outside.old) (O.heard outside.new) result }
     ensures same { AreSame (O.heard outside.old) (O.heard outside.new) }
 {
@@ -31,7 +34,7 @@ fn send_each<O: Outside>(outside: &mut O, frames: Vec<Frame>) -> Result<(), RunE
 pub(crate) fn tell_each<O: Outside>(
     outside: &mut O,
     notices: &mut VecDeque<Notice>,
-) -> Result<(), RunError<O::Error>>
+) -> Result<(), RunError<O::Error, O::KexError>>
     ensures does { TellsEach Noticed notices.old.items (O.heard outside.old)
         (O.heard outside.new) result }
     ensures told { OnOk result (notices.new.items ≡ []) }
@@ -48,7 +51,10 @@ pub(crate) fn tell_each<O: Outside>(
 
 impl Session {
     /// The written frames are handed on.
-    pub(crate) fn hand_on<O: Outside>(&mut self, outside: &mut O) -> Result<(), RunError<O::Error>>
+    pub(crate) fn hand_on<O: Outside>(
+        &mut self,
+        outside: &mut O,
+    ) -> Result<(), RunError<O::Error, O::KexError>>
         ensures does { (w : World) → Refines self.old w → (next : World → Plan Outcome) →
             Serves (tell_all (map Sent w.channels.lines.written) (next (handed_on w)))
             (λ _ world. next world)
@@ -64,7 +70,7 @@ impl Session {
     pub(crate) fn end_run<O: Outside>(
         &mut self,
         outside: &mut O,
-    ) -> Result<Flow, RunError<O::Error>>
+    ) -> Result<Flow, RunError<O::Error, O::KexError>>
         ensures does { (w : World) → Refines self.old w → Completes (hand_on w Ends)
             (O.heard outside.old) (O.heard outside.new) self.new result }
         ensures same { AreSame (O.heard outside.old) (O.heard outside.new) }

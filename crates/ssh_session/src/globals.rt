@@ -62,7 +62,11 @@ impl Session {
     }
 
     /// The reply to the peer's last global request goes out, where that wants one.
-    fn settle_global<E>(&mut self, granted: bool, port: Option<u32>) -> Result<(), RunError<E>>
+    fn settle_global<E, F>(
+        &mut self,
+        granted: bool,
+        port: Option<u32>,
+    ) -> Result<(), RunError<E, F>>
         ensures world { OnOk result ((w : World) → Refines self.old w →
             Refines self.new (settles_global (global_reply granted port) w)) }
         ensures memory { IfErr result (λ e. e ≡ NoMemory) }
@@ -78,11 +82,11 @@ impl Session {
     }
 
     /// The same, unless a command of the callback ended the connection.
-    fn settle_unless_ended<E>(
+    fn settle_unless_ended<E, F>(
         &mut self,
         granted: bool,
         port: Option<u32>,
-    ) -> Result<(), RunError<E>>
+    ) -> Result<(), RunError<E, F>>
         ensures world { OnOk result ((w : World) → Refines self.old w →
             Refines self.new (unless_ended (settles_global (global_reply granted port)) w)) }
         ensures memory { IfErr result (λ e. e ≡ NoMemory) }
@@ -95,7 +99,7 @@ impl Session {
     }
 
     /// REQUEST_SUCCESS or REQUEST_FAILURE, as a command.
-    pub(crate) fn reply_globally<E>(&mut self, granted: bool) -> Result<Done, RunError<E>>
+    pub(crate) fn reply_globally<E, F>(&mut self, granted: bool) -> Result<Done, RunError<E, F>>
         ensures does { (w : World) → Refines self.old w →
             HasEffect (accepts (settles_global (global_reply granted None) w)) self.new result }
         ensures unchanged { OnErr result (IsUnchanged self.old self.new) }
@@ -112,7 +116,7 @@ impl Session {
         wanted: bool,
         address: Text,
         port: u32,
-    ) -> Result<(), RunError<O::Error>>
+    ) -> Result<(), RunError<O::Error, O::KexError>>
         requires suits { IsSuited O.suits self.old }
         ensures does { (w : World) → Refines self.old w →
             Does (spoken_acts w (AsksToForward wanted address port)) w (O.heard outside.old)
@@ -130,7 +134,7 @@ impl Session {
         outside: &mut O,
         wanted: bool,
         judged: Judged,
-    ) -> Result<(), RunError<O::Error>>
+    ) -> Result<(), RunError<O::Error, O::KexError>>
         requires suits { IsSuited O.suits self.old }
         ensures does { (w : World) → Refines self.old w →
             Does (spoken_acts w (AsksGlobally wanted judged)) w (O.heard outside.old)
@@ -143,7 +147,10 @@ impl Session {
     }
 
     /// A global request that is not known is answered by failure.
-    pub(crate) fn asked_globally_unknown<E>(&mut self, wanted: bool) -> Result<(), RunError<E>>
+    pub(crate) fn asked_globally_unknown<E, F>(
+        &mut self,
+        wanted: bool,
+    ) -> Result<(), RunError<E, F>>
         ensures does { (w : World) → Refines self.old w →
             Turned (spoken_acts w (AsksGloballyUnknown wanted)) w self.new result }
         ensures session { IsSameSession self.old self.new }
@@ -157,7 +164,7 @@ impl Session {
         &mut self,
         outside: &mut O,
         told: Option<Notice>,
-    ) -> Result<(), RunError<O::Error>>
+    ) -> Result<(), RunError<O::Error, O::KexError>>
         ensures does { (w : World) → Refines self.old w →
             Does (spoken_acts w (Settles told)) w (O.heard outside.old) (O.heard outside.new)
             self.new result }

@@ -131,7 +131,7 @@ impl Session {
         outside: &mut O,
         message: ConnectionMessage,
         fields: &[u8],
-    ) -> Result<Flow, RunError<O::Error>>
+    ) -> Result<Flow, RunError<O::Error, O::KexError>>
         requires suits { IsSuited O.suits self.old }
         ensures does { (w : World) (moment : ℕ) → Refines self.old w →
             (read : Result Says Misfit)
@@ -169,7 +169,7 @@ impl Session {
         &mut self,
         outside: &mut O,
         spoken: Spoken,
-    ) -> Result<(), RunError<O::Error>>
+    ) -> Result<(), RunError<O::Error, O::KexError>>
         requires suits { IsSuited O.suits self.old }
         ensures does { (w : World) → Refines self.old w →
             Does (spoken_acts w spoken) w (O.heard outside.old) (O.heard outside.new) self.new
@@ -211,7 +211,7 @@ impl Session {
         channel: ChannelId,
         message: ChannelMsg,
         happening: Happening,
-    ) -> Result<(), RunError<O::Error>>
+    ) -> Result<(), RunError<O::Error, O::KexError>>
         requires suits { IsSuited O.suits self.old }
         ensures does { (w : World) → Refines self.old w →
             Does (rows.on channel.0 w (λ _. rows.told channel message happening)) w

@@ -71,7 +71,7 @@ impl Session {
         &mut self,
         outside: &mut O,
         fields: &[u8],
-    ) -> Result<Flow, RunError<O::Error>>
+    ) -> Result<Flow, RunError<O::Error, O::KexError>>
         requires suits { IsSuited O.suits self.old }
         ensures does { (w : World) (moment : ℕ) → Refines self.old w →
             (said : Said) × SaysOpen fields.now said
@@ -94,7 +94,7 @@ impl Session {
         &mut self,
         outside: &mut O,
         message: OpenChannelMessage,
-    ) -> Result<(), RunError<O::Error>>
+    ) -> Result<(), RunError<O::Error, O::KexError>>
         requires suits { IsSuited O.suits self.old }
         requires packets { message.recipient_maximum_packet_size ≢ 0 }
         ensures does { (w : World) → Refines self.old w →
@@ -128,7 +128,7 @@ impl Session {
         outside: &mut O,
         said: PeerOpen,
         kind: OpenType,
-    ) -> Result<(), RunError<O::Error>>
+    ) -> Result<(), RunError<O::Error, O::KexError>>
         requires suits { IsSuited O.suits self.old }
         ensures does { (w : World) → Refines self.old w →
             Does (asks_first (next_number w.channels.lines) said kind) w (O.heard outside.old)
@@ -162,12 +162,12 @@ impl Session {
     }
 
     /// The open is refused by its type, and its number is free again.
-    fn turn_away<E>(
+    fn turn_away<E, F>(
         &mut self,
         peer: u32,
         reason: ChannelOpenFailure,
         description: &str,
-    ) -> Result<(), RunError<E>>
+    ) -> Result<(), RunError<E, F>>
         requires short { length description.now < 2 ^ 32 }
         ensures { (w : World) → Refines self.old w →
             Turned (turns_first (next_number w.channels.lines)

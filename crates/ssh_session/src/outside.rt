@@ -1,4 +1,4 @@
-// Whom a session tells and asks: one outside, of a handler and a link.
+// Whom a session tells and asks: one outside, of a handler, an exchange of keys and a link.
 ghost use Rattle.std.specs.Prelude.{◌≡◌, ◌<◌, ◌^◌, [], List, ℕ, length, drop};
 ghost use Rattle.ssh_link.specs.declared.link.TraceEntry.TheVariants.{Noticed, Answered, Sent};
 ghost use Rattle.ssh_handler.specs.declared.config.Config.{Config as ConfigOf};
@@ -11,7 +11,7 @@ ghost use Rattle.ssh_session.specs.Heard.{Heard, Gives, Calls, AnswersRequest, A
 use ssh_auth::{AuthError, AuthRequest, AuthStep, Judged, Lent, serve_request, serve_response};
 use ssh_handler::{Commands, Handler, ask, judge};
 use ssh_keys::Verifier;
-use ssh_link::{CommandOutcome, Frame, Link, LinkFault, Notice};
+use ssh_link::{CommandOutcome, Frame, Kex, Link, LinkFault, Notice};
 use ssh_wire::{ChannelId, Text};
 use std::alloc::Global;
 
@@ -20,8 +20,11 @@ pub(crate) trait Outside {
     /// Why a callback cannot go on.
     type Error: Drop;
 
+    /// Why an exchange of keys cannot go on.
+    type KexError: Drop;
+
     /// What was told and asked so far.
-    ghost heard: { Self → Heard Self.Error };
+    ghost heard: { Self → Heard Self.Error Self.KexError };
 
     /// The servers and the peers whose callbacks may be made.
     ghost suits: { ConfigOf → List ℕ → Type 0 };
@@ -106,34 +109,41 @@ pub(crate) trait Outside {
             (CommandDone place outcome result) };
 }
 
-/// A handler and a link.
+/// A handler, an exchange of keys and a link.
 #[derive(Drop)]
-pub(crate) struct Both<'a, H, L> {
+pub(crate) struct Sides<'a, H, K, L> {
     pub(crate) handler: &'a mut H,
+    pub(crate) kex: &'a mut K,
     pub(crate) link: &'a mut L,
 }
 
-impl<'a, H: Handler, L: Link> Both<'a, H, L> {
-    /// These two.
-    pub(crate) fn new(handler: &'a mut H, link: &'a mut L) -> Both<'a, H, L>
+impl<'a, H: Handler, K: Kex, L: Link> Sides<'a, H, K, L> {
+    /// These three.
+    pub(crate) fn new(handler: &'a mut H, kex: &'a mut K, link: &'a mut L) -> Sides<'a, H, K, L>
         ensures same_handler { result.handler.ghost_name ≡ handler.entry.ghost_name }
+        ensures same_kex { result.kex.ghost_name ≡ kex.entry.ghost_name }
         ensures same_link { result.link.ghost_name ≡ link.entry.ghost_name }
         ensures handler { result.handler.now ≡ handler.old }
+        ensures kex { result.kex.now ≡ kex.old }
         ensures link { result.link.now ≡ link.old }
     {
-        Both { handler, link }
+        Sides { handler, kex, link }
     }
 }
 
-impl<'a, H: Handler, L: Link> Outside for Both<'a, H, L> {
+impl<'a, H: Handler, K: Kex, L: Link> Outside for Sides<'a, H, K, L> {
     type Error = H::Error;
 
-    ghost heard = { λ both. record {
-      calls = H.AuthHandler.told both.handler.now;
-      trace = L.trace both.link.now;
-      faults = L.faults both.link.now;
-      handler = both.handler.ghost_name;
-      link = both.link.ghost_name;
+    type KexError = K::Error;
+
+    ghost heard = { λ sides. record {
+      calls = H.AuthHandler.told sides.handler.now;
+      steps = K.steps sides.kex.now;
+      trace = L.trace sides.link.now;
+      faults = L.faults sides.link.now;
+      handler = sides.handler.ghost_name;
+      kex = sides.kex.ghost_name;
+      link = sides.link.ghost_name;
     } };
 
     ghost suits = { H.suits };

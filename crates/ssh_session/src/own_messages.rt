@@ -128,12 +128,12 @@ fn cancel_under(slot: Option<u64>) -> Option<Outstanding>
 
 impl Session {
     /// Asks the peer to forward connections to this address.
-    pub(crate) fn forward<E>(
+    pub(crate) fn forward<E, F>(
         &mut self,
         address: &Text,
         port: u32,
         slot: Option<u64>,
-    ) -> Result<Done, RunError<E>>
+    ) -> Result<Done, RunError<E, F>>
         ensures does { (w : World) → Refines self.old w →
             HasEffect (sends (own.forward address.now port slot) w) self.new result }
         ensures unchanged { OnErr result (IsUnchanged self.old self.new) }
@@ -145,12 +145,12 @@ impl Session {
     }
 
     /// Asks the peer to forward them no longer.
-    pub(crate) fn cancel_forward<E>(
+    pub(crate) fn cancel_forward<E, F>(
         &mut self,
         address: &Text,
         port: u32,
         slot: Option<u64>,
-    ) -> Result<Done, RunError<E>>
+    ) -> Result<Done, RunError<E, F>>
         ensures does { (w : World) → Refines self.old w →
             HasEffect (sends (own.cancel address.now port slot) w) self.new result }
         ensures unchanged { OnErr result (IsUnchanged self.old self.new) }
@@ -163,7 +163,7 @@ impl Session {
     }
 
     /// Asks the peer for a sign of life.
-    pub(crate) fn ask_alive<E>(&mut self, awaited: Outstanding) -> Result<Done, RunError<E>>
+    pub(crate) fn ask_alive<E, F>(&mut self, awaited: Outstanding) -> Result<Done, RunError<E, F>>
         ensures does { (w : World) → Refines self.old w →
             HasEffect (sends (own.alive awaited) w) self.new result }
         ensures unchanged { OnErr result (IsUnchanged self.old self.new) }
@@ -174,12 +174,12 @@ impl Session {
     }
 
     /// Tells the peer something for people to read.
-    pub(crate) fn say_debug<E>(
+    pub(crate) fn say_debug<E, F>(
         &mut self,
         always: bool,
         text: &Text,
         language: &Text,
-    ) -> Result<Done, RunError<E>>
+    ) -> Result<Done, RunError<E, F>>
         ensures does { (w : World) → Refines self.old w →
             HasEffect (sends (own.debug always text.now language.now) w) self.new result }
         ensures unchanged { OnErr result (IsUnchanged self.old self.new) }
@@ -190,12 +190,12 @@ impl Session {
     }
 
     /// Ends the connection: nothing goes out behind this.
-    pub(crate) fn say_disconnect<E>(
+    pub(crate) fn say_disconnect<E, F>(
         &mut self,
         reason: Disconnect,
         description: &Text,
         language: &Text,
-    ) -> Result<Done, RunError<E>>
+    ) -> Result<Done, RunError<E, F>>
         ensures does { (w : World) → Refines self.old w →
             HasEffect (sends (own.disconnect reason description.now language.now) w) self.new
             result }
@@ -207,12 +207,12 @@ impl Session {
     }
 
     /// A message with this payload goes out, or is refused where it is too long.
-    fn send<E>(
+    fn send<E, F>(
         &mut self,
         payload: Result<Vec<u8>, WireError>,
         awaited: Option<Outstanding>,
         ends: bool,
-    ) -> Result<Done, RunError<E>>
+    ) -> Result<Done, RunError<E, F>>
         ensures does { (message : OwnMessage) →
             IfOk payload (λ p. IsBuilt message.payload p.items) →
             IfErr payload (IsUnbuilt message.payload) → message.awaited ≡ awaited →
@@ -233,12 +233,12 @@ impl Session {
 
     /// A message of no channel is written; its reply is waited for, or the connection is over with
     /// it.
-    pub(crate) fn say<E>(
+    pub(crate) fn say<E, F>(
         &mut self,
         payload: Vec<u8>,
         awaited: Option<Outstanding>,
         ends: bool,
-    ) -> Result<(), RunError<E>>
+    ) -> Result<(), RunError<E, F>>
         ensures world { OnOk result ((w : World) → Refines self.old w → Refines self.new
             (said (record { payload = payload.items; awaited = awaited; ends = ends }) w)) }
         ensures memory { IfErr result (λ e. e ≡ error.NoMemory) }

@@ -57,7 +57,7 @@ impl Session {
         &mut self,
         outside: &mut O,
         fields: &[u8],
-    ) -> Result<Flow, RunError<O::Error>>
+    ) -> Result<Flow, RunError<O::Error, O::KexError>>
         requires suits { IsSuited O.suits self.old }
         ensures does { (w : World) (moment : ℕ) → Refines self.old w →
             (said : Said) × SaysConfirmation fields.now said
@@ -81,7 +81,7 @@ impl Session {
         &mut self,
         outside: &mut O,
         message: ChannelOpenConfirmation,
-    ) -> Result<(), RunError<O::Error>>
+    ) -> Result<(), RunError<O::Error, O::KexError>>
         requires suits { IsSuited O.suits self.old }
         requires packets { message.maximum_packet_size ≢ 0 }
         requires window { message.initial_window_size < 2 ^ 32 }
@@ -127,7 +127,7 @@ impl Session {
         outside: &mut O,
         channel: ChannelId,
         reason: ChannelOpenFailure,
-    ) -> Result<(), RunError<O::Error>>
+    ) -> Result<(), RunError<O::Error, O::KexError>>
         ensures does { (w : World) → Refines self.old w →
             Does (spoken_acts w (Failed channel reason)) w (O.heard outside.old)
             (O.heard outside.new) self.new result }
@@ -168,7 +168,7 @@ impl Session {
     }
 
     /// A command that opens a channel; what a client alone may say does nothing.
-    pub(crate) fn do_open<E>(&mut self, command: &Command) -> Result<Done, RunError<E>>
+    pub(crate) fn do_open<E, F>(&mut self, command: &Command) -> Result<Done, RunError<E, F>>
         ensures does { (w : World) → Refines self.old w →
             HasEffect (opens_or_not (asking command.now) w) self.new result }
         ensures unchanged { OnErr result (IsUnchanged self.old self.new) }
@@ -186,7 +186,7 @@ impl Session {
     }
 
     /// An open of a channel of this type with these own fields.
-    fn open_own<E>(&mut self, name: &str, fields: &[u8]) -> Result<Done, RunError<E>>
+    fn open_own<E, F>(&mut self, name: &str, fields: &[u8]) -> Result<Done, RunError<E, F>>
         ensures does { (w : World) → Refines self.old w →
             HasEffect (opens (record { name = name.now; fields = fields.now }) w) self.new result }
         ensures unchanged { OnErr result (IsUnchanged self.old self.new) }

@@ -85,11 +85,11 @@ impl Session {
     }
 
     /// Whether the client may do the flow control itself (RFC 4254 section 6.8).
-    pub(crate) fn xon_xoff<E>(
+    pub(crate) fn xon_xoff<E, F>(
         &mut self,
         channel: ChannelId,
         client_can_do: bool,
-    ) -> Result<Done, RunError<E>>
+    ) -> Result<Done, RunError<E, F>>
         ensures does { (w : World) → Refines self.old w →
             HasEffect (requests channel (own.xon_xoff client_can_do) w) self.new result }
         ensures unchanged { OnErr result (IsUnchanged self.old self.new) }
@@ -99,11 +99,11 @@ impl Session {
     }
 
     /// How the program on the channel ended (RFC 4254 section 6.10).
-    pub(crate) fn exit_status<E>(
+    pub(crate) fn exit_status<E, F>(
         &mut self,
         channel: ChannelId,
         exit_status: u32,
-    ) -> Result<Done, RunError<E>>
+    ) -> Result<Done, RunError<E, F>>
         ensures does { (w : World) → Refines self.old w →
             HasEffect (requests channel (own.exit_status exit_status) w) self.new result }
         ensures unchanged { OnErr result (IsUnchanged self.old self.new) }
@@ -113,14 +113,14 @@ impl Session {
     }
 
     /// Which signal ended the program on the channel (RFC 4254 section 6.10).
-    pub(crate) fn exit_signal<E>(
+    pub(crate) fn exit_signal<E, F>(
         &mut self,
         channel: ChannelId,
         signal: &Sig,
         core_dumped: bool,
         message: &Text,
         language: &Text,
-    ) -> Result<Done, RunError<E>>
+    ) -> Result<Done, RunError<E, F>>
         ensures does { (w : World) → Refines self.old w →
             HasEffect (requests channel
             (own.exit_signal signal.now core_dumped message.now language.now) w) self.new result }
@@ -136,12 +136,12 @@ impl Session {
     }
 
     /// A request of this name with these own fields, which wants no reply.
-    fn request<E>(
+    fn request<E, F>(
         &mut self,
         channel: ChannelId,
         name: &str,
         fields: &[u8],
-    ) -> Result<Done, RunError<E>>
+    ) -> Result<Done, RunError<E, F>>
         requires short { length name.now < 2 ^ 32 }
         ensures does { (w : World) → Refines self.old w →
             HasEffect (requests channel (record { name = name.now; fields = fields.now }) w)

@@ -79,11 +79,11 @@ impl Session {
     }
 
     /// CHANNEL_SUCCESS or CHANNEL_FAILURE, as a command.
-    pub(crate) fn reply_to<E>(
+    pub(crate) fn reply_to<E, F>(
         &mut self,
         channel: ChannelId,
         granted: bool,
-    ) -> Result<Done, RunError<E>>
+    ) -> Result<Done, RunError<E, F>>
         ensures does { (w : World) → Refines self.old w →
             HasEffect (accepts (lined (replies channel.0 (reply_of granted)) w)) self.new result }
         ensures unchanged { OnErr result (IsUnchanged self.old self.new) }
@@ -101,7 +101,7 @@ impl Session {
         wanted: bool,
         message: ChannelMsg,
         happening: Happening,
-    ) -> Result<(), RunError<O::Error>>
+    ) -> Result<(), RunError<O::Error, O::KexError>>
         requires suits { IsSuited O.suits self.old }
         ensures does { (w : World) → Refines self.old w →
             Does (spoken_acts w (Asks channel wanted message happening)) w (O.heard outside.old)
@@ -113,11 +113,11 @@ impl Session {
     }
 
     /// A request that is not known is answered by failure.
-    pub(crate) fn asked_unknown<E>(
+    pub(crate) fn asked_unknown<E, F>(
         &mut self,
         channel: ChannelId,
         wanted: bool,
-    ) -> Result<(), RunError<E>>
+    ) -> Result<(), RunError<E, F>>
         ensures does { (w : World) → Refines self.old w →
             Turned (spoken_acts w (AsksUnknown channel wanted)) w self.new result }
         ensures session { IsSameSession self.old self.new }
@@ -133,7 +133,7 @@ impl Session {
         outside: &mut O,
         channel: ChannelId,
         wanted: bool,
-    ) -> Result<(), RunError<O::Error>>
+    ) -> Result<(), RunError<O::Error, O::KexError>>
         requires suits { IsSuited O.suits self.old }
         ensures does { (w : World) → Refines self.old w →
             Does (spoken_acts w (AsksForAgent channel wanted)) w (O.heard outside.old)

@@ -7,7 +7,7 @@ ghost use Rattle.ssh_session.specs.Serve.{Refines, BeginsSuited};
 use crate::{Flow, RunError, Session};
 use ssh_handler::{Config, Handler};
 use ssh_keys::Verifier;
-use ssh_link::Link;
+use ssh_link::{Kex, Link};
 use std::alloc::Global;
 
 /// Serves one connection: takes inputs from the link until one ends the run (`Ok`), an error comes,
@@ -15,45 +15,48 @@ use std::alloc::Global;
 /// (RFC 4253 section 7.2), at most 2^32 - 1 bytes; `remote_sshid` is the peer's identification
 /// line. The handler has to suit the two (`Handler::suits`), as each does that does not say
 /// otherwise, and every callback that is lent commands is lent this config and this line.
-pub fn run_stream<H: Handler, V: Verifier, L: Link>(
+pub fn run_stream<H: Handler, V: Verifier, K: Kex, L: Link>(
     alloc: Global,
     config: &Config,
     session_id: &[u8],
     remote_sshid: &[u8],
     handler: &mut H,
     verifier: &V,
+    kex: &mut K,
     link: &mut L,
     max_inputs: u64,
-) -> Result<(), RunError<H::Error>>
+) -> Result<(), RunError<H::Error, K::Error>>
     requires session_id { length session_id.now < 2 ^ 32 }
     requires suits { H.suits config.now remote_sshid.now }
     ensures laws { KeepsLaws (V.accepts verifier.now) (settings_of config.now session_id.now
-        remote_sshid.now) (told_by H.AuthHandler.told L.trace L.faults) handler.old link.old
-        handler.new link.new max_inputs result }
+        remote_sshid.now) (told_by H.AuthHandler.told K.steps L.trace L.faults) handler.old kex.old
+        link.old handler.new kex.new link.new max_inputs result }
 {
     let mut session = Session::new(alloc, config, session_id, remote_sshid)?;
-    let result = run_inputs(&mut session, handler, verifier, link, max_inputs);
+    let result = run_inputs(&mut session, handler, verifier, kex, link, max_inputs);
     drop(session);
     result
 }
 
 // The loop of a run, with a session before its first input.
-fn run_inputs<H: Handler, V: Verifier, L: Link>(
+fn run_inputs<H: Handler, V: Verifier, K: Kex, L: Link>(
     session: &mut Session,
     handler: &mut H,
     verifier: &V,
+    kex: &mut K,
     link: &mut L,
     max_inputs: u64,
-) -> Result<(), RunError<H::Error>>
+) -> Result<(), RunError<H::Error, K::Error>>
     requires begins { BeginsSuited H.suits session.old }
     ensures { (settings : Settings) → Refines session.old (opening_world settings) →
         Ran (V.accepts verifier.now) settings
-        (told_by H.AuthHandler.told L.trace L.faults handler.old link.old)
-        (told_by H.AuthHandler.told L.trace L.faults handler.new link.new) max_inputs result }
+        (told_by H.AuthHandler.told K.steps L.trace L.faults handler.old kex.old link.old)
+        (told_by H.AuthHandler.told K.steps L.trace L.faults handler.new kex.new link.new)
+        max_inputs result }
 {
     for _ in 0..max_inputs {
         let input = link.next(session.commands_wanted(), session.replies_wanted())?;
-        match session.step_on(handler, verifier, link, input) {
+        match session.step_on(handler, verifier, kex, link, input) {
             Ok(Flow::Continue) => {}
             Ok(Flow::Ended) => return Ok(()),
             Err(e) => return Err(e),

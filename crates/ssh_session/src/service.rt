@@ -24,7 +24,7 @@ impl Session {
         &mut self,
         outside: &mut O,
         fields: &[u8],
-    ) -> Result<Flow, RunError<O::Error>>
+    ) -> Result<Flow, RunError<O::Error, O::KexError>>
         ensures does { (w : World) (moment : ℕ) → Refines self.old w →
             (read : Result (List ℕ) Misfit) × Spells service fields.now read
             × Completes (row w moment (said_of Service read)) (O.heard outside.old)
@@ -41,7 +41,7 @@ impl Session {
         &mut self,
         outside: &mut O,
         name: &str,
-    ) -> Result<(), RunError<O::Error>>
+    ) -> Result<(), RunError<O::Error, O::KexError>>
         ensures does { (w : World) → Refines self.old w →
             Serves (service_row w name.now) (λ _ world. Finish (Goes world))
             (O.heard outside.old) (O.heard outside.new) self.new result }
@@ -58,7 +58,7 @@ impl Session {
 
     /// SERVICE_ACCEPT, and BANNER where there is one (RFC 4252 section 5.4). Requests of
     /// authentication are read from now on.
-    fn greet<E>(&mut self, banner: Option<Text>) -> Result<(), RunError<E>>
+    fn greet<E, F>(&mut self, banner: Option<Text>) -> Result<(), RunError<E, F>>
         ensures { (w : World) → Refines self.old w → Turned (greets banner) w self.new result }
     {
         match banner {
@@ -68,7 +68,7 @@ impl Session {
     }
 
     /// SERVICE_ACCEPT alone.
-    fn greet_alone<E>(&mut self) -> Result<(), RunError<E>>
+    fn greet_alone<E, F>(&mut self) -> Result<(), RunError<E, F>>
         ensures { (w : World) → Refines self.old w → Turned (greets None) w self.new result }
     {
         let accept = service_accept_frame(self.alloc)?;
@@ -78,7 +78,7 @@ impl Session {
     }
 
     /// SERVICE_ACCEPT, and this BANNER.
-    fn greet_with<E>(&mut self, message: &str) -> Result<(), RunError<E>>
+    fn greet_with<E, F>(&mut self, message: &str) -> Result<(), RunError<E, F>>
         ensures { (w : World) → Refines self.old w →
             Turned (greets (Some message.now)) w self.new result }
     {

@@ -14,11 +14,11 @@ ghost use Rattle.ssh_session.specs.Serve.{Refines, Completes, is_spent, IsSuited
 
 use crate::finish::tell_each;
 use crate::gate::Gate;
-use crate::outside::{Both, Outside};
+use crate::outside::{Outside, Sides};
 use crate::{Flow, RunError, Session};
 use ssh_handler::Handler;
 use ssh_keys::Verifier;
-use ssh_link::{Command, Input, InputKind, Link, Notice};
+use ssh_link::{Command, Input, InputKind, Kex, Link, Notice};
 use ssh_wire::fields_of;
 use std::collections::VecDeque;
 
@@ -29,74 +29,78 @@ impl Session {
     /// is over. After an error or `Ended` the session is spent, and each later call answers
     /// `Inconsistent`, calls nothing and hands nothing on. The handler has to suit the config and
     /// the peer of the session (`Handler::suits`).
-    pub fn step<H: Handler, V: Verifier, L: Link>(
+    pub fn step<H: Handler, V: Verifier, K: Kex, L: Link>(
         &mut self,
         handler: &mut H,
         verifier: &V,
+        kex: &mut K,
         link: &mut L,
         input: Input,
-    ) -> Result<Flow, RunError<H::Error>>
+    ) -> Result<Flow, RunError<H::Error, K::Error>>
         requires suits { is_spent self.old ≢ true → IsSuited H.suits self.old }
         ensures taken { (w : World) → Refines self.old w →
             StepsBehind (untold self.old) (V.accepts verifier.now) w input
-            (told_by H.AuthHandler.told L.trace L.faults) handler.old link.old
-            handler.new link.new self.new result }
+            (told_by H.AuthHandler.told K.steps L.trace L.faults) handler.old kex.old link.old
+            handler.new kex.new link.new self.new result }
         ensures told { OnOk result (untold self.new ≡ []) }
         ensures spends { is_spent self.old ≢ true → result ≢ Ok Flow.Continue →
             is_spent self.new ≡ true }
         ensures refused { is_spent self.old ≡ true → result ≡ Err RunError.Inconsistent }
         ensures unchanged { is_spent self.old ≡ true → self.new ≡ self.old }
         ensures silent { is_spent self.old ≡ true →
-            TellsNothing (told_by H.AuthHandler.told L.trace L.faults) handler.old link.old
-            handler.new link.new }
+            TellsNothing (told_by H.AuthHandler.told K.steps L.trace L.faults) handler.old kex.old
+            link.old handler.new kex.new link.new }
     {
         if self.spent {
             return Err(RunError::Inconsistent);
         }
-        let mut both = Both::new(handler, link);
+        let mut sides = Sides::new(handler, kex, link);
         let mut notices = self.take_untold();
-        let outcome = self.step_behind(&mut both, verifier, &mut notices, input);
+        let outcome = self.step_behind(&mut sides, verifier, &mut notices, input);
         self.keep_untold(notices);
         outcome
     }
 
     /// An input of a run, between whose inputs nothing is done. The session is not spent.
-    pub(crate) fn step_on<H: Handler, V: Verifier, L: Link>(
+    pub(crate) fn step_on<H: Handler, V: Verifier, K: Kex, L: Link>(
         &mut self,
         handler: &mut H,
         verifier: &V,
+        kex: &mut K,
         link: &mut L,
         input: Input,
-    ) -> Result<Flow, RunError<H::Error>>
+    ) -> Result<Flow, RunError<H::Error, K::Error>>
         requires suits { IsSuited H.suits self.old }
         ensures taken { (w : World) → Refines self.old w →
             StepsBy (Owes (V.accepts verifier.now) w input)
-            (told_by H.AuthHandler.told L.trace L.faults) handler.old link.old
-            handler.new link.new self.new result }
+            (told_by H.AuthHandler.told K.steps L.trace L.faults) handler.old kex.old link.old
+            handler.new kex.new link.new self.new result }
     {
-        let mut both = Both::new(handler, link);
-        self.take_over(&mut both, verifier, input)
+        let mut sides = Sides::new(handler, kex, link);
+        self.take_over(&mut sides, verifier, input)
     }
 
-    /// An input behind these notices, over these two.
-    fn step_behind<H: Handler, V: Verifier, L: Link>(
+    /// An input behind these notices, over these three.
+    fn step_behind<H: Handler, V: Verifier, K: Kex, L: Link>(
         &mut self,
-        both: &mut Both<'_, H, L>,
+        sides: &mut Sides<'_, H, K, L>,
         verifier: &V,
         notices: &mut VecDeque<Notice>,
         input: Input,
-    ) -> Result<Flow, RunError<H::Error>>
+    ) -> Result<Flow, RunError<H::Error, K::Error>>
         requires suits { IsSuited H.suits self.old }
-        ensures same_handler { both.new.handler.ghost_name ≡ both.old.handler.ghost_name }
-        ensures same_link { both.new.link.ghost_name ≡ both.old.link.ghost_name }
+        ensures same_handler { sides.new.handler.ghost_name ≡ sides.old.handler.ghost_name }
+        ensures same_kex { sides.new.kex.ghost_name ≡ sides.old.kex.ghost_name }
+        ensures same_link { sides.new.link.ghost_name ≡ sides.old.link.ghost_name }
         ensures taken { (w : World) → Refines self.old w →
             StepsBehind notices.old.items (V.accepts verifier.now) w input
-            (told_by H.AuthHandler.told L.trace L.faults) both.old.handler.now both.old.link.now
-            both.new.handler.now both.new.link.now self.new result }
+            (told_by H.AuthHandler.told K.steps L.trace L.faults) sides.old.handler.now
+            sides.old.kex.now sides.old.link.now sides.new.handler.now sides.new.kex.now
+            sides.new.link.now self.new result }
         ensures told { OnOk result (notices.new.items ≡ []) }
         ensures spends { result ≢ Ok Flow.Continue → is_spent self.new ≡ true }
     {
-        let outcome = self.take_behind(both, verifier, notices, input);
+        let outcome = self.take_behind(sides, verifier, notices, input);
         self.note_end(&outcome);
         outcome
     }
@@ -108,7 +112,7 @@ impl Session {
         verifier: &V,
         notices: &mut VecDeque<Notice>,
         input: Input,
-    ) -> Result<Flow, RunError<O::Error>>
+    ) -> Result<Flow, RunError<O::Error, O::KexError>>
         requires suits { IsSuited O.suits self.old }
         ensures does { (w : World) → Refines self.old w →
             TakesBehind notices.old.items (V.accepts verifier.now) w input (O.heard outside.old)
@@ -126,7 +130,7 @@ impl Session {
         outside: &mut O,
         verifier: &V,
         input: Input,
-    ) -> Result<Flow, RunError<O::Error>>
+    ) -> Result<Flow, RunError<O::Error, O::KexError>>
         requires suits { IsSuited O.suits self.old }
         ensures does { (w : World) → Refines self.old w → (plan : Plan Outcome)
             × OwesUnlessEnded w.disconnected (V.accepts verifier.now) w input plan
@@ -139,30 +143,32 @@ impl Session {
         self.take(outside, verifier, input)
     }
 
-    /// An input of a session that is not spent, over these two.
-    fn take_over<H: Handler, V: Verifier, L: Link>(
+    /// An input of a session that is not spent, over these three.
+    fn take_over<H: Handler, V: Verifier, K: Kex, L: Link>(
         &mut self,
-        both: &mut Both<'_, H, L>,
+        sides: &mut Sides<'_, H, K, L>,
         verifier: &V,
         input: Input,
-    ) -> Result<Flow, RunError<H::Error>>
+    ) -> Result<Flow, RunError<H::Error, K::Error>>
         requires suits { IsSuited H.suits self.old }
-        ensures same_handler { both.new.handler.ghost_name ≡ both.old.handler.ghost_name }
-        ensures same_link { both.new.link.ghost_name ≡ both.old.link.ghost_name }
+        ensures same_handler { sides.new.handler.ghost_name ≡ sides.old.handler.ghost_name }
+        ensures same_kex { sides.new.kex.ghost_name ≡ sides.old.kex.ghost_name }
+        ensures same_link { sides.new.link.ghost_name ≡ sides.old.link.ghost_name }
         ensures taken { (w : World) → Refines self.old w →
             Steps (Owes (V.accepts verifier.now) w input)
-            (told_by H.AuthHandler.told L.trace L.faults both.old.handler.now both.old.link.now)
-            (told_by H.AuthHandler.told L.trace L.faults both.new.handler.now both.new.link.now)
-            self.new result }
+            (told_by H.AuthHandler.told K.steps L.trace L.faults sides.old.handler.now
+            sides.old.kex.now sides.old.link.now)
+            (told_by H.AuthHandler.told K.steps L.trace L.faults sides.new.handler.now
+            sides.new.kex.now sides.new.link.now) self.new result }
         ensures spends { result ≢ Ok Flow.Continue → is_spent self.new ≡ true }
     {
-        let outcome = self.take(both, verifier, input);
+        let outcome = self.take(sides, verifier, input);
         self.note_end(&outcome);
         outcome
     }
 
     /// The session is spent by whatever does not let it continue.
-    fn note_end<E>(&mut self, outcome: &Result<Flow, RunError<E>>)
+    fn note_end<E, F>(&mut self, outcome: &Result<Flow, RunError<E, F>>)
         ensures continues { outcome.now ≡ Ok Flow.Continue → self.new ≡ self.old }
         ensures spent { outcome.now ≢ Ok Flow.Continue → is_spent self.new ≡ true }
     {
@@ -178,7 +184,7 @@ impl Session {
         outside: &mut O,
         verifier: &V,
         input: Input,
-    ) -> Result<Flow, RunError<O::Error>>
+    ) -> Result<Flow, RunError<O::Error, O::KexError>>
         requires suits { IsSuited O.suits self.old }
         ensures does { (w : World) → Refines self.old w → (plan : Plan Outcome)
             × Owes (V.accepts verifier.now) w input plan
@@ -199,7 +205,7 @@ impl Session {
         verifier: &V,
         moment: u64,
         kind: InputKind,
-    ) -> Result<Flow, RunError<O::Error>>
+    ) -> Result<Flow, RunError<O::Error, O::KexError>>
         requires suits { IsSuited O.suits self.old }
         ensures does { (w : World) → Refines self.old w → (plan : Plan Outcome)
             × OwesKind (V.accepts verifier.now) w moment kind plan
@@ -243,7 +249,7 @@ impl Session {
         verifier: &V,
         moment: u64,
         payload: &[u8],
-    ) -> Result<Flow, RunError<O::Error>>
+    ) -> Result<Flow, RunError<O::Error, O::KexError>>
         requires suits { IsSuited O.suits self.old }
         ensures does { (w : World) → Refines self.old w → (said : Said)
             × Says (circumstances (V.accepts verifier.now) w.settings moment) w

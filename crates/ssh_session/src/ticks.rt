@@ -19,7 +19,7 @@ fn is_too_many(config: &Config, keepalives: u64) -> bool
 impl Session {
     /// A keepalive tick asks the peer for a sign of life. `KeepaliveTimeout` where the peer was not
     /// heard for more ticks than are allowed.
-    pub(crate) fn keepalive_tick<E>(&mut self) -> Result<(), RunError<E>>
+    pub(crate) fn keepalive_tick<E, F>(&mut self) -> Result<(), RunError<E, F>>
         ensures does { (w : World) → Refines self.old w →
             Turned (keepalive_acts w) w self.new result }
         ensures session { IsSameSession self.old self.new }

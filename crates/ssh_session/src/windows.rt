@@ -87,7 +87,7 @@ impl Session {
         outside: &mut O,
         channel: ChannelId,
         amount: u32,
-    ) -> Result<(), RunError<O::Error>>
+    ) -> Result<(), RunError<O::Error, O::KexError>>
         requires suits { IsSuited O.suits self.old }
         ensures does { (w : World) → Refines self.old w →
             Does (spoken_acts w (Grant channel amount)) w (O.heard outside.old)
@@ -113,7 +113,7 @@ impl Session {
         outside: &mut O,
         channel: ChannelId,
         piece: Chunk,
-    ) -> Result<(), RunError<O::Error>>
+    ) -> Result<(), RunError<O::Error, O::KexError>>
         requires suits { IsSuited O.suits self.old }
         ensures does { (w : World) → Refines self.old w →
             Does (spoken_acts w (Data channel piece)) w (O.heard outside.old) (O.heard outside.new)
@@ -138,7 +138,7 @@ impl Session {
         outside: &mut O,
         channel: ChannelId,
         piece: &Chunk,
-    ) -> Result<(), RunError<O::Error>>
+    ) -> Result<(), RunError<O::Error, O::KexError>>
         ensures does { (w : World) → Refines self.now w → (next : Plan Outcome) →
             Serves (Tell (Noticed (Channel channel (data_notice piece.now.kind piece.now.bytes)))
             next) (λ _ _. next)
@@ -155,7 +155,7 @@ impl Session {
         outside: &mut O,
         channel: ChannelId,
         piece: Chunk,
-    ) -> Result<(), RunError<O::Error>>
+    ) -> Result<(), RunError<O::Error, O::KexError>>
         requires suits { IsSuited O.suits self.old }
         ensures does { (w : World) → Refines self.old w →
             Does (called channel piece ∷ []) w
@@ -172,7 +172,7 @@ impl Session {
         outside: &mut O,
         channel: ChannelId,
         piece: Chunk,
-    ) -> Result<(), RunError<O::Error>>
+    ) -> Result<(), RunError<O::Error, O::KexError>>
         requires suits { IsSuited O.suits self.old }
         ensures does { (w : World) → Refines self.old w →
             Does (noted channel piece ∷ called channel piece ∷ []) w

@@ -14,7 +14,8 @@ use bytes::Bytes;
 use ssh_handler::Config;
 use ssh_keys::TableVerifier;
 use ssh_link::{
-    Calls, CommandOutcome, Frame, Input, InputKind, Inputs, MemoryLink, Notice, TraceEntry,
+    Calls, CommandOutcome, Frame, Input, InputKind, Inputs, MemoryLink, Notice, PlainKex,
+    TraceEntry,
 };
 use ssh_session::{Flow, RunError, Session};
 use std::alloc::Global;
@@ -109,6 +110,7 @@ struct Side {
     session: Session,
     handler: Deciding,
     verifier: TableVerifier,
+    kex: PlainKex,
     link: MemoryLink,
 }
 
@@ -121,6 +123,7 @@ fn not_begun(alloc: Global, allowed: usize, plan: Plan) -> Result<Side, Fail> {
         session: Session::new(alloc, &config, b"", b"")?,
         handler: Deciding::new(alloc, plan),
         verifier: TableVerifier::new(alloc),
+        kex: PlainKex::new(alloc, false),
         link,
     })
 }
@@ -139,7 +142,7 @@ fn kind(alloc: Global, comes: Comes) -> Result<InputKind, Fail> {
     })
 }
 
-fn end_of<E>(answer: &Result<Flow, RunError<E>>) -> Ends {
+fn end_of<HE, KE>(answer: &Result<Flow, RunError<HE, KE>>) -> Ends {
     match answer {
         Ok(Flow::Continue) => Ends::GoesOn,
         Ok(Flow::Ended) => Ends::Over,
@@ -154,9 +157,13 @@ fn end_of<E>(answer: &Result<Flow, RunError<E>>) -> Ends {
 
 fn give(side: &mut Side, kind: InputKind) -> Ends {
     let input = Input { moment: 0, kind };
-    let result = side
-        .session
-        .step(&mut side.handler, &side.verifier, &mut side.link, input);
+    let result = side.session.step(
+        &mut side.handler,
+        &side.verifier,
+        &mut side.kex,
+        &mut side.link,
+        input,
+    );
     let answer = end_of(&result);
     drop(result);
     answer

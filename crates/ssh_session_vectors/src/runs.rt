@@ -4,7 +4,7 @@ use crate::taking::{Habit, Taking};
 use bytes::Bytes;
 use ssh_handler::{Config, RecordError, Recorded};
 use ssh_keys::TableVerifier;
-use ssh_link::{Calls, Input, InputKind, Inputs, MemoryLink, TraceEntry};
+use ssh_link::{Calls, Input, InputKind, Inputs, MemoryLink, PlainKex, PlainKexError, TraceEntry};
 use ssh_session::{Flow, RunError, Session, run_stream};
 use std::alloc::Global;
 use std::test::Fail;
@@ -30,7 +30,7 @@ enum End {
     Otherwise,
 }
 
-fn cause(error: &RunError<RecordError<Tired>>) -> End {
+fn cause(error: &RunError<RecordError<Tired>, PlainKexError>) -> End {
     match error {
         RunError::LinkFault => End::LinkFault,
         RunError::Handler(RecordError::Inner(Tired)) => End::Tired,
@@ -78,7 +78,10 @@ fn are_sent(link: &MemoryLink, wanted: &[Option<u8>]) -> bool {
 fn run(alloc: Global, handler: &mut Recorded<Taking>, link: &mut MemoryLink) -> End {
     let config = Config::standard();
     let verifier = TableVerifier::new(alloc);
-    let answer = run_stream(alloc, &config, b"", b"", handler, &verifier, link, 10);
+    let mut kex = PlainKex::new(alloc, false);
+    let answer = run_stream(
+        alloc, &config, b"", b"", handler, &verifier, &mut kex, link, 10,
+    );
     let end = match &answer {
         Ok(()) => End::Well,
         Err(error) => cause(error),
@@ -130,6 +133,7 @@ struct Side {
     session: Session,
     handler: Recorded<Taking>,
     verifier: TableVerifier,
+    kex: PlainKex,
     link: MemoryLink,
 }
 
@@ -140,14 +144,19 @@ impl Side {
             session: Session::new(alloc, &Config::standard(), b"", b"SSH-2.0-test")?,
             handler: Recorded::new(alloc, Taking::new(alloc, Habit::Quiet)),
             verifier: TableVerifier::new(alloc),
+            kex: PlainKex::new(alloc, false),
             link,
         })
     }
 
     fn take(&mut self, input: Input) -> End {
-        let answer = self
-            .session
-            .step(&mut self.handler, &self.verifier, &mut self.link, input);
+        let answer = self.session.step(
+            &mut self.handler,
+            &self.verifier,
+            &mut self.kex,
+            &mut self.link,
+            input,
+        );
         let end = match &answer {
             Ok(Flow::Continue) => End::GoesOn,
             Ok(Flow::Ended) => End::Well,
@@ -196,7 +205,10 @@ fn answers(
     let config = Config::standard();
     let verifier = TableVerifier::new(alloc);
     let name = b"SSH-2.0-PuTTY";
-    let answer = run_stream(alloc, &config, b"", name, handler, &verifier, &mut link, 10);
+    let mut kex = PlainKex::new(alloc, false);
+    let answer = run_stream(
+        alloc, &config, b"", name, handler, &verifier, &mut kex, &mut link, 10,
+    );
     let ended = answer.is_ok();
     drop(answer);
     Ok(ended && are_sent(&link, wanted))
@@ -219,7 +231,8 @@ fn takes(alloc: Global, handler: &mut Naming, link: &mut MemoryLink, input: Inpu
         return false;
     };
     let verifier = TableVerifier::new(alloc);
-    let answer = session.step(handler, &verifier, link, input);
+    let mut kex = PlainKex::new(alloc, false);
+    let answer = session.step(handler, &verifier, &mut kex, link, input);
     drop(session);
     let goes_on = matches!(&answer, Ok(Flow::Continue));
     drop(answer);

@@ -9,7 +9,7 @@ use crate::taking::{Habit, Taking, Told};
 use bytes::Bytes;
 use ssh_handler::Config;
 use ssh_keys::TableVerifier;
-use ssh_link::{Calls, Command, Frame, Input, InputKind, Inputs, MemoryLink, TraceEntry};
+use ssh_link::{Calls, Command, Frame, Input, InputKind, Inputs, MemoryLink, PlainKex, TraceEntry};
 use ssh_session::{Flow, RunError, Session};
 use ssh_wire::ChannelId;
 use std::alloc::Global;
@@ -65,6 +65,7 @@ struct Side {
     session: Session,
     handler: Taking,
     verifier: TableVerifier,
+    kex: PlainKex,
     link: MemoryLink,
 }
 
@@ -84,6 +85,7 @@ fn not_begun(alloc: Global, window: u32, habit: Habit) -> Result<Side, Fail> {
         session,
         handler: Taking::new(alloc, habit),
         verifier: TableVerifier::new(alloc),
+        kex: PlainKex::new(alloc, false),
         link,
     })
 }
@@ -140,7 +142,7 @@ fn kind(alloc: Global, comes: Comes) -> Result<InputKind, Fail> {
     })
 }
 
-fn end_of<E>(answer: &Result<Flow, RunError<E>>) -> Ends {
+fn end_of<HE, KE>(answer: &Result<Flow, RunError<HE, KE>>) -> Ends {
     match answer {
         Ok(Flow::Continue) => Ends::GoesOn,
         Ok(Flow::Ended) => Ends::Over,
@@ -155,9 +157,13 @@ fn give(side: &mut Side, comes: Comes) -> Result<Ends, Fail> {
         moment: 0,
         kind: kind(side.alloc, comes)?,
     };
-    let result = side
-        .session
-        .step(&mut side.handler, &side.verifier, &mut side.link, input);
+    let result = side.session.step(
+        &mut side.handler,
+        &side.verifier,
+        &mut side.kex,
+        &mut side.link,
+        input,
+    );
     let answer = end_of(&result);
     drop(result);
     Ok(answer)

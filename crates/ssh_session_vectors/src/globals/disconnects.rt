@@ -9,7 +9,7 @@ use crate::sessions::LOGIN;
 use crate::wishes::Wish;
 use ssh_handler::Config;
 use ssh_keys::TableVerifier;
-use ssh_link::{Calls, CommandOutcome, Input, Inputs, MemoryLink, Refusal};
+use ssh_link::{Calls, CommandOutcome, Input, Inputs, MemoryLink, PlainKex, Refusal};
 use ssh_session::run_stream;
 use ssh_wire::Disconnect;
 use std::alloc::Global;
@@ -146,6 +146,7 @@ fn runs(alloc: Global, run: Run) -> Result<bool, Fail> {
     let mut handler = Deciding::new(alloc, run.plan);
     let config = Config::standard();
     let verifier = TableVerifier::new(alloc);
+    let mut kex = PlainKex::new(alloc, false);
     let answer = run_stream(
         alloc,
         &config,
@@ -153,6 +154,7 @@ fn runs(alloc: Global, run: Run) -> Result<bool, Fail> {
         b"",
         &mut handler,
         &verifier,
+        &mut kex,
         &mut link,
         100,
     );

@@ -4,7 +4,7 @@ use crate::taking::{Habit, Taking, Told};
 use bytes::Bytes;
 use ssh_handler::Config;
 use ssh_keys::TableVerifier;
-use ssh_link::{Calls, Command, Input, InputKind, Inputs, MemoryLink, TraceEntry};
+use ssh_link::{Calls, Command, Input, InputKind, Inputs, MemoryLink, PlainKex, TraceEntry};
 use ssh_session::run_stream;
 use ssh_wire::ChannelId;
 use std::alloc::Global;
@@ -203,6 +203,7 @@ fn sent_in_all(alloc: Global, inputs: Inputs) -> Result<Option<Vec<u8>>, Fail> {
     let mut handler = Taking::new(alloc, Habit::Quiet);
     let config = Config::standard();
     let verifier = TableVerifier::new(alloc);
+    let mut kex = PlainKex::new(alloc, false);
     let run = run_stream(
         alloc,
         &config,
@@ -210,6 +211,7 @@ fn sent_in_all(alloc: Global, inputs: Inputs) -> Result<Option<Vec<u8>>, Fail> {
         b"",
         &mut handler,
         &verifier,
+        &mut kex,
         &mut link,
         20,
     );

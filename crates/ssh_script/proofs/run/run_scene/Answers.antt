@@ -13,12 +13,14 @@ returns c = kept (scene_of c.args.script) c.in-Some.status c.run_stream-run.resu
     c.new-handler.result.lost c.run_stream-run.new.handler.lost
     (queues_in c.new-handler.result.answers) (queues_in c.run_stream-run.new.handler.answers)
     c.new-handler.result.asked.items c.run_stream-run.new.handler.asked.items
+    c.new-kex.result.plain.calls c.run_stream-run.new.kex.plain.calls
     c.in-Ok.link.inputs.items c.run_stream-run.new.link.inputs.items c.in-Ok.link.last_moment
     c.run_stream-run.new.link.last_moment
     c.in-Ok.link.memory.trace c.run_stream-run.new.link.memory.trace c.as_slice.result.now
     (string_bytes c.print_last.new.out)
     c.new-handler.ensures.lost c.if-handler.false
     (ap queues_in c.new-handler.ensures.answers) c.new-handler.ensures.asked
+    c.new-kex.ensures.calls c.run_stream-run.new.kex.exchanged
     (ap (λ v. v.items) c.in-Ok.ensures.inputs) c.in-Ok.ensures.last_moment c.in-Ok.ensures.trace
     c.run_stream-run.new.link.given
     (sym c.status_of.ensures ∙ c.in-Some.is) c.as_slice.ensures c.run_stream-run.ensures.laws.run

@@ -1,4 +1,4 @@
-use Rattle.std.proofs.Common.{rules, ◌≡◌, ◌++◌, ◌∷◌, [], Ok, Err, refl, sym, ◌∙◌, ap, subst}
+use Rattle.std.proofs.Common.{rules, ◌≡◌, ◌++◌, ◌∷◌, [], Ok, Err, sym, ◌∙◌, ap, subst}
 use Rattle.std.proofs.Common.{append_assoc}
 use Rattle.std.proofs.lemmas.List.{append-nil, nil_from_length}
 use Rattle.std.proofs.lemmas.Result.{err_from_is_err_and}
@@ -6,13 +6,14 @@ use Rattle.ssh_link.specs.declared.link.TraceEntry.TheVariants.{Sent}
 use Rattle.ssh_session.specs.Failure.{error_of_link}
 use Rattle.ssh_session.specs.Serve.{TellsEach}
 use Rattle.ssh_session.proofs.Finishing.{told_more, not_told, none_told}
+use Rattle.ssh_session.proofs.Serving.{same_as, same_both}
 use Rattle.ssh_session.proofs.finish.send_each.Goals as goal
 
 pub loop-frame-init : goal.loop-frame-init
 loop-frame-init g c = record {
   items = search rules;
   does = none_told Sent (g.O.Outside.heard c.args.outside.now);
-  same = (refl, refl);
+  same = same_as (g.O.Outside.heard c.args.outside.now);
 }
 
 pub loop-frame-preserved : goal.loop-frame-preserved
@@ -22,8 +23,9 @@ loop-frame-preserved g c = record {
       ∙ c.loop-frame.invariant.items;
   does = told_more Sent c.loop-frame.yielded c.in-Some.frame _ _ _ c.loop-frame.invariant.does
       c.in_ok-send.ensures;
-  same = let a = c.loop-frame.invariant.same in let b = c.in_ok-send.ensures.0 in
-      (b.0 ∙ a.0, b.1 ∙ a.1);
+  same = same_both (g.O.Outside.heard c.args.outside.now)
+      (g.O.Outside.heard c.loop-frame.outside) (g.O.Outside.heard c.send.new.self)
+      c.loop-frame.invariant.same c.in_ok-send.ensures.0.0;
 }
 
 pub returns-in_err-send-clause-does : goal.returns-in_err-send-clause-does

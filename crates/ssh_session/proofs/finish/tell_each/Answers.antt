@@ -6,26 +6,28 @@ use Rattle.ssh_link.specs.declared.link.TraceEntry.TheVariants.{Noticed}
 use Rattle.ssh_session.specs.Failure.{error_of_link}
 use Rattle.ssh_session.specs.Serve.{TellsEach}
 use Rattle.ssh_session.proofs.Finishing.{told_more, not_told, none_told, none_left}
+use Rattle.ssh_session.proofs.Serving.{same_as, same_both}
 use Rattle.ssh_session.proofs.finish.tell_each.Goals as goal
 
 pub loop-told-init : goal.loop-told-init
 loop-told-init g c =
     let none = none_told Noticed (g.O.Outside.heard c.args.outside.now) in
-    ([], refl, omega arith, none, (refl, refl))
+    ([], refl, omega arith, none, same_as (g.O.Outside.heard c.args.outside.now))
 
 pub loop-told-preserved : goal.loop-told-preserved
 loop-told-preserved g c =
     let i = c.loop-told.invariant in
     let popped = c.in-Some.ensures.items in
     let count = i.2 in
-    let fewer = ap length popped in
-    let now = c.in_ok-notice.ensures.0 in (
+    let fewer = ap length popped in (
       i.0 ++ c.in-Some.notice ∷ [],
       append_assoc i.0 (c.in-Some.notice ∷ []) c.pop_front.new.self.items
           ∙ ap (λ l. i.0 ++ l) (sym popped) ∙ i.1,
       omega (arith, count, fewer),
       told_more Noticed i.0 c.in-Some.notice _ _ _ i.3 c.in_ok-notice.ensures,
-      (now.0 ∙ i.4.0, now.1 ∙ i.4.1),
+      same_both (g.O.Outside.heard c.args.outside.now)
+          (g.O.Outside.heard c.loop-told.outside) (g.O.Outside.heard c.notice.new.self) i.4
+          c.in_ok-notice.ensures.0.0,
     )
 
 pub returns-in_err-notice-clause-does : goal.returns-in_err-notice-clause-does

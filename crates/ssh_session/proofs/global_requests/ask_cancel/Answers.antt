@@ -12,12 +12,15 @@ returns-in_err-address c =
 
 pub returns-in_err-address-2 : goal.returns-in_err-address-2
 returns-in_err-address-2 c =
-    unkept_asking cancel_forward c.args.asking.wanted (c.in_ok-address.address.now, (c.in_ok-address.port, tt))
+    unkept_asking cancel_forward c.args.asking.wanted
+    (c.in_ok-address.address.now, (c.in_ok-address.port, tt))
     c.args.rest.now _ _ c.from_residual-in_err-address-2.ensures.1 c.in_err-address-2.ensures.memory
     c.in_ok-address.ensures
 
 pub returns : goal.returns
 returns c =
-    asked_so cancel_forward c.args.asking.wanted (c.in_ok-address.address.now, (c.in_ok-address.port, tt))
+    asked_so cancel_forward c.args.asking.wanted
+    (c.in_ok-address.address.now, (c.in_ok-address.port, tt))
     c.args.rest.now _ c.in_ok-address.ensures
-    (ap (λ (t : List ℕ). AsksGlobally c.args.asking.wanted (CancelTcpipForward t c.in_ok-address.port)) c.in_ok-address-2.ensures.ok)
+    (ap (λ (t : List ℕ). AsksGlobally c.args.asking.wanted
+    (CancelTcpipForward t c.in_ok-address.port)) c.in_ok-address-2.ensures.ok)

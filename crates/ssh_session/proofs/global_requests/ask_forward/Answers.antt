@@ -11,7 +11,8 @@ returns-in_err-address c =
 
 pub returns-in_err-address-2 : goal.returns-in_err-address-2
 returns-in_err-address-2 c =
-    unkept_asking forward c.args.asking.wanted (c.in_ok-address.address.now, (c.in_ok-address.port, tt))
+    unkept_asking forward c.args.asking.wanted
+    (c.in_ok-address.address.now, (c.in_ok-address.port, tt))
     c.args.rest.now _ _ c.from_residual-in_err-address-2.ensures.1 c.in_err-address-2.ensures.memory
     c.in_ok-address.ensures
 
@@ -19,4 +20,5 @@ pub returns : goal.returns
 returns c =
     asked_so forward c.args.asking.wanted (c.in_ok-address.address.now, (c.in_ok-address.port, tt))
     c.args.rest.now _ c.in_ok-address.ensures
-    (ap (λ (t : List ℕ). AsksToForward c.args.asking.wanted t c.in_ok-address.port) c.in_ok-address-2.ensures.ok)
+    (ap (λ (t : List ℕ). AsksToForward c.args.asking.wanted t c.in_ok-address.port)
+    c.in_ok-address-2.ensures.ok)

@@ -13,11 +13,13 @@ returns-in_err-path c =
 pub returns-in_err-socket_path : goal.returns-in_err-socket_path
 returns-in_err-socket_path c =
     unkept_asking forward_socket c.args.asking.wanted (c.in_ok-path.path.now, tt)
-    c.args.rest.now _ _ c.from_residual-in_err-socket_path.ensures.1 c.in_err-socket_path.ensures.memory
+    c.args.rest.now _ _ c.from_residual-in_err-socket_path.ensures.1
+    c.in_err-socket_path.ensures.memory
     c.in_ok-path.ensures
 
 pub returns : goal.returns
 returns c =
     asked_so forward_socket c.args.asking.wanted (c.in_ok-path.path.now, tt)
     c.args.rest.now _ c.in_ok-path.ensures
-    (ap (λ (t : List ℕ). AsksGlobally c.args.asking.wanted (StreamlocalForward t)) c.in_ok-socket_path.ensures.ok)
+    (ap (λ (t : List ℕ). AsksGlobally c.args.asking.wanted (StreamlocalForward t))
+    c.in_ok-socket_path.ensures.ok)

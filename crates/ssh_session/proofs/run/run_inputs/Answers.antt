@@ -9,7 +9,8 @@ use Rattle.ssh_session.proofs.Runs.{still_suits}
 use Rattle.ssh_session.proofs.run.run_inputs.Goals as goal
 
 pub loop-init : goal.loop-init
-loop-init g c settings r = starts g.row.H-Error.Denot (g.V.Verifier.accepts c.args.verifier.now)
+loop-init g c settings r = starts g.row.H-Error.Denot g.row.K-Error.Denot
+    (g.V.Verifier.accepts c.args.verifier.now)
     settings _ c.args.session.now r
 
 pub step_on-requires : goal.step_on-requires
@@ -28,7 +29,7 @@ returns-in_err-input g c settings r =
     (sym (p.1 ∙ ap Err p.2))
     (link_left (g.V.Verifier.accepts c.args.verifier.now) settings _ _ _ c.loop.counter
     c.args.max_inputs c.loop.session
-    c.in_err-input.field-0.0 (c.loop.invariant settings r) c.in_err-input.ensures.err refl
+    c.in_err-input.field-0.0 (c.loop.invariant settings r) c.in_err-input.ensures.err refl refl
     c.next.ensures.later
     (λ i. c.in_err-input.ensures.cause (ap Err i)) c.loop-test.true)
 
@@ -43,6 +44,7 @@ returns-in-Ok-Ended g c settings r =
           (Took c.commands_wanted.result replies c.in_ok-input.input))
           c.replies_wanted.ensures c.in_ok-input.ensures.took;
       uncalled = refl;
+      unstepped = refl;
       asked = subst (λ replies. IsAsked c.commands_wanted.result replies
           c.in_ok-input.input.kind) c.replies_wanted.ensures c.in_ok-input.ensures.asked;
       flag = c.commands_wanted.ensures.world;
@@ -61,6 +63,7 @@ returns-in-Err g c settings r =
           (Took c.commands_wanted.result replies c.in_ok-input.input))
           c.replies_wanted.ensures c.in_ok-input.ensures.took;
       uncalled = refl;
+      unstepped = refl;
       asked = subst (λ replies. IsAsked c.commands_wanted.result replies
           c.in_ok-input.input.kind) c.replies_wanted.ensures c.in_ok-input.ensures.asked;
       flag = c.commands_wanted.ensures.world;
@@ -79,6 +82,7 @@ loop-preserved g c settings r =
           (Took c.commands_wanted.result replies c.in_ok-input.input))
           c.replies_wanted.ensures c.in_ok-input.ensures.took;
       uncalled = refl;
+      unstepped = refl;
       asked = subst (λ replies. IsAsked c.commands_wanted.result replies
           c.in_ok-input.input.kind) c.replies_wanted.ensures c.in_ok-input.ensures.asked;
       flag = c.commands_wanted.ensures.world;

@@ -7,6 +7,7 @@ use Rattle.ssh_session.proofs.run.run_inputs.Given as goal
 abbrev pub invariant-loop : goal.invariant-loop
 invariant-loop g l = (settings : Settings) → Refines l.fn.session (opening_world settings) →
     Going (g.V.Verifier.accepts l.fn.verifier) settings
-    (told_by g.H.AuthHandler.told g.L.Link.trace g.L.Link.faults l.fn.handler l.fn.link)
-    (told_by g.H.AuthHandler.told g.L.Link.trace g.L.Link.faults l.handler l.link) l.counter
-    l.session
+    (told_by g.H.AuthHandler.told g.K.Kex.steps g.L.Link.trace g.L.Link.faults l.fn.handler l.fn.kex
+    l.fn.link)
+    (told_by g.H.AuthHandler.told g.K.Kex.steps g.L.Link.trace g.L.Link.faults l.handler l.kex
+    l.link) l.counter l.session

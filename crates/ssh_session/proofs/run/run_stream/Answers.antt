@@ -18,7 +18,8 @@ returns-in_err-session g c =
           c.args.max_inputs) (sym is)
           (laws_of (g.V.Verifier.accepts c.args.verifier.now) settings _ _ c.args.max_inputs
           (Err error.NoMemory)
-          (not_begun g.row.H-Error.Denot (g.V.Verifier.accepts c.args.verifier.now) settings _
+          (not_begun g.row.H-Error.Denot g.row.K-Error.Denot
+          (g.V.Verifier.accepts c.args.verifier.now) settings _
           c.args.max_inputs));
     }
 

@@ -17,6 +17,7 @@ returns-in-Err-clause-does g c = λ w r later.
     let owes = asks_first (next_number w.channels.lines) c.args.said c.args.kind in
     rw c.from.ensures (quiet {T = Unit {0}} (acts (owes ++ later) w) (λ _. acts later) _
     c.draw.new.self (Err (error_of_table c.in-Err.e))
-    (not_drawn g.row.O-Error.Denot w (λ o. asks_first o c.args.said c.args.kind) c.in-Err.e later
+    (not_drawn g.row.O-Error.Denot g.row.O-KexError.Denot w
+    (λ o. asks_first o c.args.said c.args.kind) c.in-Err.e later
     c.draw.new.self refl (not_inconsistent c.in-Err.e c.in-Err.ensures.errors)
     (λ h. c.in-Err.ensures.full w r (ap Err h))))

@@ -18,7 +18,8 @@ returns-in_err-granted-clause-does g c = λ w r later.
     acts later (unless_ended (settles_global (global_reply granted (bound_to port bound))) world) in
     let all : Plan Outcome = Ask (Listens c.args.address port) (λ (answer : Listening).
     done_all 0 answer.commands v (next answer.granted answer.port)) in
-    passed all (λ (told : Bool × ℕ). next told.0 told.1) (λ (_ : Unit {0}). acts later) _ _ c.listen.new.self
+    passed all (λ (told : Bool × ℕ). next told.0 told.1)
+    (λ (_ : Unit {0}). acts later) _ _ c.listen.new.self
     c.listen.new.self _ _ c.from_residual.ensures.1
     (rw c.as_str.ensures at (c.in_err-granted.ensures.does v q next))
 
@@ -34,7 +35,8 @@ returns-clause-does g c = λ w r later.
     let granted = c.in_ok-granted.granted in
     let bound = c.in_ok-granted.bound in
     let settled = c.settle_unless_ended in
-    served_both (granted, bound) all (λ (told : Bool × ℕ). next told.0 told.1) (λ (_ : Unit {0}). acts later) _
+    served_both (granted, bound) all (λ (told : Bool × ℕ). next told.0 told.1)
+    (λ (_ : Unit {0}). acts later) _
     _ _ c.listen.new.self settled.new.self settled.result
     (rw c.as_str.ensures at (c.in_ok-granted.ensures.does v q next))
     (λ world p. turns_quietly (acts later)

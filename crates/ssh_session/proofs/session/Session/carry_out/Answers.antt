@@ -6,7 +6,8 @@ use Rattle.ssh_session.proofs.session.Session.carry_out.Goals as goal
 
 pub returns-in-Some-clause-does : goal.returns-in-Some-clause-does
 returns-in-Some-clause-does g c = λ w r.
-    refused g.row.E.Denot (effect w c.args.command) w c.in-Some.why c.args.self.now c.refused.result
+    refused g.row.E.Denot g.row.F.Denot (effect w c.args.command) w c.in-Some.why c.args.self.now
+    c.refused.result
     (refusing w c.args.command (Some c.in-Some.why) (sym (c.refused_for.ensures w r) ∙
     c.in-Some.is))
     c.refused.ensures r

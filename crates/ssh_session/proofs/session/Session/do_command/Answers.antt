@@ -20,7 +20,8 @@ pub returns-in_ok-data-in-Data-clause-does : goal.returns-in_ok-data-in-Data-cla
 returns-in_ok-data-in-Data-clause-does g c = λ w r.
     let n = c.in-Data.channel.0 in
     let piece = chunk Plain c.in-Data.bytes in
-    accepted g.row.E.Denot (done_by w c.args.command) (lined (takes_data n piece false) w) _
+    accepted g.row.E.Denot g.row.F.Denot (done_by w c.args.command)
+    (lined (takes_data n piece false) w) _
     c.accepted.result (ap (done_by w) c.in-Data.is)
     c.accepted.ensures (called (Send n piece false) c.args.self.now c.data.new.self _ w tt
     c.in_ok-data-in-Data.ensures.table r)
@@ -37,7 +38,8 @@ pub returns-in_ok-extended_data-in-ExtendedData-clause-does :
 returns-in_ok-extended_data-in-ExtendedData-clause-does g c = λ w r.
     let n = c.in-ExtendedData.channel.0 in
     let piece = chunk (Extended c.in-ExtendedData.ext) c.in-ExtendedData.bytes in
-    accepted g.row.E.Denot (done_by w c.args.command) (lined (takes_data n piece false) w) _
+    accepted g.row.E.Denot g.row.F.Denot (done_by w c.args.command)
+    (lined (takes_data n piece false) w) _
     c.accepted-in-ExtendedData.result
     (ap (done_by w) c.in-ExtendedData.is) c.accepted-in-ExtendedData.ensures
     (called (Send n piece false) c.args.self.now c.extended_data.new.self _ w tt
@@ -51,7 +53,7 @@ returns-in_err-eof-in-Eof-clause-does g c = λ w r.
 pub returns-in_ok-eof-in-Eof-clause-does : goal.returns-in_ok-eof-in-Eof-clause-does
 returns-in_ok-eof-in-Eof-clause-does g c = λ w r.
     let n = c.in-Eof.channel.0 in
-    accepted g.row.E.Denot (done_by w c.args.command) (lined (takes_eof n) w) _
+    accepted g.row.E.Denot g.row.F.Denot (done_by w c.args.command) (lined (takes_eof n) w) _
     c.accepted-in-Eof.result (ap (done_by w) c.in-Eof.is)
     c.accepted-in-Eof.ensures (called (Eof n) c.args.self.now c.eof.new.self _ w tt
     c.in_ok-eof-in-Eof.ensures.table r)
@@ -64,7 +66,7 @@ returns-in_err-close-in-Close-clause-does g c = λ w r.
 pub returns-in_ok-close-in-Close-clause-does : goal.returns-in_ok-close-in-Close-clause-does
 returns-in_ok-close-in-Close-clause-does g c = λ w r.
     let n = c.in-Close.channel.0 in
-    accepted g.row.E.Denot (done_by w c.args.command) (lined (takes_close n) w) _
+    accepted g.row.E.Denot g.row.F.Denot (done_by w c.args.command) (lined (takes_close n) w) _
     c.accepted-in-Close.result (ap (done_by w) c.in-Close.is)
     c.accepted-in-Close.ensures (called (Close n) c.args.self.now c.close.new.self _ w tt
     c.in_ok-close-in-Close.ensures.table r)

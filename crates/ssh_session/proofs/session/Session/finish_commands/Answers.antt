@@ -4,7 +4,8 @@ use Rattle.ssh_session.specs.World.{World}
 use Rattle.ssh_session.specs.Serve.{Serves}
 use Rattle.ssh_session.specs.Acts.{done_all}
 use Rattle.ssh_session.specs.Outcome.{Outcome}
-use Rattle.ssh_session.proofs.Serving.{serves_nothing, served_both, served_then_error}
+use Rattle.ssh_session.proofs.Serving.{serves_nothing, served_both, served_then_error, same_as}
+use Rattle.ssh_session.proofs.Serving.{same_both}
 use Rattle.ssh_session.proofs.Finishing.{none_left}
 use Rattle.ssh_session.proofs.session.Session.finish_commands.Goals as goal
 
@@ -14,7 +15,7 @@ loop-place-init g c = record {
   does = λ w r next. serves_nothing tt (λ (_ : Unit {0}) world. done_all 0 c.args.commands world
       next) _ w c.args.self.now r;
   session = (refl, refl, refl);
-  same = (refl, refl);
+  same = same_as (g.O.Outside.heard c.args.outside.now);
 }
 
 pub loop-place-preserved : goal.loop-place-preserved
@@ -34,8 +35,9 @@ loop-place-preserved g c = record {
       c.take_first.new.self next));
   session = let a = c.loop-place.invariant.session in let b = c.finish_command.ensures.session in
       (b.0 ∙ a.0, b.1 ∙ a.1, b.2 ∙ a.2);
-  same = let a = c.loop-place.invariant.same in let b = c.finish_command.ensures.same in
-      (b.0 ∙ a.0, b.1 ∙ a.1);
+  same = same_both (g.O.Outside.heard c.args.outside.now)
+      (g.O.Outside.heard c.loop-place.outside) (g.O.Outside.heard c.finish_command.new.outside)
+      c.loop-place.invariant.same c.finish_command.ensures.same;
 }
 
 pub returns-in-Err-clause-does : goal.returns-in-Err-clause-does

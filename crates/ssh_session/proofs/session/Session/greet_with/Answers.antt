@@ -23,7 +23,8 @@ returns-in_err-banner g c = λ w r later.
     subst (λ x. Answers {T = Unit {0}} (acts (greets (Some c.args.message.now) ++ later) w)
     (λ (_ : Unit {0}). acts later) ⊥ []
     c.args.self.now x) (sym (p.1 ∙ ap Err p.2))
-    (not_greeted g.row.E.Denot c.args.message.now w later c.in_err-banner.field-0.0 c.args.self.now
+    (not_greeted g.row.E.Denot g.row.F.Denot c.args.message.now w later c.in_err-banner.field-0.0
+    c.args.self.now
     c.in_err-banner.ensures.refused)
 
 pub returns-in_err-write : goal.returns-in_err-write

@@ -13,9 +13,11 @@ returns-in-Ok-finish_commands-clause-does g c = λ w r next.
     let commands = c.in-Ok.commands in
     let answer : Listening = record { granted = granted; port = bound; commands = commands } in
     let step : Listening → Plan Outcome = λ x. done_all 0 x.commands w (next x.granted x.port) in
-    served_both answer (Ask (Listens c.args.address.now c.args.port) step) (λ given _. step given) (λ (told : Bool × ℕ). next told.0 told.1) _ _ _
+    served_both answer (Ask (Listens c.args.address.now c.args.port) step) (λ given _. step given)
+    (λ (told : Bool × ℕ). next told.0 told.1) _ _ _
     c.args.self.now c.finish_commands.new.self (Ok (granted, bound))
-    (asked (Listens c.args.address.now c.args.port) answer step _ _ w c.args.self.now r c.in-Ok.ensures)
+    (asked (Listens c.args.address.now c.args.port) answer step _ _ w c.args.self.now r
+    c.in-Ok.ensures)
     (λ _ _. of_value (granted, bound) (done_all 0 commands w (next granted bound))
     (λ (told : Bool × ℕ). next told.0 told.1) _ _
     c.finish_commands.new.self (c.in-Ok-finish_commands.ensures.does w r (next granted bound)))
@@ -27,9 +29,11 @@ returns-in-Err-finish_commands-clause-does g c = λ w r next.
     let commands = c.in-Ok.commands in
     let answer : Listening = record { granted = granted; port = bound; commands = commands } in
     let step : Listening → Plan Outcome = λ x. done_all 0 x.commands w (next x.granted x.port) in
-    served_both answer (Ask (Listens c.args.address.now c.args.port) step) (λ given _. step given) (λ (told : Bool × ℕ). next told.0 told.1) _ _ _
+    served_both answer (Ask (Listens c.args.address.now c.args.port) step) (λ given _. step given)
+    (λ (told : Bool × ℕ). next told.0 told.1) _ _ _
     c.args.self.now c.finish_commands.new.self (Err c.in-Err-finish_commands.e)
-    (asked (Listens c.args.address.now c.args.port) answer step _ _ w c.args.self.now r c.in-Ok.ensures)
+    (asked (Listens c.args.address.now c.args.port) answer step _ _ w c.args.self.now r
+    c.in-Ok.ensures)
     (λ _ _. c.in-Err-finish_commands.ensures.does w r (next granted bound))
 
 pub returns-in-Err-clause-does : goal.returns-in-Err-clause-does

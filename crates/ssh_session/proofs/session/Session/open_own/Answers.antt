@@ -39,7 +39,7 @@ returns-in_default-clause-does g c = λ w r.
     let asked : OwnOpen = record { name = c.args.name.now; fields = c.args.fields.now } in
     let small = c.if-saturating_add-gt-MAX_OPEN_PARTS.false in
     let sum = c.saturating_add.ensures in
-    refused g.row.E.Denot (opens asked w) w NumbersFull _ c.refused-in_default.result
+    refused g.row.E.Denot g.row.F.Denot (opens asked w) w NumbersFull _ c.refused-in_default.result
     (opens_short asked w None (omega (arith, small, sum))
     (sym (next_same old w r) ∙ c.in_default.ensures.full))
     c.refused-in_default.ensures r

@@ -15,7 +15,8 @@ returns-then-saturating_add-gt-MAX_REQUEST_PARTS-clause-does g c = λ w r.
     let asked : OwnRequest = record { name = c.args.name.now; fields = c.args.fields.now } in
     let large = c.if-saturating_add-gt-MAX_REQUEST_PARTS.true in
     let sum = c.saturating_add.ensures in
-    refused g.row.E.Denot (requests c.args.channel asked w) w TooLong _ c.refused.result
+    refused g.row.E.Denot g.row.F.Denot (requests c.args.channel asked w) w TooLong _
+    c.refused.result
     (long_request c.args.channel asked w (omega (arith, large, sum))) c.refused.ensures r
 
 pub returns-in_ok-write-in-Some-clause-does : goal.returns-in_ok-write-in-Some-clause-does
@@ -25,7 +26,7 @@ returns-in_ok-write-in-Some-clause-does g c = λ w r.
     let sum = c.saturating_add.ensures in
     let wrote = subst (λ f. Refines c.write.new.self (writes (f ∷ []) w))
     c.in_ok-frame-in-Some.ensures.ok (c.in_ok-write-in-Some.ensures.world w r) in
-    accepted g.row.E.Denot (requests c.args.channel asked w) _ _ c.accepted.result
+    accepted g.row.E.Denot g.row.F.Denot (requests c.args.channel asked w) _ _ c.accepted.result
     (short_request c.args.channel asked c.args.self.now w (Some c.in-Some.line.now) r
     (sym (ap option_copied c.in-Some.is) ∙ c.params.ensures) (omega (arith, small, sum)))
     c.accepted.ensures wrote
@@ -35,7 +36,8 @@ returns-in-None-clause-does g c = λ w r.
     let asked : OwnRequest = record { name = c.args.name.now; fields = c.args.fields.now } in
     let small = c.if-saturating_add-gt-MAX_REQUEST_PARTS.false in
     let sum = c.saturating_add.ensures in
-    accepted g.row.E.Denot (requests c.args.channel asked w) w _ c.accepted-in-None.result
+    accepted g.row.E.Denot g.row.F.Denot (requests c.args.channel asked w) w _
+    c.accepted-in-None.result
     (short_request c.args.channel asked c.args.self.now w None r
     (sym (ap option_copied c.in-None.is) ∙ c.params.ensures) (omega (arith, small, sum)))
     c.accepted-in-None.ensures r

@@ -1,10 +1,11 @@
+use Rattle.std.proofs.Common.{[], false, refl}
 use Rattle.ssh_channels.specs.Lines.{wants}
 use Rattle.ssh_session.specs.Acts.{acts}
 use Rattle.ssh_session.specs.World.{lined}
 use Rattle.ssh_session.specs.declared.messages.Spoken.TheVariants.{AsksUnknown}
 use Rattle.ssh_session.specs.declared.messages.Spoken.TheVariants.{AsksGloballyUnknown}
 use Rattle.ssh_session.specs.Rows.{spoken_acts}
-use Rattle.ssh_session.proofs.Serving.{serves_nothing, turned}
+use Rattle.ssh_session.proofs.Serving.{serves_nothing, turned, hears_nothing}
 use Rattle.ssh_session.proofs.session.Session.serve_spoken.Goals as goal
 
 pub returns-in-Nothing-clause-does : goal.returns-in-Nothing-clause-does
@@ -64,3 +65,7 @@ returns-in-AsksGloballyUnknown-clause-does g c = λ w r later.
 pub returns-in-Settles-clause-does : goal.returns-in-Settles-clause-does
 returns-in-Settles-clause-does g c = λ w r later.
     rw c.in-Settles.is (c.settle.ensures.does w r later)
+
+pub returns-in-Inconsistent-clause-does : goal.returns-in-Inconsistent-clause-does
+returns-in-Inconsistent-clause-does g c = λ w r later.
+    rw c.in-Inconsistent.is ([], hears_nothing false (g.O.Outside.heard c.args.outside.now), refl)
