@@ -1,0 +1,382 @@
+-- From payload to payload.
+use Rattle.std.proofs.Common.{◌≡◌, ◌+◌, ℕ, List, [], ◌∷◌, ◌++◌, length, Option, Some, None}
+use Rattle.std.proofs.Common.{Result, Ok, Err, Bool, false, refl, sym, ◌∙◌, ap, subst, arith}
+use Rattle.std.proofs.Common.{append_assoc, inl, inr}
+use Rattle.std.specs.Prelude.{flat_map, map}
+use Rattle.std.proofs.lemmas.List.{append-nil}
+use Rattle.std.proofs.lemmas.List.Concat.{flat_map-append}
+use Rattle.ssh_link.specs.Faults.{Rose}
+use Rattle.ssh_link.specs.Told.{Adds, ToldBy}
+use Rattle.ssh_link.proofs.Tellings.{adds_nil}
+use Rattle.ssh_link.specs.declared.frame.Input.{Input}
+use Rattle.ssh_link.specs.declared.frame.InputKind.TheVariants.{Payload}
+use Rattle.ssh_link.specs.declared.notice.Notice.{Notice}
+use Rattle.ssh_auth.specs.declared.question.Question.{Question}
+use Rattle.ssh_auth.specs.Plan.{Plan, Finish, Ask, Answer, Event, Reaches, calls_in, steps_in}
+use Rattle.ssh_auth.specs.Plan.{told_in}
+use Rattle.ssh_auth.specs.Publickey.{Acceptance}
+use Rattle.ssh_handler.specs.declared.config.Config.{Config}
+use Rattle.ssh_session.specs.declared.error.Flow.{Flow}
+use Rattle.ssh_session.specs.declared.error.Flow.TheVariants.{Continue, Ended}
+use Rattle.ssh_session.specs.declared.error.RunError.{RunError}
+use Rattle.ssh_session.specs.declared.error.RunError.TheVariants as error
+use Rattle.ssh_session.specs.declared.session.Session.{Session}
+use Rattle.ssh_session.specs.Account.{Told, Steps, Concludes, Closes}
+use Rattle.ssh_session.specs.Between.{untold, OwesBehind, OwesUnlessEnded, StepsAfter}
+use Rattle.ssh_session.specs.Outcome.{Outcome, Goes}
+use Rattle.ssh_session.specs.Run.{Owes, Turn, Turns, Run, calls_of, steps_of, nothing_waits}
+use Rattle.ssh_session.specs.Serve.{Cause, Wants_memory, Link_failed, Limit_reached, Faulty}
+use Rattle.ssh_session.specs.Serve.{Refused_by, Broken_by}
+use Rattle.ssh_session.specs.Serve.{Refines, IsSuited, IsCaused, cause_of, may_stop}
+use Rattle.ssh_session.specs.World.{Settings, World, opening_world}
+use Rattle.ssh_session.proofs.Accepting.{authorised}
+use Rattle.ssh_session.proofs.Books.{ledgered}
+use Rattle.ssh_session.proofs.Ended.{IsLive, run_live}
+use Rattle.ssh_session.proofs.Serving.{told_then, told_none}
+use Rattle.ssh_session.proofs.Settled.{stays_set}
+use Rattle.ssh_vectors.specs.Client.{kind_of, told_of, Served}
+
+-- these payloads were finished, and it goes on
+pub record Going {E F : Type 0} (accepts : Acceptance) (settings : Settings)
+    (payloads : List (List ℕ)) (before after : Told E F) (session : Session) : Type 0 where
+  pub turns : List (Turn E F)
+  pub world : World
+  pub run : Run accepts (opening_world settings) turns world
+  pub given : map kind_of turns ≡ map Payload payloads
+  pub called : Adds before.calls after.calls (flat_map calls_of turns)
+  pub stepped : Adds before.steps after.steps (flat_map steps_of turns)
+  pub told : Adds before.trace after.trace (flat_map told_of turns)
+  pub refines : Refines session world
+  pub set : world.settings ≡ settings
+  pub all_told : untold session ≡ []
+
+pub starts : (E F : Type 0) (accepts : Acceptance) (settings : Settings) (before : Told E F)
+    (session : Session) → Refines session (opening_world settings) → untold session ≡ []
+    → Going accepts settings [] before before session
+starts E F accepts settings before session r t = record {
+  turns = [];
+  world = opening_world settings;
+  run = refl;
+  given = refl;
+  called = adds_nil before.calls;
+  stepped = adds_nil before.steps;
+  told = adds_nil before.trace;
+  refines = r;
+  set = refl;
+  all_told = t;
+}
+
+-- a handler that suits the config and the peer suits the session at each payload
+pub still_suits : {E F : Type 0} (suits : Config → List ℕ → Type 0) (accepts : Acceptance)
+    (settings : Settings) (payloads : List (List ℕ)) (a b : Told E F) (session : Session)
+    → Going accepts settings payloads a b session → suits settings.config settings.remote_sshid
+    → IsSuited suits session
+still_suits suits accepts settings payloads a b session going h =
+    let r = going.refines in
+    let config : session.common.config ≡ settings.config = r.config
+    ∙ ap (λ s. s.config) going.set in
+    let line : session.common.remote_sshid ≡ settings.remote_sshid = r.remote_sshid
+    ∙ ap (λ s. s.remote_sshid) going.set in
+    subst (λ c. suits c session.common.remote_sshid) (sym config)
+    (subst (suits settings.config) (sym line) h)
+
+-- one more
+run_more : {E F : Type 0} (accepts : Acceptance) (w : World) (turns : List (Turn E F)) (mid : World)
+    (turn : Turn E F) (world : World) → Run accepts w turns mid → Turns accepts mid turn world
+    → Run accepts w (turns ++ turn ∷ []) world
+run_more accepts w [] mid turn world h t =
+    (world, subst (λ v. Turns accepts v turn world) h t, refl)
+run_more accepts w (first ∷ turns) mid turn world h t =
+    (h.0, h.1, run_more accepts h.0 turns mid turn world h.2 t)
+
+one_of : {A B : Type 0} (f : A → List B) (xs : List A) (x : A)
+    → flat_map f (xs ++ x ∷ []) ≡ flat_map f xs ++ f x
+one_of f xs x = flat_map-append f xs (x ∷ []) ∙ ap (λ l. flat_map f xs ++ l) (append-nil (f x))
+
+told_more : {A B : Type 0} (stops : Bool) (f : A → List B) (xs : List A) (x : A)
+    (a b c : Option (List B)) → Adds a b (flat_map f xs) → ToldBy stops b c (f x)
+    → ToldBy stops a c (flat_map f (xs ++ x ∷ []))
+told_more stops f xs x a b c h k = subst (ToldBy stops a c) (sym (one_of f xs x))
+    (told_then stops a b c (flat_map f xs) (f x) h k)
+
+map_more : {A B : Type 0} (f : A → B) (xs : List A) (x : A)
+    → map f (xs ++ x ∷ []) ≡ map f xs ++ f x ∷ []
+map_more f [] x = refl
+map_more f (y ∷ xs) x = ap (λ l. f y ∷ l) (map_more f xs x)
+
+given_more : {E F : Type 0} (turns : List (Turn E F)) (turn : Turn E F) (payloads : List (List ℕ))
+    (payload : List ℕ) → map kind_of turns ≡ map Payload payloads
+    → turn.input.kind ≡ Payload payload
+    → map kind_of (turns ++ turn ∷ []) ≡ map Payload (payloads ++ payload ∷ [])
+given_more turns turn payloads payload h is = map_more kind_of turns turn
+    ∙ (ap (λ l. l ++ turn.input.kind ∷ []) h
+    ∙ (ap (λ k. map Payload payloads ++ k ∷ []) is ∙ sym (map_more Payload payloads payload)))
+
+-- where no notice waits and the connection was not ended, an input owes its row
+owes_now : (notices : List Notice) (accepts : Acceptance) (w : World) (input : Input) (plan : Plan Outcome)
+    → notices ≡ [] → IsLive w → OwesBehind notices accepts w input plan → Owes accepts w input plan
+owes_now notices accepts w input plan none live (later, owes, is) =
+    let now : plan ≡ later = rw none at is in
+    subst (Owes accepts w input) (sym now)
+    (subst (λ b. OwesUnlessEnded b accepts w input later) live owes)
+
+steps_now : {E F : Type 0} (notices : List Notice) (accepts : Acceptance) (w : World)
+    (input : Input) (c d : Told E F) (session : Session) (result : Result Flow (RunError E F))
+    → notices ≡ [] → IsLive w → Steps (OwesBehind notices accepts w input) c d session result
+    → Steps (Owes accepts w input) c d session result
+steps_now notices accepts w input c d session result none live step = record {
+  plan = step.plan;
+  owes = owes_now notices accepts w input step.plan none live step.owes;
+  events = step.events;
+  called = step.called;
+  told = step.told;
+  later = step.later;
+  stepped = step.stepped;
+  comes = step.comes;
+}
+
+-- a session that goes on was given its input
+taken_now : {E F : Type 0} (notices : List Notice) (accepts : Acceptance) (w : World)
+    (input : Input) (c d : Told E F) (session : Session) (flow : Flow)
+    → notices ≡ [] → IsLive w → StepsAfter notices accepts w input c d session (Ok flow)
+    → Steps (Owes accepts w input) c d session (Ok flow)
+taken_now notices accepts w input c d session flow none live (inl step) =
+    steps_now notices accepts w input c d session (Ok flow) none live step
+taken_now notices accepts w input c d session flow none live (inr (e, is, step)) = absurd (cc)
+
+abbrev input_of : (moment : ℕ) → (payload : List ℕ) → Input
+input_of moment payload = record { moment = moment; kind = Payload payload }
+
+abbrev turn_of : {E F : Type 0} → World → Input → List (Event E F) → Turn E F
+turn_of w input events = record {
+  input = input;
+  commands = nothing_waits w;
+  events = events;
+}
+
+-- a payload was finished
+pub goes_on : {E F : Type 0} (accepts : Acceptance) (settings : Settings) (moment : ℕ)
+    (payloads : List (List ℕ)) (payload : List ℕ) (a c d : Told E F) (session session' : Session)
+    → Going accepts settings payloads a c session
+    → ((w : World) → Refines session w → StepsAfter (untold session) accepts w
+    (input_of moment payload) c d session' (Ok Continue))
+    → untold session' ≡ [] → Going accepts settings (payloads ++ payload ∷ []) a d session'
+goes_on {E} {F} accepts settings moment payloads payload a c d session session' going taken told =
+    let w = going.world in
+    let live = run_live accepts (opening_world settings) going.turns w going.run refl in
+    let done = taken_now (untold session) accepts w (input_of moment payload) c d session' Continue
+    going.all_told live (taken w going.refines) in
+    let turn : Turn E F = turn_of w (input_of moment payload) done.events in
+    let comes = done.comes in
+    record {
+      turns = going.turns ++ turn ∷ [];
+      world = comes.0;
+      run = run_more accepts (opening_world settings) going.turns w turn comes.0 going.run
+          (done.plan, done.owes, comes.1, (refl, refl));
+      given = given_more going.turns turn payloads payload going.given refl;
+      called = told_more false calls_of going.turns turn a.calls c.calls d.calls going.called
+          done.called;
+      stepped = told_more false steps_of going.turns turn a.steps c.steps d.steps going.stepped
+          done.stepped;
+      told = told_more false told_of going.turns turn a.trace c.trace d.trace going.told done.told;
+      refines = comes.2;
+      set = stays_set accepts settings w (input_of moment payload) done.plan done.events comes.0
+          done.owes comes.1 going.set;
+      all_told = told;
+    }
+
+map_both : {A B : Type 0} (f : A → B) (xs ys : List A) → map f (xs ++ ys) ≡ map f xs ++ map f ys
+map_both f [] ys = refl
+map_both f (x ∷ xs) ys = ap (λ l. f x ∷ l) (map_both f xs ys)
+
+-- those that were given, and those that are left
+given_left : {E F : Type 0} (turns : List (Turn E F)) (payloads rest all : List (List ℕ))
+    → map kind_of turns ≡ map Payload payloads → payloads ++ rest ≡ all
+    → map kind_of turns ++ map Payload rest ≡ map Payload all
+given_left turns payloads rest all h is = ap (λ l. l ++ map Payload rest) h
+    ∙ (sym (map_both Payload payloads rest) ∙ ap (map Payload) is)
+
+-- the last that was looked at
+served_with : {E F : Type 0} (accepts : Acceptance) (settings : Settings) (moment : ℕ)
+    (payloads rest all : List (List ℕ)) (payload : List ℕ) (a c d : Told E F)
+    (session session' : Session) (result : Result Flow (RunError E F))
+    (end : Result (Unit {0}) (RunError E F)) (going : Going accepts settings payloads a c session)
+    (step : Steps (Owes accepts going.world (input_of moment payload)) c d session' result)
+    → Concludes step.plan step.events (Rose c.faults d.faults) end
+    → (payloads ++ payload ∷ []) ++ rest ≡ all → (result ≡ Ok Continue → ⊥)
+    → Served accepts settings all a d result
+served_with {E} {F} accepts settings moment payloads rest all payload a c d session session' result
+    end going step concludes is not =
+    let w = going.world in
+    let turn : Turn E F = turn_of w (input_of moment payload) step.events in
+    let count = length going.turns in
+    let closes : Closes accepts w count (count + 1) (Some turn) (Rose c.faults d.faults) end =
+    (omega arith, (refl, refl), (step.plan, step.owes, concludes)) in
+    record {
+      turns = going.turns;
+      world = w;
+      run = going.run;
+      last = Some turn;
+      left = map Payload rest;
+      given = given_left (going.turns ++ turn ∷ []) (payloads ++ payload ∷ []) rest all
+          (given_more going.turns turn payloads payload going.given refl) is;
+      all = λ goes. absurd (not goes);
+      called = told_more (may_stop result) calls_of going.turns turn a.calls c.calls d.calls
+          going.called step.called;
+      stepped = told_more false steps_of going.turns turn a.steps c.steps d.steps going.stepped
+          step.stepped;
+      told = told_more false told_of going.turns turn a.trace c.trace d.trace going.told step.told;
+      authorised = authorised accepts settings going.turns w count (count + 1) (Some turn)
+          (Rose c.faults d.faults) end going.run closes;
+      ledger = λ earlier later is. ledgered accepts settings going.turns w going.run earlier later
+          is;
+    }
+
+-- nothing was told since, whatever list it is
+told_same : {A B : Type 0} (stops : Bool) (f : A → List B) (xs : List A) (a b c : Option (List B))
+    → Adds a b (flat_map f xs) → ToldBy stops b c [] → ToldBy stops a c (flat_map f (xs ++ []))
+told_same stops f xs a b c h k =
+    subst (λ l. ToldBy stops a c (flat_map f l)) (sym (append-nil xs))
+    (subst (ToldBy stops a c) (append-nil (flat_map f xs))
+    (told_then stops a b c (flat_map f xs) [] h k))
+
+-- no more was looked at
+served_none : {E F : Type 0} (accepts : Acceptance) (settings : Settings)
+    (payloads rest all : List (List ℕ)) (a c d : Told E F) (session : Session)
+    (result : Result Flow (RunError E F)) → Going accepts settings payloads a c session
+    → payloads ++ rest ≡ all → (result ≡ Ok Continue → rest ≡ [])
+    → ToldBy (may_stop result) c.calls d.calls [] → Adds c.steps d.steps []
+    → Adds c.trace d.trace [] → Served accepts settings all a d result
+served_none {E} {F} accepts settings payloads rest all a c d session result going is ends called
+    stepped told =
+    let w = going.world in
+    let count = length going.turns in
+    let none : Option (Turn E F) = None in
+    let end : Result (Unit {0}) (RunError E F) = Err error.NoMemory in
+    record {
+      turns = going.turns;
+      world = w;
+      run = going.run;
+      last = None;
+      left = map Payload rest;
+      given = subst (λ l. map kind_of l ++ map Payload rest ≡ map Payload all)
+          (sym (append-nil going.turns)) (given_left going.turns payloads rest all going.given is);
+      all = λ goes. ap (map Payload) (ends goes);
+      called = told_same (may_stop result) calls_of going.turns a.calls c.calls d.calls going.called
+          called;
+      stepped = told_same false steps_of going.turns a.steps c.steps d.steps going.stepped stepped;
+      told = told_same false told_of going.turns a.trace c.trace d.trace going.told told;
+      authorised = authorised accepts settings going.turns w count count none
+          (Rose c.faults d.faults) end going.run tt;
+      ledger = λ earlier later is. ledgered accepts settings going.turns w going.run earlier later
+          is;
+    }
+
+-- all were finished
+pub all_served : {E F : Type 0} (accepts : Acceptance) (settings : Settings)
+    (payloads rest all : List (List ℕ)) (a c : Told E F) (session : Session)
+    → Going accepts settings payloads a c session → payloads ++ rest ≡ all → rest ≡ []
+    → Served accepts settings all a c (Ok Continue)
+all_served accepts settings payloads rest all a c session going is none =
+    served_none accepts settings payloads rest all a c c session (Ok Continue) going is (λ _. none)
+    (told_none false c.calls) (adds_nil c.steps) (adds_nil c.trace)
+
+-- one ended the connection
+pub ended : {E F : Type 0} (accepts : Acceptance) (settings : Settings) (moment : ℕ)
+    (payloads rest all : List (List ℕ)) (payload : List ℕ) (a c d : Told E F)
+    (session session' : Session) → Going accepts settings payloads a c session
+    → ((w : World) → Refines session w → StepsAfter (untold session) accepts w
+    (input_of moment payload) c d session' (Ok Ended))
+    → (payloads ++ payload ∷ []) ++ rest ≡ all → Served accepts settings all a d (Ok Ended)
+ended accepts settings moment payloads rest all payload a c d session session' going taken is =
+    let w = going.world in
+    let live = run_live accepts (opening_world settings) going.turns w going.run refl in
+    let done = taken_now (untold session) accepts w (input_of moment payload) c d session' Ended
+    going.all_told live (taken w going.refines) in
+    served_with accepts settings moment payloads rest all payload a c d session session' (Ok Ended)
+    (Ok tt) going done done.comes is (λ h. cc)
+
+-- a plan that is at its end begins with nothing
+at_end : {E F : Type 0} (plan rest : Plan Outcome) (outcome : Outcome) (events : List (Event E F))
+    → plan ≡ Finish outcome → Reaches plan events rest → events ≡ []
+at_end plan rest outcome [] is h = refl
+at_end plan rest outcome (event ∷ events) is h = absurd (rw is at h)
+
+no_question : {E F : Type 0} (plan : Plan Outcome) (outcome : Outcome) (question : Question)
+    (next : Answer question → Plan Outcome) (events : List (Event E F)) → plan ≡ Finish outcome
+    → Reaches plan events (Ask question next) → ⊥
+no_question plan outcome question next [] is h =
+    let e : Finish outcome ≡ Ask question next = sym is ∙ h in cc
+no_question plan outcome question next (event ∷ events) is h = rw is at h
+
+caused_none : {E F : Type 0} (cause : Cause E F) (plan : Plan Outcome) (outcome : Outcome)
+    (rose : Type 0) (events : List (Event E F)) → plan ≡ Finish outcome
+    → IsCaused cause plan rose events → events ≡ []
+caused_none Wants_memory plan outcome rose events is h = at_end plan h.0 outcome events is h.1
+caused_none Link_failed plan outcome rose events is h = at_end plan h.1.0 outcome events is h.1.1
+caused_none Limit_reached plan outcome rose events is h = absurd h
+caused_none (Faulty fault) plan outcome rose events is h = at_end plan _ outcome events is h
+caused_none (Refused_by e) plan outcome rose events is h =
+    absurd (no_question plan outcome h.question h.next h.before is h.reaches)
+caused_none (Broken_by e) plan outcome rose events is h =
+    absurd (no_question plan outcome h.question h.next h.before is h.reaches)
+
+-- one was not finished, or not looked at
+stopped_by : {E F : Type 0} (accepts : Acceptance) (settings : Settings) (moment : ℕ)
+    (payloads rest all : List (List ℕ)) (payload : List ℕ) (a c d : Told E F)
+    (session session' : Session) (e : RunError E F) (notices : List Notice) → notices ≡ []
+    → (going : Going accepts settings payloads a c session) → IsLive going.world
+    → StepsAfter notices accepts going.world (input_of moment payload) c d session' (Err e)
+    → (payloads ++ payload ∷ []) ++ rest ≡ all → Served accepts settings all a d (Err e)
+stopped_by accepts settings moment payloads rest all payload a c d session session' e notices none
+    going live (inl step) is =
+    let done = steps_now notices accepts going.world (input_of moment payload) c d session' (Err e)
+    none live step in
+    served_with accepts settings moment payloads rest all payload a c d session session' (Err e)
+    (Err e) going done done.comes is (λ h. cc)
+stopped_by accepts settings moment payloads rest all payload a c d session session' e notices none
+    going live (inr (f, same, step)) is =
+    let plan : step.plan ≡ Finish (Goes going.world) = rw none at step.owes in
+    let nothing = caused_none (cause_of e) step.plan (Goes going.world) (Rose c.faults d.faults)
+    step.events plan step.comes in
+    served_none accepts settings payloads (payload ∷ rest) all a c d session (Err e) going
+    (sym (append_assoc payloads (payload ∷ []) rest) ∙ is) (λ h. cc)
+    (subst (λ l. ToldBy (may_stop {T = Flow} (Err e)) c.calls d.calls (calls_in l)) nothing
+    step.called)
+    (subst (λ l. Adds c.steps d.steps (steps_in l)) nothing step.stepped)
+    (subst (λ l. Adds c.trace d.trace (told_in l)) nothing step.told)
+
+pub stopped : {E F : Type 0} (accepts : Acceptance) (settings : Settings) (moment : ℕ)
+    (payloads rest all : List (List ℕ)) (payload : List ℕ) (a c d : Told E F)
+    (session session' : Session) (e : RunError E F) → Going accepts settings payloads a c session
+    → ((w : World) → Refines session w → StepsAfter (untold session) accepts w
+    (input_of moment payload) c d session' (Err e))
+    → (payloads ++ payload ∷ []) ++ rest ≡ all → Served accepts settings all a d (Err e)
+stopped accepts settings moment payloads rest all payload a c d session session' e going taken is =
+    stopped_by accepts settings moment payloads rest all payload a c d session session' e
+    (untold session) going.all_told going
+    (run_live accepts (opening_world settings) going.turns going.world going.run refl)
+    (taken going.world going.refines) is
+
+-- it could not begin
+pub not_begun : (E F : Type 0) (accepts : Acceptance) (settings : Settings)
+    (payloads : List (List ℕ)) (a : Told E F)
+    → Served accepts settings payloads a a (Err error.NoMemory)
+not_begun E F accepts settings payloads a =
+    let none : Option (Turn E F) = None in
+    let end : Result (Unit {0}) (RunError E F) = Err error.NoMemory in
+    let start = opening_world settings in
+    record {
+      turns = [];
+      world = start;
+      run = refl;
+      last = None;
+      left = map Payload payloads;
+      given = refl;
+      all = λ h. absurd (cc);
+      called = told_none false a.calls;
+      stepped = adds_nil a.steps;
+      told = adds_nil a.trace;
+      authorised = authorised accepts settings [] start 0 0 none ⊥ end refl tt;
+      ledger = λ earlier later is. ledgered accepts settings [] start refl earlier later is;
+    }

@@ -1,0 +1,28 @@
+use Rattle.std.proofs.Common.{◌≡◌, sym, ◌∙◌, ap, subst, Err}
+use Rattle.std.proofs.lemmas.Result.{err_from_is_err_and}
+use Rattle.ssh_session.specs.declared.error.RunError.TheVariants as error
+use Rattle.ssh_session.specs.Failure.{run_error_of}
+use Rattle.ssh_session.specs.World.{settings_of}
+use Rattle.ssh_vectors.specs.Client.{Served}
+use Rattle.ssh_vectors.proofs.Driving.{not_begun}
+use Rattle.ssh_vectors.proofs.client.serve_payloads.Goals as goal
+
+pub returns-in_err-session : goal.returns-in_err-session
+returns-in_err-session g c =
+    let settings = settings_of c.args.config.now c.args.session_id.now c.args.remote_sshid.now in
+    let p = err_from_is_err_and c.from_residual.result c.from_residual.ensures.1 in
+    let is : c.from_residual.result ≡ Err error.NoMemory = p.1
+    ∙ ap Err (p.2 ∙ ap run_error_of c.in_err-session.ensures.memory) in
+    record {
+      served = subst (Served (g.V.Verifier.accepts c.args.verifier.now) settings
+          c.args.payloads.items _ _) (sym is)
+          (not_begun g.row.H-Error.Denot g.row.K-Error.Denot
+          (g.V.Verifier.accepts c.args.verifier.now) settings c.args.payloads.items _);
+    }
+
+pub returns : goal.returns
+returns g c = record {
+  served = c.serve_each-flow.ensures.served
+      (settings_of c.args.config.now c.args.session_id.now c.args.remote_sshid.now)
+      c.in_ok-session.ensures.opens;
+}

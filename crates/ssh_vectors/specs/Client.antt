@@ -1,0 +1,51 @@
+-- What a program has that drives a session itself, from the contract of one input.
+use Rattle.std.specs.Prelude.{◌≡◌, ℕ, List, [], ◌++◌, map, flat_map, Option, option_to_list}
+use Rattle.std.specs.Prelude.{Result, Ok}
+use Rattle.ssh_link.specs.Told.{Adds, ToldBy}
+use Rattle.ssh_link.specs.declared.frame.InputKind.{InputKind}
+use Rattle.ssh_link.specs.declared.frame.InputKind.TheVariants.{Payload}
+use Rattle.ssh_link.specs.declared.link.TraceEntry.{TraceEntry}
+use Rattle.ssh_auth.specs.Plan.{told_in}
+use Rattle.ssh_auth.specs.Publickey.{Acceptance}
+use Rattle.ssh_session.specs.declared.error.Flow.{Flow}
+use Rattle.ssh_session.specs.declared.error.Flow.TheVariants.{Continue}
+use Rattle.ssh_session.specs.declared.error.RunError.{RunError}
+use Rattle.ssh_session.specs.Account.{Told}
+use Rattle.ssh_session.specs.Authorised.{Authorised}
+use Rattle.ssh_session.specs.Ledger.{Ledgered_after}
+use Rattle.ssh_session.specs.Run.{Turn, Run, calls_of, steps_of}
+use Rattle.ssh_session.specs.Serve.{may_stop}
+use Rattle.ssh_session.specs.World.{Settings, World, opening_world}
+
+abbrev pub kind_of : {E F : Type 0} → Turn E F → InputKind
+kind_of turn = turn.input.kind
+
+-- what the link was told as an input was served: notices, answers and frames
+abbrev pub told_of : {E F : Type 0} → Turn E F → List TraceEntry
+told_of turn = told_in turn.events
+
+-- payloads were served one after another
+pub record Served {E F : Type 0} (accepts : Acceptance) (settings : Settings)
+    (payloads : List (List ℕ)) (before after : Told E F) (result : Result Flow (RunError E F))
+    : Type 0 where
+  -- those that were finished, each by its row
+  pub turns : List (Turn E F)
+  pub world : World
+  pub run : Run accepts (opening_world settings) turns world
+  -- one more, which ended the connection or was not finished
+  pub last : Option (Turn E F)
+  -- and those that it did not come to: none where all went well
+  pub left : List InputKind
+  pub given : map kind_of (turns ++ option_to_list last) ++ left ≡ map Payload payloads
+  pub all : result ≡ Ok Continue → left ≡ []
+  -- the handler was called, the exchange asked and the link told for these, and nothing else
+  pub called : ToldBy (may_stop result) before.calls after.calls
+      (flat_map calls_of (turns ++ option_to_list last))
+  pub stepped : Adds before.steps after.steps (flat_map steps_of (turns ++ option_to_list last))
+  pub told : Adds before.trace after.trace (flat_map told_of (turns ++ option_to_list last))
+  -- nothing of the connection is served before an accepted authentication
+  pub authorised : Authorised accepts settings (turns ++ option_to_list last)
+  -- after each that was finished each channel has sent exactly its first min(accepted, granted)
+  -- bytes, in order
+  pub ledger : (earlier later : List (Turn E F)) → turns ≡ earlier ++ later
+      → Ledgered_after accepts settings earlier
