@@ -30,8 +30,12 @@ use Rattle.ssh_session.specs.Serve.{Refused_by, Broken_by}
 use Rattle.ssh_session.specs.Serve.{Refines, IsSuited, IsCaused, cause_of, may_stop}
 use Rattle.ssh_session.specs.World.{Settings, World, opening_world}
 use Rattle.ssh_session.proofs.Accepting.{authorised}
+use Rattle.ssh_session.proofs.Answered.{answered}
 use Rattle.ssh_session.proofs.Books.{ledgered}
 use Rattle.ssh_session.proofs.Ended.{IsLive, run_live}
+use Rattle.ssh_session.proofs.GlobalReplied.{globally_replied}
+use Rattle.ssh_session.proofs.InOrder.{in_order}
+use Rattle.ssh_session.proofs.Replied.{replied}
 use Rattle.ssh_session.proofs.Serving.{told_then, told_none}
 use Rattle.ssh_session.proofs.Settled.{stays_set}
 use Rattle.ssh_vectors.specs.Client.{kind_of, told_of, Served}
@@ -113,8 +117,9 @@ given_more turns turn payloads payload h is = map_more kind_of turns turn
     ∙ (ap (λ k. map Payload payloads ++ k ∷ []) is ∙ sym (map_more Payload payloads payload)))
 
 -- where no notice waits and the connection was not ended, an input owes its row
-owes_now : (notices : List Notice) (accepts : Acceptance) (w : World) (input : Input) (plan : Plan Outcome)
-    → notices ≡ [] → IsLive w → OwesBehind notices accepts w input plan → Owes accepts w input plan
+owes_now : (notices : List Notice) (accepts : Acceptance) (w : World) (input : Input)
+    (plan : Plan Outcome) → notices ≡ [] → IsLive w → OwesBehind notices accepts w input plan
+    → Owes accepts w input plan
 owes_now notices accepts w input plan none live (later, owes, is) =
     let now : plan ≡ later = rw none at is in
     subst (Owes accepts w input) (sym now)
@@ -228,8 +233,17 @@ served_with {E} {F} accepts settings moment payloads rest all payload a c d sess
       told = told_more false told_of going.turns turn a.trace c.trace d.trace going.told step.told;
       authorised = authorised accepts settings going.turns w count (count + 1) (Some turn)
           (Rose c.faults d.faults) end going.run closes;
+      answered = answered accepts settings going.turns w count (count + 1) (Some turn)
+          (Rose c.faults d.faults) end going.run closes;
+      replied = replied accepts settings going.turns w count (count + 1) (Some turn)
+          (Rose c.faults d.faults) end going.run closes;
+      globally_replied = globally_replied accepts settings going.turns w count (count + 1) (Some
+          turn)
+          (Rose c.faults d.faults) end going.run closes;
       ledger = λ earlier later is. ledgered accepts settings going.turns w going.run earlier later
           is;
+      in_order = λ earlier later is. in_order accepts settings going.turns w going.run earlier
+          later is;
     }
 
 -- nothing was told since, whatever list it is
@@ -268,8 +282,16 @@ served_none {E} {F} accepts settings payloads rest all a c d session result goin
       told = told_same false told_of going.turns a.trace c.trace d.trace going.told told;
       authorised = authorised accepts settings going.turns w count count none
           (Rose c.faults d.faults) end going.run tt;
+      answered = answered accepts settings going.turns w count count none
+          (Rose c.faults d.faults) end going.run tt;
+      replied = replied accepts settings going.turns w count count none
+          (Rose c.faults d.faults) end going.run tt;
+      globally_replied = globally_replied accepts settings going.turns w count count none
+          (Rose c.faults d.faults) end going.run tt;
       ledger = λ earlier later is. ledgered accepts settings going.turns w going.run earlier later
           is;
+      in_order = λ earlier later is. in_order accepts settings going.turns w going.run earlier
+          later is;
     }
 
 -- all were finished
@@ -378,5 +400,9 @@ not_begun E F accepts settings payloads a =
       stepped = adds_nil a.steps;
       told = adds_nil a.trace;
       authorised = authorised accepts settings [] start 0 0 none ⊥ end refl tt;
+      answered = answered accepts settings [] start 0 0 none ⊥ end refl tt;
+      replied = replied accepts settings [] start 0 0 none ⊥ end refl tt;
+      globally_replied = globally_replied accepts settings [] start 0 0 none ⊥ end refl tt;
       ledger = λ earlier later is. ledgered accepts settings [] start refl earlier later is;
+      in_order = λ earlier later is. in_order accepts settings [] start refl earlier later is;
     }

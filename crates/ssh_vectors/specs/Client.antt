@@ -11,8 +11,12 @@ use Rattle.ssh_session.specs.declared.error.Flow.{Flow}
 use Rattle.ssh_session.specs.declared.error.Flow.TheVariants.{Continue}
 use Rattle.ssh_session.specs.declared.error.RunError.{RunError}
 use Rattle.ssh_session.specs.Account.{Told}
+use Rattle.ssh_session.specs.Answered.{Answered}
 use Rattle.ssh_session.specs.Authorised.{Authorised}
+use Rattle.ssh_session.specs.GlobalReplied.{GlobalReplied}
+use Rattle.ssh_session.specs.InOrder.{InOrder}
 use Rattle.ssh_session.specs.Ledger.{Ledgered_after}
+use Rattle.ssh_session.specs.Replied.{Replied}
 use Rattle.ssh_session.specs.Run.{Turn, Run, calls_of, steps_of}
 use Rattle.ssh_session.specs.Serve.{may_stop}
 use Rattle.ssh_session.specs.World.{Settings, World, opening_world}
@@ -49,3 +53,11 @@ pub record Served {E F : Type 0} (accepts : Acceptance) (settings : Settings)
   -- bytes, in order
   pub ledger : (earlier later : List (Turn E F)) → turns ≡ earlier ++ later
       → Ledgered_after accepts settings earlier
+  -- an open of the peer's gets at most one answer, and none before its callback returned
+  pub answered : Answered (turns ++ option_to_list last)
+  -- the peer gets no more replies to its requests than it wanted, on a channel and to global ones
+  pub replied : Replied (turns ++ option_to_list last)
+  pub globally_replied : GlobalReplied (turns ++ option_to_list last)
+  -- the replies to this side's global requests are taken in the order of the requests
+  pub in_order : (earlier later : List (Turn E F)) → turns ≡ earlier ++ later
+      → InOrder accepts settings earlier

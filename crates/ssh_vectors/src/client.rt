@@ -18,8 +18,9 @@ use std::alloc::Global;
 /// connection or fails. The premises and the errors are those of `run_stream`.
 ///
 /// What is promised follows from the contract of `Session::step`: nothing of the connection is
-/// served before an accepted authentication (RFC 4252 section 6), and after each payload each
-/// channel has sent exactly the first min(accepted, granted) bytes (RFC 4254 section 5.2).
+/// served before an accepted authentication (RFC 4252 section 6), after each payload each channel
+/// has sent exactly the first min(accepted, granted) bytes (RFC 4254 section 5.2), and the peer's
+/// opens and requests are answered as those of a run are.
 pub fn serve_payloads<H: Handler, V: Verifier, K: Kex, L: Link>(
     alloc: Global,
     config: &Config,
