@@ -1,14 +1,15 @@
 -- From payload to payload.
-use Rattle.std.proofs.Common.{◌≡◌, ◌+◌, ℕ, List, [], ◌∷◌, ◌++◌, length, Option, Some, None}
+use Rattle.std.proofs.Common.{◌≡◌, ◌≤◌, ◌+◌, ℕ, List, [], ◌∷◌, ◌++◌, length, Option, Some, None}
 use Rattle.std.proofs.Common.{Result, Ok, Err, Bool, false, refl, sym, ◌∙◌, ap, subst, arith}
 use Rattle.std.proofs.Common.{append_assoc, inl, inr}
-use Rattle.std.specs.Prelude.{flat_map, map}
+use Rattle.std.specs.Prelude.{flat_map, map, option_to_list}
 use Rattle.std.proofs.lemmas.List.{append-nil}
 use Rattle.std.proofs.lemmas.List.Concat.{flat_map-append}
 use Rattle.ssh_link.specs.Faults.{Rose}
 use Rattle.ssh_link.specs.Told.{Adds, ToldBy}
 use Rattle.ssh_link.proofs.Tellings.{adds_nil}
 use Rattle.ssh_link.specs.declared.frame.Input.{Input}
+use Rattle.ssh_link.specs.declared.frame.InputKind.{InputKind}
 use Rattle.ssh_link.specs.declared.frame.InputKind.TheVariants.{Payload}
 use Rattle.ssh_link.specs.declared.notice.Notice.{Notice}
 use Rattle.ssh_auth.specs.declared.question.Question.{Question}
@@ -23,7 +24,7 @@ use Rattle.ssh_session.specs.declared.error.RunError.TheVariants as error
 use Rattle.ssh_session.specs.declared.session.Session.{Session}
 use Rattle.ssh_session.specs.Account.{Told, Steps, Concludes, Closes}
 use Rattle.ssh_session.specs.Between.{untold, OwesBehind, OwesUnlessEnded, StepsAfter}
-use Rattle.ssh_session.specs.Outcome.{Outcome, Goes}
+use Rattle.ssh_session.specs.Outcome.{Fault, Outcome, Goes, Fails}
 use Rattle.ssh_session.specs.Run.{Owes, Turn, Turns, Run, calls_of, steps_of, nothing_waits}
 use Rattle.ssh_session.specs.Serve.{Cause, Wants_memory, Link_failed, Limit_reached, Faulty}
 use Rattle.ssh_session.specs.Serve.{Refused_by, Broken_by}
@@ -36,9 +37,9 @@ use Rattle.ssh_session.proofs.Ended.{IsLive, run_live}
 use Rattle.ssh_session.proofs.GlobalReplied.{globally_replied}
 use Rattle.ssh_session.proofs.InOrder.{in_order}
 use Rattle.ssh_session.proofs.Replied.{replied}
-use Rattle.ssh_session.proofs.Serving.{told_then, told_none}
+use Rattle.ssh_session.proofs.Serving.{told_then, told_none, caused_rose}
 use Rattle.ssh_session.proofs.Settled.{stays_set}
-use Rattle.ssh_vectors.specs.Client.{kind_of, told_of, Served}
+use Rattle.ssh_vectors.specs.Client.{kind_of, told_of, EndsSo, Served}
 
 -- these payloads were finished, and it goes on
 pub record Going {E F : Type 0} (accepts : Acceptance) (settings : Settings)
@@ -50,6 +51,7 @@ pub record Going {E F : Type 0} (accepts : Acceptance) (settings : Settings)
   pub called : Adds before.calls after.calls (flat_map calls_of turns)
   pub stepped : Adds before.steps after.steps (flat_map steps_of turns)
   pub told : Adds before.trace after.trace (flat_map told_of turns)
+  pub later : before.faults ≤ after.faults
   pub refines : Refines session world
   pub set : world.settings ≡ settings
   pub all_told : untold session ≡ []
@@ -65,6 +67,7 @@ starts E F accepts settings before session r t = record {
   called = adds_nil before.calls;
   stepped = adds_nil before.steps;
   told = adds_nil before.trace;
+  later = omega arith;
   refines = r;
   set = refl;
   all_told = t;
@@ -184,6 +187,7 @@ goes_on {E} {F} accepts settings moment payloads payload a c d session session' 
       stepped = told_more false steps_of going.turns turn a.steps c.steps d.steps going.stepped
           done.stepped;
       told = told_more false told_of going.turns turn a.trace c.trace d.trace going.told done.told;
+      later = let x = going.later in let y = done.later in omega (arith, x, y);
       refines = comes.2;
       set = stays_set accepts settings w (input_of moment payload) done.plan done.events comes.0
           done.owes comes.1 going.set;
@@ -201,6 +205,44 @@ given_left : {E F : Type 0} (turns : List (Turn E F)) (payloads rest all : List 
 given_left turns payloads rest all h is = ap (λ l. l ++ map Payload rest) h
     ∙ (sym (map_both Payload payloads rest) ∙ ap (map Payload) is)
 
+-- what was served, with the laws of every run that closes so
+served : {E F : Type 0} (accepts : Acceptance) (settings : Settings) (all : List (List ℕ))
+    (a d : Told E F) (result : Result Flow (RunError E F)) (turns : List (Turn E F))
+    (w : World) (last : Option (Turn E F)) (left : List InputKind) (max : ℕ) (rose : Type 0)
+    (end : Result (Unit {0}) (RunError E F)) → Run accepts (opening_world settings) turns w
+    → Closes accepts w (length turns) max last rose end
+    → map kind_of (turns ++ option_to_list last) ++ left ≡ map Payload all
+    → (result ≡ Ok Continue → left ≡ [])
+    → EndsSo accepts w last (Rose a.faults d.faults) result → a.faults ≤ d.faults
+    → ToldBy (may_stop result) a.calls d.calls (flat_map calls_of (turns ++ option_to_list last))
+    → Adds a.steps d.steps (flat_map steps_of (turns ++ option_to_list last))
+    → Adds a.trace d.trace (flat_map told_of (turns ++ option_to_list last))
+    → Served accepts settings all a d result
+served accepts settings all a d result turns w last left max rose end run closes given whole ends
+    later called stepped told =
+    let count = length turns in
+    record {
+      turns = turns;
+      world = w;
+      run = run;
+      last = last;
+      left = left;
+      given = given;
+      all = whole;
+      ends = ends;
+      later = later;
+      called = called;
+      stepped = stepped;
+      told = told;
+      authorised = authorised accepts settings turns w count max last rose end run closes;
+      ledger = λ earlier more is. ledgered accepts settings turns w run earlier more is;
+      answered = answered accepts settings turns w count max last rose end run closes;
+      replied = replied accepts settings turns w count max last rose end run closes;
+      globally_replied = globally_replied accepts settings turns w count max last rose end run
+          closes;
+      in_order = λ earlier more is. in_order accepts settings turns w run earlier more is;
+    }
+
 -- the last that was looked at
 served_with : {E F : Type 0} (accepts : Acceptance) (settings : Settings) (moment : ℕ)
     (payloads rest all : List (List ℕ)) (payload : List ℕ) (a c d : Told E F)
@@ -208,43 +250,27 @@ served_with : {E F : Type 0} (accepts : Acceptance) (settings : Settings) (momen
     (end : Result (Unit {0}) (RunError E F)) (going : Going accepts settings payloads a c session)
     (step : Steps (Owes accepts going.world (input_of moment payload)) c d session' result)
     → Concludes step.plan step.events (Rose c.faults d.faults) end
+    → EndsSo accepts going.world
+    (Some (turn_of going.world (input_of moment payload) step.events)) (Rose a.faults d.faults)
+    result
     → (payloads ++ payload ∷ []) ++ rest ≡ all → (result ≡ Ok Continue → ⊥)
     → Served accepts settings all a d result
 served_with {E} {F} accepts settings moment payloads rest all payload a c d session session' result
-    end going step concludes is not =
+    end going step concludes ends is not =
     let w = going.world in
     let turn : Turn E F = turn_of w (input_of moment payload) step.events in
     let count = length going.turns in
-    let closes : Closes accepts w count (count + 1) (Some turn) (Rose c.faults d.faults) end =
-    (omega arith, (refl, refl), (step.plan, step.owes, concludes)) in
-    record {
-      turns = going.turns;
-      world = w;
-      run = going.run;
-      last = Some turn;
-      left = map Payload rest;
-      given = given_left (going.turns ++ turn ∷ []) (payloads ++ payload ∷ []) rest all
-          (given_more going.turns turn payloads payload going.given refl) is;
-      all = λ goes. absurd (not goes);
-      called = told_more (may_stop result) calls_of going.turns turn a.calls c.calls d.calls
-          going.called step.called;
-      stepped = told_more false steps_of going.turns turn a.steps c.steps d.steps going.stepped
-          step.stepped;
-      told = told_more false told_of going.turns turn a.trace c.trace d.trace going.told step.told;
-      authorised = authorised accepts settings going.turns w count (count + 1) (Some turn)
-          (Rose c.faults d.faults) end going.run closes;
-      answered = answered accepts settings going.turns w count (count + 1) (Some turn)
-          (Rose c.faults d.faults) end going.run closes;
-      replied = replied accepts settings going.turns w count (count + 1) (Some turn)
-          (Rose c.faults d.faults) end going.run closes;
-      globally_replied = globally_replied accepts settings going.turns w count (count + 1) (Some
-          turn)
-          (Rose c.faults d.faults) end going.run closes;
-      ledger = λ earlier later is. ledgered accepts settings going.turns w going.run earlier later
-          is;
-      in_order = λ earlier later is. in_order accepts settings going.turns w going.run earlier
-          later is;
-    }
+    served accepts settings all a d result going.turns w (Some turn) (map Payload rest) (count + 1)
+    (Rose c.faults d.faults) end going.run
+    (omega arith, (refl, refl), (step.plan, step.owes, concludes))
+    (given_left (going.turns ++ turn ∷ []) (payloads ++ payload ∷ []) rest all
+    (given_more going.turns turn payloads payload going.given refl) is)
+    (λ goes. absurd (not goes)) ends
+    (let x = going.later in let y = step.later in omega (arith, x, y))
+    (told_more (may_stop result) calls_of going.turns turn a.calls c.calls d.calls going.called
+    step.called)
+    (told_more false steps_of going.turns turn a.steps c.steps d.steps going.stepped step.stepped)
+    (told_more false told_of going.turns turn a.trace c.trace d.trace going.told step.told)
 
 -- nothing was told since, whatever list it is
 told_same : {A B : Type 0} (stops : Bool) (f : A → List B) (xs : List A) (a b c : Option (List B))
@@ -257,42 +283,24 @@ told_same stops f xs a b c h k =
 -- no more was looked at
 served_none : {E F : Type 0} (accepts : Acceptance) (settings : Settings)
     (payloads rest all : List (List ℕ)) (a c d : Told E F) (session : Session)
-    (result : Result Flow (RunError E F)) → Going accepts settings payloads a c session
+    (result : Result Flow (RunError E F)) (going : Going accepts settings payloads a c session)
     → payloads ++ rest ≡ all → (result ≡ Ok Continue → rest ≡ [])
-    → ToldBy (may_stop result) c.calls d.calls [] → Adds c.steps d.steps []
-    → Adds c.trace d.trace [] → Served accepts settings all a d result
-served_none {E} {F} accepts settings payloads rest all a c d session result going is ends called
-    stepped told =
-    let w = going.world in
-    let count = length going.turns in
+    → EndsSo {E = E} {F = F} accepts going.world None (Rose a.faults d.faults) result
+    → c.faults ≤ d.faults → ToldBy (may_stop result) c.calls d.calls []
+    → Adds c.steps d.steps [] → Adds c.trace d.trace [] → Served accepts settings all a d result
+served_none {E} {F} accepts settings payloads rest all a c d session result going is whole ends
+    later called stepped told =
     let none : Option (Turn E F) = None in
     let end : Result (Unit {0}) (RunError E F) = Err error.NoMemory in
-    record {
-      turns = going.turns;
-      world = w;
-      run = going.run;
-      last = None;
-      left = map Payload rest;
-      given = subst (λ l. map kind_of l ++ map Payload rest ≡ map Payload all)
-          (sym (append-nil going.turns)) (given_left going.turns payloads rest all going.given is);
-      all = λ goes. ap (map Payload) (ends goes);
-      called = told_same (may_stop result) calls_of going.turns a.calls c.calls d.calls going.called
-          called;
-      stepped = told_same false steps_of going.turns a.steps c.steps d.steps going.stepped stepped;
-      told = told_same false told_of going.turns a.trace c.trace d.trace going.told told;
-      authorised = authorised accepts settings going.turns w count count none
-          (Rose c.faults d.faults) end going.run tt;
-      answered = answered accepts settings going.turns w count count none
-          (Rose c.faults d.faults) end going.run tt;
-      replied = replied accepts settings going.turns w count count none
-          (Rose c.faults d.faults) end going.run tt;
-      globally_replied = globally_replied accepts settings going.turns w count count none
-          (Rose c.faults d.faults) end going.run tt;
-      ledger = λ earlier later is. ledgered accepts settings going.turns w going.run earlier later
-          is;
-      in_order = λ earlier later is. in_order accepts settings going.turns w going.run earlier
-          later is;
-    }
+    served accepts settings all a d result going.turns going.world none (map Payload rest) 0 ⊥ end
+    going.run tt
+    (subst (λ l. map kind_of l ++ map Payload rest ≡ map Payload all)
+    (sym (append-nil going.turns)) (given_left going.turns payloads rest all going.given is))
+    (λ goes. ap (map Payload) (whole goes)) ends
+    (let x = going.later in omega (arith, x, later))
+    (told_same (may_stop result) calls_of going.turns a.calls c.calls d.calls going.called called)
+    (told_same false steps_of going.turns a.steps c.steps d.steps going.stepped stepped)
+    (told_same false told_of going.turns a.trace c.trace d.trace going.told told)
 
 -- all were finished
 pub all_served : {E F : Type 0} (accepts : Acceptance) (settings : Settings)
@@ -301,7 +309,7 @@ pub all_served : {E F : Type 0} (accepts : Acceptance) (settings : Settings)
     → Served accepts settings all a c (Ok Continue)
 all_served accepts settings payloads rest all a c session going is none =
     served_none accepts settings payloads rest all a c c session (Ok Continue) going is (λ _. none)
-    (told_none false c.calls) (adds_nil c.steps) (adds_nil c.trace)
+    tt (omega arith) (told_none false c.calls) (adds_nil c.steps) (adds_nil c.trace)
 
 -- one ended the connection
 pub ended : {E F : Type 0} (accepts : Acceptance) (settings : Settings) (moment : ℕ)
@@ -316,7 +324,7 @@ ended accepts settings moment payloads rest all payload a c d session session' g
     let done = taken_now (untold session) accepts w (input_of moment payload) c d session' Ended
     going.all_told live (taken w going.refines) in
     served_with accepts settings moment payloads rest all payload a c d session session' (Ok Ended)
-    (Ok tt) going done done.comes is (λ h. cc)
+    (Ok tt) going done done.comes (done.plan, done.owes, done.comes) is (λ h. cc)
 
 -- a plan that is at its end begins with nothing
 at_end : {E F : Type 0} (plan rest : Plan Outcome) (outcome : Outcome) (events : List (Event E F))
@@ -343,6 +351,45 @@ caused_none (Refused_by e) plan outcome rose events is h =
 caused_none (Broken_by e) plan outcome rose events is h =
     absurd (no_question plan outcome h.question h.next h.before is h.reaches)
 
+no_fault : (plan : Plan Outcome) (w : World) (fault : Fault) {E F : Type 0}
+    (events : List (Event E F)) → plan ≡ Finish (Goes w)
+    → Reaches plan events (Finish (Fails fault)) → ⊥
+no_fault plan w fault [] is h = let e : Finish (Goes w) ≡ Finish (Fails fault) = sym is ∙ h in cc
+no_fault plan w fault (event ∷ events) is h = rw is at h
+
+-- memory was wanting, or the link failed, before the next one was looked at
+ends_before : {E F : Type 0} (accepts : Acceptance) (w : World) (plan : Plan Outcome)
+    (rose rose' : Type 0) (events : List (Event E F)) (e : RunError E F) → plan ≡ Finish (Goes w)
+    → (rose → rose') → IsCaused (cause_of e) plan rose events
+    → EndsSo {E = E} {F = F} accepts w None rose' (Err e)
+ends_before accepts w plan rose rose' events error.NoMemory is f h = tt
+ends_before accepts w plan rose rose' events error.LinkFault is f h = f h.0
+ends_before accepts w plan rose rose' events error.InputLimit is f h = h
+ends_before accepts w plan rose rose' events (error.Encoding why) is f h =
+    no_fault plan w _ events is h
+ends_before accepts w plan rose rose' events error.Inconsistent is f h =
+    no_fault plan w _ events is h
+ends_before accepts w plan rose rose' events (error.Key why) is f h =
+    no_fault plan w _ events is h
+ends_before accepts w plan rose rose' events error.UnsupportedAuthMethod is f h =
+    no_fault plan w _ events is h
+ends_before accepts w plan rose rose' events (error.Handler e) is f h =
+    no_question plan (Goes w) h.question h.next h.before is h.reaches
+ends_before accepts w plan rose rose' events (error.Kex e) is f h =
+    no_question plan (Goes w) h.question h.next h.before is h.reaches
+ends_before accepts w plan rose rose' events error.ChannelsFull is f h =
+    no_fault plan w _ events is h
+ends_before accepts w plan rose rose' events error.KeepaliveTimeout is f h =
+    no_fault plan w _ events is h
+ends_before accepts w plan rose rose' events error.InactivityTimeout is f h =
+    no_fault plan w _ events is h
+ends_before accepts w plan rose rose' events error.NotBuilt is f h =
+    no_fault plan w _ events is h
+
+rises : {E F : Type 0} (a c d : Told E F) → a.faults ≤ c.faults → Rose c.faults d.faults
+    → Rose a.faults d.faults
+rises a c d x r = omega (arith, x, r)
+
 -- one was not finished, or not looked at
 stopped_by : {E F : Type 0} (accepts : Acceptance) (settings : Settings) (moment : ℕ)
     (payloads rest all : List (List ℕ)) (payload : List ℕ) (a c d : Told E F)
@@ -354,8 +401,10 @@ stopped_by accepts settings moment payloads rest all payload a c d session sessi
     going live (inl step) is =
     let done = steps_now notices accepts going.world (input_of moment payload) c d session' (Err e)
     none live step in
+    let cause = caused_rose (cause_of e) done.plan (Rose c.faults d.faults) (Rose a.faults d.faults)
+    done.events (rises a c d going.later) done.comes in
     served_with accepts settings moment payloads rest all payload a c d session session' (Err e)
-    (Err e) going done done.comes is (λ h. cc)
+    (Err e) going done done.comes (done.plan, done.owes, cause) is (λ h. cc)
 stopped_by accepts settings moment payloads rest all payload a c d session session' e notices none
     going live (inr (f, same, step)) is =
     let plan : step.plan ≡ Finish (Goes going.world) = rw none at step.owes in
@@ -363,6 +412,8 @@ stopped_by accepts settings moment payloads rest all payload a c d session sessi
     step.events plan step.comes in
     served_none accepts settings payloads (payload ∷ rest) all a c d session (Err e) going
     (sym (append_assoc payloads (payload ∷ []) rest) ∙ is) (λ h. cc)
+    (ends_before accepts going.world step.plan (Rose c.faults d.faults) (Rose a.faults d.faults)
+    step.events e plan (rises a c d going.later) step.comes) step.later
     (subst (λ l. ToldBy (may_stop {T = Flow} (Err e)) c.calls d.calls (calls_in l)) nothing
     step.called)
     (subst (λ l. Adds c.steps d.steps (steps_in l)) nothing step.stepped)
@@ -387,22 +438,6 @@ pub not_begun : (E F : Type 0) (accepts : Acceptance) (settings : Settings)
 not_begun E F accepts settings payloads a =
     let none : Option (Turn E F) = None in
     let end : Result (Unit {0}) (RunError E F) = Err error.NoMemory in
-    let start = opening_world settings in
-    record {
-      turns = [];
-      world = start;
-      run = refl;
-      last = None;
-      left = map Payload payloads;
-      given = refl;
-      all = λ h. absurd (cc);
-      called = told_none false a.calls;
-      stepped = adds_nil a.steps;
-      told = adds_nil a.trace;
-      authorised = authorised accepts settings [] start 0 0 none ⊥ end refl tt;
-      answered = answered accepts settings [] start 0 0 none ⊥ end refl tt;
-      replied = replied accepts settings [] start 0 0 none ⊥ end refl tt;
-      globally_replied = globally_replied accepts settings [] start 0 0 none ⊥ end refl tt;
-      ledger = λ earlier later is. ledgered accepts settings [] start refl earlier later is;
-      in_order = λ earlier later is. in_order accepts settings [] start refl earlier later is;
-    }
+    served accepts settings payloads a a (Err error.NoMemory) [] (opening_world settings) none
+    (map Payload payloads) 0 ⊥ end refl tt refl (λ h. absurd (cc)) tt (omega arith)
+    (told_none false a.calls) (adds_nil a.steps) (adds_nil a.trace)

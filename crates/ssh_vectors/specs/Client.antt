@@ -1,24 +1,28 @@
 -- What a program has that drives a session itself, from the contract of one input.
-use Rattle.std.specs.Prelude.{◌≡◌, ℕ, List, [], ◌++◌, map, flat_map, Option, option_to_list}
-use Rattle.std.specs.Prelude.{Result, Ok}
+use Rattle.std.specs.Prelude.{◌≡◌, ◌≤◌, ℕ, List, [], ◌++◌, map, flat_map, Option, Some, None}
+use Rattle.std.specs.Prelude.{option_to_list}
+use Rattle.std.specs.Prelude.{Result, Ok, Err}
+use Rattle.ssh_link.specs.Faults.{Rose}
 use Rattle.ssh_link.specs.Told.{Adds, ToldBy}
 use Rattle.ssh_link.specs.declared.frame.InputKind.{InputKind}
 use Rattle.ssh_link.specs.declared.frame.InputKind.TheVariants.{Payload}
 use Rattle.ssh_link.specs.declared.link.TraceEntry.{TraceEntry}
-use Rattle.ssh_auth.specs.Plan.{told_in}
+use Rattle.ssh_auth.specs.Plan.{Plan, Follows, told_in}
 use Rattle.ssh_auth.specs.Publickey.{Acceptance}
 use Rattle.ssh_session.specs.declared.error.Flow.{Flow}
-use Rattle.ssh_session.specs.declared.error.Flow.TheVariants.{Continue}
+use Rattle.ssh_session.specs.declared.error.Flow.TheVariants.{Continue, Ended}
 use Rattle.ssh_session.specs.declared.error.RunError.{RunError}
+use Rattle.ssh_session.specs.declared.error.RunError.TheVariants as error
 use Rattle.ssh_session.specs.Account.{Told}
 use Rattle.ssh_session.specs.Answered.{Answered}
 use Rattle.ssh_session.specs.Authorised.{Authorised}
 use Rattle.ssh_session.specs.GlobalReplied.{GlobalReplied}
 use Rattle.ssh_session.specs.InOrder.{InOrder}
 use Rattle.ssh_session.specs.Ledger.{Ledgered_after}
+use Rattle.ssh_session.specs.Outcome.{Outcome, Ends}
 use Rattle.ssh_session.specs.Replied.{Replied}
-use Rattle.ssh_session.specs.Run.{Turn, Run, calls_of, steps_of}
-use Rattle.ssh_session.specs.Serve.{may_stop}
+use Rattle.ssh_session.specs.Run.{Owes, Turn, Run, calls_of, steps_of}
+use Rattle.ssh_session.specs.Serve.{IsCaused, cause_of, may_stop}
 use Rattle.ssh_session.specs.World.{Settings, World, opening_world}
 
 abbrev pub kind_of : {E F : Type 0} → Turn E F → InputKind
@@ -27,6 +31,19 @@ kind_of turn = turn.input.kind
 -- what the link was told as an input was served: notices, answers and frames
 abbrev pub told_of : {E F : Type 0} → Turn E F → List TraceEntry
 told_of turn = told_in turn.events
+
+-- how it ends: all went well; the last one ended the connection, or was not finished by a cause; or
+-- memory was wanting, or the link failed, before the next one was looked at
+abbrev pub EndsSo : {E F : Type 0} → Acceptance → World → Option (Turn E F) → (rose : Type 0)
+    → Result Flow (RunError E F) → Type 0
+EndsSo accepts w None rose (Ok Continue) = Unit {0}
+EndsSo accepts w (Some turn) rose (Ok Ended) = (plan : Plan Outcome)
+    × Owes accepts w turn.input plan × ((world : World) × Follows plan turn.events (Ends world))
+EndsSo accepts w (Some turn) rose (Err e) = (plan : Plan Outcome)
+    × Owes accepts w turn.input plan × IsCaused (cause_of e) plan rose turn.events
+EndsSo accepts w None rose (Err error.NoMemory) = Unit {0}
+EndsSo accepts w None rose (Err error.LinkFault) = rose
+EndsSo accepts w _ rose _ = ⊥
 
 -- payloads were served one after another
 pub record Served {E F : Type 0} (accepts : Acceptance) (settings : Settings)
@@ -42,6 +59,9 @@ pub record Served {E F : Type 0} (accepts : Acceptance) (settings : Settings)
   pub left : List InputKind
   pub given : map kind_of (turns ++ option_to_list last) ++ left ≡ map Payload payloads
   pub all : result ≡ Ok Continue → left ≡ []
+  -- each end has its cause
+  pub ends : EndsSo accepts world last (Rose before.faults after.faults) result
+  pub later : before.faults ≤ after.faults
   -- the handler was called, the exchange asked and the link told for these, and nothing else
   pub called : ToldBy (may_stop result) before.calls after.calls
       (flat_map calls_of (turns ++ option_to_list last))
