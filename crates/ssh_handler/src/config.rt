@@ -14,7 +14,8 @@ pub struct Config {
     /// How long the refusal of a first request by method none is held, in milliseconds; None
     /// holds it as any other.
     pub auth_rejection_time_initial: Option<u64>,
-    /// After how many bytes, or how long, keys are exchanged again. Nothing reads it yet.
+    /// After how many bytes, or how long, keys are exchanged again; the time is told to whoever
+    /// builds the link.
     pub limits: Limits,
     /// The window that each channel grants its peer, in bytes.
     pub window_size: u32,
@@ -33,7 +34,7 @@ pub struct Config {
     /// How long the link waits between keepalive ticks, in milliseconds; told to whoever builds
     /// the link.
     pub keepalive_interval: Option<u64>,
-    /// How many keepalive requests may go unanswered; 0 sets no end. Nothing reads it yet.
+    /// How many keepalive requests may go unanswered; 0 sets no end.
     pub keepalive_max: usize,
     /// Whether the socket sends small packets at once; told to whoever builds the link.
     pub nodelay: bool,
