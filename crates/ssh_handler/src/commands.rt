@@ -89,14 +89,15 @@ impl<'a> Commands<'a> {
         self.remote_sshid
     }
 
-    /// Whether the session takes commands from outside now: no data wait on any channel.
+    /// Whether the session takes commands from outside now: no exchange of keys runs, and no data
+    /// wait on any channel.
     pub fn commands_wanted(&self) -> bool
         ensures { result ≡ self.now.commands_wanted }
     {
         self.commands_wanted
     }
 
-    /// Whether the session takes answers to opens from outside now.
+    /// Whether the session takes answers to opens from outside now: no exchange of keys runs.
     pub fn replies_wanted(&self) -> bool
         ensures { result ≡ self.now.replies_wanted }
     {
