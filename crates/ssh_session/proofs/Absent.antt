@@ -12,7 +12,8 @@ use Rattle.ssh_channels.specs.Entry.{more_may_come, close_may_come}
 use Rattle.ssh_channels.specs.Lines.{Lines, find, turns, leaves, closes, settles}
 use Rattle.ssh_channels.specs.Lines.{where_found, at, takes_data, takes_eof}
 use Rattle.ssh_channels.specs.Lines.{takes_close, peer_closes, takes_grant, takes_in, wants}
-use Rattle.ssh_channels.specs.Lines.{confirms, fails, says}
+use Rattle.ssh_channels.specs.Lines.{confirms, fails, says, numbers, goes_on, each_goes_on}
+use Rattle.ssh_channels.specs.Lines.{all_go_on}
 use Rattle.ssh_channels.specs.Room.{coming, having, adjust_out}
 use Rattle.ssh_channels.specs.Layout.{bare_frame, close_frame}
 use Rattle.ssh_channels.proofs.Listed.{find_other, without_other, found_number}
@@ -138,3 +139,15 @@ confirmed_absent n m peer window limit l h = at_absent n m _ l
 pub failed_absent : (n m : ℕ) (l : Lines) → IsAbsent n l → IsAbsent n (fails m l)
 failed_absent n m l h = at_absent n m _ l
     (λ e apart. chosen_absent (not e.confirmed) n _ _ (left_absent n e true [] l apart h) h) h
+
+-- what goes on at the end of an exchange of keys leaves it so
+goes_on_absent : (n m : ℕ) (l : Lines) → IsAbsent n l → IsAbsent n (goes_on m l)
+goes_on_absent n m l h = at_absent n m _ l
+    (λ e apart. settled_absent n (flushed e) e (flush_out e) l apart refl h) h
+
+each_absent : (n : ℕ) (ms : List ℕ) (l : Lines) → IsAbsent n l → IsAbsent n (each_goes_on ms l)
+each_absent n [] l h = h
+each_absent n (m ∷ ms) l h = each_absent n ms (goes_on m l) (goes_on_absent n m l h)
+
+pub all_absent : (n : ℕ) (l : Lines) → IsAbsent n l → IsAbsent n (all_go_on l)
+all_absent n l h = each_absent n (numbers l.entries) l h

@@ -16,7 +16,7 @@ use Rattle.ssh_session.specs.Account.{Concludes, Closes}
 use Rattle.ssh_session.specs.Authorised.{IsRequestOf, IsAccepting, NeedsUser, NoneRequests}
 use Rattle.ssh_session.specs.Authorised.{LastNamed, SomeoneIsIn, Authorised}
 use Rattle.ssh_session.specs.Outcome.{Outcome, Goes, Ends, Fails}
-use Rattle.ssh_session.specs.Run.{Turn, Run, Owes}
+use Rattle.ssh_session.specs.Run.{Turn, Run, Owes, IsTaken, asks_for_keys}
 use Rattle.ssh_session.specs.Serve.{Cause, Wants_memory, Link_failed, Limit_reached, Faulty}
 use Rattle.ssh_session.specs.Serve.{Refused_by, Broken_by, cause_of, IsCaused}
 use Rattle.ssh_session.specs.World.{Settings, World, circumstances, opening_world}
@@ -29,13 +29,13 @@ use Rattle.ssh_session.proofs.Settled.{stays_set}
 
 -- ---- inputs one after another
 
--- these inputs were taken, and each but the last was finished
+-- these inputs were taken, as each was asked for, and each but the last was finished
 abbrev pub AllWalk : {E F : Type 0} → Acceptance → World → List (Turn E F) → Type 0
 AllWalk accepts w [] = Unit {0}
 AllWalk accepts w (turn ∷ turns) = (plan : Plan Outcome) × Owes accepts w turn.input plan
     × Walks plan turn.events
     × ((turns ≡ []) ⊎ ((mid : World) × Follows plan turn.events (Goes mid)
-    × AllWalk accepts mid turns))
+    × AllWalk accepts mid turns)) × IsTaken w turn
 
 caused_walks : {E F : Type 0} (cause : Cause E F) (plan : Plan Outcome) (rose : Type 0)
     (events : List (Event E F)) →
@@ -59,7 +59,7 @@ pub last_walks : {E F : Type 0} (accepts : Acceptance) (w : World) (count max : 
     AllWalk accepts w (option_to_list last)
 last_walks accepts w count max None rose result h = tt
 last_walks accepts w count max (Some turn) rose result h =
-    let c = h.2 in (c.0, c.1, concluded_walks c.0 turn.events rose result c.2, inl refl)
+    let c = h.2 in (c.0, c.1, concluded_walks c.0 turn.events rose result c.2, inl refl, h.1)
 
 pub run_walks : {E F : Type 0} (accepts : Acceptance) (w : World) (turns : List (Turn E F))
     (world : World) (last : List (Turn E F)) →
@@ -71,6 +71,7 @@ run_walks accepts w (turn ∷ turns) world last run h =
       t.1,
       follows_walks t.0 turn.events (Goes run.0) t.2,
       inr (run.0, t.2, run_walks accepts run.0 turns world last run.2 h),
+      t.3,
     )
 
 -- ---- who was named last
@@ -181,7 +182,7 @@ turn_guarded accepts settings before turn w plan set h o =
     subst (λ s. Guarded (circumstances accepts s turn.input.moment) named a turn.input.kind plan)
     set
     (rw o.2 (input_guarded (circumstances accepts w.settings turn.input.moment) named a
-    turn.input.kind o.0
+    turn.input.kind (asks_for_keys turn.input.kind) o.0
     (owed_guarded accepts named a w turn.input.moment turn.input.kind o.0 o.1 h)))
 
 goes_on : {E F : Type 0} (accepts : Acceptance) (settings : Settings) (before : List (Turn E F))
@@ -223,11 +224,13 @@ turns_authorised accepts settings before (t ∷ turns) w set h all [] post turn 
     (walks_guarded (circumstances accepts settings t.input.moment) (LastNamed before)
     (SomeoneIsIn accepts settings before)
     t.input.kind all.0 past event more guarded walks needs))
-turns_authorised accepts settings before (t ∷ turns) w set h (plan, owes, walks, inl none) (p ∷ pre)
+turns_authorised accepts settings before (t ∷ turns) w set h (plan, owes, walks, inl none, taken)
+    (p ∷ pre)
     post turn is past more event splits needs =
     let rest : turns ≡ pre ++ turn ∷ post = cc in
     absurd (nothing_left pre turn post (sym rest ∙ none))
-turns_authorised accepts settings before (t ∷ turns) w set h (plan, owes, walks, inr next) (p ∷ pre)
+turns_authorised accepts settings before (t ∷ turns) w set h (plan, owes, walks, inr next, taken)
+    (p ∷ pre)
     post turn is past more event splits needs =
     let same : t ≡ p = cc in
     let rest : turns ≡ pre ++ turn ∷ post = cc in

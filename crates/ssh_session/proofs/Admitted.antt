@@ -2,7 +2,7 @@
 -- answer that accepts a user.
 use Rattle.std.proofs.Common.{map, ◌≡◌, ◌⊎◌, ℕ, List, [], ◌∷◌, ◌++◌, Option, Some, None}
 use Rattle.std.proofs.Common.{Bool, true, false, refl, sym, ap, subst, inl, inr, arith}
-use Rattle.std.specs.Prelude.{codes, if◌then◌else◌}
+use Rattle.std.specs.Prelude.{codes, if◌then◌else◌, nat_lt}
 use Rattle.ssh_wire.specs.Disconnects.{disconnect_code}
 use Rattle.ssh_wire.specs.Field.{Number, Flag, Text}
 use Rattle.ssh_wire.specs.Messages.{written, spellings, request_success, request_failure}
@@ -25,7 +25,13 @@ use Rattle.ssh_session.specs.declared.state.EncryptedState.TheVariants.{WaitingA
 use Rattle.ssh_session.specs.declared.state.EncryptedState.TheVariants.{WaitingAuthRequest}
 use Rattle.ssh_session.specs.declared.state.EncryptedState.TheVariants.{InitCompression}
 use Rattle.ssh_session.specs.declared.state.EncryptedState.TheVariants.{Authenticated}
-use Rattle.ssh_session.specs.Acts.{done, acts, tell_all, Stops, Turns}
+use Rattle.ssh_session.specs.declared.exchange.ExchangeState.{ExchangeState}
+use Rattle.ssh_session.specs.declared.exchange.ExchangeState.TheVariants.{Idle, Own, Both}
+use Rattle.ssh_session.specs.declared.exchange.Passage.{Passage}
+use Rattle.ssh_session.specs.declared.exchange.Passage.TheVariants.{Begins, Steps, Barred, Late}
+use Rattle.ssh_session.specs.declared.exchange.Passage.TheVariants.{Passes}
+use Rattle.ssh_session.specs.Acts.{done, acts, tell_all, Stops, Turns, Exchanges, Beginning}
+use Rattle.ssh_session.specs.Acts.{Stepping}
 use Rattle.ssh_session.specs.Authorised.{IsRequestOf}
 use Rattle.ssh_session.specs.Effect.{Effect, Does, effect, refused_or, refused_for, no_sending}
 use Rattle.ssh_session.specs.Effect.{no_closing, no_open, done_by, done_apart, no_user, lacks}
@@ -41,13 +47,14 @@ use Rattle.ssh_session.specs.Gate.{gate_of}
 use Rattle.ssh_session.specs.Layout.{at_once}
 use Rattle.ssh_session.specs.Opens.{opening_of}
 use Rattle.ssh_session.specs.Outcome.{Outcome, Goes, Keepalive_timeout}
-use Rattle.ssh_session.specs.Run.{OwesKind, command_row}
+use Rattle.ssh_session.specs.Exchange.{passage_of, most_early}
+use Rattle.ssh_session.specs.Run.{OwesKind, OwesPassed, command_row, passage}
 use Rattle.ssh_session.specs.World.{World, circumstances, hears, writes, wants_global}
 use Rattle.ssh_session.specs.World.{settles_global}
 use Rattle.ssh_session.proofs.Acting.{EffectComes}
 use Rattle.ssh_session.proofs.Apart.{sent_comes, either as holds_either}
 use Rattle.ssh_session.proofs.Guards.{IsBefore, IsClear, Guarded}
-use Rattle.ssh_session.proofs.Guards.{plan_accepted}
+use Rattle.ssh_session.proofs.Guards.{plan_accepted, exchange_guarded}
 use Rattle.ssh_session.proofs.FairVerdicts.{IsLow}
 use Rattle.ssh_wire.specs.declared.channel_id.ChannelId.{ChannelId}
 use Rattle.ssh_session.proofs.Admitting.{low_frame, low_more, unnamed, row_guarded}
@@ -232,6 +239,52 @@ tick_guarded given named a w false clear =
     (said_clear named keepalive (ticked w) (asking_low (codes "keepalive@openssh.com") [] true)
     clear))
 
+-- ---- payloads
+
+-- it goes to the exchange of keys
+abbrev IsExchanging : Passage → Type 0
+IsExchanging Begins = Unit {0}
+IsExchanging Steps = Unit {0}
+IsExchanging _ = ⊥
+
+-- a USERAUTH_REQUEST, whose number is 50, does not go to the exchange
+late_serves : (late : Bool) → IsExchanging (if late then Late else Passes) → ⊥
+late_serves true h = h
+late_serves false h = h
+
+request_serves : (exchange : ExchangeState) (window : ℕ) (fields : List ℕ) →
+    IsExchanging (passage_of exchange window (50 ∷ fields)) → ⊥
+request_serves Idle window fields h = h
+request_serves (Own early) window fields h = late_serves (nat_lt (most_early window) early) h
+request_serves Both window fields h = h
+
+exchanging : (at : Passage) (w : World) (payload : List ℕ) → passage w payload ≡ at →
+    IsExchanging at → (other : List ℕ) → IsRequestOf other (Payload payload) → ⊥
+exchanging at w payload is of other r =
+    request_serves w.keys.exchange w.settings.config.window_size r.0
+    (subst (λ p. IsExchanging (passage w p)) r.4 (subst IsExchanging (sym is) of))
+
+passed_guarded : (at : Passage) (accepts : Acceptance) (named : List ℕ → Type 0) (a : Type 0)
+    (w : World) (moment : ℕ) (payload : List ℕ) (plan : Plan Outcome) →
+    passage w payload ≡ at → OwesPassed at accepts w moment payload plan → IsClear named w →
+    Guarded (circumstances accepts w.settings moment) named a (Payload payload) plan
+passed_guarded Passes accepts named a w moment payload plan is o clear =
+    rw o.2 (row_guarded (circumstances accepts w.settings moment) named a w moment payload o.0
+    (gate_of w payload) refl o.1 clear)
+passed_guarded Begins accepts named a w moment payload plan is o clear =
+    let given = circumstances accepts w.settings moment in
+    let kind = Payload payload in
+    rw o (exchange_guarded given named a kind Beginning (Exchanges (Stepping payload) ∷ []) w
+    (unnamed named kind w (exchanging Begins w payload is tt) clear)
+    (λ b v c. exchange_guarded given named b kind (Stepping payload) [] v c (λ d u k. inr k)))
+passed_guarded Steps accepts named a w moment payload plan is o clear =
+    let kind = Payload payload in
+    rw o (exchange_guarded (circumstances accepts w.settings moment) named a kind
+    (Stepping payload) [] w (unnamed named kind w (exchanging Steps w payload is tt) clear)
+    (λ b v c. inr c))
+passed_guarded Barred accepts named a w moment payload plan is o clear = rw o tt
+passed_guarded Late accepts named a w moment payload plan is o clear = rw o tt
+
 -- ---- inputs
 
 clear_guarded : (accepts : Acceptance) (named : List ℕ → Type 0) (a : Type 0) (w : World)
@@ -253,9 +306,8 @@ clear_guarded accepts named a w moment (OpenReply ticket answer) plan o clear =
     (λ other h. h) clear)
 clear_guarded accepts named a w moment (Payload payload) plan o clear =
     let v = hears payload w in
-    subst (Guarded (circumstances accepts w.settings moment) named a (Payload payload)) (sym o.2)
-    (row_guarded (circumstances accepts v.settings moment) named a v moment payload o.0
-    (gate_of v payload) refl o.1 clear)
+    passed_guarded (passage v payload) accepts named a v moment payload plan refl o
+    (clear.0, clear.1, clear.2, clear.3)
 clear_guarded accepts named a w moment KeepaliveTick plan o clear =
     subst (Guarded (circumstances accepts w.settings moment) named a KeepaliveTick) (sym o)
     (tick_guarded (circumstances accepts w.settings moment) named a w
@@ -263,7 +315,8 @@ clear_guarded accepts named a w moment KeepaliveTick plan o clear =
 clear_guarded accepts named a w moment InactivityTick plan o clear =
     subst (Guarded (circumstances accepts w.settings moment) named a InactivityTick) (sym o) tt
 clear_guarded accepts named a w moment RekeyTick plan o clear =
-    subst (Guarded (circumstances accepts w.settings moment) named a RekeyTick) (sym o) tt
+    subst (Guarded (circumstances accepts w.settings moment) named a RekeyTick) (sym o)
+    (inr (unnamed named RekeyTick w (λ other h. h) clear))
 
 -- what an input owes is such a plan
 pub owed_guarded : (accepts : Acceptance) (named : List ℕ → Type 0) (a : Type 0) (w : World)

@@ -146,7 +146,7 @@ fair_guarded : (given : Circumstances) (named : List ℕ → Type 0) (a : Type 0
 fair_guarded given named a kind w moment requested (Finish outcome) none opens low h =
     concluded_guarded given named a kind w moment requested outcome none opens low h
 fair_guarded given named a kind w moment requested (Ask question next) none opens low h = (
-  λ q. absurd (h.0 q),
+  λ q. absurd (h.0 q.0),
   λ answer. fair_guarded given named (a ⊎ Accepts given named kind question answer) kind w moment
       requested (next answer)
       none opens low (h.1 answer),
@@ -202,7 +202,7 @@ service_guarded : (given : Circumstances) (named : List ℕ → Type 0) (a : Typ
     Guarded given named a kind (if b then Ask Banner (λ message. acts (greets message) w) else acts
     [] w)
 service_guarded given named a kind w true clear stays = (
-  λ q. absurd q,
+  λ q. absurd q.0,
   λ message. greets_guarded given named (a ⊎ ⊥) kind w message (is_short message) refl clear,
 )
 service_guarded given named a kind w false clear stays = inr stays
@@ -323,7 +323,6 @@ row_guarded given named a w moment payload said gate.InfoResponse is h clear =
     let stays = unread named w payload gate.InfoResponse is (λ r. r) clear in
     rw h.2 (response_guarded given named a w moment w.user.requested payload w.user.state h.0 read.1
     read.0 clear.0 stays.0 clear)
-row_guarded given named a w moment payload said gate.NotBuilt is h clear = rw h tt
 row_guarded given named a w moment payload said gate.ChannelOpen is h clear =
     let_in_only given named a w payload gate.ChannelOpen (row w moment said) is tt clear
 row_guarded given named a w moment payload said gate.OpenConfirmation is h clear =

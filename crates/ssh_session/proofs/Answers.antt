@@ -10,6 +10,7 @@ use Rattle.ssh_auth.specs.declared.question.Question.{Question}
 use Rattle.ssh_channels.specs.Layout.{bare_frame}
 use Rattle.ssh_channels.specs.Lines.{Lines, find, put, wants}
 use Rattle.ssh_channels.specs.Sent.{is_tagged}
+use Rattle.std.proofs.lemmas.Bool.{eqb-true}
 use Rattle.ssh_channels.proofs.Standing.{at_is}
 use Rattle.ssh_session.specs.Answered.{how_many, is_answer, is_answer_on, open_asked}
 use Rattle.ssh_session.specs.Opening.{Opening}
@@ -31,10 +32,6 @@ counted false n = omega arith
 counted_back : (b : Bool) (n : ℕ) → n + one_if b ≤ cond b (n + 1) n
 counted_back true n = omega arith
 counted_back false n = omega arith
-
-one_most : (b : Bool) → one_if b ≤ 1
-one_most true = omega arith
-one_most false = omega arith
 
 first_most : (n : ℕ) → n ≡ 0 → n + 1 ≤ 1
 first_most n h = omega (arith, h)
@@ -113,33 +110,19 @@ above_none from m P (x ∷ xs) l h =
     let apart = low_apart (m == x.0) m x.0 refl (omega (arith, l, low)) in
     rw apart (above_none (x.0 + 1) m P xs (omega (arith, l, low)) h.2)
 
-once_step : (b c : Bool) (from m : ℕ) (P : ℕ → Type 0) (v : Opening) (x : ℕ × Opening)
-    (xs : List (ℕ × Opening)) → nat_lt m x.0 ≡ b → (m == x.0) ≡ c →
-    AllWaiting from P (x ∷ xs) → waiting m (insert_entry nat_cmp xs m v) ≤ 1 →
-    waiting m (insert_entry nat_cmp (x ∷ xs) m v) ≤ 1
-once_step true c from m P v x xs t u h r =
-    let less : m < x.0 = search rules in
-    let none = above_none x.0 m P (x ∷ xs) less (omega arith, h.1, h.2) in
-    let most = counted (m == m) (waiting m (x ∷ xs)) in
-    let one = one_most (m == m) in
-    rw t (omega (arith, none, most, one))
-once_step false true from m P v x xs t u h r =
-    let at : m ≡ x.0 = search rules in
-    let none = above_none (x.0 + 1) m P xs (subst (λ n. n < x.0 + 1) (sym at) (omega arith))
-    h.2 in
-    rw (t, u) (rw u (first_most (waiting m xs) none))
-once_step false false from m P v x xs t u h r = rw (t, u) (rw u r)
+once_step : (b : Bool) (n : ℕ) → (b ≡ true → n ≡ 0) → n ≤ 1 → cond b (n + 1) n ≤ 1
+once_step true n none h = first_most n (none refl)
+once_step false n none h = h
 
--- after one more of a number there is one
-pub inserted_once : (from m : ℕ) (P : ℕ → Type 0) (v : Opening) (xs : List (ℕ × Opening)) →
-    AllWaiting from P xs → waiting m (insert_entry nat_cmp xs m v) ≤ 1
-inserted_once from m P v [] h =
-    let most = counted (m == m) 0 in
-    let one = one_most (m == m) in
-    omega (arith, most, one)
-inserted_once from m P v (x ∷ xs) h =
-    once_step (nat_lt m x.0) (m == x.0) from m P v x xs refl refl h
-    (inserted_once (x.0 + 1) m P v xs h.2)
+-- so at most one of a number waits
+pub waiting_once : (from m : ℕ) (P : ℕ → Type 0) (xs : List (ℕ × Opening)) →
+    AllWaiting from P xs → waiting m xs ≤ 1
+waiting_once from m P [] h = omega arith
+waiting_once from m P (x ∷ xs) h =
+    once_step (m == x.0) (waiting m xs)
+    (λ is. let at : m ≡ x.0 = eqb-true m x.0 is in
+    above_none (x.0 + 1) m P xs (subst (λ n. n < x.0 + 1) (sym at) (omega arith)) h.2)
+    (waiting_once (x.0 + 1) m P xs h.2)
 
 -- ---- the measure
 
@@ -171,6 +154,7 @@ answers_on number = record {
   globally = λ wanted. 0;
   asks = asks_open number;
   untagged = λ frame is unlike. no_channel number frame.channel (is_answer frame) is;
+  exchanged = λ frame is transport. no_channel number frame.channel (is_answer frame) is;
   other = λ frame no_answer no_reply. untold (is_tagged number frame.channel) (is_answer frame)
       no_answer;
   kept = λ e f entries at same. omega arith;

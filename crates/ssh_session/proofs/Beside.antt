@@ -35,12 +35,12 @@ use Rattle.ssh_wire.specs.declared.open.OpenChannelMessage.{OpenChannelMessage}
 use Rattle.ssh_wire.specs.declared.open.ChannelOpenConfirmation.{ChannelOpenConfirmation}
 use Rattle.ssh_session.specs.Opens.{opening_of}
 use Rattle.ssh_session.specs.Outcome.{Fault, Encoding, Inconsistent, Starved, Channels_full}
-use Rattle.ssh_session.specs.Outcome.{Not_built, Fails}
+use Rattle.ssh_session.specs.Outcome.{Fails}
 use Rattle.ssh_session.specs.declared.messages.Spoken.{Spoken}
 use Rattle.ssh_session.specs.declared.messages.Spoken.TheVariants as spoken
 use Rattle.ssh_session.specs.Reading.{Said, Disconnect, Over_cap, Service, Request}
 use Rattle.ssh_session.specs.Reading.{Response, Open, Agreed, Unread, Connection, Unfit}
-use Rattle.ssh_session.specs.Reading.{Without_packets, Unbuilt}
+use Rattle.ssh_session.specs.Reading.{Without_packets}
 use Rattle.ssh_session.specs.Rows.{spoken_acts, failure_acts, confirmation_acts}
 use Rattle.ssh_session.specs.Rows.{row, owed, greets, is_short, replied, concluded, asked_of}
 use Rattle.ssh_session.specs.Rows.{on_entry, on_confirmed, data_told, open_acts, reply_of, fault_of}
@@ -75,21 +75,22 @@ IsOther _ = Unit {0}
 
 -- ---- commands
 
--- what depends on what is fixed and on whether the connection was ended, and on nothing else
+-- what depends on what is fixed, on whether the connection was ended and on the keys, and on
+-- nothing else
 module _ (holds : World → Type 0)
     (same : (w v : World) → v.settings ≡ w.settings → v.disconnected ≡ w.disconnected
-    → holds w → holds v)
+    → v.keys ≡ w.keys → holds w → holds v)
   where
     fails_beside : (number : ℕ) (payload : List ℕ) (w : World) (long : Bool)
         → is_too_long payload ≡ long → holds w
         → EffectComes holds (fails_open number payload w)
     fails_beside number payload w true is h = rw is h
-    fails_beside number payload w false is h = rw is (same w _ refl refl h)
+    fails_beside number payload w false is h = rw is (same w _ refl refl refl h)
 
     decides_beside : (number : ℕ) (opening : Opening) (reason : Option ChannelOpenFailure)
         (texts : Option (List ℕ × List ℕ)) (w : World) → holds w
         → EffectComes holds (decides number opening reason texts w)
-    decides_beside number opening None texts w h = same w _ refl refl h
+    decides_beside number opening None texts w h = same w _ refl refl refl h
     decides_beside number opening (Some reason) texts w h =
         fails_beside number (failure_of opening reason texts) w
         (is_too_long (failure_of opening reason texts)) refl h
@@ -103,7 +104,7 @@ module _ (holds : World → Type 0)
     opened_beside : (number : Option ℕ) (asked : OwnOpen) (w : World) → holds w
         → EffectComes holds (opens_at number asked w)
     opened_beside None asked w h = h
-    opened_beside (Some n) asked w h = same w _ refl refl h
+    opened_beside (Some n) asked w h = same w _ refl refl refl h
 
     opens_beside : (asked : OwnOpen) (w : World) (long : Bool)
         → is_too_long (open_payload asked 0 w.settings.config.window_size
@@ -126,24 +127,24 @@ module _ (holds : World → Type 0)
         (if long then refuses TooLong w else requests_on e channel asked w)
     requested_beside true e channel asked w h = h
     requested_beside false None channel asked w h = h
-    requested_beside false (Some e) channel asked w h = same w _ refl refl h
+    requested_beside false (Some e) channel asked w h = same w _ refl refl refl h
 
     pub settles_beside : (payload : List ℕ) (w : World) → holds w
         → holds (settles_global payload w)
     settles_beside payload w h =
         either holds w.globals.wanted (writes (at_once payload ∷ []) (wants_global false w)) w
-        (same w _ refl refl h) h
+        (same w _ refl refl refl h) h
 
     -- where it holds through this command, if it is of no channel
     pub done_beside : (w : World) (commanded : Command) → holds w
         → EffectComes holds (done_apart w commanded)
         → EffectComes holds (done_by w commanded)
-    done_beside w (command.Data channel bytes) h k = same w _ refl refl h
-    done_beside w (command.ExtendedData channel code bytes) h k = same w _ refl refl h
-    done_beside w (command.Eof channel) h k = same w _ refl refl h
-    done_beside w (command.Close channel) h k = same w _ refl refl h
-    done_beside w (command.ChannelSuccess channel) h k = same w _ refl refl h
-    done_beside w (command.ChannelFailure channel) h k = same w _ refl refl h
+    done_beside w (command.Data channel bytes) h k = same w _ refl refl refl h
+    done_beside w (command.ExtendedData channel code bytes) h k = same w _ refl refl refl h
+    done_beside w (command.Eof channel) h k = same w _ refl refl refl h
+    done_beside w (command.Close channel) h k = same w _ refl refl refl h
+    done_beside w (command.ChannelSuccess channel) h k = same w _ refl refl refl h
+    done_beside w (command.ChannelFailure channel) h k = same w _ refl refl refl h
     done_beside w (command.XonXoff channel client_can_do) h k =
         requested_beside (is_too_long (request_payload 0 (xon_xoff client_can_do)))
         (find channel.0 w.channels.lines.entries) channel (xon_xoff client_can_do) w h
@@ -163,7 +164,7 @@ module _ (holds : World → Type 0)
 -- a law on such a thing; faults are such outcomes
 module _ (law : Law)
     (same : (w v : World) → v.settings ≡ w.settings → v.disconnected ≡ w.disconnected
-    → law.holds w → law.holds v)
+    → v.keys ≡ w.keys → law.holds w → law.holds v)
     (fault : (why : Fault) → law.comes (Fails why))
   where
     told_beside : (adjusted : Adjusted) (channel : ChannelId) (piece : Chunk) (target : ℕ)
@@ -171,72 +172,72 @@ module _ (law : Law)
     told_beside Dropped channel piece target w h = tt
     told_beside Kept channel piece target w h = λ world k. tt
     told_beside (Granted amount) channel piece target w h =
-        λ window. (same w _ refl refl h, λ world k. tt)
+        λ window. (same w _ refl refl refl h, λ world k. tt)
 
     open_beside : (number : Option ℕ) (message : OpenChannelMessage) (does : Handling) (w : World)
         → law.holds w → ActsCome law (open_acts number message does) w
     open_beside None message (Asks type) w h = fault Channels_full
     open_beside None message Unsupported w h = fault Channels_full
     open_beside None message Unknown w h = fault Channels_full
-    open_beside (Some number) message (Asks type) w h = (same w _ refl refl h, λ world k. tt)
-    open_beside (Some number) message Unsupported w h = (same w _ refl refl h, tt)
-    open_beside (Some number) message Unknown w h = (same w _ refl refl h, tt)
+    open_beside (Some number) message (Asks type) w h = (same w _ refl refl refl h, λ world k. tt)
+    open_beside (Some number) message Unsupported w h = (same w _ refl refl refl h, tt)
+    open_beside (Some number) message Unknown w h = (same w _ refl refl refl h, tt)
 
     failure_beside : (w : World) (there waiting : Bool) (channel : ChannelId)
         (why : ChannelOpenFailure) → law.holds w
         → ActsCome law (failure_acts there waiting channel why) w
-    failure_beside w there true channel why h = (same w _ refl refl h, tt)
+    failure_beside w there true channel why h = (same w _ refl refl refl h, tt)
     failure_beside w true false channel why h = fault Inconsistent
     failure_beside w false false channel why h = tt
 
     confirmation_beside : (w : World) (waiting : Bool) (message : ChannelOpenConfirmation)
         → law.holds w → ActsCome law (confirmation_acts waiting message) w
-    confirmation_beside w true message h = (same w _ refl refl h, λ world k. tt)
+    confirmation_beside w true message h = (same w _ refl refl refl h, λ world k. tt)
     confirmation_beside w false message h = fault Inconsistent
 
     spoken_beside : (w : World) (said : Spoken) → law.holds w → ActsCome law (spoken_acts w said) w
     spoken_beside w spoken.Nothing h = tt
     spoken_beside w (spoken.Grant channel amount) h =
         on_come law w (find channel.0 w.channels.lines.entries) _
-        (λ e. (same w _ refl refl h, λ world k. tt))
+        (λ e. (same w _ refl refl refl h, λ world k. tt))
     spoken_beside w (spoken.Data channel piece) h =
         let came = coming_of (length piece.bytes) w.channels.target
         (find channel.0 w.channels.lines.entries) in
         let v = lined (takes_in channel.0 (length piece.bytes) w.channels.target) w in
-        let k : law.holds v = same w v refl refl h in
+        let k : law.holds v = same w v refl refl refl h in
         (k, told_beside came channel piece w.channels.target v k)
     spoken_beside w (spoken.Tells channel message happening) h =
         on_come law w (find channel.0 w.channels.lines.entries) _ (λ e. λ world k. tt)
     spoken_beside w (spoken.Close channel) h =
         on_come law w (find channel.0 w.channels.lines.entries) _
-        (λ e. (same w _ refl refl h, λ world k. tt))
-    spoken_beside w (spoken.Wants channel wanted) h = (same w _ refl refl h, tt)
+        (λ e. (same w _ refl refl refl h, λ world k. tt))
+    spoken_beside w (spoken.Wants channel wanted) h = (same w _ refl refl refl h, tt)
     spoken_beside w (spoken.Failed channel reason) h =
         failure_beside w (is_there w channel.0) (is_waiting w channel.0) channel reason h
     spoken_beside w (spoken.Asks channel wanted message happening) h =
-        (same w _ refl refl h, λ world k. tt)
+        (same w _ refl refl refl h, λ world k. tt)
     spoken_beside w (spoken.AsksForAgent channel wanted) h = (
-      same w _ refl refl h,
+      same w _ refl refl refl h,
       λ granted world k. (
         either law.holds world.disconnected world
-            (lined (replies channel.0 (reply_of granted)) world) k (same world _ refl refl k),
+            (lined (replies channel.0 (reply_of granted)) world) k (same world _ refl refl refl k),
         tt,
       ),
     )
     spoken_beside w (spoken.AsksUnknown channel wanted) h =
-        (same w _ refl refl h, (same w _ refl refl h, tt))
+        (same w _ refl refl refl h, (same w _ refl refl refl h, tt))
     spoken_beside w (spoken.AsksToForward wanted address port) h =
-        forward_comes law (λ b v k. same v _ refl refl k) (settles_beside law.holds same)
-        (λ v k. same v _ refl refl k) w wanted address port h
+        forward_comes law (λ b v k. same v _ refl refl refl k) (settles_beside law.holds same)
+        (λ v k. same v _ refl refl refl k) w wanted address port h
     spoken_beside w (spoken.AsksGlobally wanted judged) h =
-        asked_comes law (λ b v k. same v _ refl refl k) (settles_beside law.holds same)
-        (λ v k. same v _ refl refl k) w wanted judged h
+        asked_comes law (λ b v k. same v _ refl refl refl k) (settles_beside law.holds same)
+        (λ v k. same v _ refl refl refl k) w wanted judged h
     spoken_beside w (spoken.AsksGloballyUnknown wanted) h =
-        unknown_comes law (λ b v k. same v _ refl refl k) (settles_beside law.holds same)
-        (λ v k. same v _ refl refl k) w wanted h
+        unknown_comes law (λ b v k. same v _ refl refl refl k) (settles_beside law.holds same)
+        (λ v k. same v _ refl refl refl k) w wanted h
     spoken_beside w (spoken.Settles told) h =
-        settles_comes law (λ b v k. same v _ refl refl k) (settles_beside law.holds same)
-        (λ v k. same v _ refl refl k) w told h
+        settles_comes law (λ b v k. same v _ refl refl refl k) (settles_beside law.holds same)
+        (λ v k. same v _ refl refl refl k) w told h
     spoken_beside w spoken.Inconsistent h = fault Inconsistent
 
     owed_beside : (w : World) (said : Said) → IsOther said → law.holds w
@@ -251,19 +252,18 @@ module _ (law : Law)
     owed_beside w Over_cap is h = absurd is
     owed_beside w (Unfit why) is h = fault (Encoding why)
     owed_beside w Without_packets is h = fault Inconsistent
-    owed_beside w Unbuilt is h = fault Not_built
     owed_beside w _ is h = tt
 
     concluded_beside : (w : World) (moment : ℕ) (requested : Bool) (outcome : AuthOutcome)
         → law.holds w → PlanComes law.such law.comes (concluded w moment requested outcome)
     concluded_beside w moment requested (Replies reply verdict.Accepted state) h =
         acts_come law (replied w moment requested reply verdict.Accepted)
-        (waits_for (WaitingAuthRequest state) w) (same w _ refl refl h)
-        (same w _ refl refl h, λ world k. tt)
+        (waits_for (WaitingAuthRequest state) w) (same w _ refl refl refl h)
+        (same w _ refl refl refl h, λ world k. tt)
     concluded_beside w moment requested (Replies reply (verdict.Rejected none_method) state) h =
-        law.goes _ (same w _ refl refl h)
+        law.goes _ (same w _ refl refl refl h)
     concluded_beside w moment requested (Replies reply verdict.Continued state) h =
-        law.goes _ (same w _ refl refl h)
+        law.goes _ (same w _ refl refl refl h)
     concluded_beside w moment requested (auth.Fails why) h = fault (fault_of why)
 
     asked_beside : (state : EncryptedState) (next : AuthRequest → Plan AuthOutcome) (w : World)
@@ -278,7 +278,7 @@ module _ (law : Law)
     greets_beside : (w : World) (message : Option (List ℕ)) (short : Bool)
         → is_short message ≡ short → law.holds w
         → PlanComes law.such law.comes (acts (greets message) w)
-    greets_beside w message true is h = rw is (law.goes _ (same w _ refl refl h))
+    greets_beside w message true is h = rw is (law.goes _ (same w _ refl refl refl h))
     greets_beside w message false is h = rw is (fault (Encoding wire.TooLong))
 
     service_beside : (w : World) (b : Bool) → law.holds w

@@ -1,9 +1,9 @@
 -- After each input of a run each channel has sent what it has to.
-use Rattle.std.proofs.Common.{◌≡◌, ◌≢◌, ◌<◌, ℕ, List, [], ◌∷◌, ◌++◌, map, true}
-use Rattle.std.proofs.Common.{false, refl, sym, subst, arith}
+use Rattle.std.proofs.Common.{◌≡◌, ◌≢◌, ◌<◌, ℕ, List, [], ◌∷◌, ◌++◌, map, Bool, true}
+use Rattle.std.proofs.Common.{false, cond, refl, sym, subst, arith}
 use Rattle.std.proofs.Common.{append_assoc}
 use Rattle.ssh_session.proofs.Reading.{full_packet}
-use Rattle.std.specs.Prelude.{drop, flat_map, Result, Ok, Err}
+use Rattle.std.specs.Prelude.{drop, flat_map, filter, Result, Ok, Err}
 use Rattle.ssh_wire.specs.declared.error.WireError.{WireError}
 use Rattle.std.proofs.lemmas.List.{append-nil}
 use Rattle.ssh_link.specs.declared.command.Command.TheVariants as command
@@ -16,23 +16,33 @@ use Rattle.ssh_auth.proofs.Back.{asked_so}
 use Rattle.ssh_auth.specs.Plan.{Plan, Finish, Ask, Tell, Answer, Answered, Event, Called, Stepped}
 use Rattle.ssh_auth.specs.Plan.{Told, Follows, after, told_in}
 use Rattle.ssh_auth.specs.Publickey.{Acceptance, Circumstances}
-use Rattle.ssh_channels.specs.Sent.{IsQuiet}
+use Rattle.ssh_channels.specs.Entry.{IsDue}
+use Rattle.ssh_channels.specs.Lines.{Lines, hands_on}
+use Rattle.ssh_channels.specs.Sent.{Each, IsQuiet}
 use Rattle.ssh_channels.proofs.Booked.{hands_on_kept, quiet_kept}
+use Rattle.ssh_session.specs.declared.exchange.ExchangeState.{ExchangeState}
+use Rattle.ssh_session.specs.declared.exchange.ExchangeState.TheVariants.{Idle, Own, Both}
 use Rattle.ssh_session.specs.declared.gate.Gate.{Gate}
 use Rattle.ssh_session.specs.declared.gate.Gate.TheVariants as gate
-use Rattle.ssh_session.specs.Acts.{tell_all}
+use Rattle.ssh_session.specs.Acts.{tell_all, acts, moved, frames_given, Beginning}
+use Rattle.ssh_session.specs.Exchange.{early_with, is_of_transport, is_running}
 use Rattle.ssh_session.specs.Gate.{gate_of}
-use Rattle.ssh_session.specs.Ledger.{Ledgered_after}
+use Rattle.ssh_session.specs.Layout.{at_once}
+use Rattle.ssh_session.specs.Opening.{Opening}
 use Rattle.ssh_session.specs.Outcome.{Outcome, Goes, Ends, Fails}
 use Rattle.ssh_session.specs.Reading.{Said, Service, Open, Agreed, SaysConfirmation, Unread}
 use Rattle.ssh_session.specs.Reading.{Connection, Without_packets}
 use Rattle.ssh_session.specs.Reading.{Unfit, Says, SaysOpen, said_of}
 use Rattle.ssh_session.specs.Run.{Turn, Turns, Run, Owes, OwesKind, handed_on, finish_input}
-use Rattle.ssh_session.specs.Run.{entries, goes_unless_ended}
-use Rattle.ssh_session.specs.World.{Settings, World, circumstances, opening_world, hears}
-use Rattle.ssh_session.proofs.Acting.{PlanComes, goes_or_ends}
-use Rattle.ssh_session.proofs.Keeping.{Kept, ComesKept, beside_on}
-use Rattle.ssh_session.proofs.Ledger.{IsFairSaid, row_kept}
+use Rattle.ssh_session.specs.Run.{entries, goes_unless_ended, going_out, begins, is_due}
+use Rattle.ssh_session.specs.Run.{asks_for_keys}
+use Rattle.ssh_session.specs.World.{Settings, World, circumstances, opening_world, hears, is_held}
+use Rattle.ssh_session.proofs.Acting.{PlanComes, exchange_comes}
+use Rattle.ssh_session.proofs.Keeping.{Kept, ComesKept, beside_on, keyed_on, renewed_on}
+use Rattle.ssh_session.proofs.Passing.{moved_on, payload_so}
+use Rattle.ssh_session.proofs.Pending.{IsReserved}
+use Rattle.ssh_session.proofs.Waiting.{AllWaiting}
+use Rattle.ssh_session.proofs.Ledger.{IsFairSaid, law, exchanged_on, row_kept}
 use Rattle.ssh_session.proofs.Ledger.{command_kept, tick_kept}
 use Rattle.ssh_session.proofs.Settled.{Anything}
 use Rattle.ssh_session.proofs.Telling.{IsUnsent, SendsNone, kind_silent}
@@ -45,10 +55,10 @@ Books past (Ask question next) = (answer : Answer question) → Books past (next
 Books past (Tell entry next) = Books (past ++ entry ∷ []) next
 
 quiet_entry : (entry : TraceEntry) → IsUnsent entry → IsQuiet (entry ∷ [])
-quiet_entry (Sent frame) h = absurd h
+quiet_entry (Sent frame) h = (h.0, tt)
 quiet_entry _ h = tt
 
-kept_quiet : (past : List TraceEntry) (entry : TraceEntry) (w : World) → IsUnsent entry
+pub kept_quiet : (past : List TraceEntry) (entry : TraceEntry) (w : World) → IsUnsent entry
     → Kept past w → Kept (past ++ entry ∷ []) w
 kept_quiet past entry w q k = record {
   ledger = quiet_kept w.channels.lines past (entry ∷ []) (quiet_entry entry q) k.ledger;
@@ -78,29 +88,81 @@ books_told past (entry ∷ more) next h =
     books_told (past ++ entry ∷ []) more next
     (subst (λ t. Books t next) (sym (append_assoc past (entry ∷ []) more)) h)
 
--- the frames are handed on
-finished_books : (past : List TraceEntry) (outcome : Outcome) → ComesKept past outcome
-    → Books past (finish_input outcome)
-finished_books past (Goes w) k =
-    let kept : Kept (past ++ map Sent w.channels.lines.written) (handed_on w) = record {
-      ledger = hands_on_kept false w.channels.lines past k.ledger;
-      due = k.due;
-      waiting = k.waiting;
-    } in
-    books_told past (map Sent w.channels.lines.written) (Finish (goes_unless_ended (handed_on w)))
-    (goes_or_ends (λ o. Books (past ++ map Sent w.channels.lines.written) (Finish o)) (handed_on w)
-    w.disconnected kept tt)
-finished_books past (Ends w) k = books_told past (map Sent w.channels.lines.written)
-    (Finish (Ends (handed_on w))) tt
-finished_books past (Fails fault) k = tt
+-- what an exchange of keys gives is on no channel
+given_step : (b : Bool) (payload : List ℕ) (payloads : List (List ℕ)) →
+    IsQuiet (map Sent (frames_given payloads)) →
+    IsQuiet (map Sent (map at_once (cond b (payload ∷ filter is_of_transport payloads)
+    (filter is_of_transport payloads))))
+given_step true payload payloads h = (refl, h)
+given_step false payload payloads h = h
 
-row_books : (past : List TraceEntry) (plan : Plan Outcome) → SendsNone plan
+given_quiet : (payloads : List (List ℕ)) → IsQuiet (map Sent (frames_given payloads))
+given_quiet [] = tt
+given_quiet (payload ∷ payloads) =
+    given_step (is_of_transport payload) payload payloads (given_quiet payloads)
+
+all_quiet : (past more : List TraceEntry) (w : World) → IsQuiet more → Kept past w
+    → Kept (past ++ more) w
+all_quiet past more w q k = record {
+  ledger = quiet_kept w.channels.lines past more q k.ledger;
+  due = k.due;
+  waiting = k.waiting;
+}
+
+-- this side begins an exchange of keys, or not
+begun_books : (past : List TraceEntry) (w : World) (due : Bool) → Kept past w
+    → Books past (acts (begins due) w)
+begun_books past w true k = λ payload.
+    let frames = map Sent (frames_given (payload ∷ [])) in
+    let v = moved Beginning payload w in
+    books_told past frames (Finish (Goes v))
+    (all_quiet past frames v (given_quiet (payload ∷ []))
+    (moved_on (Kept past) Beginning payload w (λ keys later. keyed_on past w keys later k)
+    (λ keys. renewed_on past w keys k)))
+begun_books past w false k = k
+
+ended_books : (past : List TraceEntry) (w : World) (ended due : Bool) → Kept past w
+    → Books past (cond ended (Finish (Ends w)) (acts (begins due) w))
+ended_books past w true due k = tt
+ended_books past w false due k = begun_books past w due k
+
+-- frames that are held or handed on leave the channels as they are
+pub handed_due : (held : Bool) (l : Lines) → Each IsDue l → Each IsDue (hands_on held l)
+handed_due true l h = h
+handed_due false l h = h
+
+handed_waiting : (held : Bool) (l : Lines) (opens : List (ℕ × Opening))
+    → AllWaiting 0 (IsReserved l) opens → AllWaiting 0 (IsReserved (hands_on held l)) opens
+handed_waiting true l opens h = h
+handed_waiting false l opens h = h
+
+handed_kept : (past : List TraceEntry) (w : World) → Kept past w
+    → Kept (past ++ map Sent (going_out w)) (handed_on w)
+handed_kept past w k = record {
+  ledger = hands_on_kept (is_held w) w.channels.lines past k.ledger;
+  due = λ out. handed_due (is_held w) w.channels.lines (k.due out);
+  waiting = handed_waiting (is_held w) w.channels.lines w.channels.opens k.waiting;
+}
+
+-- the frames are handed on
+finished_books : (past : List TraceEntry) (ticked : Bool) (outcome : Outcome)
+    → ComesKept past outcome → Books past (finish_input ticked outcome)
+finished_books past ticked (Goes w) k =
+    let v = handed_on w in
+    let sent = map Sent (going_out w) in
+    books_told past sent (goes_unless_ended ticked v)
+    (ended_books (past ++ sent) v v.disconnected (is_due ticked v) (handed_kept past w k))
+finished_books past ticked (Ends w) k = books_told past (map Sent (going_out w))
+    (Finish (Ends (handed_on w))) tt
+finished_books past ticked (Fails fault) k = tt
+
+row_books : (past : List TraceEntry) (ticked : Bool) (plan : Plan Outcome) → SendsNone plan
     → PlanComes Anything (ComesKept past) plan →
-    Books past (after plan finish_input)
-row_books past (Finish outcome) s k = finished_books past outcome k
-row_books past (Ask question next) s k = λ answer. row_books past (next answer) (s answer)
-    (k answer tt)
-row_books past (Tell entry next) s k = row_books (past ++ entry ∷ []) next s.1
+    Books past (after plan (finish_input ticked))
+row_books past ticked (Finish outcome) s k = finished_books past ticked outcome k
+row_books past ticked (Ask question next) s k = λ answer. row_books past ticked (next answer)
+    (s answer) (k answer tt)
+row_books past ticked (Tell entry next) s k = row_books (past ++ entry ∷ []) ticked next s.1
     (plan_quiet past entry next s.0 k)
 
 -- an answered question is no notice
@@ -166,7 +228,6 @@ fair_at : (given : Circumstances) (w : World) (at : Gate) (fields : List ℕ) (s
 fair_at given w gate.Nothing fields said h = rw h tt
 fair_at given w gate.Ends fields said h = rw h tt
 fair_at given w gate.OverCap fields said h = rw h tt
-fair_at given w gate.NotBuilt fields said h = rw h tt
 fair_at given w gate.ServiceRequest fields said h = rw h.2 (read_fair Service h.0 (λ name. tt))
 fair_at given w gate.UserauthRequest fields said h = rw h.2 tt
 fair_at given w gate.InfoResponse fields said h = rw h.2 tt
@@ -177,30 +238,40 @@ fair_at given w (gate.Connection message) fields said h =
 
 -- ---- inputs and runs
 
-kind_kept : (accepts : Acceptance) (past : List TraceEntry) (w : World) (moment : ℕ)
+-- the bytes that come in an exchange are counted, and it goes on
+early_runs : (payload : List ℕ) (exchange : ExchangeState) →
+    is_running (early_with payload exchange) ≡ false → is_running exchange ≡ false
+early_runs payload Idle h = refl
+early_runs payload (Own early) h = h
+early_runs payload Both h = h
+
+pub kind_kept : (accepts : Acceptance) (past : List TraceEntry) (w : World) (moment : ℕ)
     (kind : InputKind) (plan : Plan Outcome) →
     OwesKind accepts w moment kind plan → Kept past w → PlanComes Anything (ComesKept past) plan
 kind_kept accepts past w moment input.End plan o k = rw o k
 kind_kept accepts past w moment (input.Payload payload) plan o k =
     let v = hears payload w in
-    rw o.2 (row_kept past v moment o.0
-    (fair_at (circumstances accepts v.settings moment) v (gate_of v payload) (drop 1 payload) o.0
-    o.1) (beside_on past w v refl k))
+    let heard = beside_on past w v refl (early_runs payload w.keys.exchange) k in
+    payload_so accepts v moment payload plan (PlanComes Anything (ComesKept past)) o
+    (λ said says. row_kept past v moment said
+    (fair_at (circumstances accepts v.settings moment) v (gate_of v payload) (drop 1 payload) said
+    says) heard)
+    (λ passage. exchange_comes (law past) (exchanged_on past) payload passage v heard tt tt)
 kind_kept accepts past w moment (input.Command ticket commanded) plan o k =
     rw o (command_kept past w ticket commanded k)
 kind_kept accepts past w moment (input.OpenReply ticket answer) plan o k =
     rw o (command_kept past w ticket (command.Answer answer) k)
 kind_kept accepts past w moment input.KeepaliveTick plan o k = rw o (tick_kept past w k)
 kind_kept accepts past w moment input.InactivityTick plan o k = rw o tt
-kind_kept accepts past w moment input.RekeyTick plan o k = rw o tt
+kind_kept accepts past w moment input.RekeyTick plan o k = rw o k
 
 pub owed_kept : {E F : Type 0} (accepts : Acceptance) (past : List TraceEntry) (w : World)
     (turn : Turn E F) (plan : Plan Outcome) (world : World) → Owes accepts w turn.input plan
     → Follows plan turn.events (Goes world) → Kept past w → Kept (past ++ entries turn) world
 owed_kept accepts past w turn plan world owes follows k =
-    let took = Took turn.commands true turn.input in
+    let took = Took turn.commands turn.replies turn.input in
     let begun = kept_quiet past took w tt k in
-    let books = row_books (past ++ took ∷ []) owes.0
+    let books = row_books (past ++ took ∷ []) (asks_for_keys turn.input.kind) owes.0
     (kind_silent accepts w turn.input.moment turn.input.kind owes.0 owes.1)
     (kind_kept accepts (past ++ took ∷ []) w turn.input.moment turn.input.kind owes.0 owes.1
     begun) in
@@ -214,7 +285,7 @@ turn_kept : {E F : Type 0} (accepts : Acceptance) (past : List TraceEntry) (w : 
     Turns accepts w turn world → Kept past w → Kept (past ++ entries turn) world
 turn_kept accepts past w turn world t k = owed_kept accepts past w turn t.0 world t.1 t.2 k
 
-run_kept : {E F : Type 0} (accepts : Acceptance) (past : List TraceEntry) (w : World)
+pub run_kept : {E F : Type 0} (accepts : Acceptance) (past : List TraceEntry) (w : World)
     (turns : List (Turn E F)) (world : World) →
     Run accepts w turns world → Kept past w → Kept (past ++ flat_map entries turns) world
 run_kept accepts past w [] world run k =
@@ -234,17 +305,4 @@ run_front accepts w (turn ∷ earlier) later world run =
     (front.0, (run.0, run.1, front.1))
 
 pub nothing_kept : (settings : Settings) → Kept [] (opening_world settings)
-nothing_kept settings = record { ledger = λ n. tt; due = λ n. tt; waiting = tt }
-
--- after each of its inputs
-pub ledgered : {E F : Type 0} (accepts : Acceptance) (settings : Settings) (turns : List (Turn E F))
-    (world : World) →
-    Run accepts (opening_world settings) turns world → (earlier later : List (Turn E F)) → turns
-    ≡ earlier ++ later →
-    Ledgered_after accepts settings earlier
-ledgered accepts settings turns world run earlier later is =
-    let front = run_front accepts (opening_world settings) earlier later world
-    (subst (λ ts. Run accepts (opening_world settings) ts world) is run) in
-    let kept = run_kept accepts [] (opening_world settings) earlier front.0 front.1
-    (nothing_kept settings) in
-    record { world = front.0; run = front.1; kept = kept.ledger; due = kept.due }
+nothing_kept settings = record { ledger = λ n. tt; due = λ out n. tt; waiting = tt }

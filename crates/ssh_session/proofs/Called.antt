@@ -1,18 +1,54 @@
 -- What the callback of an open is in one event after another (RFC 4254 section 5.1).
-use Rattle.std.proofs.Common.{◌≡◌, ◌≤◌, ◌+◌, ℕ, List, [], ◌∷◌, Bool, true, false, cond}
+use Rattle.std.proofs.Common.{◌≡◌, ◌≤◌, ◌+◌, ℕ, List, [], ◌∷◌, map, Bool, true, false, cond}
 use Rattle.std.proofs.Common.{refl, ap, inl, inr, arith}
 use Rattle.std.specs.Prelude.{if◌then◌else◌}
-use Rattle.ssh_auth.specs.Plan.{Plan, Finish, Ask, Tell, Event}
+use Rattle.ssh_link.specs.declared.link.TraceEntry.TheVariants.{Sent}
+use Rattle.ssh_auth.specs.Plan.{Plan, Finish, Ask, Tell, Event, after}
 use Rattle.ssh_auth.specs.Proven.{AsksOnly}
 use Rattle.ssh_auth.specs.Publickey.{Acceptance}
 use Rattle.ssh_auth.proofs.Back.{asked_so, refused_so}
 use Rattle.ssh_session.specs.Answered.{how_many, is_open, open_returned}
-use Rattle.ssh_session.specs.Outcome.{Outcome}
-use Rattle.ssh_session.specs.Run.{Turn, Owes}
+use Rattle.ssh_session.specs.Acts.{acts}
+use Rattle.ssh_session.specs.Outcome.{Outcome, Goes, Ends, Fails}
+use Rattle.ssh_session.specs.Run.{Turn, Owes, asks_for_keys, finish_input, going_out, handed_on}
+use Rattle.ssh_session.specs.Run.{begins, goes_unless_ended, is_due, is_over}
 use Rattle.ssh_session.specs.World.{World}
 use Rattle.ssh_session.proofs.Guards.{Walks}
 use Rattle.ssh_session.proofs.Calling.{asked_open, IsBeside, AsksOnce, AsksUpTo, kind_upto}
-use Rattle.ssh_session.proofs.Calling.{input_upto}
+use Rattle.ssh_session.proofs.Calling.{acts_beside, tells_beside, then_beside, none_once}
+
+-- ---- the end of an input
+
+begins_beside : (due : Bool) (w : World) → AsksOnly IsBeside (acts (begins due) w)
+begins_beside true w = acts_beside (begins true) w tt
+begins_beside false w = tt
+
+end_beside : (ended due : Bool) (w : World) →
+    AsksOnly IsBeside (cond ended (Finish (Ends w)) (acts (begins due) w))
+end_beside true due w = tt
+end_beside false due w = begins_beside due w
+
+finish_beside : (ticked : Bool) (outcome : Outcome) →
+    AsksOnly IsBeside (finish_input ticked outcome)
+finish_beside ticked (Goes w) =
+    let v = handed_on w in
+    tells_beside (map Sent (going_out w)) (goes_unless_ended ticked v)
+    (end_beside v.disconnected (is_due ticked v) v)
+finish_beside ticked (Ends w) = tells_beside (map Sent (going_out w)) (is_over (handed_on w)) tt
+finish_beside ticked (Fails fault) = tt
+
+input_once : (ticked : Bool) (plan : Plan Outcome) → AsksOnce plan →
+    AsksOnce (after plan (finish_input ticked))
+input_once ticked (Finish outcome) h =
+    none_once (finish_input ticked outcome) (finish_beside ticked outcome)
+input_once ticked (Ask question next) h = λ answer.
+    then_beside (next answer) (finish_input ticked) (h answer) (finish_beside ticked)
+input_once ticked (Tell entry next) h = input_once ticked next h
+
+pub input_upto : (b ticked : Bool) (plan : Plan Outcome) → AsksUpTo b plan →
+    AsksUpTo b (after plan (finish_input ticked))
+input_upto true ticked plan h = input_once ticked plan h
+input_upto false ticked plan h = then_beside plan (finish_input ticked) h (finish_beside ticked)
 
 -- ---- events
 
@@ -53,5 +89,5 @@ pub turn_called : {E F : Type 0} (accepts : Acceptance) (w : World) (turn : Turn
     how_many open_returned turn.events ≤ (if is_open turn.input.kind then 1 else 0)
 turn_called accepts w turn plan o walks =
     upto_count (is_open turn.input.kind) plan turn.events
-    (rw o.2 (input_upto (is_open turn.input.kind) o.0
+    (rw o.2 (input_upto (is_open turn.input.kind) (asks_for_keys turn.input.kind) o.0
     (kind_upto accepts w turn.input.moment turn.input.kind o.0 o.1))) walks

@@ -51,12 +51,16 @@ use Rattle.ssh_channels.specs.Entry.{Entry}
 use Rattle.ssh_channels.specs.Lines.{find, next_number}
 use Rattle.ssh_session.specs.declared.gate.Gate.{Gate}
 use Rattle.ssh_session.specs.declared.gate.Gate.TheVariants as gate
+use Rattle.ssh_session.specs.declared.exchange.Passage.{Passage}
+use Rattle.ssh_session.specs.declared.exchange.Passage.TheVariants as passage
 use Rattle.ssh_session.specs.declared.messages.Spoken.{Spoken}
 use Rattle.ssh_session.specs.declared.messages.Spoken.TheVariants as spoken
 use Rattle.ssh_session.specs.declared.state.EncryptedState.{EncryptedState}
 use Rattle.ssh_session.specs.declared.state.EncryptedState.TheVariants.{WaitingAuthRequest}
 use Rattle.ssh_session.specs.Acts.{Act, Notes, Calls, Adjusts_by, Turns, Is_over, Stops, tell_all}
 use Rattle.ssh_session.specs.Acts.{tell_done, done, done_all, acts, Judges_by, Listens_by}
+use Rattle.ssh_session.specs.Acts.{Exchanges, Exchanging, Beginning, Stepping, exchange_question}
+use Rattle.ssh_session.specs.Acts.{payloads_given, frames_given, moved}
 use Rattle.ssh_session.specs.Answered.{is_open, open_asked, open_of, sends}
 use Rattle.ssh_session.specs.Effect.{Effect, Does, effect, said}
 use Rattle.ssh_session.specs.OwnMessages.{keepalive}
@@ -69,17 +73,17 @@ use Rattle.ssh_session.specs.Types.{handling, opening_by}
 use Rattle.ssh_wire.specs.declared.open.OpenChannelMessage.{OpenChannelMessage}
 use Rattle.ssh_wire.specs.declared.open.ChannelOpenConfirmation.{ChannelOpenConfirmation}
 use Rattle.ssh_wire.specs.declared.open_failure.ChannelOpenFailure.{ChannelOpenFailure}
-use Rattle.ssh_session.specs.Outcome.{Outcome, Goes, Ends, Fails, Keepalive_timeout}
+use Rattle.ssh_session.specs.Outcome.{Outcome, Keepalive_timeout}
 use Rattle.ssh_session.specs.Reading.{Said, Service, Request, Response, Open}
 use Rattle.ssh_session.specs.Reading.{Connection, Unfit, Without_packets, Says, SaysOpen, said_of}
 use Rattle.ssh_session.specs.Reading.{Agreed, Unread, SaysConfirmation}
 use Rattle.ssh_session.specs.Rows.{row, owed, spoken_acts, open_acts, waits, greets, is_short}
 use Rattle.ssh_session.specs.Rows.{replied, concluded, asked_of as asked_at, data_told, on_entry}
-use Rattle.ssh_session.specs.Rows.{on_confirmed, failure_acts, confirmation_acts}
-use Rattle.ssh_session.specs.Run.{OwesKind, command_row, finish_input, handed_on}
-use Rattle.ssh_session.specs.Run.{goes_unless_ended}
+use Rattle.ssh_session.specs.Rows.{on_confirmed, failure_acts, confirmation_acts, exchange_acts}
+use Rattle.ssh_session.specs.Run.{OwesKind, command_row}
 use Rattle.ssh_session.specs.World.{World, circumstances, hears, waits_for, is_there, is_waiting}
 use Rattle.ssh_session.proofs.Gates.{is_channel_open}
+use Rattle.ssh_session.proofs.Passing.{payload_so}
 
 -- ---- what an event asked
 
@@ -118,7 +122,7 @@ ActsBeside [] = Unit {0}
 ActsBeside (Calls lent ∷ later) = IsBeside (Lends lent) × ActsBeside later
 ActsBeside (_ ∷ later) = ActsBeside later
 
-tells_beside : (entries : List TraceEntry) (next : Plan Outcome) → AsksOnly IsBeside next →
+pub tells_beside : (entries : List TraceEntry) (next : Plan Outcome) → AsksOnly IsBeside next →
     AsksOnly IsBeside (tell_all entries next)
 tells_beside [] next h = h
 tells_beside (entry ∷ entries) next h = tells_beside entries next h
@@ -145,7 +149,12 @@ all_beside place (command ∷ commands) w next h =
     (λ outcome world. done_beside place outcome (done_all (place + 1) commands world next)
     (all_beside (place + 1) commands world next h))
 
-acts_beside : (now : List Act) (w : World) → ActsBeside now → AsksOnly IsBeside (acts now w)
+-- what an exchange of keys is asked is about no open
+exchange_beside : (asked : Exchanging) → IsBeside (exchange_question asked)
+exchange_beside Beginning = refl
+exchange_beside (Stepping payload) = refl
+
+pub acts_beside : (now : List Act) (w : World) → ActsBeside now → AsksOnly IsBeside (acts now w)
 acts_beside [] w h = tt
 acts_beside (Notes notice ∷ later) w h = acts_beside later w h
 acts_beside (Calls lent ∷ later) w h = (
@@ -166,6 +175,11 @@ acts_beside (Listens_by address port by ∷ later) w h = (
 acts_beside (Adjusts_by channel current by ∷ later) w h = (
   refl,
   λ window. acts_beside later (by window w) h,
+)
+acts_beside (Exchanges asked ∷ later) w h = (
+  exchange_beside asked,
+  λ answer. tells_beside (map Sent (frames_given (payloads_given asked answer)))
+      (acts later (moved asked answer w)) (acts_beside later (moved asked answer w) h),
 )
 acts_beside (Turns by ∷ later) w h = acts_beside later (by w) h
 acts_beside (Is_over ∷ later) w h = tt
@@ -296,7 +310,7 @@ responded_beside auth (Some prompt) (Unfit_responses why) = tt
 responded_beside auth (Some prompt) Unread_responses = tt
 
 -- one plan and then another
-then_beside : {A B : Type 0} (plan : Plan A) (later : A → Plan B) → AsksOnly IsBeside plan →
+pub then_beside : {A B : Type 0} (plan : Plan A) (later : A → Plan B) → AsksOnly IsBeside plan →
     ((outcome : A) → AsksOnly IsBeside (later outcome)) → AsksOnly IsBeside (after plan later)
 then_beside (Finish outcome) later h k = k outcome
 then_beside (Ask question next) later h k =
@@ -356,7 +370,7 @@ abbrev pub AsksUpTo : (is_open : Bool) → Plan Outcome → Type 0
 AsksUpTo true plan = AsksOnce plan
 AsksUpTo false plan = AsksOnly IsBeside plan
 
-none_once : (plan : Plan Outcome) → AsksOnly IsBeside plan → AsksOnce plan
+pub none_once : (plan : Plan Outcome) → AsksOnly IsBeside plan → AsksOnce plan
 none_once (Finish outcome) h = tt
 none_once (Ask question next) h = h.1
 none_once (Tell entry next) h = none_once next h
@@ -405,7 +419,6 @@ beside_at given w gate.ChannelOpen fields said h = inl (refl, h)
 beside_at given w gate.Nothing fields said h = inr (rw h tt)
 beside_at given w gate.Ends fields said h = inr (rw h tt)
 beside_at given w gate.OverCap fields said h = inr (rw h tt)
-beside_at given w gate.NotBuilt fields said h = inr (rw h tt)
 beside_at given w gate.ServiceRequest fields said h =
     inr (rw h.2 (read_beside Service h.0 (λ name. tt)))
 beside_at given w gate.UserauthRequest fields said h = inr (rw h.2 tt)
@@ -438,14 +451,26 @@ tick_beside : (many : Bool) → ActsBeside (if many then Stops Keepalive_timeout
 tick_beside true = tt
 tick_beside false = tt
 
+-- a payload of the exchange's, and one that does not come
+passage_acts_beside : (payload : List ℕ) (passage : Passage) →
+    ActsBeside (exchange_acts payload passage)
+passage_acts_beside payload passage.Begins = tt
+passage_acts_beside payload passage.Steps = tt
+passage_acts_beside payload passage.Barred = tt
+passage_acts_beside payload passage.Late = tt
+passage_acts_beside payload passage.Passes = tt
+
 pub kind_upto : (accepts : Acceptance) (w : World) (moment : ℕ) (kind : InputKind)
     (plan : Plan Outcome) → OwesKind accepts w moment kind plan → AsksUpTo (is_open kind) plan
 kind_upto accepts w moment input.End plan o = rw o tt
 kind_upto accepts w moment (input.Payload payload) plan o =
     let v = hears payload w in
-    rw o.2 (payload_upto v moment payload o.0
-    (beside_at (circumstances accepts v.settings moment) v (gate_of v payload) (drop 1 payload) o.0
-    o.1))
+    payload_so accepts v moment payload plan (AsksUpTo (is_open (input.Payload payload))) o
+    (λ said says. payload_upto v moment payload said
+    (beside_at (circumstances accepts v.settings moment) v (gate_of v payload) (drop 1 payload) said
+    says))
+    (λ passage. none_upto (is_open (input.Payload payload)) (acts (exchange_acts payload passage) v)
+    (acts_beside (exchange_acts payload passage) v (passage_acts_beside payload passage)))
 kind_upto accepts w moment (input.Command ticket commanded) plan o =
     rw o (command_beside w ticket commanded)
 kind_upto accepts w moment (input.OpenReply ticket answer) plan o =
@@ -455,20 +480,3 @@ kind_upto accepts w moment input.KeepaliveTick plan o =
     (tick_beside (is_too_many w.settings.config (ticks.one_more w.keepalives))))
 kind_upto accepts w moment input.InactivityTick plan o = rw o tt
 kind_upto accepts w moment input.RekeyTick plan o = rw o tt
-
-finish_beside : (outcome : Outcome) → AsksOnly IsBeside (finish_input outcome)
-finish_beside (Goes w) =
-    tells_beside (map Sent w.channels.lines.written) (Finish (goes_unless_ended (handed_on w))) tt
-finish_beside (Ends w) = tells_beside (map Sent w.channels.lines.written) _ tt
-finish_beside (Fails fault) = tt
-
-input_once : (plan : Plan Outcome) → AsksOnce plan → AsksOnce (after plan finish_input)
-input_once (Finish outcome) h = none_once (finish_input outcome) (finish_beside outcome)
-input_once (Ask question next) h = λ answer.
-    then_beside (next answer) finish_input (h answer) finish_beside
-input_once (Tell entry next) h = input_once next h
-
-pub input_upto : (b : Bool) (plan : Plan Outcome) → AsksUpTo b plan →
-    AsksUpTo b (after plan finish_input)
-input_upto true plan h = input_once plan h
-input_upto false plan h = then_beside plan finish_input h finish_beside

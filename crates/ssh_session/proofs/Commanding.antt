@@ -112,4 +112,4 @@ not_done does next finish a session session' (error.Kex e) h = absurd h
 not_done does next finish a session session' error.ChannelsFull h = absurd h
 not_done does next finish a session session' error.KeepaliveTimeout h = absurd h
 not_done does next finish a session session' error.InactivityTimeout h = absurd h
-not_done does next finish a session session' error.NotBuilt h = absurd h
+not_done does next finish a session session' error.Pending h = absurd h

@@ -17,14 +17,14 @@ use Rattle.ssh_session.specs.declared.error.RunError.{RunError}
 use Rattle.ssh_session.specs.declared.error.RunError.TheVariants as error
 use Rattle.ssh_session.specs.Account.{Closes}
 use Rattle.ssh_session.specs.Outcome.{Fault, Encoding, Inconsistent, Key, Unsupported}
-use Rattle.ssh_session.specs.Outcome.{Channels_full, Not_built, Starved, Outcome, Fails}
+use Rattle.ssh_session.specs.Outcome.{Channels_full, Pending, Starved, Outcome, Fails}
 use Rattle.ssh_session.specs.Outcome.{Keepalive_timeout, Inactivity_timeout}
-use Rattle.ssh_session.specs.Run.{Turn, handed_on}
+use Rattle.ssh_session.specs.Run.{Turn, asks_for_keys}
 use Rattle.ssh_session.specs.Serve.{cause_of, IsCaused}
 use Rattle.ssh_session.specs.Valid.{IsFineAnswer, IsFineSo, AreFine, AreUnrefused, IsValid}
 use Rattle.ssh_session.specs.Valid.{IsComplete}
 use Rattle.ssh_session.specs.World.{World}
-use Rattle.ssh_session.proofs.Acting.{PlanComes, input_comes, goes_or_ends}
+use Rattle.ssh_session.proofs.Acting.{PlanComes, input_comes}
 use Rattle.ssh_session.proofs.Fine.{IsNoFault, kind_fine}
 
 -- what a call that is fine was answered, and the calls after it
@@ -155,8 +155,8 @@ fine_error kind plan events rose error.KeepaliveTimeout none s fine unrefused h 
     let k = follows_fine kind plan events Keepalive_timeout s fine h in cc
 fine_error kind plan events rose error.InactivityTimeout none s fine unrefused h =
     let k = follows_fine kind plan events Inactivity_timeout s fine h in cc
-fine_error kind plan events rose error.NotBuilt none s fine unrefused h =
-    let k = follows_fine kind plan events Not_built s fine h in cc
+fine_error kind plan events rose error.Pending none s fine unrefused h =
+    let k = follows_fine kind plan events Pending s fine h in cc
 
 closed_fine : {E F : Type 0} (accepts : Acceptance) (w : World) (count max : ℕ)
     (last : Option (Turn E F)) (rose : Type 0)
@@ -170,8 +170,8 @@ closed_fine accepts w count max None rose (Err _) none v c = absurd c
 closed_fine accepts w count max (Some turn) rose (Err e) none v c =
     let o = c.2 in
     fine_error turn.input.kind o.0 turn.events rose e none
-    (rw o.1.2 (input_comes (IsFineAnswer turn.input.kind) IsNoFault o.1.0
-    (λ x. (λ y. goes_or_ends IsNoFault (handed_on x) x.disconnected tt tt, λ y. y))
+    (rw o.1.2 (input_comes (IsFineAnswer turn.input.kind) IsNoFault
+    (asks_for_keys turn.input.kind) o.1.0 (λ x. (λ y. (tt, tt), λ y. y, λ keys y. y))
     (kind_fine accepts w turn.input.moment turn.input.kind o.1.0 v.0 o.1.1))) v.1 v.2 o.2
 
 not_rose : (before after : ℕ) → after ≡ before → Rose before after → ⊥

@@ -10,24 +10,26 @@ use Rattle.ssh_auth.specs.declared.question.Question.{Question}
 use Rattle.ssh_auth.specs.Plan.{Plan, Finish, Ask, Tell, Answer, Event, Told, asked_in, Follows}
 use Rattle.ssh_auth.specs.Plan.{after}
 use Rattle.ssh_auth.proofs.Back.{asked_so, refused_so}
-use Rattle.ssh_session.specs.Acts.{tell_all}
+use Rattle.ssh_channels.specs.Lines.{Lines, handed, hands_on}
+use Rattle.ssh_session.specs.Acts.{acts, tell_all}
 use Rattle.ssh_session.specs.Answered.{how_many, sends}
 use Rattle.ssh_session.specs.Outcome.{Outcome, Goes, Ends, Fails}
-use Rattle.ssh_session.specs.Run.{finish_input, handed_on, goes_unless_ended}
-use Rattle.ssh_session.specs.World.{World}
-use Rattle.ssh_session.proofs.Acting.{PlanComes, goes_or_ends}
+use Rattle.ssh_session.specs.Run.{finish_input, handed_on, going_out, goes_unless_ended, begins}
+use Rattle.ssh_session.specs.Run.{is_due, is_over}
+use Rattle.ssh_session.specs.World.{World, is_held}
+use Rattle.ssh_session.proofs.Acting.{PlanComes, ActsCome, acts_come}
 use Rattle.ssh_session.proofs.Calling.{asked_silent}
 use Rattle.ssh_session.proofs.Guards.{Walks}
-use Rattle.ssh_session.proofs.Measures.{Measure, one_if}
-use Rattle.ssh_session.proofs.Measuring.{owing, ComesUpTo}
+use Rattle.ssh_session.proofs.Measures.{Measure, one_if, lines_owe}
+use Rattle.ssh_session.proofs.Measuring.{owing, OwesUpTo, ComesUpTo, law, exchanged_upto}
 use Rattle.ssh_session.proofs.Settled.{Anything}
-use Rattle.ssh_session.proofs.Telling.{IsUnsent, SendsNone}
+use Rattle.ssh_session.proofs.Telling.{IsUnsent, SendsNone, acts_send_none}
 
 -- ---- plans
 
--- so many may be sent from then on, where this was asked: one, where it makes one
+-- so many may be sent from then on, where this was asked: one more, where it makes one
 abbrev pub asked_more : Measure → (left : ℕ) → Question → ℕ
-asked_more of left question = cond (of.asks question) 1 left
+asked_more of left question = cond (of.asks question) (left + 1) left
 
 -- and where this was told: one less, where it was such a frame
 abbrev pub is_told : (such : Frame → Bool) → TraceEntry → Bool
@@ -47,24 +49,19 @@ Covered of left (Ask question next) = (answer : Answer question)
     → Covered of (asked_more of left question) (next answer)
 Covered of left (Tell entry next) = Covered of left next
 
-pub still_low : (b : Bool) (k left : ℕ) → k ≤ left → left ≤ 1 → k ≤ cond b 1 left
-still_low true k left h l = omega (arith, h, l)
-still_low false k left h l = h
+pub still_low : (b : Bool) (k left : ℕ) → k ≤ left → k ≤ cond b (left + 1) left
+still_low true k left h = omega (arith, h)
+still_low false k left h = h
 
-pub still_one : (b : Bool) (left : ℕ) → left ≤ 1 → cond b 1 left ≤ 1
-still_one true left l = omega arith
-still_one false left l = l
-
-pub covered : (of : Measure) (k left : ℕ) (plan : Plan Outcome) → k ≤ left → left ≤ 1 →
+pub covered : (of : Measure) (k left : ℕ) (plan : Plan Outcome) → k ≤ left →
     PlanComes Anything (ComesUpTo of k) plan → Covered of left plan
-covered of k left (Finish (Goes w)) l one h = omega (arith, l, h)
-covered of k left (Finish (Ends w)) l one h = omega (arith, l, h)
-covered of k left (Finish (Fails fault)) l one h = tt
-covered of k left (Ask question next) l one h = λ answer.
+covered of k left (Finish (Goes w)) l h = omega (arith, l, h)
+covered of k left (Finish (Ends w)) l h = omega (arith, l, h)
+covered of k left (Finish (Fails fault)) l h = tt
+covered of k left (Ask question next) l h = λ answer.
     covered of k (asked_more of left question) (next answer)
-    (still_low (of.asks question) k left l one)
-    (still_one (of.asks question) left one) (h answer tt)
-covered of k left (Tell entry next) l one h = covered of k left next l one h
+    (still_low (of.asks question) k left l) (h answer tt)
+covered of k left (Tell entry next) l h = covered of k left next l h
 
 -- whatever is answered, no more frames are sent than are left, and no more may come in the world
 -- that it comes to
@@ -92,35 +89,73 @@ frames_allowed of left rest (frame ∷ frames) next l h =
     (tell_all (map Sent frames) next) refl l
     (λ m e. frames_allowed of m rest frames next e h)
 
-finished_allowed : (of : Measure) (left : ℕ) (outcome : Outcome) →
-    Covered of left (Finish outcome) → Allowed of left (finish_input outcome)
-finished_allowed of left (Goes w) h =
-    let rest = of.due w.channels.lines.entries + of.waiting w.channels.opens
-    + of.globally w.globals.wanted in
-    frames_allowed of left rest w.channels.lines.written (Finish (goes_unless_ended (handed_on w)))
-    (omega (arith, h))
-    (λ l e. goes_or_ends (λ o. Allowed of l (Finish o)) (handed_on w) w.disconnected
-    (omega (arith, e)) tt)
-finished_allowed of left (Ends w) h =
-    let rest = of.due w.channels.lines.entries + of.waiting w.channels.opens
-    + of.globally w.globals.wanted in
-    frames_allowed of left rest w.channels.lines.written (Finish (Ends (handed_on w)))
-    (omega (arith, h)) (λ l e. tt)
-finished_allowed of left (Fails fault) h = tt
+-- a frame of an exchange of keys is none
+unsent_told : (of : Measure) (entry : TraceEntry) → IsUnsent entry →
+    is_told of.such entry ≡ false
+unsent_told of (Sent frame) h = of.exchanged frame h.0 h.1
+unsent_told of _ h = refl
 
-unsent_told : (such : Frame → Bool) (entry : TraceEntry) → IsUnsent entry →
-    is_told such entry ≡ false
-unsent_told such (Sent frame) h = absurd h
-unsent_told such _ h = refl
+-- a plan that tells no other frame
+silent_allowed : (of : Measure) (left : ℕ) (plan : Plan Outcome) → SendsNone plan →
+    Covered of left plan → Allowed of left plan
+silent_allowed of left (Finish (Goes w)) s h = h
+silent_allowed of left (Finish (Ends w)) s h = tt
+silent_allowed of left (Finish (Fails fault)) s h = tt
+silent_allowed of left (Ask question next) s h = λ answer.
+    silent_allowed of (asked_more of left question) (next answer) (s answer) (h answer)
+silent_allowed of left (Tell entry next) s h =
+    let same = unsent_told of entry s.0 in
+    rw same (omega arith, silent_allowed of left next s.1 h)
 
-pub input_allowed : (of : Measure) (left : ℕ) (plan : Plan Outcome) → SendsNone plan →
-    Covered of left plan → Allowed of left (after plan finish_input)
-input_allowed of left (Finish outcome) s h = finished_allowed of left outcome h
-input_allowed of left (Ask question next) s h = λ answer.
-    input_allowed of (asked_more of left question) (next answer) (s answer) (h answer)
-input_allowed of left (Tell entry next) s h =
-    let same = unsent_told of.such entry s.0 in
-    rw same (omega arith, input_allowed of left next s.1 h)
+-- at the end of an input this side may begin an exchange
+begins_come : (of : Measure) (k : ℕ) (due : Bool) (w : World) → OwesUpTo of k w →
+    ActsCome (law of k) (begins due) w
+begins_come of k true w h = (exchanged_upto of k w h, λ world j. tt)
+begins_come of k false w h = tt
+
+begins_allowed : (of : Measure) (left : ℕ) (due : Bool) (w : World) → OwesUpTo of left w →
+    Allowed of left (acts (begins due) w)
+begins_allowed of left due w h =
+    silent_allowed of left (acts (begins due) w) (acts_send_none (begins due) w)
+    (covered of left left (acts (begins due) w) (omega arith)
+    (acts_come (law of left) (begins due) w h (begins_come of left due w h)))
+
+ended_allowed : (of : Measure) (left : ℕ) (ended due : Bool) (w : World) → OwesUpTo of left w →
+    Allowed of left (cond ended (Finish (Ends w)) (acts (begins due) w))
+ended_allowed of left true due w h = tt
+ended_allowed of left false due w h = begins_allowed of left due w h
+
+-- what is handed on is less by so many, and what is held stays
+held_same : (of : Measure) (held : Bool) (l : Lines) (rest : ℕ) →
+    how_many of.such (handed held l) + (lines_owe of (hands_on held l) + rest)
+    ≡ lines_owe of l + rest
+held_same of true l rest = omega arith
+held_same of false l rest = omega arith
+
+passed_allowed : (of : Measure) (left : ℕ) (w : World) (next : World → Plan Outcome) →
+    OwesUpTo of left w → ((l : ℕ) (v : World) → OwesUpTo of l v → Allowed of l (next v)) →
+    Allowed of left (tell_all (map Sent (going_out w)) (next (handed_on w)))
+passed_allowed of left w next h f =
+    let same = held_same of (is_held w) w.channels.lines
+    (of.waiting w.channels.opens + of.globally w.globals.wanted) in
+    frames_allowed of left (owing of (handed_on w)) (going_out w) (next (handed_on w))
+    (omega (arith, same, h)) (λ l e. f l (handed_on w) e)
+
+finished_allowed : (of : Measure) (ticked : Bool) (left : ℕ) (outcome : Outcome) →
+    Covered of left (Finish outcome) → Allowed of left (finish_input ticked outcome)
+finished_allowed of ticked left (Goes w) h = passed_allowed of left w (goes_unless_ended ticked) h
+    (λ l v e. ended_allowed of l v.disconnected (is_due ticked v) v e)
+finished_allowed of ticked left (Ends w) h = passed_allowed of left w is_over h (λ l v e. tt)
+finished_allowed of ticked left (Fails fault) h = tt
+
+pub input_allowed : (of : Measure) (ticked : Bool) (left : ℕ) (plan : Plan Outcome) →
+    SendsNone plan → Covered of left plan → Allowed of left (after plan (finish_input ticked))
+input_allowed of ticked left (Finish outcome) s h = finished_allowed of ticked left outcome h
+input_allowed of ticked left (Ask question next) s h = λ answer.
+    input_allowed of ticked (asked_more of left question) (next answer) (s answer) (h answer)
+input_allowed of ticked left (Tell entry next) s h =
+    let same = unsent_told of entry s.0 in
+    rw same (omega arith, input_allowed of ticked left next s.1 h)
 
 -- ---- events
 
@@ -132,11 +167,11 @@ asks_in asks (Some question) = asks question
 abbrev pub returned : {E F : Type 0} → (asks : Question → Bool) → Event E F → Bool
 returned asks event = asks_in asks (asked_in event)
 
--- so many may be sent after an event: one less after such a frame, and one after a question that
--- makes one
+-- so many may be sent after an event: one less after such a frame, and one more after a question
+-- that makes one
 abbrev pub left_after : {E F : Type 0} → Measure → (left : ℕ) → Event E F → ℕ
 left_after of left event = cond (sends of.such event) (left - 1)
-    (cond (returned of.asks event) 1 left)
+    (cond (returned of.asks event) (left + 1) left)
 
 -- and after these events
 abbrev pub left_through : {E F : Type 0} → Measure → (left : ℕ) → List (Event E F) → ℕ
@@ -165,21 +200,8 @@ within_first of left [] more h = tt
 within_first of left (x ∷ past) more h =
     (h.0, within_first of (left_after of left x) past more h.1)
 
-after_one : (s r : Bool) (left : ℕ) → left ≤ 1 → cond s (left - 1) (cond r 1 left) ≤ 1
-after_one true r left h = omega (arith, h)
-after_one false true left h = omega arith
-after_one false false left h = h
-
--- it is never more than one
-pub through_one : {E F : Type 0} (of : Measure) (left : ℕ) (events : List (Event E F)) → left ≤ 1 →
-    left_through of left events ≤ 1
-through_one of left [] h = h
-through_one of left (x ∷ events) h =
-    through_one of (left_after of left x) events
-    (after_one (sends of.such x) (returned of.asks x) left h)
-
 few_step : (s r : Bool) (left n t c : ℕ) → one_if s ≤ left →
-    n + t ≤ cond s (left - 1) (cond r 1 left) + c →
+    n + t ≤ cond s (left - 1) (cond r (left + 1) left) + c →
     cond s (n + 1) n + t ≤ left + cond r (c + 1) c
 few_step true true left n t c h k = omega (arith, h, k)
 few_step true false left n t c h k = omega (arith, h, k)

@@ -1,21 +1,24 @@
--- After an input nothing is left to be handed on.
-use Rattle.std.proofs.Common.{◌≡◌, List, [], ◌∷◌, ◌++◌, map, refl, sym, subst}
+-- After an input outside an exchange of keys nothing is left to be handed on.
+use Rattle.std.proofs.Common.{◌≡◌, ◌&&◌, List, [], ◌∷◌, ◌++◌, map, refl, sym, subst}
+use Rattle.std.proofs.Common.{Bool, true, false, not, cond}
 use Rattle.ssh_link.specs.declared.link.TraceEntry.{TraceEntry}
 use Rattle.ssh_link.specs.declared.link.TraceEntry.TheVariants.{Sent}
 use Rattle.ssh_auth.specs.Plan.{Plan, Finish, Ask, Tell, Event, Follows, after}
 use Rattle.ssh_auth.specs.Publickey.{Acceptance}
-use Rattle.ssh_session.specs.Acts.{tell_all}
+use Rattle.ssh_channels.specs.Lines.{Lines, hands_on}
+use Rattle.ssh_session.specs.Acts.{Beginning, tell_all, acts, payloads_given, frames_given, moved}
 use Rattle.ssh_session.specs.Outcome.{Outcome, Goes, Ends, Fails}
-use Rattle.ssh_session.specs.Run.{Turn, Owes, finish_input, handed_on, goes_unless_ended}
-use Rattle.ssh_session.specs.World.{World}
-use Rattle.ssh_session.proofs.Acting.{PlanComes, goes_or_ends}
+use Rattle.ssh_session.specs.Run.{Turn, Owes, finish_input, handed_on, going_out, begins, is_due}
+use Rattle.ssh_session.specs.Run.{goes_unless_ended, is_over, asks_for_keys}
+use Rattle.ssh_session.specs.World.{World, in_exchange}
+use Rattle.ssh_session.proofs.Acting.{PlanComes}
 use Rattle.ssh_session.proofs.Settled.{Anything}
 
 -- this holds of what comes of a plan once these are told
-pub told_comes : (comes : Outcome → Type 0) (entries : List TraceEntry) (outcome : Outcome) →
-    comes outcome → PlanComes Anything comes (tell_all entries (Finish outcome))
-told_comes comes [] outcome h = h
-told_comes comes (entry ∷ entries) outcome h = told_comes comes entries outcome h
+pub told_comes : (comes : Outcome → Type 0) (entries : List TraceEntry) (next : Plan Outcome) →
+    PlanComes Anything comes next → PlanComes Anything comes (tell_all entries next)
+told_comes comes [] next h = h
+told_comes comes (entry ∷ entries) next h = told_comes comes entries next h
 
 pub comes_of : {E F : Type 0} (comes : Outcome → Type 0) (plan : Plan Outcome)
     (events : List (Event E F)) (outcome : Outcome) → PlanComes Anything comes plan →
@@ -27,27 +30,51 @@ comes_of comes (Ask question next) (event ∷ events) outcome h f =
 comes_of comes (Tell entry next) (event ∷ events) outcome h f = comes_of comes next events outcome h
     f.1
 
--- after an input nothing is left to be handed on
+-- outside an exchange of keys nothing is left to be handed on
+abbrev pub IsUnheld : World → Type 0
+IsUnheld w = in_exchange w ≡ false → w.channels.lines.written ≡ []
+
 abbrev pub IsEmptied : Outcome → Type 0
-IsEmptied (Goes w) = w.channels.lines.written ≡ []
+IsEmptied (Goes w) = IsUnheld w
 IsEmptied _ = Unit {0}
 
-emptied : (plan : Plan Outcome) → PlanComes Anything IsEmptied (after plan finish_input)
-emptied (Finish (Goes w)) =
-    told_comes IsEmptied (map Sent w.channels.lines.written) (goes_unless_ended (handed_on w))
-    (goes_or_ends IsEmptied (handed_on w) w.disconnected refl tt)
-emptied (Finish (Ends w)) =
-    told_comes IsEmptied (map Sent w.channels.lines.written) (Ends (handed_on w)) tt
-emptied (Finish (Fails fault)) = tt
-emptied (Ask question next) = λ answer s. emptied (next answer)
-emptied (Tell entry next) = emptied next
+pub unheld : (running ended : Bool) (l : Lines) → running ≡ false →
+    (hands_on (running && not ended) l).written ≡ []
+unheld true ended l h = absurd (cc)
+unheld false ended l h = refl
+
+begun_emptied : (due : Bool) (w : World) → IsUnheld w →
+    PlanComes Anything IsEmptied (acts (begins due) w)
+begun_emptied true w h = λ answer s.
+    told_comes IsEmptied (map Sent (frames_given (payloads_given Beginning answer)))
+    (Finish (Goes (moved Beginning answer w))) (λ idle. absurd (let e : true ≡ false = idle in cc))
+begun_emptied false w h = h
+
+ended_emptied : (ended due : Bool) (w : World) → IsUnheld w →
+    PlanComes Anything IsEmptied (cond ended (Finish (Ends w)) (acts (begins due) w))
+ended_emptied true due w h = tt
+ended_emptied false due w h = begun_emptied due w h
+
+emptied : (ticked : Bool) (plan : Plan Outcome) →
+    PlanComes Anything IsEmptied (after plan (finish_input ticked))
+emptied ticked (Finish (Goes w)) =
+    let v = handed_on w in
+    told_comes IsEmptied (map Sent (going_out w)) (goes_unless_ended ticked v)
+    (ended_emptied v.disconnected (is_due ticked v) v
+    (λ idle. unheld (in_exchange w) w.disconnected w.channels.lines idle))
+emptied ticked (Finish (Ends w)) =
+    told_comes IsEmptied (map Sent (going_out w)) (is_over (handed_on w)) tt
+emptied ticked (Finish (Fails fault)) = tt
+emptied ticked (Ask question next) = λ answer s. emptied ticked (next answer)
+emptied ticked (Tell entry next) = emptied ticked next
 
 pub owed_emptied : {E F : Type 0} (accepts : Acceptance) (w : World) (turn : Turn E F)
     (plan : Plan Outcome) (mid : World) → Owes accepts w turn.input plan →
-    Follows plan turn.events (Goes mid) → mid.channels.lines.written ≡ []
+    Follows plan turn.events (Goes mid) → IsUnheld mid
 owed_emptied {E} {F} accepts w turn plan mid o f =
     comes_of IsEmptied plan turn.events (Goes mid)
-    (subst (PlanComes Anything IsEmptied) (sym o.2) (emptied o.0)) f
+    (subst (PlanComes Anything IsEmptied) (sym o.2)
+    (emptied (asks_for_keys turn.input.kind) o.0)) f
 
 pub nothing_left : {A : Type 0} (xs : List A) (y : A) (ys : List A) → xs ++ y ∷ ys ≡ [] → ⊥
 nothing_left [] y ys h = cc

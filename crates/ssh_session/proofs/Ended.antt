@@ -20,7 +20,7 @@ use Rattle.ssh_auth.specs.Plan.{calls_in}
 use Rattle.ssh_auth.specs.Publickey.{Acceptance, Circumstances}
 use Rattle.ssh_session.specs.declared.gate.Gate.{Gate}
 use Rattle.ssh_session.specs.declared.gate.Gate.TheVariants as gate
-use Rattle.ssh_session.specs.Acts.{acts}
+use Rattle.ssh_session.specs.Acts.{acts, frames_given}
 use Rattle.ssh_session.specs.Effect.{effect, done_by, done_apart, refused_for, said, sends}
 use Rattle.ssh_session.specs.Effect.{is_too_long}
 use Rattle.ssh_session.specs.OwnMessages.{OwnMessage, forward, cancel, keepalive, ping, debug}
@@ -29,35 +29,38 @@ use Rattle.ssh_session.specs.OwnOpens.{asking}
 use Rattle.ssh_session.specs.Ticks.{keepalive_acts, inactivity_acts, ticked}
 use Rattle.ssh_wire.specs.Messages.{written, request_success, request_failure}
 use Rattle.ssh_session.specs.Gate.{gate_of}
-use Rattle.ssh_session.specs.Outcome.{Outcome, Goes, Ends, Fails, Not_built}
+use Rattle.ssh_session.specs.Outcome.{Outcome, Goes, Ends, Fails}
 use Rattle.ssh_session.specs.Reading.{Said, Service}
 use Rattle.ssh_session.specs.Reading.{Open, Agreed, SaysConfirmation}
 use Rattle.ssh_session.specs.Reading.{Unread, Connection, Unfit, Without_packets, Says}
 use Rattle.ssh_session.specs.Reading.{SaysOpen, said_of}
-use Rattle.ssh_session.specs.Rows.{row}
-use Rattle.ssh_session.specs.Run.{OwesKind, Owes, Turn, Turns, Run, calls_of, command_row}
-use Rattle.ssh_session.specs.Run.{finish_input, handed_on, goes_unless_ended}
+use Rattle.ssh_session.specs.Rows.{row, exchange_acts}
+use Rattle.ssh_session.specs.Run.{OwesKind, OwesPayload, Owes, Turn, Turns, Run, calls_of}
+use Rattle.ssh_session.specs.Run.{command_row}
+use Rattle.ssh_session.specs.Run.{finish_input, going_out, handed_on, goes_unless_ended, begins}
+use Rattle.ssh_session.specs.Run.{is_due, asks_for_keys}
 use Rattle.ssh_session.specs.Valid.{IsEnding, IsEndingKind, disconnects, recorded_so}
 use Rattle.ssh_session.specs.Valid.{call_disconnects}
 use Rattle.ssh_session.specs.World.{World, circumstances}
 use Rattle.ssh_session.proofs.Gates.{is_disconnect}
 use Rattle.ssh_session.proofs.Acting.{PlanComes, EffectComes, AllBuilt, Law, acts_come}
-use Rattle.ssh_session.proofs.Acting.{one_comes, comes_then, input_comes}
+use Rattle.ssh_session.proofs.Acting.{one_comes, comes_then, told_come, exchange_comes}
+use Rattle.ssh_session.proofs.Passing.{payload_so}
 use Rattle.ssh_session.proofs.Settled.{Anything}
 use Rattle.ssh_session.specs.World.{hears}
 use Rattle.ssh_session.proofs.Apart.{sent_comes, refused_comes, tick_comes}
 use Rattle.ssh_session.proofs.Beside.{done_beside, settles_beside, opens_or_not_beside, row_beside}
 use Rattle.ssh_session.proofs.Beside.{IsOther}
-use Rattle.ssh_session.proofs.Emptied.{told_comes, comes_of}
+use Rattle.ssh_session.proofs.Emptied.{comes_of}
 
 -- ---- what ends no run
 
 -- no command of these ends the connection
-abbrev IsMild : Command → Type 0
+abbrev pub IsMild : Command → Type 0
 IsMild one = disconnects one ≡ false
 
 -- nor one of those that the answer holds
-abbrev IsMildAnswer : (question : Question) → Answer question → Type 0
+abbrev pub IsMildAnswer : (question : Question) → Answer question → Type 0
 IsMildAnswer (ask.Lends lent) commands = AllBuilt IsMild commands
 IsMildAnswer (ask.Judges judged) answer = AllBuilt IsMild answer.commands
 IsMildAnswer (ask.Listens address port) answer = AllBuilt IsMild answer.commands
@@ -73,12 +76,12 @@ IsNoEnd (Goes w) = IsLive w
 IsNoEnd (Ends w) = ⊥
 IsNoEnd (Fails fault) = Unit {0}
 
-same_live : (w v : World) → v.settings ≡ w.settings → v.disconnected ≡ w.disconnected → IsLive w
-    → IsLive v
-same_live w v is ended h = ended ∙ h
+pub same_live : (w v : World) → v.settings ≡ w.settings → v.disconnected ≡ w.disconnected
+    → v.keys ≡ w.keys → IsLive w → IsLive v
+same_live w v is ended keys h = ended ∙ h
 
 -- a message that does not end the connection
-said_live : (message : OwnMessage) (w : World) → message.ends ≡ false → IsLive w
+pub said_live : (message : OwnMessage) (w : World) → message.ends ≡ false → IsLive w
     → IsLive (said message w)
 said_live message w is h = rw (h, is) refl
 
@@ -111,7 +114,7 @@ apart_live w (command.Disconnect reason description language) mild h =
     long_live message w (is_too_long message.payload) refl mild h
 apart_live w other mild h = opens_or_not_beside IsLive same_live (asking other) w h
 
-effect_live : (w : World) (one : Command) → IsMild one → IsLive w
+pub effect_live : (w : World) (one : Command) → IsMild one → IsLive w
     → EffectComes IsLive (effect w one)
 effect_live w one mild h =
     refused_comes IsLive (refused_for w.disconnected w one) w (done_by w one) h
@@ -147,7 +150,7 @@ tick_on w h =
 
 -- ---- what was answered
 
-mild_step : (a b : Bool) → (a || b) ≡ false → (a ≡ false) × (b ≡ false)
+pub mild_step : (a b : Bool) → (a || b) ≡ false → (a ≡ false) × (b ≡ false)
 mild_step true b h = absurd (cc)
 mild_step false b h = (refl, h)
 
@@ -159,14 +162,14 @@ all_mild (one ∷ commands) h =
     (both.0, all_mild commands both.1)
 
 -- no call of these recorded a command that ends the connection
-abbrev AreMild : {E : Type 0} → List (Call E) → Type 0
+abbrev pub AreMild : {E : Type 0} → List (Call E) → Type 0
 AreMild calls = list_any call_disconnects calls ≡ false
 
 first_mild : {E : Type 0} (call : Call E) (calls : List (Call E)) → AreMild (call ∷ calls)
     → (list_any disconnects (recorded_so (was call)) ≡ false) × AreMild calls
 first_mild call calls h = mild_step (call_disconnects call) (list_any call_disconnects calls) h
 
-mild_answer : {E F : Type 0} (question : Question) (answer : Answer question)
+pub mild_answer : {E F : Type 0} (question : Question) (answer : Answer question)
     (events : List (Event E F)) → AreMild (calls_in (answered question answer ∷ events))
     → IsMildAnswer question answer × AreMild (calls_in events)
 mild_answer ask.Banner answer events h = (tt, h)
@@ -210,19 +213,39 @@ never_ends {E} {F} (Tell entry next) (event ∷ events) world k mild h =
     never_ends next events world k
     (subst (λ e. AreMild {E = E} (calls_in (e ∷ events))) h.0 mild) h.1
 
-live_goes : (b : Bool) (w : World) → w.disconnected ≡ b → b ≡ false
-    → IsNoEnd (cond b (Ends w) (Goes w))
-live_goes true w is h = absurd (cc)
-live_goes false w is h = is
+-- an exchange of keys that this side begins ends no run
+begun_on : (w : World) (due : Bool) → IsLive w
+    → PlanComes IsMildAnswer IsNoEnd (acts (begins due) w)
+begun_on w true h = acts_come law (begins true) w h
+    ((λ keys later. h, λ keys. h), λ world k. tt)
+begun_on w false h = h
+
+goes_on : (w : World) (ended due : Bool) → w.disconnected ≡ ended → IsLive w
+    → PlanComes IsMildAnswer IsNoEnd (cond ended (Finish (Ends w)) (acts (begins due) w))
+goes_on w true due is h = absurd (cc)
+goes_on w false due is h = begun_on w due h
+
+finish_on : (asks : Bool) (outcome : Outcome) → IsNoEnd outcome
+    → PlanComes IsMildAnswer IsNoEnd (finish_input asks outcome)
+finish_on asks (Goes w) h =
+    let v = handed_on w in
+    told_come IsMildAnswer IsNoEnd (map Sent (going_out w)) (goes_unless_ended asks v)
+    (goes_on v v.disconnected (is_due asks v) refl h)
+finish_on asks (Ends w) h = absurd h
+finish_on asks (Fails fault) h = tt
+
+after_on : (asks : Bool) (plan : Plan Outcome) → PlanComes IsMildAnswer IsNoEnd plan
+    → PlanComes IsMildAnswer IsNoEnd (after plan (finish_input asks))
+after_on asks (Finish outcome) h = finish_on asks outcome h
+after_on asks (Ask question next) h = λ answer s. after_on asks (next answer) (h answer s)
+after_on asks (Tell entry next) h = after_on asks next h
 
 -- nor is the input that owes it
-input_on : {E F : Type 0} (plan : Plan Outcome) (events : List (Event E F)) (world : World)
-    → PlanComes IsMildAnswer IsNoEnd plan → AreMild (calls_in events)
-    → Follows (after plan finish_input) events (Ends world) → ⊥
-input_on plan events world k mild h =
-    never_ends (after plan finish_input) events world
-    (input_comes IsMildAnswer IsNoEnd plan
-    (λ v. (λ x. live_goes v.disconnected (handed_on v) refl x, λ x. x)) k) mild h
+input_on : {E F : Type 0} (asks : Bool) (plan : Plan Outcome) (events : List (Event E F))
+    (world : World) → PlanComes IsMildAnswer IsNoEnd plan → AreMild (calls_in events)
+    → Follows (after plan (finish_input asks)) events (Ends world) → ⊥
+input_on asks plan events world k mild h =
+    never_ends (after plan (finish_input asks)) events world (after_on asks plan k) mild h
 
 -- ---- inputs
 
@@ -253,7 +276,6 @@ other_at : (given : Circumstances) (w : World) (at : Gate) (fields : List ℕ) (
 other_at given w gate.Ends fields said h = inl refl
 other_at given w gate.OverCap fields said h = inr (inl refl)
 other_at given w gate.Nothing fields said h = inr (inr (rw h tt))
-other_at given w gate.NotBuilt fields said h = inr (inr (rw h tt))
 other_at given w gate.ServiceRequest fields said h =
     inr (inr (rw h.2 (read_other Service h.0 (λ name. tt))))
 other_at given w gate.UserauthRequest fields said h = inr (inr (rw h.2 tt))
@@ -264,61 +286,91 @@ other_at given w gate.OpenConfirmation fields said h =
 other_at given w (gate.Connection message) fields said h =
     inr (inr (rw h.2 (read_other Connection h.0 (λ spoken. tt))))
 
-command_ends : {E F : Type 0} (w : World) (ticket : ℕ) (one : Command) (events : List (Event E F))
-    (world : World) (ends : Bool) → disconnects one ≡ ends → IsLive w → AreMild (calls_in events)
-    → Follows (after (command_row w ticket one) finish_input) events (Ends world)
+command_ends : {E F : Type 0} (asks : Bool) (w : World) (ticket : ℕ) (one : Command)
+    (events : List (Event E F)) (world : World) (ends : Bool) → disconnects one ≡ ends → IsLive w
+    → AreMild (calls_in events)
+    → Follows (after (command_row w ticket one) (finish_input asks)) events (Ends world)
     → disconnects one ≡ true
-command_ends w ticket one events world true is live mild f = is
-command_ends w ticket one events world false is live mild f =
-    absurd (input_on (command_row w ticket one) events world (command_on w ticket one is live) mild
-    f)
+command_ends asks w ticket one events world true is live mild f = is
+command_ends asks w ticket one events world false is live mild f =
+    absurd (input_on asks (command_row w ticket one) events world
+    (command_on w ticket one is live) mild f)
 
 -- that the peer was heard changes no gate
 gate_heard : (payload : List ℕ) (w : World) → gate_of (hears payload w) payload ≡ gate_of w payload
 gate_heard [] w = refl
 gate_heard (n ∷ fields) w = refl
 
-kind_ends : {E F : Type 0} (accepts : Acceptance) (w : World) (moment : ℕ) (kind : InputKind)
-    (first : Plan Outcome) (events : List (Event E F)) (world : World)
-    → OwesKind accepts w moment kind first → IsLive w → AreMild (calls_in events)
-    → Follows (after first finish_input) events (Ends world) → IsEndingKind w kind
-kind_ends accepts w moment input.End first events world o live mild f = tt
-kind_ends {E} {F} accepts w moment (input.Payload payload) first events world o live mild f =
-    let v = hears payload w in
-    elim (other_at (circumstances accepts v.settings moment) v (gate_of v payload)
-    (drop 1 payload) o.0 o.1) [
-      | inl ends ↦ inl (drop 1 payload, is_disconnect v payload ends)
-      | inr (inl over) ↦ inr (sym (gate_heard payload w) ∙ over)
-      | inr (inr other) ↦ absurd (input_on (row v moment o.0) events world
-          (row_on v moment o.0 other live) mild
-          (subst (λ q. Follows {E = E} {F = F} (after q finish_input) events (Ends world)) o.2 f))
+-- what was read ends a run only at a gate that does
+read_ends : {E F : Type 0} (given : Circumstances) (asks : Bool) (w : World) (moment : ℕ)
+    (payload : List ℕ) (said : Said) (events : List (Event E F)) (world : World)
+    → Says given w (gate_of w payload) (drop 1 payload) said → IsLive w
+    → AreMild (calls_in events)
+    → Follows (after (row w moment said) (finish_input asks)) events (Ends world)
+    → ((fields : List ℕ) × (payload ≡ 1 ∷ fields)) ⊎ (gate_of w payload ≡ gate.OverCap)
+read_ends given asks w moment payload said events world says live mild f =
+    elim (other_at given w (gate_of w payload) (drop 1 payload) said says) [
+      | inl ends ↦ inl (drop 1 payload, is_disconnect w payload ends)
+      | inr (inl over) ↦ inr over
+      | inr (inr other) ↦ absurd (input_on asks (row w moment said) events world
+          (row_on w moment said other live) mild f)
     ]
-kind_ends {E} {F} accepts w moment (input.Command ticket one) first events world o live mild f =
-    command_ends w ticket one events world (disconnects one) refl live mild
-    (subst (λ q. Follows {E = E} {F = F} (after q finish_input) events (Ends world)) o f)
-kind_ends {E} {F} accepts w moment (input.OpenReply ticket answer) first events world o live mild
+
+payload_ends : {E F : Type 0} (accepts : Acceptance) (asks : Bool) (w : World) (moment : ℕ)
+    (payload : List ℕ) (first : Plan Outcome) (events : List (Event E F)) (world : World)
+    → OwesPayload accepts (hears payload w) moment payload first → IsLive w
+    → AreMild (calls_in events)
+    → Follows (after first (finish_input asks)) events (Ends world)
+    → IsEndingKind w (input.Payload payload)
+payload_ends {E} {F} accepts asks w moment payload first events world o live mild f =
+    let v = hears payload w in
+    payload_so accepts v moment payload first
+    (λ plan. Follows {E = E} {F = F} (after plan (finish_input asks)) events (Ends world)
+    → IsEndingKind w (input.Payload payload)) o
+    (λ said says k. subst
+    (λ at. ((fields : List ℕ) × (payload ≡ 1 ∷ fields)) ⊎ (at ≡ gate.OverCap))
+    (gate_heard payload w)
+    (read_ends (circumstances accepts v.settings moment) asks v moment payload said events world
+    says live mild k))
+    (λ passage k. absurd (input_on asks (acts (exchange_acts payload passage) v) events world
+    (exchange_comes law (λ u k. (λ keys later. k, λ keys. k)) payload passage v live tt tt) mild k)) f
+
+kind_ends : {E F : Type 0} (accepts : Acceptance) (asks : Bool) (w : World) (moment : ℕ)
+    (kind : InputKind) (first : Plan Outcome) (events : List (Event E F)) (world : World)
+    → OwesKind accepts w moment kind first → IsLive w → AreMild (calls_in events)
+    → Follows (after first (finish_input asks)) events (Ends world) → IsEndingKind w kind
+kind_ends accepts asks w moment input.End first events world o live mild f = tt
+kind_ends accepts asks w moment (input.Payload payload) first events world o live mild f =
+    payload_ends accepts asks w moment payload first events world o live mild f
+kind_ends {E} {F} accepts asks w moment (input.Command ticket one) first events world o live mild
     f =
-    absurd (input_on (command_row w ticket (command.Answer answer)) events world
+    command_ends asks w ticket one events world (disconnects one) refl live mild
+    (subst (λ q. Follows {E = E} {F = F} (after q (finish_input asks)) events (Ends world)) o f)
+kind_ends {E} {F} accepts asks w moment (input.OpenReply ticket answer) first events world o live
+    mild f =
+    absurd (input_on asks (command_row w ticket (command.Answer answer)) events world
     (command_on w ticket (command.Answer answer) refl live) mild
-    (subst (λ q. Follows {E = E} {F = F} (after q finish_input) events (Ends world)) o f))
-kind_ends {E} {F} accepts w moment input.KeepaliveTick first events world o live mild f =
-    absurd (input_on (acts (keepalive_acts w) w) events world (tick_on w live) mild
-    (subst (λ q. Follows {E = E} {F = F} (after q finish_input) events (Ends world)) o f))
-kind_ends {E} {F} accepts w moment input.InactivityTick first events world o live mild f =
-    absurd (input_on (acts inactivity_acts w) events world tt mild
-    (subst (λ q. Follows {E = E} {F = F} (after q finish_input) events (Ends world)) o f))
-kind_ends {E} {F} accepts w moment input.RekeyTick first events world o live mild f =
-    absurd (input_on (Finish (Fails Not_built)) events world tt mild
-    (subst (λ q. Follows {E = E} {F = F} (after q finish_input) events (Ends world)) o f))
+    (subst (λ q. Follows {E = E} {F = F} (after q (finish_input asks)) events (Ends world)) o f))
+kind_ends {E} {F} accepts asks w moment input.KeepaliveTick first events world o live mild f =
+    absurd (input_on asks (acts (keepalive_acts w) w) events world (tick_on w live) mild
+    (subst (λ q. Follows {E = E} {F = F} (after q (finish_input asks)) events (Ends world)) o f))
+kind_ends {E} {F} accepts asks w moment input.InactivityTick first events world o live mild f =
+    absurd (input_on asks (acts inactivity_acts w) events world tt mild
+    (subst (λ q. Follows {E = E} {F = F} (after q (finish_input asks)) events (Ends world)) o f))
+kind_ends {E} {F} accepts asks w moment input.RekeyTick first events world o live mild f =
+    absurd (input_on asks (Finish (Goes w)) events world live mild
+    (subst (λ q. Follows {E = E} {F = F} (after q (finish_input asks)) events (Ends world)) o f))
 
 turn_ends : {E F : Type 0} (accepts : Acceptance) (w : World) (turn : Turn E F)
     (first : Plan Outcome)
     (world : World) (recorded : Bool) → list_any call_disconnects (calls_of turn) ≡ recorded
     → OwesKind accepts w turn.input.moment turn.input.kind first → IsLive w
-    → Follows (after first finish_input) turn.events (Ends world) → IsEnding w turn
+    → Follows (after first (finish_input (asks_for_keys turn.input.kind))) turn.events (Ends world)
+    → IsEnding w turn
 turn_ends accepts w turn first world true is o live f = inr is
 turn_ends accepts w turn first world false is o live f =
-    inl (kind_ends accepts w turn.input.moment turn.input.kind first turn.events world o live is f)
+    inl (kind_ends accepts (asks_for_keys turn.input.kind) w turn.input.moment turn.input.kind first
+    turn.events world o live is f)
 
 -- an input by which a run ends well is one that ends it
 pub ended : {E F : Type 0} (accepts : Acceptance) (w : World) (turn : Turn E F)
@@ -336,25 +388,30 @@ abbrev ComesLive : Outcome → Type 0
 ComesLive (Goes w) = IsLive w
 ComesLive _ = Unit {0}
 
-live_step : (b : Bool) (w : World) → w.disconnected ≡ b
-    → ComesLive (cond b (Ends w) (Goes w))
-live_step true w is = tt
-live_step false w is = is
+live_step : (w : World) (ended due : Bool) → w.disconnected ≡ ended
+    → PlanComes Anything ComesLive (cond ended (Finish (Ends w)) (acts (begins due) w))
+live_step w true due is = tt
+live_step w false true is = λ payload s.
+    told_come Anything ComesLive (map Sent (frames_given (payload ∷ []))) _ is
+live_step w false false is = is
 
-finished_live : (outcome : Outcome) → PlanComes Anything ComesLive (finish_input outcome)
-finished_live (Goes w) =
-    told_comes ComesLive (map Sent w.channels.lines.written) (goes_unless_ended (handed_on w))
-    (live_step w.disconnected (handed_on w) refl)
-finished_live (Ends w) =
-    told_comes ComesLive (map Sent w.channels.lines.written) (Ends (handed_on w)) tt
-finished_live (Fails fault) = tt
+finished_live : (asks : Bool) (outcome : Outcome)
+    → PlanComes Anything ComesLive (finish_input asks outcome)
+finished_live asks (Goes w) =
+    let v = handed_on w in
+    told_come Anything ComesLive (map Sent (going_out w)) (goes_unless_ended asks v)
+    (live_step v v.disconnected (is_due asks v) refl)
+finished_live asks (Ends w) =
+    told_come Anything ComesLive (map Sent (going_out w)) (Finish (Ends (handed_on w))) tt
+finished_live asks (Fails fault) = tt
 
 turn_live : {E F : Type 0} (accepts : Acceptance) (w : World) (turn : Turn E F) (mid : World)
     → Turns accepts w turn mid → IsLive mid
 turn_live {E} {F} accepts w turn mid t =
+    let asks = asks_for_keys turn.input.kind in
     comes_of ComesLive t.0 turn.events (Goes mid)
     (subst (PlanComes Anything ComesLive) (sym t.1.2)
-    (comes_then Anything ComesLive t.1.0 finish_input finished_live)) t.2
+    (comes_then Anything ComesLive t.1.0 (finish_input asks) (finished_live asks))) t.2
 
 pub run_live : {E F : Type 0} (accepts : Acceptance) (w : World) (turns : List (Turn E F))
     (world : World) → Run accepts w turns world → IsLive w → IsLive world

@@ -17,7 +17,7 @@ use Rattle.ssh_link.specs.declared.command.Command.{Command as Commanded}
 use Rattle.ssh_link.specs.declared.command.Command.TheVariants as command
 use Rattle.ssh_link.specs.declared.frame.InputKind.{InputKind}
 use Rattle.ssh_link.specs.declared.frame.InputKind.TheVariants.{Payload, Command, OpenReply, End}
-use Rattle.ssh_link.specs.declared.frame.InputKind.TheVariants.{KeepaliveTick}
+use Rattle.ssh_link.specs.declared.frame.InputKind.TheVariants.{KeepaliveTick, RekeyTick}
 use Rattle.ssh_link.specs.declared.link.TraceEntry.TheVariants.{Answered}
 use Rattle.ssh_auth.specs.declared.auth_request.AuthRequest.{AuthRequest}
 use Rattle.ssh_auth.specs.declared.auth_step.AuthVerdict.TheVariants as verdict
@@ -59,13 +59,16 @@ use Rattle.ssh_session.specs.Reading.{Unfit, Says, SaysOpen, ReadsAs, said_of, s
 use Rattle.ssh_session.specs.Spelling.{Layout, Leaves, Rest, Whole, Fields, Spells}
 use Rattle.ssh_session.specs.Rows.{spoken_acts, agreed_acts, failure_acts}
 use Rattle.ssh_session.specs.Rows.{row, owed, greets, is_short, replied, concluded, asked_of}
-use Rattle.ssh_session.specs.Rows.{fault_of, data_told, open_acts}
-use Rattle.ssh_session.specs.Run.{OwesKind, command_row}
+use Rattle.ssh_session.specs.Rows.{fault_of, data_told, open_acts, exchange_acts}
+use Rattle.ssh_session.specs.Run.{OwesKind, OwesPassed, command_row, passage}
+use Rattle.ssh_session.specs.declared.exchange.Passage.{Passage}
+use Rattle.ssh_session.specs.declared.exchange.Passage.TheVariants.{Begins, Steps, Barred, Late}
+use Rattle.ssh_session.specs.declared.exchange.Passage.TheVariants.{Passes}
 use Rattle.ssh_session.specs.World.{World, circumstances, hears, waits_for, lined, is_there}
 use Rattle.ssh_session.specs.World.{is_waiting}
 use Rattle.ssh_session.specs.Valid.{AreValidMethodFields, AreValidFields, FitsLayout, HasNoPrompt}
 use Rattle.ssh_session.specs.Valid.{IsFineAnswer, IsFineBanner}
-use Rattle.ssh_session.specs.Valid.{IsServed, IsValidKind}
+use Rattle.ssh_session.specs.Valid.{IsServed, IsValidKind, IsValidPassed}
 use Rattle.ssh_session.specs.World.{World, circumstances, waits_for, lined}
 use Rattle.ssh_session.proofs.Acting.{PlanComes, EffectComes, Law, ActsCome, acts_come}
 use Rattle.ssh_session.proofs.Acting.{one_comes}
@@ -344,7 +347,6 @@ fields_fine given w moment gate.OpenConfirmation payload said v h =
 fields_fine given w moment (gate.Connection message) payload said v h =
     channel_fine (Payload payload) w moment (message_layout w message) (drop 1 payload)
     said v h
-fields_fine given w moment gate.NotBuilt payload said v h = absurd v
 
 -- ---- inputs
 
@@ -355,6 +357,23 @@ command_fine kind w ticket commanded =
     (Finish (Goes world)))
     (any_effect (effect w commanded)) (λ outcome world k. tt)
 
+-- a payload, by its passage
+passed_fine : (accepts : Acceptance) (at : Passage) (w : World) (moment : ℕ) (payload : List ℕ)
+    (plan : Plan Outcome) → IsValidPassed (circumstances accepts w.settings moment) w at payload
+    → OwesPassed at accepts w moment payload plan
+    → PlanComes (IsFineAnswer (Payload payload)) IsNoFault plan
+passed_fine accepts Passes w moment payload plan v o =
+    rw o.2 (fields_fine (circumstances accepts w.settings moment) w moment (gate_of w payload)
+    payload o.0 v o.1)
+passed_fine accepts Begins w moment payload plan v o =
+    rw o (acts_come (law (Payload payload)) (exchange_acts payload Begins) w tt
+    ((λ keys later. tt, λ keys. tt), λ x k. ((λ keys later. tt, λ keys. tt), λ y l. tt)))
+passed_fine accepts Steps w moment payload plan v o =
+    rw o (acts_come (law (Payload payload)) (exchange_acts payload Steps) w tt
+    ((λ keys later. tt, λ keys. tt), λ x k. tt))
+passed_fine accepts Barred w moment payload plan v o = absurd v
+passed_fine accepts Late w moment payload plan v o = absurd v
+
 pub kind_fine : (accepts : Acceptance) (w : World) (moment : ℕ) (kind : InputKind)
     (plan : Plan Outcome) →
     IsValidKind (circumstances accepts w.settings moment) w kind → OwesKind accepts w moment kind
@@ -363,8 +382,7 @@ pub kind_fine : (accepts : Acceptance) (w : World) (moment : ℕ) (kind : InputK
 kind_fine accepts w moment End plan v o = rw o tt
 kind_fine accepts w moment (Payload payload) plan valid o =
     let v : World = hears payload w in
-    rw o.2 (fields_fine (circumstances accepts v.settings moment) v moment (gate_of v payload)
-    payload o.0 valid o.1)
+    passed_fine accepts (passage v payload) v moment payload plan valid o
 kind_fine accepts w moment (Command ticket commanded) plan v o =
     rw o (command_fine (Command ticket commanded) w ticket commanded)
 kind_fine accepts w moment (OpenReply ticket answer) plan v o =
@@ -372,4 +390,5 @@ kind_fine accepts w moment (OpenReply ticket answer) plan v o =
 kind_fine accepts w moment KeepaliveTick plan v o =
     rw (o, v) (acts_come (law KeepaliveTick) (Turns (λ v. said keepalive (ticked v)) ∷ []) w tt
     (tt, tt))
+kind_fine accepts w moment RekeyTick plan v o = rw o tt
 kind_fine accepts w moment _ plan v o = absurd v

@@ -1,9 +1,10 @@
 -- The end of an input, and the frames that are handed on at it.
-use Rattle.std.proofs.Common.{◌≡◌, List, [], ◌∷◌, ◌++◌, length, map}
+use Rattle.std.proofs.Common.{◌≡◌, Bool, true, false, cond, List, [], ◌∷◌, ◌++◌, length, map}
 use Rattle.std.proofs.Common.{Result, Ok, Err, refl, sym}
 use Rattle.std.proofs.Common.{ap, subst}
 use Rattle.std.proofs.lemmas.List.{nil_from_length}
 use Rattle.ssh_link.specs.Faults.{Rose}
+use Rattle.ssh_link.specs.Frames.{Frame}
 use Rattle.ssh_link.specs.declared.link.LinkFault.{LinkFault as LinkFailure}
 use Rattle.ssh_link.specs.declared.link.TraceEntry.{TraceEntry}
 use Rattle.ssh_link.specs.declared.link.TraceEntry.TheVariants.{Sent}
@@ -20,72 +21,62 @@ use Rattle.ssh_session.specs.declared.session.Session.{Session}
 use Rattle.ssh_session.specs.World.{World}
 use Rattle.ssh_session.specs.Failure.{error_of_link}
 use Rattle.ssh_session.specs.Heard.{Heard, Gives}
-use Rattle.ssh_session.specs.Outcome.{Outcome, Fails}
-use Rattle.ssh_session.specs.Acts.{tell_all}
-use Rattle.ssh_session.specs.Run.{finish_input, handed_on}
+use Rattle.ssh_session.specs.Outcome.{Fault, Outcome, Ends, Fails}
+use Rattle.ssh_session.specs.Acts.{Beginning, Exchanges, acts, tell_all}
+use Rattle.ssh_session.specs.Run.{begins, finish_input, goes_unless_ended, hand_on, is_due}
 use Rattle.ssh_session.specs.Serve.{Refines, Cause, Wants_memory, Link_failed, Limit_reached}
 use Rattle.ssh_session.specs.Serve.{Faulty, Refused_by, Broken_by, cause_of}
 use Rattle.ssh_session.specs.Serve.{IsCaused, Serves}
-use Rattle.ssh_session.specs.Serve.{Completes, TellsEach, comes, comes_at_end}
+use Rattle.ssh_session.specs.Serve.{Completes, Does, TellsEach, comes, ends_by_flow}
 use Rattle.ssh_session.proofs.Serving.{reached, served_both, serves_nothing, given, not_given}
+use Rattle.ssh_session.proofs.Serving.{goes_on, stops_short}
 
 -- ---- the end of an input
 
 -- what was owed is not finished, and no frame is handed on
-caused_after : {E F : Type 0} (cause : Cause E F) (plan : Plan Outcome) (rose : Type 0)
-    (events : List (Event E F)) →
-    IsCaused cause plan rose events → IsCaused cause (after plan finish_input) rose events
-caused_after Wants_memory plan rose events h = begins_after plan finish_input events h
-caused_after Link_failed plan rose events h = (h.0, begins_after plan finish_input events h.1)
-caused_after Limit_reached plan rose events h = h
-caused_after (Faulty fault) plan rose events h = reaches_after plan (Finish (Fails fault))
-    finish_input events h
-caused_after (Refused_by e) plan rose events h = breaks_after plan finish_input events
-    (Handler_error e) h
-caused_after (Broken_by e) plan rose events h = breaks_after plan finish_input events
-    (Exchange_error e) h
+caused_after : {E F : Type 0} (cause : Cause E F) (plan : Plan Outcome)
+    (later : Outcome → Plan Outcome) (rose : Type 0) (events : List (Event E F)) →
+    ((fault : Fault) → later (Fails fault) ≡ Finish (Fails fault)) →
+    IsCaused cause plan rose events → IsCaused cause (after plan later) rose events
+caused_after Wants_memory plan later rose events f h = begins_after plan later events h
+caused_after Link_failed plan later rose events f h = (h.0, begins_after plan later events h.1)
+caused_after Limit_reached plan later rose events f h = h
+caused_after {E} {F} (Faulty fault) plan later rose events f h =
+    subst (Reaches {E = E} {F = F} (after plan later) events) (f fault)
+    (reaches_after plan (Finish (Fails fault)) later events h)
+caused_after (Refused_by e) plan later rose events f h =
+    breaks_after plan later events (Handler_error e) h
+caused_after (Broken_by e) plan later rose events f h =
+    breaks_after plan later events (Exchange_error e) h
 
-pub unfinished : {E F : Type 0} (first : Plan Outcome) (a b : Heard E F)
-    (session session' : Session)
-    (e : RunError E F) →
-    Completes first a b session (Err e) → Completes (after first finish_input) a b session' (Err e)
-unfinished first a b session session' e h =
-    (h.0, h.1, caused_after (cause_of e) first (Rose a.faults b.faults) h.0 h.2)
+pub unfinished : {E F : Type 0} (ticked : Bool) (first : Plan Outcome) (a b : Heard E F)
+    (session session' : Session) (e : RunError E F) → Completes first a b session (Err e) →
+    Completes (after first (finish_input ticked)) a b session' (Err e)
+unfinished ticked first a b session session' e h = (
+  h.0,
+  h.1,
+  caused_after (cause_of e) first (finish_input ticked) (Rose a.faults b.faults) h.0 (λ fault. refl)
+      h.2,
+)
 
--- the frames of an input that was finished are handed on
-hands_on : (flow : Flow) (w : World) →
-    finish_input (comes flow w) ≡ tell_all (map Sent w.channels.lines.written)
-    (Finish (comes_at_end flow (handed_on w)))
-hands_on Continue w = refl
-hands_on Ended w = refl
+-- the frames of an input that was finished are handed on, and then it goes by its flow
+hands_on : (ticked : Bool) (flow : Flow) (w : World) →
+    finish_input ticked (comes flow w) ≡ hand_on w (ends_by_flow ticked flow)
+hands_on ticked Continue w = refl
+hands_on ticked Ended w = refl
 
-pub finished : {E F : Type 0} (flow : Flow) (first : Plan Outcome) (a b c : Heard E F)
-    (session session' : Session)
-    (result : Result Flow (RunError E F)) → Completes first a b session (Ok flow) →
-    ((w : World) → Refines session w
-    → Serves (tell_all (map Sent w.channels.lines.written)
-    (Finish (comes_at_end flow (handed_on w))))
-    (λ flow world. Finish (comes flow world)) b c session' result) →
-    Completes (after first finish_input) a c session' result
-finished flow first a b c session session' result h k =
-    reached (after first finish_input) (finish_input (comes flow h.2.0))
+pub finished : {E F : Type 0} (ticked : Bool) (flow : Flow) (first : Plan Outcome)
+    (a b c : Heard E F) (session session' : Session) (result : Result Flow (RunError E F)) →
+    (h : Completes first a b session (Ok flow)) → ((w : World) → Refines session w →
+    Reaches first h.0 (Finish (comes flow w)) → Completes (hand_on w (ends_by_flow ticked flow)) b c session' result) →
+    Completes (after first (finish_input ticked)) a c session' result
+finished ticked flow first a b c session session' result h k =
+    reached (after first (finish_input ticked)) (finish_input ticked (comes flow h.2.0))
     (λ flow world. Finish (comes flow world)) a b c h.0
-    session' result h.1 (reaches_after first (Finish (comes flow h.2.0)) finish_input h.0 h.2.1)
-    (subst (λ p. Serves p (λ flow world. Finish (comes flow world)) b c session' result)
-    (sym (hands_on flow h.2.0))
-    (k h.2.0 h.2.2))
-
--- behind them the run goes on, or is over
-pub at_end : {E F : Type 0} (before flow : Flow) (plan : Plan Outcome) (a b : Heard E F)
-    (session : Session) → ((w : World) → Refines session w → comes flow w ≡ comes_at_end before w)
-    → Serves plan (λ (_ : Unit {0}) world. Finish (comes_at_end before world)) a b session (Ok tt)
-    → Serves plan (λ flow world. Finish (comes flow world)) a b session (Ok flow)
-at_end before flow plan a b session same h =
-    let world = h.2.0 in (
-      h.0,
-      h.1,
-      (world, subst (λ o. Reaches plan h.0 (Finish o)) (sym (same world h.2.2)) h.2.1, h.2.2),
-    )
+    session' result h.1
+    (reaches_after first (Finish (comes flow h.2.0)) (finish_input ticked) h.0 h.2.1)
+    (subst (λ p. Completes p b c session' result) (sym (hands_on ticked flow h.2.0))
+    (k h.2.0 h.2.2 h.2.1))
 
 pub none_left : {A : Type 0} (items : List A) → length items ≡ 0 → items ≡ []
 none_left items h = nil_from_length items h
@@ -129,3 +120,68 @@ pub none_told : {A E F : Type 0} (as_what : A → TraceEntry) (a : Heard E F) �
     TellsEach as_what [] a a (Ok tt)
 none_told as_what a = λ w session r next.
     serves_nothing tt (λ (_ : Unit {0}) _. next) a w session r
+
+-- all of these were told, as a session stood for a world
+pub told_all : {E F : Type 0} (frames to : List Frame) (next : Plan Outcome) (a b : Heard E F)
+    (w : World) (session : Session) (result : Result (Unit {0}) (RunError E F)) → frames ≡ to →
+    Refines session w → TellsEach Sent frames a b result →
+    Serves (tell_all (map Sent to) next) (λ (_ : Unit {0}) _. next) a b session result
+told_all frames to next a b w session result is r h =
+    subst (λ l. Serves (tell_all (map Sent l) next) (λ (_ : Unit {0}) _. next) a b session result) is
+    (h w session r next)
+
+-- ---- behind the frames of an input
+
+ends_step : {E F : Type 0} (ended due : Bool) (w : World) (a : Heard E F) (session : Session) →
+    ended ≡ true → Refines session w →
+    Completes (cond ended (Finish (Ends w)) (acts (begins due) w)) a a session (Ok Ended)
+ends_step true due w a session is r =
+    serves_nothing Ended (λ flow world. Finish (comes flow world)) a w session r
+ends_step false due w a session is r = absurd (cc)
+
+none_step : {E F : Type 0} (ended due : Bool) (w : World) (a : Heard E F) (session : Session) →
+    ended ≡ false → due ≡ false → Refines session w →
+    Completes (cond ended (Finish (Ends w)) (acts (begins due) w)) a a session (Ok Continue)
+none_step true due w a session stands none r = absurd (cc)
+none_step false true w a session stands none r = absurd (cc)
+none_step false false w a session stands none r =
+    serves_nothing Continue (λ flow world. Finish (comes flow world)) a w session r
+
+one_step : {E F : Type 0} (ended due : Bool) (w : World) (a b : Heard E F) (session : Session)
+    (result : Result Flow (RunError E F)) → ended ≡ false → due ≡ true →
+    Completes (acts (begins true) w) a b session result →
+    Completes (cond ended (Finish (Ends w)) (acts (begins due) w)) a b session result
+one_step true due w a b session result stands is h = absurd (cc)
+one_step false true w a b session result stands is h = h
+one_step false false w a b session result stands is h = absurd (cc)
+
+-- the connection was ended
+pub is_ended : {E F : Type 0} (ticked : Bool) (w : World) (a : Heard E F) (session : Session) →
+    w.disconnected ≡ true → Refines session w →
+    Completes (goes_unless_ended ticked w) a a session (Ok Ended)
+is_ended ticked w a session is r = ends_step w.disconnected (is_due ticked w) w a session is r
+
+-- it goes on, and no exchange of keys is due
+pub none_due : {E F : Type 0} (ticked : Bool) (w : World) (a : Heard E F) (session : Session) →
+    w.disconnected ≡ false → is_due ticked w ≡ false → Refines session w →
+    Completes (goes_unless_ended ticked w) a a session (Ok Continue)
+none_due ticked w a session stands none r =
+    none_step w.disconnected (is_due ticked w) w a session stands none r
+
+-- one is, and is begun
+pub one_due : {E F : Type 0} (ticked : Bool) (w : World) (a b : Heard E F) (session : Session) →
+    w.disconnected ≡ false → is_due ticked w ≡ true →
+    Does (Exchanges Beginning ∷ []) w a b session (Ok tt) →
+    Completes (goes_unless_ended ticked w) a b session (Ok Continue)
+one_due ticked w a b session stands due h =
+    one_step w.disconnected (is_due ticked w) w a b session (Ok Continue) stands due
+    (goes_on (Exchanges Beginning ∷ []) w a b session h)
+
+-- .. or is not begun
+pub not_due : {E F : Type 0} (ticked : Bool) (w : World) (a b : Heard E F) (session : Session)
+    (e : RunError E F) → w.disconnected ≡ false → is_due ticked w ≡ true →
+    Does (Exchanges Beginning ∷ []) w a b session (Err e) →
+    Completes (goes_unless_ended ticked w) a b session (Err e)
+not_due ticked w a b session e stands due h =
+    one_step w.disconnected (is_due ticked w) w a b session (Err e) stands due
+    (stops_short (Exchanges Beginning ∷ []) w a b session session e h)

@@ -32,7 +32,6 @@ Meets state n gate.OverCap = Unit {0}
 Meets state n gate.ServiceRequest = Unit {0}
 Meets state n gate.UserauthRequest = (n ≡ 50) × IsRequesting state
 Meets state n gate.InfoResponse = (n ≡ 61) × IsRequesting state
-Meets state n gate.NotBuilt = Unit {0}
 Meets state n gate.ChannelOpen = (n ≡ 90) × IsLetIn state
 -- another message of the connection protocol
 Meets state n _ = IsLetIn state
@@ -86,10 +85,8 @@ state_meets config Authenticated n = connection_meets Authenticated n tt
 meets : (w : World) (n : ℕ) (fields : List ℕ) → Meets w.user.state n (gate_of w (n ∷ fields))
 meets w n fields =
     let P : Gate → Type 0 = Meets w.user.state n in
-    chosen (n == 1) P gate.Ends (if n == 20 then gate.NotBuilt else state_gate w.settings.config
-    w.user.state n) (eqb-true n 1)
-    (chosen (n == 20) P gate.NotBuilt (state_gate w.settings.config w.user.state n) (λ is. tt)
-    (state_meets w.settings.config w.user.state n))
+    chosen (n == 1) P gate.Ends (state_gate w.settings.config w.user.state n) (eqb-true n 1)
+    (state_meets w.settings.config w.user.state n)
 
 -- a payload that is read as a request of authentication is numbered 50, and comes while requests
 -- are waited for

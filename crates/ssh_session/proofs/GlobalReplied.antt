@@ -1,7 +1,8 @@
 -- The peer gets no more replies than its global requests want, by induction over a run (RFC 4254
 -- section 4).
-use Rattle.std.proofs.Common.{◌≡◌, ◌≤◌, ◌+◌, ℕ, List, [], ◌++◌, Bool, true, false, cond}
-use Rattle.std.proofs.Common.{Option, Result, refl, ap, arith}
+use Rattle.std.proofs.Common.{◌≡◌, ◌≤◌, ◌+◌, ◌==◌, ◌&&◌, ◌||◌, ℕ, List, [], ◌∷◌, ◌++◌}
+use Rattle.std.proofs.Common.{Bool, true, false, cond, nat_lt, Option, Result, refl, ap, subst}
+use Rattle.std.proofs.Common.{arith}
 use Rattle.std.specs.Prelude.{option_to_list}
 use Rattle.ssh_link.specs.declared.frame.InputKind.TheVariants as input
 use Rattle.ssh_auth.specs.Publickey.{Acceptance}
@@ -10,7 +11,10 @@ use Rattle.ssh_channels.specs.Lines.{Lines, find, put, wants}
 use Rattle.ssh_session.specs.declared.error.RunError.{RunError}
 use Rattle.ssh_session.specs.Account.{Closes}
 use Rattle.ssh_session.specs.Answered.{how_many}
-use Rattle.ssh_session.specs.GlobalReplied.{is_global_reply, wants_global_reply, GlobalReplied}
+use Rattle.ssh_channels.proofs.Listed.{one_number}
+use Rattle.ssh_session.specs.Exchange.{is_of_transport}
+use Rattle.ssh_session.specs.GlobalReplied.{is_global_reply, replies_globally, wants_global_reply}
+use Rattle.ssh_session.specs.GlobalReplied.{GlobalReplied}
 use Rattle.ssh_session.specs.Layout.{at_once}
 use Rattle.ssh_session.specs.Opens.{failure_frame}
 use Rattle.ssh_session.specs.Reading.{Said}
@@ -22,10 +26,27 @@ use Rattle.ssh_session.proofs.Measures.{Measure, LinesOwe, one_if, no_more, line
 use Rattle.ssh_session.proofs.Measures.{silent_more}
 use Rattle.ssh_session.proofs.Measuring.{owing, OwesUpTo, RequestOwes, lined_upto, same_lines}
 use Rattle.ssh_session.proofs.Measured.{OfRead, read_weaker}
-use Rattle.ssh_session.proofs.Repaying.{Owed, left_with, Repays, past_few, span_few}
+use Rattle.ssh_session.proofs.Repaying.{left_with, Repays, past_few, span_few}
 use Rattle.ssh_session.proofs.Wanting.{BytesSay}
 
 -- ---- the measure
+
+-- a frame of an exchange of keys is no reply: its number is 1 to 49
+exchanged_step : (a b : Bool) (number : ℕ) → (number == 81) ≡ a → (number == 82) ≡ b →
+    (nat_lt 0 number && nat_lt number 50) ≡ true → (a || b) ≡ false
+exchanged_step true b number is so low =
+    absurd (let e : (nat_lt 0 81 && nat_lt 81 50) ≡ true =
+    subst (λ n. (nat_lt 0 n && nat_lt n 50) ≡ true) (one_number number 81 is) low in cc)
+exchanged_step false true number is so low =
+    absurd (let e : (nat_lt 0 82 && nat_lt 82 50) ≡ true =
+    subst (λ n. (nat_lt 0 n && nat_lt n 50) ≡ true) (one_number number 82 so) low in cc)
+exchanged_step false false number is so low = refl
+
+exchanged_beside : (payload : List ℕ) → is_of_transport payload ≡ true →
+    replies_globally payload ≡ false
+exchanged_beside [] low = refl
+exchanged_beside (number ∷ fields) low =
+    exchanged_step (number == 81) (number == 82) number refl refl low
 
 one_most : (b : Bool) → one_if b + 0 ≤ 1
 one_most true = omega arith
@@ -40,6 +61,7 @@ global_replies = record {
   globally = λ wanted. one_if wanted;
   asks = λ question. false;
   untagged = λ frame is unlike. unlike;
+  exchanged = λ frame is so. exchanged_beside frame.payload so;
   other = λ frame no_answer no_reply. no_reply.1;
   kept = λ e f entries at same. omega arith;
   parted = λ m entries. omega arith;
@@ -63,32 +85,35 @@ wants_owe m wanted l =
     (put (record e { wants_reply = wanted }) l.entries) tt (omega arith)
     (same_lines global_replies l)) (same_lines global_replies l)
 
--- a request makes one where it wants one
+-- a request makes one more where it wants one
 wanted_step : (b wanted : Bool) (left : ℕ) (w : World) → b ≡ wanted →
-    Owed global_replies left w → OwesUpTo global_replies (cond b 1 left) (wants_global wanted w)
-wanted_step true true left w is h =
-    let none : how_many is_global_reply w.channels.lines.written ≡ 0 =
-    ap (how_many is_global_reply) h.none in
-    omega (arith, none)
-wanted_step false false left w is h =
-    let most = h.covered in
-    let none : how_many is_global_reply w.channels.lines.written ≡ 0 =
-    ap (how_many is_global_reply) h.none in
-    omega (arith, none)
+    OwesUpTo global_replies left w →
+    OwesUpTo global_replies (cond b (left + 1) left) (wants_global wanted w)
+wanted_step true true left w is h = omega (arith, h)
+wanted_step false false left w is h = omega (arith, h)
 wanted_step true false left w is h = absurd (cc)
 wanted_step false true left w is h = absurd (cc)
 
 request_reads : (left : ℕ) (w : World) (payload : List ℕ) (said : Said) →
-    OfRead (BytesSay w payload) said → Owed global_replies left w →
+    OfRead (BytesSay w payload) said → OwesUpTo global_replies left w →
     OfRead (RequestOwes global_replies (left_with wants_global_reply left
     (input.Payload payload)) w) said
 request_reads left w payload said q h =
     let b = wants_global_reply (input.Payload payload) in
-    read_weaker (BytesSay w payload) (RequestOwes global_replies (cond b 1 left) w) said
-    (λ channel wanted is. lined_upto global_replies (cond b 1 left) (wants channel.0 wanted) w
+    let k = cond b (left + 1) left in
+    read_weaker (BytesSay w payload) (RequestOwes global_replies k w) said
+    (λ channel wanted is. lined_upto global_replies k (wants channel.0 wanted) w
     (wants_owe channel.0 wanted w.channels.lines)
-    (still_low b (owing global_replies w) left h.covered h.one))
+    (still_low b (owing global_replies w) left h))
     (λ wanted is. wanted_step b wanted left w is h) (λ told is. tt) q
+
+-- where nothing is written, the reply that the last request wants is all that may come
+request_most : (w : World) → w.channels.lines.written ≡ [] → OwesUpTo global_replies 1 w
+request_most w empty =
+    let most = one_most w.globals.wanted in
+    let none : how_many is_global_reply w.channels.lines.written ≡ 0 =
+    ap (how_many is_global_reply) empty in
+    omega (arith, most, none)
 
 replies_repay : Repays global_replies wants_global_reply
 replies_repay = record {
@@ -96,6 +121,7 @@ replies_repay = record {
   none_wait = λ opens. refl;
   apart = λ m payload unlike. unlike.1;
   reads = λ left w payload said q h. request_reads left w payload said q h;
+  most = λ w empty. request_most w empty;
 }
 
 -- a run sends no more replies than its global requests want
@@ -108,14 +134,14 @@ pub globally_replied : {E F : Type 0} (accepts : Acceptance) (settings : Setting
 globally_replied accepts settings turns world count max last rose result run closes =
     let all = run_walks accepts (opening_world settings) turns world (option_to_list last) run
     (last_walks accepts world count max last rose result closes) in
-    let first : Owed global_replies 0 (opening_world settings) =
-    record { none = refl; one = omega arith; covered = omega arith } in
+    let first : OwesUpTo global_replies 0 (opening_world settings) = omega arith in
     record {
       never_more = λ past more is.
           let few = past_few global_replies wants_global_reply replies_repay accepts 0
           (turns ++ option_to_list last) (opening_world settings) all first past more is in
           omega (arith, few);
-      one_each = λ past span more is none.
-          span_few global_replies wants_global_reply replies_repay accepts 0
-          (turns ++ option_to_list last) (opening_world settings) all first past span more is none;
+      one_each = λ past span more is outside none.
+          span_few global_replies wants_global_reply replies_repay accepts
+          (turns ++ option_to_list last) (opening_world settings) all (λ idle. refl) past span
+          more is outside none;
     }

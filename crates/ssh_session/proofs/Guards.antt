@@ -1,6 +1,8 @@
 -- Plans in which nothing of the connection comes before an answer that accepts a user.
 use Rattle.std.proofs.Common.{◌≡◌, ◌⊎◌, ℕ, List, [], ◌∷◌, ◌++◌, map, Some, None, Ok, refl, sym, ◌∙◌}
-use Rattle.std.proofs.Common.{ap, subst, inl, inr}
+use Rattle.std.proofs.Common.{ap, subst, inl, inr, Bool, true, false, cond, arith}
+use Rattle.std.specs.Prelude.{◌≤◌, nat_lt, filter}
+use Rattle.std.proofs.lemmas.Bool.{and_parts, ltb-true}
 use Rattle.ssh_link.specs.Frames.{Frame}
 use Rattle.ssh_link.specs.declared.frame.InputKind.{InputKind}
 use Rattle.ssh_link.specs.declared.link.TraceEntry.{TraceEntry}
@@ -11,24 +13,32 @@ use Rattle.ssh_auth.specs.declared.auth_request.Principal.{Principal}
 use Rattle.ssh_auth.specs.declared.call.Call.{Call}
 use Rattle.ssh_auth.specs.declared.question.Question.{Question}
 use Rattle.ssh_auth.specs.declared.question.Question.TheVariants.{Admits}
+use Rattle.ssh_auth.specs.declared.question.Question.TheVariants as ask
 use Rattle.ssh_auth.specs.Calls.{admission_call}
 use Rattle.ssh_auth.specs.Plan.{Plan, Finish, Ask, Tell, Answer, Answered, OutsideError, Refused}
 use Rattle.ssh_auth.specs.Plan.{Event, Called, Stepped, Told}
 use Rattle.ssh_auth.specs.Plan.{asked_in, Reaches, Follows, Begins, Breaks, after}
 use Rattle.ssh_auth.specs.Publickey.{Circumstances}
-use Rattle.ssh_auth.specs.Was.{Admitted_so, was, asked_of}
+use Rattle.ssh_auth.specs.Was.{Was, Banner_so, Admitted_so, Lent_so, Judged_so, Listened_so}
+use Rattle.ssh_auth.specs.Was.{Adjusted_so, Done_so, was, asked_of, question_of}
 use Rattle.ssh_auth.proofs.Back.{admitted_back, asked_so, refused_so}
+use Rattle.ssh_channels.specs.Lines.{Lines, all_go_on, each_goes_on, numbers, handed, hands_on}
 use Rattle.ssh_session.specs.declared.state.EncryptedState.{EncryptedState}
 use Rattle.ssh_session.specs.declared.state.EncryptedState.TheVariants.{WaitingAuthServiceRequest}
 use Rattle.ssh_session.specs.declared.state.EncryptedState.TheVariants.{WaitingAuthRequest}
-use Rattle.ssh_session.specs.Acts.{tell_all}
+use Rattle.ssh_session.specs.declared.exchange.Keys.{Keys}
+use Rattle.ssh_session.specs.Acts.{Act, Exchanges, Exchanging, Beginning, Stepping, acts, tell_all}
+use Rattle.ssh_session.specs.Acts.{exchange_question, payloads_given, frames_given, moved}
 use Rattle.ssh_session.specs.Authorised.{IsRequestOf, IsAdmitted, IsAcceptingSo, IsAccepting}
 use Rattle.ssh_session.specs.Authorised.{AsksConnection, IsOfChannel}
 use Rattle.ssh_session.specs.Authorised.{NeedsUser}
+use Rattle.ssh_session.specs.Exchange.{is_of_transport}
+use Rattle.ssh_session.specs.Layout.{at_once}
 use Rattle.ssh_session.specs.Outcome.{Outcome, Goes, Ends, Fails}
-use Rattle.ssh_session.specs.Run.{handed_on, finish_input, goes_unless_ended}
-use Rattle.ssh_session.specs.World.{World}
-use Rattle.ssh_session.proofs.Acting.{goes_or_ends}
+use Rattle.ssh_session.specs.Run.{handed_on, finish_input, goes_unless_ended, going_out, begins}
+use Rattle.ssh_session.specs.Run.{is_due}
+use Rattle.ssh_session.specs.World.{World, keyed, lined, is_held}
+use Rattle.ssh_session.proofs.Passing.{moved_so}
 
 -- ---- worlds before a user is accepted
 
@@ -69,6 +79,16 @@ Accepts given named kind (Admits admission) answer =
     AcceptsWhere (IsAdmitted given named kind admission) answer
 Accepts given named kind _ answer = ⊥
 
+-- the handler is asked it, and not the exchange of keys
+abbrev pub AsksHandler : Question → Type 0
+AsksHandler ask.Begins = ⊥
+AsksHandler (ask.Steps payload) = ⊥
+AsksHandler _ = Unit {0}
+
+-- a question of the connection that the handler is asked
+abbrev pub AsksUser : Question → Type 0
+AsksUser question = AsksConnection question × AsksHandler question
+
 -- a frame of a channel
 abbrev pub NeedsEntry : TraceEntry → Type 0
 NeedsEntry (Sent frame) = IsOfChannel frame
@@ -84,7 +104,7 @@ abbrev pub Guarded : Circumstances → (named : List ℕ → Type 0) → Type 0 
     → Type 0
 Guarded given named accepted kind (Finish outcome) = GuardedOutcome (NamesLast named kind) accepted
     outcome
-Guarded given named accepted kind (Ask question next) = (AsksConnection question → accepted)
+Guarded given named accepted kind (Ask question next) = (AsksUser question → accepted)
     × ((answer : Answer question) → Guarded given named (accepted ⊎ Accepts given named kind
     question answer) kind (next answer))
 Guarded given named accepted kind (Tell entry next) = (NeedsEntry entry → accepted)
@@ -127,35 +147,143 @@ low_told given named a kind (frame ∷ frames) next low h = (
   low_told given named a kind frames next low.1 h,
 )
 
+-- ---- the exchange of keys
+
+-- a message of the transport layer is no channel's
+transport_low : (payload : List ℕ) → is_of_transport payload ≡ true →
+    IsOfChannel (at_once payload) → ⊥
+transport_low [] is h = absurd (cc)
+transport_low (number ∷ fields) is h =
+    let few = ltb-true number 50 (and_parts (nat_lt 0 number) (nat_lt number 50) is).1 in
+    let same : number ≡ h.0 = let e = h.2 in cc in
+    let many = subst (λ m. 90 ≤ m) (sym same) h.3 in
+    omega (arith, few, many)
+
+given_step : (b : Bool) (payload : List ℕ) (payloads : List (List ℕ)) →
+    is_of_transport payload ≡ b → AreLow (frames_given payloads) →
+    AreLow (map at_once (cond b (payload ∷ filter is_of_transport payloads)
+    (filter is_of_transport payloads)))
+given_step true payload payloads is h = (transport_low payload is, h)
+given_step false payload payloads is h = h
+
+-- what an exchange gives
+given_low : (payloads : List (List ℕ)) → AreLow (frames_given payloads)
+given_low [] = tt
+given_low (payload ∷ payloads) =
+    given_step (is_of_transport payload) payload payloads refl (given_low payloads)
+
+-- where there is no channel, none goes on
+none_goes_on : (l : Lines) → l.entries ≡ [] → all_go_on l ≡ l
+none_goes_on l none = ap (λ es. each_goes_on (numbers es) l) none
+
+lines_clear : (named : List ℕ → Type 0) (w : World) (keys : Keys) → IsClear named w →
+    IsClear named (keyed keys (lined all_go_on w))
+lines_clear named w keys clear =
+    let same = none_goes_on w.channels.lines clear.1 in (
+      clear.0,
+      ap (λ l. l.entries) same ∙ clear.1,
+      clear.2,
+      subst (λ l. AreLow l.written) (sym same) clear.3,
+    )
+
+moved_clear : (named : List ℕ → Type 0) (asked : Exchanging)
+    (answer : Answer (exchange_question asked)) (w : World) → IsClear named w →
+    IsClear named (moved asked answer w)
+moved_clear named asked answer w clear =
+    moved_so (IsClear named) asked answer w
+    (λ keys. (clear.0, clear.1, clear.2, clear.3)) (λ keys. lines_clear named w keys clear)
+
+asks_none : (asked : Exchanging) → AsksUser (exchange_question asked) → ⊥
+asks_none Beginning h = h.1
+asks_none (Stepping payload) h = h.1
+
+-- a step of an exchange, and what follows
+pub exchange_guarded : (given : Circumstances) (named : List ℕ → Type 0) (a : Type 0)
+    (kind : InputKind) (asked : Exchanging) (later : List Act) (w : World) →
+    IsClear (NamesLast named kind) w →
+    ((b : Type 0) (v : World) → IsClear (NamesLast named kind) v →
+    Guarded given named b kind (acts later v)) →
+    Guarded given named a kind (acts (Exchanges asked ∷ later) w)
+exchange_guarded given named a kind asked later w clear k = (
+  λ q. absurd (asks_none asked q),
+  λ answer.
+      let b = a ⊎ Accepts given named kind (exchange_question asked) answer in
+      let v = moved asked answer w in
+      low_told given named b kind (frames_given (payloads_given asked answer)) (acts later v)
+      (given_low (payloads_given asked answer))
+      (k b v (moved_clear (NamesLast named kind) asked answer w clear)),
+)
+
+-- ---- the end of an input
+
+handed_low : (held : Bool) (l : Lines) → AreLow l.written → AreLow (handed held l)
+handed_low true l low = tt
+handed_low false l low = low
+
+hands_none : (held : Bool) (l : Lines) → l.entries ≡ [] → (hands_on held l).entries ≡ []
+hands_none true l none = none
+hands_none false l none = none
+
+hands_low : (held : Bool) (l : Lines) → AreLow l.written → AreLow (hands_on held l).written
+hands_low true l low = low
+hands_low false l low = tt
+
+handed_clear : (named : List ℕ → Type 0) (w : World) → IsClear named w →
+    IsClear named (handed_on w)
+handed_clear named w clear = (
+  clear.0,
+  hands_none (is_held w) w.channels.lines clear.1,
+  clear.2,
+  hands_low (is_held w) w.channels.lines clear.3,
+)
+
+begins_guarded : (given : Circumstances) (named : List ℕ → Type 0) (a : Type 0) (kind : InputKind)
+    (w : World) (due : Bool) → IsClear (NamesLast named kind) w →
+    Guarded given named a kind (acts (begins due) w)
+begins_guarded given named a kind w true clear =
+    exchange_guarded given named a kind Beginning [] w clear (λ b v c. inr c)
+begins_guarded given named a kind w false clear = inr clear
+
+ends_guarded : (given : Circumstances) (named : List ℕ → Type 0) (a : Type 0) (kind : InputKind)
+    (w : World) (ended due : Bool) → IsClear (NamesLast named kind) w →
+    Guarded given named a kind (cond ended (Finish (Ends w)) (acts (begins due) w))
+ends_guarded given named a kind w true due clear = inr clear.3
+ends_guarded given named a kind w false due clear =
+    begins_guarded given named a kind w due clear
+
 finished_guarded : (given : Circumstances) (named : List ℕ → Type 0) (a : Type 0) (kind : InputKind)
-    (outcome : Outcome) →
+    (ticked : Bool) (outcome : Outcome) →
     GuardedOutcome (NamesLast named kind) a outcome → Guarded given named a kind
-    (finish_input outcome)
-finished_guarded given named a kind (Goes world) (inl x) = plan_accepted given named a kind
-    (finish_input (Goes world)) x
-finished_guarded given named a kind (Goes world) (inr clear) =
-    low_told given named a kind world.channels.lines.written
-    (Finish (goes_unless_ended (handed_on world))) clear.3
-    (goes_or_ends (λ o. Guarded given named a kind (Finish o)) (handed_on world)
-    world.disconnected (inr (clear.0, clear.1, clear.2, tt)) (inr tt))
-finished_guarded given named a kind (Ends world) (inl x) = plan_accepted given named a kind
-    (finish_input (Ends world)) x
-finished_guarded given named a kind (Ends world) (inr low) =
-    low_told given named a kind world.channels.lines.written (Finish (Ends (handed_on world))) low
-    (inr tt)
-finished_guarded given named a kind (Fails fault) h = tt
+    (finish_input ticked outcome)
+finished_guarded given named a kind ticked (Goes world) (inl x) = plan_accepted given named a kind
+    (finish_input ticked (Goes world)) x
+finished_guarded given named a kind ticked (Goes world) (inr clear) =
+    let v = handed_on world in
+    low_told given named a kind (going_out world) (goes_unless_ended ticked v)
+    (handed_low (is_held world) world.channels.lines clear.3)
+    (ends_guarded given named a kind v v.disconnected (is_due ticked v)
+    (handed_clear (NamesLast named kind) world clear))
+finished_guarded given named a kind ticked (Ends world) (inl x) = plan_accepted given named a kind
+    (finish_input ticked (Ends world)) x
+finished_guarded given named a kind ticked (Ends world) (inr low) =
+    low_told given named a kind (going_out world) (Finish (Ends (handed_on world)))
+    (handed_low (is_held world) world.channels.lines low)
+    (inr (hands_low (is_held world) world.channels.lines low))
+finished_guarded given named a kind ticked (Fails fault) h = tt
 
 pub input_guarded : (given : Circumstances) (named : List ℕ → Type 0) (a : Type 0)
-    (kind : InputKind) (plan : Plan Outcome) →
-    Guarded given named a kind plan → Guarded given named a kind (after plan finish_input)
-input_guarded given named a kind (Finish outcome) h = finished_guarded given named a kind outcome h
-input_guarded given named a kind (Ask question next) h = (
+    (kind : InputKind) (ticked : Bool) (plan : Plan Outcome) →
+    Guarded given named a kind plan →
+    Guarded given named a kind (after plan (finish_input ticked))
+input_guarded given named a kind ticked (Finish outcome) h =
+    finished_guarded given named a kind ticked outcome h
+input_guarded given named a kind ticked (Ask question next) h = (
   h.0,
-  λ answer. input_guarded given named (a ⊎ Accepts given named kind question answer) kind
+  λ answer. input_guarded given named (a ⊎ Accepts given named kind question answer) kind ticked
       (next answer) (h.1 answer),
 )
-input_guarded given named a kind (Tell entry next) h =
-    (h.0, input_guarded given named a kind next h.1)
+input_guarded given named a kind ticked (Tell entry next) h =
+    (h.0, input_guarded given named a kind ticked next h.1)
 
 -- ---- what came of such a plan
 
@@ -225,15 +353,25 @@ accepts_later given named kind (Called call) events h = inr h
 accepts_later given named kind (Stepped step) events h = h
 accepts_later given named kind (Told entry) events h = h
 
+-- a call is of the handler
+call_user : {E : Type 0} (so : Was E) → AsksConnection (question_of so) → AsksUser (question_of so)
+call_user (Banner_so answer) h = absurd h
+call_user (Admitted_so admission answer) h = absurd h
+call_user (Lent_so lent answer commands) h = (h, tt)
+call_user (Judged_so judged answer commands) h = (h, tt)
+call_user (Listened_so address port port_after answer commands) h = (h, tt)
+call_user (Adjusted_so channel current answer) h = (h, tt)
+call_user (Done_so place outcome answer) h = (h, tt)
+
 -- what an event of a question needs is what the question needs
 asks_user : {E F : Type 0} (question : Question) (event : Event E F)
     → asked_in event ≡ Some question
     → NeedsUser event →
-    AsksConnection question
+    AsksUser question
 asks_user question (Called call) is needs =
     let e : Some (asked_of call) ≡ Some question = is in
     let same : asked_of call ≡ question = cc in
-    subst AsksConnection same needs
+    subst AsksUser same (call_user (was call) needs)
 asks_user question (Stepped step) is needs = absurd needs
 asks_user question (Told entry) is needs = absurd (let e : None ≡ Some question = is in cc)
 

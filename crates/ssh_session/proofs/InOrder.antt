@@ -26,7 +26,7 @@ use Rattle.ssh_session.specs.InOrder.{replies_to_own, InOrder, IsNextInOrder}
 use Rattle.ssh_session.specs.Outcome.{Outcome, Goes}
 use Rattle.ssh_session.specs.Replied.{events_of}
 use Rattle.ssh_session.specs.Rows.{notes}
-use Rattle.ssh_session.specs.Run.{Turn, Run, Owes, finish_input}
+use Rattle.ssh_session.specs.Run.{Turn, Run, Owes, finish_input, asks_for_keys}
 use Rattle.ssh_session.specs.World.{Settings, World, opening_world}
 use Rattle.ssh_session.proofs.Accepting.{AllWalk, last_walks}
 use Rattle.ssh_session.proofs.Books.{run_front}
@@ -58,14 +58,14 @@ outside_front (input.Command ticket one) xs ys none =
     ∙ or-false (list_any is_refused xs))
 outside_front kind xs ys none = refl
 
-plain_took : {E F : Type 0} (w mid : World) (kind : InputKind) (first : Plan Outcome)
-    (events : List (Event E F)) → IsPlain E F w kind first →
-    Follows (after first finish_input) events (Goes mid) → Took w mid kind events
-plain_took {E} {F} w mid kind first events plain f =
-    let p = parts_of first finish_input events (Goes mid) f in
+plain_took : {E F : Type 0} (w mid : World) (kind : InputKind) (ticked : Bool)
+    (first : Plan Outcome) (events : List (Event E F)) → IsPlain E F w kind first →
+    Follows (after first (finish_input ticked)) events (Goes mid) → Took w mid kind events
+plain_took {E} {F} w mid kind ticked first events plain f =
+    let p = parts_of first (finish_input ticked) events (Goes mid) f in
     let waiting = w.globals.outstanding
     ++ (asked_outside kind p.early ++ asked_within p.early) in
-    let d = finish_handed waiting p.between p.rest (Goes mid)
+    let d = finish_handed waiting ticked p.between p.rest (Goes mid)
     (plain.asks p.early p.between p.first) p.second in
     let outside : asked_outside kind events ≡ asked_outside kind p.early =
     ap (asked_outside kind) p.is ∙ outside_front kind p.early p.rest d.unrefused in
@@ -76,8 +76,9 @@ plain_took {E} {F} w mid kind first events plain f =
       is = ap (λ l. w.globals.outstanding ++ (l ++ asked_within events)) outside
           ∙ ap (λ l. w.globals.outstanding ++ (asked_outside kind p.early ++ l)) within
           ∙ sym d.same;
-      says = walks_untold (after first finish_input) events (input_tells first plain.tells)
-          (follows_walks (after first finish_input) events (Goes mid) f);
+      says = walks_untold (after first (finish_input ticked)) events
+          (input_tells ticked first plain.tells)
+          (follows_walks (after first (finish_input ticked)) events (Goes mid) f);
       few = omega arith;
     }
 
@@ -107,15 +108,16 @@ noted v (Some notice) (event ∷ []) outcome f =
 noted v (Some notice) (event ∷ other ∷ events) outcome f = absurd f.1
 
 -- a reply settles the oldest
-settling_took : {E F : Type 0} (w mid : World) (payload : List ℕ) (first : Plan Outcome)
-    (events : List (Event E F)) → IsSettling w payload first →
-    Follows (after first finish_input) events (Goes mid) →
+settling_took : {E F : Type 0} (w mid : World) (payload : List ℕ) (ticked : Bool)
+    (first : Plan Outcome) (events : List (Event E F)) → IsSettling w payload first →
+    Follows (after first (finish_input ticked)) events (Goes mid) →
     Took w mid (input.Payload payload) events
-settling_took w mid payload first events s f =
-    let p = parts_of first finish_input events (Goes mid) f in
+settling_took w mid payload ticked first events s f =
+    let p = parts_of first (finish_input ticked) events (Goes mid) f in
     let n = noted s.v s.note p.early p.between
     (subst (λ q. Follows q p.early p.between) s.is p.first) in
-    let d = finish_handed s.v.globals.outstanding p.between p.rest (Goes mid) n.same p.second in
+    let d = finish_handed s.v.globals.outstanding ticked p.between p.rest (Goes mid) n.same
+    p.second in
     let none : asked_within events ≡ [] =
     ap asked_within p.is
     ∙ unlent_none (p.early ++ p.rest) (unlent_both p.early p.rest n.unlent d.unlent) in
@@ -132,24 +134,27 @@ settling_took w mid payload first events s f =
       few = omega (arith, one);
     }
 
-settles_took : {E F : Type 0} (w mid : World) (kind : InputKind) (first : Plan Outcome)
-    (events : List (Event E F)) → Settles w kind first →
-    Follows (after first finish_input) events (Goes mid) → Took w mid kind events
-settles_took w mid (input.Payload payload) first events s f =
-    settling_took w mid payload first events s f
-settles_took w mid kind first events s f = absurd s
+settles_took : {E F : Type 0} (w mid : World) (kind : InputKind) (ticked : Bool)
+    (first : Plan Outcome) (events : List (Event E F)) → Settles w kind first →
+    Follows (after first (finish_input ticked)) events (Goes mid) → Took w mid kind events
+settles_took w mid (input.Payload payload) ticked first events s f =
+    settling_took w mid payload ticked first events s f
+settles_took w mid kind ticked first events s f = absurd s
 
-either_took : {E F : Type 0} (w mid : World) (kind : InputKind) (first : Plan Outcome)
-    (events : List (Event E F)) → IsPlain E F w kind first ⊎ Settles w kind first →
-    Follows (after first finish_input) events (Goes mid) → Took w mid kind events
-either_took w mid kind first events (inl plain) f = plain_took w mid kind first events plain f
-either_took w mid kind first events (inr s) f = settles_took w mid kind first events s f
+either_took : {E F : Type 0} (w mid : World) (kind : InputKind) (ticked : Bool)
+    (first : Plan Outcome) (events : List (Event E F)) →
+    IsPlain E F w kind first ⊎ Settles w kind first →
+    Follows (after first (finish_input ticked)) events (Goes mid) → Took w mid kind events
+either_took w mid kind ticked first events (inl plain) f =
+    plain_took w mid kind ticked first events plain f
+either_took w mid kind ticked first events (inr s) f =
+    settles_took w mid kind ticked first events s f
 
 turn_took : {E F : Type 0} (accepts : Acceptance) (w mid : World) (turn : Turn E F)
     (plan : Plan Outcome) → Owes accepts w turn.input plan →
     Follows plan turn.events (Goes mid) → Took w mid turn.input.kind turn.events
 turn_took {E} {F} accepts w mid turn plan o f =
-    either_took w mid turn.input.kind o.0 turn.events
+    either_took w mid turn.input.kind (asks_for_keys turn.input.kind) o.0 turn.events
     (kind_is E F accepts w turn.input.moment turn.input.kind o.0 o.1)
     (subst (λ p. Follows p turn.events (Goes mid)) o.2 f)
 
@@ -253,16 +258,19 @@ first_next w turn first later is says = (
 )
 
 -- as far as it came, it told of the oldest or of none
-note_walks : {E F : Type 0} (v : World) (note : Option Notice) (events : List (Event E F)) →
-    Walks (after (acts (notes note) v) finish_input) events →
+note_walks : {E F : Type 0} (v : World) (ticked : Bool) (note : Option Notice)
+    (events : List (Event E F)) →
+    Walks (after (acts (notes note) v) (finish_input ticked)) events →
     (replies_told events ≡ []) ⊎ (replies_told events ≡ flat_map replied_in (option_to_list note))
-note_walks v None events walks =
-    inl (walks_untold (after (acts [] v) finish_input) events (input_tells (acts [] v) tt) walks)
-note_walks v (Some notice) [] walks = inl refl
-note_walks v (Some notice) (event ∷ events) walks =
+note_walks v ticked None events walks =
+    inl (walks_untold (after (acts [] v) (finish_input ticked)) events
+    (input_tells ticked (acts [] v) tt) walks)
+note_walks v ticked (Some notice) [] walks = inl refl
+note_walks v ticked (Some notice) (event ∷ events) walks =
     inr (ap (λ x. told_in_event x ++ replies_told events) walks.0
     ∙ ap (λ l. replied_in notice ++ l)
-    (walks_untold (finish_input (Goes v)) events (input_tells (Finish (Goes v)) tt) walks.1))
+    (walks_untold (finish_input ticked (Goes v)) events
+    (input_tells ticked (Finish (Goes v)) tt) walks.1))
 
 said_next : {E F : Type 0} (w : World) (turn : Turn E F) (first : Outstanding)
     (later : List Outstanding) (says : List Outstanding) →
@@ -271,29 +279,30 @@ said_next : {E F : Type 0} (w : World) (turn : Turn E F) (first : Outstanding)
 said_next w turn first later says is so (inl none) = none_next w turn none
 said_next w turn first later says is so (inr one) = first_next w turn first later is (one ∙ so)
 
-settling_next : {E F : Type 0} (w : World) (turn : Turn E F) (payload : List ℕ)
+settling_next : {E F : Type 0} (w : World) (turn : Turn E F) (ticked : Bool) (payload : List ℕ)
     (plan : Plan Outcome) → IsSettling w payload plan →
-    Walks (after plan finish_input) turn.events → IsNextInOrder w turn
-settling_next w turn payload plan s walks =
+    Walks (after plan (finish_input ticked)) turn.events → IsNextInOrder w turn
+settling_next w turn ticked payload plan s walks =
     said_next w turn s.first s.later (flat_map replied_in (option_to_list s.note)) s.waited s.says
-    (note_walks s.v s.note turn.events
-    (subst (λ p. Walks (after p finish_input) turn.events) s.is walks))
+    (note_walks s.v ticked s.note turn.events
+    (subst (λ p. Walks (after p (finish_input ticked)) turn.events) s.is walks))
 
-kind_next : {E F : Type 0} (w : World) (turn : Turn E F) (kind : InputKind) (plan : Plan Outcome) →
-    IsPlain E F w kind plan ⊎ Settles w kind plan → Walks (after plan finish_input) turn.events →
-    IsNextInOrder w turn
-kind_next w turn kind plan (inl plain) walks =
+kind_next : {E F : Type 0} (w : World) (turn : Turn E F) (ticked : Bool) (kind : InputKind)
+    (plan : Plan Outcome) → IsPlain E F w kind plan ⊎ Settles w kind plan →
+    Walks (after plan (finish_input ticked)) turn.events → IsNextInOrder w turn
+kind_next w turn ticked kind plan (inl plain) walks =
     none_next w turn
-    (walks_untold (after plan finish_input) turn.events (input_tells plan plain.tells) walks)
-kind_next w turn (input.Payload payload) plan (inr s) walks =
-    settling_next w turn payload plan s walks
-kind_next w turn kind plan (inr s) walks = absurd s
+    (walks_untold (after plan (finish_input ticked)) turn.events
+    (input_tells ticked plan plain.tells) walks)
+kind_next w turn ticked (input.Payload payload) plan (inr s) walks =
+    settling_next w turn ticked payload plan s walks
+kind_next w turn ticked kind plan (inr s) walks = absurd s
 
 walk_next : {E F : Type 0} (accepts : Acceptance) (w : World) (last : Option (Turn E F)) →
     AllWalk accepts w (option_to_list last) → IfSome last (IsNextInOrder w)
 walk_next accepts w None all = tt
-walk_next {E} {F} accepts w (Some turn) (plan, owes, walks, next) =
-    kind_next w turn turn.input.kind owes.0
+walk_next {E} {F} accepts w (Some turn) (plan, owes, walks, next, taken) =
+    kind_next w turn (asks_for_keys turn.input.kind) turn.input.kind owes.0
     (kind_is E F accepts w turn.input.moment turn.input.kind owes.0 owes.1)
     (subst (λ p. Walks p turn.events) owes.2 walks)
 

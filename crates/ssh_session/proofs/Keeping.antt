@@ -4,7 +4,7 @@
 use Rattle.std.proofs.Common.{◌≡◌, ◌==◌, ◌||◌, ℕ, List, [], ◌∷◌, Bool}
 use Rattle.std.proofs.Common.{true, false, Option, Some, None}
 use Rattle.std.proofs.Common.{refl, sym, ◌∙◌, ap, subst, arith, append_assoc}
-use Rattle.std.specs.Prelude.{min, IfSome, if◌then◌else◌, cond}
+use Rattle.std.specs.Prelude.{min, not, IfSome, if◌then◌else◌, cond}
 use Rattle.std.specs.List.{list_any}
 use Rattle.std.specs.Ordering.{nat_cmp}
 use Rattle.std.specs.BTreeMap.{is_at}
@@ -16,17 +16,18 @@ use Rattle.ssh_link.specs.declared.command.Command.{Command}
 use Rattle.ssh_link.specs.declared.command.Command.TheVariants as command
 use Rattle.ssh_link.specs.declared.link.TraceEntry.{TraceEntry}
 use Rattle.ssh_link.specs.declared.open_answer.OpenAnswer.{OpenAnswer}
+use Rattle.ssh_channels.specs.declared.chunk.Chunk.{Chunk}
 use Rattle.ssh_channels.specs.declared.chunk.DataKind.TheVariants.{Plain, Extended}
 use Rattle.ssh_channels.specs.Calls.{Op, Send, Eof, Close, Drop_pending}
-use Rattle.ssh_channels.specs.Calls.{Stage, Open_next, Byte, Set_wants_reply}
+use Rattle.ssh_channels.specs.Calls.{Stage, Open_next, Byte, Set_wants_reply, Flush_all}
 use Rattle.ssh_channels.specs.Does.{IsFair, is_idle, does}
 use Rattle.ssh_channels.specs.Entry.{Entry, IsDue, opened, asked}
 use Rattle.ssh_channels.specs.Layout.{chunk, on_channel, bare_frame}
-use Rattle.ssh_channels.specs.Lines.{Lines, find, added, next_number, drops_pending}
-use Rattle.ssh_channels.specs.Lines.{asks, asks_next, says, wants}
+use Rattle.ssh_channels.specs.Lines.{Lines, find, added, next_number, drops_pending, takes_data}
+use Rattle.ssh_channels.specs.Lines.{asks, asks_next, says, wants, all_go_on}
 use Rattle.ssh_channels.specs.Sent.{Each, Ledgered, may_go, is_beside}
 use Rattle.ssh_channels.proofs.Booked.{op_kept, opens_kept, asks_kept}
-use Rattle.ssh_channels.proofs.Dues.{all_sound, op_due}
+use Rattle.ssh_channels.proofs.Dues.{all_sound, all_due, op_due}
 use Rattle.ssh_channels.proofs.Listed.{one_number, find_new, find_beside}
 use Rattle.ssh_session.specs.Effect.{effect, refused_for, done_by, answers, said}
 use Rattle.ssh_session.specs.Effect.{decides, fails_open, failure_of, is_too_long, opens_at}
@@ -38,13 +39,16 @@ use Rattle.ssh_session.specs.Outcome.{Outcome, Goes, Ends, Fails}
 use Rattle.ssh_session.specs.Layout.{at_once}
 use Rattle.ssh_session.specs.OwnMessages.{OwnMessage}
 use Rattle.ssh_session.specs.World.{World, lined, writes, replies, wants_reply, awaits}
-use Rattle.ssh_session.specs.World.{wants_global, settles_global}
+use Rattle.ssh_session.specs.World.{wants_global, settles_global, in_exchange, keyed}
+use Rattle.ssh_session.specs.declared.exchange.Keys.{Keys}
 use Rattle.ssh_session.proofs.Absent.{IsAbsent, data_absent, eof_absent, close_absent}
-use Rattle.ssh_session.proofs.Absent.{says_absent, wants_absent}
+use Rattle.ssh_session.proofs.Absent.{says_absent, wants_absent, all_absent}
 use Rattle.ssh_session.proofs.Acting.{EffectComes}
 use Rattle.ssh_session.proofs.Apart.{either, refused_comes, apart_comes}
 use Rattle.ssh_session.proofs.Pending.{IsReserved, data_pends, eof_pends, close_pends}
+use Rattle.ssh_session.proofs.Passing.{AreLater}
 use Rattle.ssh_session.proofs.Pending.{dropped_pending, next_apart, says_pends, wants_pends}
+use Rattle.ssh_session.proofs.Pending.{all_pends}
 use Rattle.ssh_session.proofs.Waiting.{AllWaiting, found_waiting, still_waiting}
 use Rattle.ssh_session.proofs.Waiting.{removed_waiting}
 use Rattle.ssh_session.specs.OwnRequests.{OwnRequest, request_payload, xon_xoff, exit_status}
@@ -52,11 +56,11 @@ use Rattle.ssh_session.specs.OwnRequests.{exit_signal}
 use Rattle.ssh_link.specs.declared.outcome.Refusal.TheVariants.{TooLong}
 use Rattle.ssh_wire.specs.Messages.{channel_success, channel_failure}
 
--- after this trace the channels have sent what they have to, all that is due is framed, and opens
--- wait on free numbers
+-- after this trace the channels have sent what they have to, all that is due is framed where no
+-- exchange of keys runs, and opens wait on free numbers
 pub record Kept (past : List TraceEntry) (w : World) : Type 0 where
   pub ledger : Ledgered w.channels.lines past
-  pub due : Each IsDue w.channels.lines
+  pub due : in_exchange w ≡ false → Each IsDue w.channels.lines
   pub waiting : AllWaiting 0 (IsReserved w.channels.lines) w.channels.opens
 
 abbrev pub ComesKept : List TraceEntry → Outcome → Type 0
@@ -66,28 +70,69 @@ ComesKept past (Fails fault) = Unit {0}
 
 -- ---- calls of the table
 
-pub op_on : (past : List TraceEntry) (o : Op) (w : World) → IsFair o w.channels.lines
-    → is_idle o ≡ true
+op_if : (past : List TraceEntry) (o : Op) (w : World) → IsFair o w.channels.lines
+    → (in_exchange w ≡ false → is_idle o ≡ true)
     → ((k : ℕ) → IsReserved w.channels.lines k → IsReserved (does o w.channels.lines) k)
     → Kept past w → Kept past (lined (does o) w)
-op_on past o w fair idle reserved k = record {
+op_if past o w fair idle reserved k = record {
   ledger = op_kept o w.channels.lines past fair k.ledger;
-  due = op_due o w.channels.lines idle (all_sound w.channels.lines past k.ledger) k.due;
+  due = λ out. op_due o w.channels.lines (idle out)
+      (all_sound w.channels.lines past k.ledger) (k.due out);
   waiting = still_waiting 0 (IsReserved w.channels.lines)
       (IsReserved (does o w.channels.lines)) w.channels.opens reserved k.waiting;
 }
 
+-- a call that is the same in an exchange of keys
+pub op_on : (past : List TraceEntry) (o : Op) (w : World) → IsFair o w.channels.lines
+    → is_idle o ≡ true
+    → ((k : ℕ) → IsReserved w.channels.lines k → IsReserved (does o w.channels.lines) k)
+    → Kept past w → Kept past (lined (does o) w)
+op_on past o w fair idle reserved k = op_if past o w fair (λ out. idle) reserved k
+
 -- a call that leaves the numbers of no channel, and those that are pending
+call_if : (past : List TraceEntry) (o : Op) (w : World) → IsFair o w.channels.lines
+    → (in_exchange w ≡ false → is_idle o ≡ true)
+    → ((k : ℕ) → IsAbsent k w.channels.lines → IsAbsent k (does o w.channels.lines))
+    → (does o w.channels.lines).pending ≡ w.channels.lines.pending → Kept past w
+    → Kept past (lined (does o) w)
+call_if past o w fair idle absent pends k =
+    op_if past o w fair idle (λ n h. (
+      absent n h.0,
+      subst (λ ps. list_any (is_at (nat_cmp n)) ps ≡ true) (sym pends) h.1,
+    )) k
+
 pub call_on : (past : List TraceEntry) (o : Op) (w : World) → IsFair o w.channels.lines
     → is_idle o ≡ true
     → ((k : ℕ) → IsAbsent k w.channels.lines → IsAbsent k (does o w.channels.lines))
     → (does o w.channels.lines).pending ≡ w.channels.lines.pending → Kept past w
     → Kept past (lined (does o) w)
-call_on past o w fair idle absent pends k =
-    op_on past o w fair idle (λ n h. (
-      absent n h.0,
-      subst (λ ps. list_any (is_at (nat_cmp n)) ps ≡ true) (sym pends) h.1,
-    )) k
+call_on past o w fair idle absent pends k = call_if past o w fair (λ out. idle) absent pends k
+
+-- ---- the exchange of keys
+
+-- it goes on
+pub keyed_on : (past : List TraceEntry) (w : World) (keys : Keys) → AreLater keys w → Kept past w
+    → Kept past (keyed keys w)
+keyed_on past w keys later k = record {
+  ledger = k.ledger;
+  due = λ out. k.due (later out);
+  waiting = k.waiting;
+}
+
+-- at its end what waits goes on, and all that is due is framed
+pub renewed_on : (past : List TraceEntry) (w : World) (keys : Keys) → Kept past w
+    → Kept past (keyed keys (lined all_go_on w))
+renewed_on past w keys k =
+    let lines = w.channels.lines in
+    record {
+      ledger = op_kept (Flush_all true) lines past tt k.ledger;
+      due = λ out. all_due lines;
+      waiting = still_waiting 0 (IsReserved lines) (IsReserved (all_go_on lines)) w.channels.opens
+          (λ n h. (
+            all_absent n lines h.0,
+            subst (λ ps. list_any (is_at (nat_cmp n)) ps ≡ true) (sym (all_pends lines)) h.1,
+          )) k.waiting;
+    }
 
 -- frames of no channel
 abbrev pub ArePlain : List Frame → Type 0
@@ -164,8 +209,8 @@ confirmed_on past number opening w is k =
     past waits.1 waits.2 refl free k.ledger in
     record {
       ledger = kept;
-      due = rw free (λ m. added_due (m == number) m e lines refl free (none_due opening.window)
-          k.due);
+      due = λ out. rw free (λ m. added_due (m == number) m e lines refl free
+          (none_due opening.window) (k.due out));
       waiting = rw free (removed_waiting 0 number (IsReserved lines)
           (IsReserved (record (drops_pending number lines) { entries = added e lines.entries }))
           w.channels.opens
@@ -195,7 +240,8 @@ failed_step past number payload opening w false is go o k =
     let v = lined (does (Drop_pending number)) (answered number w) in
     let dropped : Kept past v = record {
       ledger = op_kept (Drop_pending number) lines past tt k.ledger;
-      due = op_due (Drop_pending number) lines refl (all_sound lines past k.ledger) k.due;
+      due = λ out. op_due (Drop_pending number) lines refl (all_sound lines past k.ledger)
+          (k.due out);
       waiting = removed_waiting 0 number (IsReserved lines) (IsReserved (drops_pending number
           lines)) w.channels.opens
           (λ m apart h. (h.0, dropped_pending m number lines.pending apart h.1)) k.waiting;
@@ -232,7 +278,8 @@ opened_on past (Some n) asked w is k =
     let packet = w.settings.config.maximum_packet_size in
     record {
       ledger = asks_kept n room (open_payload asked n room packet) lines past refl is k.ledger;
-      due = op_due (Open_next room packet) lines refl (all_sound lines past k.ledger) k.due;
+      due = λ out. op_due (Open_next room packet) lines refl (all_sound lines past k.ledger)
+          (k.due out);
       waiting = still_waiting 0 (IsReserved lines) (IsReserved (asks_next room lines))
           w.channels.opens (asked_reserved n room lines is) k.waiting;
     }
@@ -286,12 +333,12 @@ requested_on past false (Some e) channel asked w is k =
     op_on past (Stage (on_channel channel.0 (request_payload e.peer asked))) w (rw is refl) refl
     (λ n h. h) k
 
--- nothing changes of the channels
-pub beside_on : (past : List TraceEntry) (w v : World) → v.channels ≡ w.channels → Kept past w
-    → Kept past v
-beside_on past w v is k = record {
+-- nothing changes of the channels, and an exchange of keys that runs goes on
+pub beside_on : (past : List TraceEntry) (w v : World) → v.channels ≡ w.channels
+    → AreLater v.keys w → Kept past w → Kept past v
+beside_on past w v is later k = record {
   ledger = subst (λ c. Ledgered c.lines past) (sym is) k.ledger;
-  due = subst (λ c. Each IsDue c.lines) (sym is) k.due;
+  due = λ out. subst (λ c. Each IsDue c.lines) (sym is) (k.due (later out));
   waiting = subst (λ c. AllWaiting 0 (IsReserved c.lines) c.opens) (sym is) k.waiting;
 }
 
@@ -302,7 +349,8 @@ said_on past message w k =
     let v : World = record (awaits message.awaited w) {
       disconnected = w.disconnected || message.ends;
     } in
-    plain_kept past (at_once message.payload ∷ []) v (refl, tt) (beside_on past w v refl k)
+    plain_kept past (at_once message.payload ∷ []) v (refl, tt)
+    (beside_on past w v refl (λ out. out) k)
 
 -- a global request has its reply
 pub settles_on : (past : List TraceEntry) (payload : List ℕ) (w : World) → Kept past w
@@ -310,18 +358,22 @@ pub settles_on : (past : List TraceEntry) (payload : List ℕ) (w : World) → K
 settles_on past payload w k =
     let v = wants_global false w in
     either (Kept past) w.globals.wanted (writes (at_once payload ∷ []) v) w
-    (plain_kept past (at_once payload ∷ []) v (refl, tt) (beside_on past w v refl k)) k
+    (plain_kept past (at_once payload ∷ []) v (refl, tt) (beside_on past w v refl (λ out. out) k)) k
+
+-- data wait in an exchange of keys, and go out as far as they may elsewhere
+data_on : (past : List TraceEntry) (number : ℕ) (piece : Chunk) (w : World) → Kept past w
+    → Kept past (lined (takes_data number piece (in_exchange w)) w)
+data_on past number piece w k =
+    call_if past (Send number piece (in_exchange w)) w tt (λ out. ap not out)
+    (λ n. data_absent n number piece (in_exchange w) w.channels.lines)
+    (data_pends number piece (in_exchange w) w.channels.lines) k
 
 done_on : (past : List TraceEntry) (w : World) (commanded : Command) → Kept past w →
     EffectComes (Kept past) (done_by w commanded)
 done_on past w (command.Data channel bytes) k =
-    call_on past (Send channel.0 (chunk Plain bytes) false) w tt refl
-    (λ n. data_absent n channel.0 (chunk Plain bytes) false w.channels.lines)
-    (data_pends channel.0 (chunk Plain bytes) false w.channels.lines) k
+    data_on past channel.0 (chunk Plain bytes) w k
 done_on past w (command.ExtendedData channel code bytes) k =
-    call_on past (Send channel.0 (chunk (Extended code) bytes) false) w tt refl
-    (λ n. data_absent n channel.0 (chunk (Extended code) bytes) false w.channels.lines)
-    (data_pends channel.0 (chunk (Extended code) bytes) false w.channels.lines) k
+    data_on past channel.0 (chunk (Extended code) bytes) w k
 done_on past w (command.Eof channel) k =
     call_on past (Eof channel.0) w tt refl (λ n. eof_absent n channel.0 w.channels.lines)
     (eof_pends channel.0 w.channels.lines) k

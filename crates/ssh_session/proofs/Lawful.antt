@@ -11,12 +11,14 @@ use Rattle.ssh_session.specs.Valid.{IsEnding}
 use Rattle.ssh_session.specs.World.{Settings, World, opening_world}
 use Rattle.ssh_session.proofs.Accepting.{authorised}
 use Rattle.ssh_session.proofs.Answered.{answered}
-use Rattle.ssh_session.proofs.Books.{ledgered}
 use Rattle.ssh_session.proofs.Complete.{complete, link_fault}
 use Rattle.ssh_session.proofs.Ended.{ended, IsLive, run_live}
+use Rattle.ssh_session.proofs.Exchanged.{exchanged, last_exchanged}
 use Rattle.ssh_session.proofs.GlobalReplied.{globally_replied}
 use Rattle.ssh_session.proofs.InOrder.{in_order, last_in_order}
+use Rattle.ssh_session.proofs.Parted.{parted}
 use Rattle.ssh_session.proofs.Replied.{replied}
+use Rattle.ssh_session.proofs.Sums.{ledgered}
 
 closed_ended : {E F : Type 0} (accepts : Acceptance) (w : World) (count max : ℕ)
     (last : Option (Turn E F)) (rose : Type 0)
@@ -41,6 +43,10 @@ lawful {E} {F} accepts settings before after max result account =
           rose result account.run account.closes;
       ledger = λ earlier later is. ledgered accepts settings account.turns account.world account.run
           earlier later is;
+      unparted = λ earlier later is world run.
+          run_live accepts (opening_world settings) earlier world run refl;
+      parted = parted accepts account.world account.last (run_live accepts
+          (opening_world settings) account.turns account.world account.run refl);
       answered = answered accepts settings account.turns account.world count max account.last rose
           result account.run account.closes;
       replied = replied accepts settings account.turns account.world count max account.last rose
@@ -51,6 +57,9 @@ lawful {E} {F} accepts settings before after max result account =
           account.run earlier later is;
       last_in_order = last_in_order accepts account.world count max account.last rose result
           account.closes;
+      exchanged = exchanged accepts settings account.turns account.world account.run;
+      last_exchanged = last_exchanged accepts settings account.turns account.world count max
+          account.last rose result account.run account.closes;
       complete = λ same valid. complete accepts account.world count max account.last before.faults
           after.faults result account.closes same valid;
       link_fault = λ is. link_fault {E = E} {F = F} accepts account.world count max account.last

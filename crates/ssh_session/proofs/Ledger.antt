@@ -54,11 +54,11 @@ use Rattle.ssh_session.specs.Rows.{data_told, open_acts, turns_first, aims, serv
 use Rattle.ssh_session.specs.Rows.{finishes, reply_of}
 use Rattle.ssh_session.specs.Run.{command_row}
 use Rattle.ssh_session.specs.World.{World, waits_for, lined, replies, is_there, is_waiting}
-use Rattle.ssh_session.specs.World.{wants_global, settled_first}
+use Rattle.ssh_session.specs.World.{wants_global, settled_first, in_exchange}
 use Rattle.ssh_session.proofs.Absent.{IsAbsent}
 use Rattle.ssh_session.proofs.Absent.{peer_close_absent, grant_absent, adjust_absent}
 use Rattle.ssh_session.proofs.Absent.{wants_absent, confirmed_absent, failed_absent}
-use Rattle.ssh_session.proofs.Acting.{PlanComes, AllBuilt, Law, ActsCome, acts_come}
+use Rattle.ssh_session.proofs.Acting.{PlanComes, AllBuilt, Law, ActsCome, IsRekeyed, acts_come}
 use Rattle.ssh_session.proofs.Acting.{one_comes, comes_then}
 use Rattle.ssh_session.proofs.Apart.{either, forward_comes, asked_comes, unknown_comes}
 use Rattle.ssh_session.proofs.Apart.{settles_comes, tick_comes}
@@ -72,7 +72,7 @@ use Rattle.ssh_session.proofs.Waiting.{still_waiting}
 use Rattle.ssh_session.proofs.Waiting.{inserted_waiting}
 use Rattle.ssh_session.proofs.Keeping.{ArePlain, ComesKept, Kept, call_on, effect_on, op_on}
 use Rattle.ssh_session.proofs.Keeping.{plain_kept, refusal_frame, replied_on, beside_on, said_on}
-use Rattle.ssh_session.proofs.Keeping.{settles_on}
+use Rattle.ssh_session.proofs.Keeping.{settles_on, keyed_on, renewed_on}
 use Rattle.ssh_wire.specs.Messages.{channel_success, channel_failure}
 
 abbrev Any_command : Command → Type 0
@@ -94,6 +94,11 @@ law past = record {
   listens = λ address port answer s. any_built answer.commands;
   keeps = λ w command h b. effect_on past w command h;
 }
+
+-- through an exchange of keys
+pub exchanged_on : (past : List TraceEntry) (w : World) → Kept past w → IsRekeyed (Kept past) w
+exchanged_on past w k =
+    (λ keys later. keyed_on past w keys later k, λ keys. renewed_on past w keys k)
 
 -- ---- rows
 
@@ -129,13 +134,13 @@ away_on past (Some n) payload w is go k =
     let is_drawn : does Draw lines ≡ drew = ap (λ o. drawn o lines) is in
     let ledger : Ledgered drew past = subst (λ l. Ledgered l past) is_drawn
     (op_kept Draw lines past tt k.ledger) in
-    let due : Each IsDue drew = subst (Each IsDue) is_drawn
-    (op_due Draw lines refl (all_sound lines past k.ledger) k.due) in
+    let due : in_exchange w ≡ false → Each IsDue drew = λ out. subst (Each IsDue) is_drawn
+    (op_due Draw lines refl (all_sound lines past k.ledger) (k.due out)) in
     let left = drops_pending n drew in
     let v = lined (λ _. left) w in
     let kept : Kept past v = record {
       ledger = op_kept (Drop_pending n) drew past tt ledger;
-      due = op_due (Drop_pending n) drew refl (all_sound drew past ledger) due;
+      due = λ out. op_due (Drop_pending n) drew refl (all_sound drew past ledger) (due out);
       waiting = still_waiting 0 (IsReserved lines) (IsReserved left) w.channels.opens
           (λ m h. (
             h.0,
@@ -223,10 +228,10 @@ replied_by past channel false w k = replied_on past channel channel_failure.numb
 
 wanting_on : (past : List TraceEntry) (wanted : Bool) (w : World) → Kept past w
     → Kept past (wants_global wanted w)
-wanting_on past wanted w k = beside_on past w (wants_global wanted w) refl k
+wanting_on past wanted w k = beside_on past w (wants_global wanted w) refl (λ out. out) k
 
 first_on : (past : List TraceEntry) (w : World) → Kept past w → Kept past (settled_first w)
-first_on past w k = beside_on past w (settled_first w) refl k
+first_on past w k = beside_on past w (settled_first w) refl (λ out. out) k
 
 spoken_on : (past : List TraceEntry) (w : World) (said : Spoken) → Kept past w
     → ActsCome (law past) (spoken_acts w said) w
@@ -297,7 +302,6 @@ owed_on past w Over_cap fair k =
     let kept = plain_kept past (at_once too_many_attempts ∷ []) w (refl, tt) k in (kept, kept)
 owed_on past w (Unfit why) fair k = tt
 owed_on past w Without_packets fair k = tt
-owed_on past w read.Unbuilt fair k = tt
 owed_on past w _ fair k = tt
 
 concluded_on : (past : List TraceEntry) (w : World) (moment : ℕ) (requested : Bool)
@@ -306,19 +310,19 @@ concluded_on : (past : List TraceEntry) (w : World) (moment : ℕ) (requested : 
 concluded_on past w moment requested (Replies reply verdict.Accepted state) k =
     let v = waits_for (WaitingAuthRequest state) w in
     acts_come (law past) (replied w moment requested reply verdict.Accepted) v
-    (beside_on past w v refl k) (
+    (beside_on past w v refl (λ out. out) k) (
       plain_kept past (at_once reply ∷ []) (lets_in (finishes requested v)) (refl, tt)
-          (beside_on past w (lets_in (finishes requested v)) refl k),
+          (beside_on past w (lets_in (finishes requested v)) refl (λ out. out) k),
       λ world h. tt,
     )
 concluded_on past w moment requested (Replies reply (verdict.Rejected none_method) state) k =
     let v = finishes requested (waits_for (WaitingAuthRequest state) w) in
     plain_kept past (held reply (moment_after moment (rejection_hold w.settings.config none_method
     w.user.requested)) ∷ []) v (refl, tt)
-    (beside_on past w v refl k)
+    (beside_on past w v refl (λ out. out) k)
 concluded_on past w moment requested (Replies reply verdict.Continued state) k =
     let v = finishes requested (waits_for (WaitingAuthRequest state) w) in
-    plain_kept past (at_once reply ∷ []) v (refl, tt) (beside_on past w v refl k)
+    plain_kept past (at_once reply ∷ []) v (refl, tt) (beside_on past w v refl (λ out. out) k)
 concluded_on past w moment requested (auth.Fails fault) k = tt
 
 asked_on : (past : List TraceEntry) (state : EncryptedState) (next : AuthRequest → Plan AuthOutcome)
@@ -340,7 +344,7 @@ greets_on : (past : List TraceEntry) (w : World) (message : Option (List ℕ)) (
     PlanComes Anything (ComesKept past) (acts (greets message) w)
 greets_on past w message true is k =
     rw is (plain_kept past (greeting message) (served w) (greeting_plain message)
-    (beside_on past w (served w) refl k))
+    (beside_on past w (served w) refl (λ out. out) k))
 greets_on past w message false is k = rw is tt
 
 service_on : (past : List TraceEntry) (w : World) (b : Bool) → Kept past w →
@@ -374,4 +378,4 @@ pub tick_kept : (past : List TraceEntry) (w : World) → Kept past w
 tick_kept past w k =
     acts_come (law past) (keepalive_acts w) w k
     (tick_comes (law past) w tt
-    (said_on past keepalive (ticked w) (beside_on past w (ticked w) refl k)))
+    (said_on past keepalive (ticked w) (beside_on past w (ticked w) refl (λ out. out) k)))

@@ -22,6 +22,8 @@ pub mod Gates
 pub mod FairVerdicts
 pub mod Admitting
 pub mod Admitted
+pub mod Passing
+pub mod Exchanging
 pub mod Acting
 pub mod Apart
 pub mod Beside
@@ -51,6 +53,7 @@ pub mod Calling
 pub mod Called
 pub mod Counting
 pub mod Emptied
+pub mod Uncalled
 pub mod Answered
 pub mod Owing
 pub mod Wanting
@@ -63,6 +66,10 @@ pub mod QueuedRows
 pub mod Untold
 pub mod Settling
 pub mod InOrder
+pub mod Idling
+pub mod Sums
+pub mod Parting
+pub mod Parted
 pub mod Lawful
 pub mod Runs
 pub mod Shorter
@@ -70,3 +77,8 @@ pub mod LayoutsOnce
 pub mod ResponsesOnce
 pub mod RequestsOnce
 pub mod PlansOnce
+pub mod Flushing
+pub mod Untouched
+pub mod Running
+pub mod Alone
+pub mod Exchanged

@@ -75,7 +75,6 @@ owed_upto of k w Over_cap beside q h =
     let kept = writes_upto of k (frame ∷ []) w (of.untagged frame refl refl, tt) h in (kept, kept)
 owed_upto of k w (Unfit why) beside q h = tt
 owed_upto of k w Without_packets beside q h = tt
-owed_upto of k w read.Unbuilt beside q h = tt
 owed_upto of k w _ beside q h = tt
 
 concluded_upto : (of : Measure) (k : ℕ) (w : World) (moment : ℕ) (requested : Bool)

@@ -25,11 +25,13 @@ use Rattle.ssh_channels.specs.Layout.{adjust_frame}
 use Rattle.ssh_channels.specs.Lines.{Lines, find, put, without, added, write, turns, closes}
 use Rattle.ssh_channels.specs.Lines.{settles, where_found, takes_data, takes_eof, takes_close}
 use Rattle.ssh_channels.specs.Lines.{peer_closes, takes_grant, takes_in, says, wants, confirms}
-use Rattle.ssh_channels.specs.Lines.{fails, adds, asks, drops_pending}
+use Rattle.ssh_channels.specs.Lines.{fails, adds, asks, drops_pending, numbers, goes_on}
+use Rattle.ssh_channels.specs.Lines.{each_goes_on, all_go_on}
 use Rattle.ssh_channels.specs.Sent.{is_tagged}
 use Rattle.ssh_channels.specs.Room.{coming, having, adjust_out}
 use Rattle.ssh_channels.proofs.Listed.{found_put, find_again, found_number}
 use Rattle.ssh_session.specs.Answered.{how_many, is_answer}
+use Rattle.ssh_session.specs.Exchange.{is_of_transport}
 use Rattle.ssh_session.specs.GlobalReplied.{is_global_reply}
 use Rattle.ssh_session.specs.Layout.{at_once}
 use Rattle.ssh_session.specs.Opening.{Opening}
@@ -136,6 +138,9 @@ pub record Measure : Type 0 where
   -- and one once this was asked
   pub asks : Question → Bool
   pub untagged : (frame : Frame) → frame.channel ≡ None → is_global_reply frame ≡ false
+      → such frame ≡ false
+  -- a frame of an exchange of keys is none
+  pub exchanged : (frame : Frame) → frame.channel ≡ None → is_of_transport frame.payload ≡ true
       → such frame ≡ false
   pub other : (frame : Frame) → is_answer frame ≡ false → IsNoReply frame → such frame ≡ false
   -- no more may come as a channel changes that wants a reply as before, or leaves, or is added and
@@ -297,6 +302,19 @@ grant_owe of k m amount l h = found (find m l.entries) of k m _ l refl
     (flush_out e ++ flush_out (granting amount (flushed e))) l is refl
     (silent_both of.such (flush_out e) (flush_out (granting amount (flushed e)))
     (flush_silent of e) (flush_silent of (granting amount (flushed e)))) h) h) h
+
+-- what waits goes on
+goes_on_owe : (of : Measure) (k m : ℕ) (l : Lines) → LinesOwe of k l → LinesOwe of k (goes_on m l)
+goes_on_owe of k m l h = found (find m l.entries) of k m _ l refl
+    (λ e is. settled of k (flushed e) e (flush_out e) l is refl (flush_silent of e) h) h
+
+each_owe : (of : Measure) (k : ℕ) (ns : List ℕ) (l : Lines) → LinesOwe of k l →
+    LinesOwe of k (each_goes_on ns l)
+each_owe of k [] l h = h
+each_owe of k (n ∷ ns) l h = each_owe of k ns (goes_on n l) (goes_on_owe of k n l h)
+
+pub all_owe : (of : Measure) (k : ℕ) (l : Lines) → LinesOwe of k l → LinesOwe of k (all_go_on l)
+all_owe of k l h = each_owe of k (numbers l.entries) l h
 
 adjusted : (of : Measure) (k count target : ℕ) (came : Adjusted) (e : Entry) (l : Lines) →
     find e.number l.entries ≡ Some e → LinesOwe of k l →

@@ -21,7 +21,7 @@ use Rattle.ssh_channels.specs.Entry.{Entry, opened}
 use Rattle.ssh_channels.specs.Layout.{chunk, bare_frame, on_channel}
 use Rattle.ssh_channels.specs.Lines.{Lines, find, takes_data, takes_eof, takes_close, peer_closes}
 use Rattle.ssh_channels.specs.Lines.{takes_grant, takes_in, wants, confirms, fails, adds}
-use Rattle.ssh_channels.specs.Lines.{drops_pending, asks_next, next_number, write}
+use Rattle.ssh_channels.specs.Lines.{drops_pending, asks_next, next_number, write, all_go_on}
 use Rattle.ssh_session.specs.declared.messages.Spoken.{Spoken}
 use Rattle.ssh_session.specs.declared.messages.Spoken.TheVariants as spoken
 use Rattle.ssh_session.specs.GlobalReplied.{is_global_reply}
@@ -44,14 +44,14 @@ use Rattle.ssh_session.specs.Rows.{failure_acts, confirmation_acts}
 use Rattle.ssh_session.specs.Rows.{reply_of, global_reply, bound_to}
 use Rattle.ssh_session.specs.World.{World, lined, writes, replies, is_there, is_waiting}
 use Rattle.ssh_session.specs.World.{awaits, wants_global, settles_global, settled_first}
-use Rattle.ssh_session.specs.World.{unless_ended}
-use Rattle.ssh_session.proofs.Acting.{EffectComes, Law, ActsCome}
+use Rattle.ssh_session.specs.World.{unless_ended, in_exchange}
+use Rattle.ssh_session.proofs.Acting.{EffectComes, Law, ActsCome, IsRekeyed}
 use Rattle.ssh_session.proofs.Apart.{either, refused_comes, own_comes, notes_come}
 use Rattle.ssh_session.proofs.Measures.{Measure, AreSilent, LinesOwe, lines_owe, how_many_one}
 use Rattle.ssh_session.proofs.Measures.{IsNoAnswer, IsNoReply}
 use Rattle.ssh_session.proofs.Measures.{written_owe, data_owe, eof_owe, close_owe, peer_close_owe}
 use Rattle.ssh_session.proofs.Measures.{grant_owe, adjust_owe, confirmed_owe, failed_owe}
-use Rattle.ssh_session.proofs.Measures.{added_owe, asked_owe, reply_owe}
+use Rattle.ssh_session.proofs.Measures.{added_owe, asked_owe, reply_owe, all_owe}
 use Rattle.ssh_session.proofs.Settled.{Anything, any_built, Any_command}
 use Rattle.ssh_session.proofs.Beside.{on_come}
 
@@ -210,12 +210,12 @@ ended_upto of k payload w h =
 done_upto : (of : Measure) (k : ℕ) (w : World) (commanded : Command) → OwesUpTo of k w →
     EffectComes (OwesUpTo of k) (done_by w commanded)
 done_upto of k w (command.Data channel bytes) h =
-    lined_upto of k (takes_data channel.0 (chunk Plain bytes) false) w
-    (data_owe of _ channel.0 (chunk Plain bytes) false w.channels.lines
+    lined_upto of k (takes_data channel.0 (chunk Plain bytes) (in_exchange w)) w
+    (data_owe of _ channel.0 (chunk Plain bytes) (in_exchange w) w.channels.lines
     (same_lines of w.channels.lines)) h
 done_upto of k w (command.ExtendedData channel code bytes) h =
-    lined_upto of k (takes_data channel.0 (chunk (Extended code) bytes) false) w
-    (data_owe of _ channel.0 (chunk (Extended code) bytes) false w.channels.lines
+    lined_upto of k (takes_data channel.0 (chunk (Extended code) bytes) (in_exchange w)) w
+    (data_owe of _ channel.0 (chunk (Extended code) bytes) (in_exchange w) w.channels.lines
     (same_lines of w.channels.lines)) h
 done_upto of k w (command.Eof channel) h =
     lined_upto of k (takes_eof channel.0) w
@@ -261,6 +261,15 @@ law of k = record {
   listens = λ address port answer s. any_built answer.commands;
   keeps = λ w command h b. effect_upto of k w command h;
 }
+
+-- an exchange of keys makes no more of them
+pub exchanged_upto : (of : Measure) (k : ℕ) (w : World) → OwesUpTo of k w
+    → IsRekeyed (OwesUpTo of k) w
+exchanged_upto of k w h = (
+  λ keys later. h,
+  λ keys. lined_upto of k all_go_on w
+      (all_owe of _ w.channels.lines (same_lines of w.channels.lines)) h,
+)
 
 -- ---- messages of channels
 

@@ -28,12 +28,12 @@ use Rattle.ssh_session.proofs.Rows.{confirms_as}
 pub changed : (old new : Session) (w : World) (waiting : List (ℕ × Opening)) (lines : Lines)
     → new.common ≡ old.common → new.session_id ≡ old.session_id → new.state ≡ old.state →
     new.requested ≡ old.requested → new.target ≡ old.target →
-    new.outstanding ≡ old.outstanding → new.keepalives ≡ old.keepalives → new.spent ≡ old.spent
-    → new.opens.entries ≡ waiting →
+    new.outstanding ≡ old.outstanding → new.keepalives ≡ old.keepalives → new.keys ≡ old.keys →
+    new.spent ≡ old.spent → new.opens.entries ≡ waiting →
     Stands new.table lines → Refines old w →
     Refines new (record w { channels = record w.channels { lines = lines; opens = waiting } })
-changed old new w waiting lines common id state requested target outstanding keepalives spent opens
-    stands r =
+changed old new w waiting lines common id state requested target outstanding keepalives keys spent
+    opens stands r =
     record {
       config = ap (λ c. c.config) common ∙ r.config;
       session_id = id ∙ r.session_id;
@@ -48,6 +48,7 @@ changed old new w waiting lines common id state requested target outstanding kee
       outstanding = ap (λ q. q.items) outstanding ∙ r.outstanding;
       keepalives = keepalives ∙ r.keepalives;
       disconnected = ap (λ c. c.disconnected) common ∙ r.disconnected;
+      keys = keys ∙ r.keys;
       live = spent ∙ r.live;
     }
 

@@ -1,6 +1,6 @@
 -- Replies to requests, as a measure: on a number one may still come where the last request on its
 -- channel wants one (RFC 4254 section 5.4).
-use Rattle.std.proofs.Common.{◌≡◌, ◌≤◌, ◌+◌, ◌==◌, ◌&&◌, ℕ, List, [], ◌∷◌, ◌++◌}
+use Rattle.std.proofs.Common.{◌≡◌, ◌≤◌, ◌+◌, ◌==◌, ◌&&◌, ℕ, List, [], ◌∷◌}
 use Rattle.std.proofs.Common.{Bool, true, false, cond, Option, Some, None, nat_lt}
 use Rattle.std.proofs.Common.{refl, sym, ◌∙◌, ap, subst, arith}
 use Rattle.ssh_channels.specs.Does.{is_one}
@@ -11,11 +11,10 @@ use Rattle.ssh_channels.specs.Lines.{where_found}
 use Rattle.ssh_channels.specs.Sent.{is_tagged}
 use Rattle.ssh_channels.proofs.Listed.{one_number, found_put, find_other, find_again, find_without}
 use Rattle.ssh_channels.proofs.Listed.{without_other, found_number}
-use Rattle.ssh_session.specs.Answered.{how_many}
 use Rattle.ssh_session.specs.Opens.{failure_frame}
 use Rattle.ssh_session.specs.Replied.{is_reply, is_reply_on}
-use Rattle.ssh_session.proofs.Measures.{Measure, LinesOwe, one_if, no_channel, no_more, untold}
-use Rattle.ssh_session.proofs.Measures.{silent_more}
+use Rattle.ssh_session.proofs.Measures.{Measure, LinesOwe, lines_owe, one_if, no_channel}
+use Rattle.ssh_session.proofs.Measures.{no_more, untold, silent_more, how_many_both}
 
 -- the channel of this number wants a reply
 abbrev pub wants_in : (number : ℕ) → List Entry → Bool
@@ -128,6 +127,7 @@ replies_on number = record {
   globally = λ wanted. 0;
   asks = λ question. false;
   untagged = λ frame is unlike. no_channel number frame.channel (is_reply frame) is;
+  exchanged = λ frame is so. no_channel number frame.channel (is_reply frame) is;
   other = λ frame no_answer no_reply. untold (is_tagged number frame.channel) (is_reply frame)
       no_reply.0;
   kept = λ e f entries at same. due_kept number e f entries at same;
@@ -177,16 +177,17 @@ pub unwanted_owe : (number k m : ℕ) (wanted : Bool) (l : Lines) →
 unwanted_owe number k m wanted l none h =
     found_wants (find m l.entries) number k m wanted l refl none h
 
--- where nothing is written one is the most that may come, whatever is wanted
-wants_none : (o : Option Entry) (wanted : Bool) (l : Lines) → l.written ≡ [] →
-    (where_found o (λ e. turns (record e { wants_reply = wanted }) []) l).written ≡ []
-wants_none None wanted l none = none
-wants_none (Some e) wanted l none = ap (λ frames. frames ++ []) none
+-- a request makes at most one more, whatever is wanted
+found_one : (o : Option Entry) (number m : ℕ) (wanted : Bool) (l : Lines) →
+    find m l.entries ≡ o →
+    LinesOwe (replies_on number) (lines_owe (replies_on number) l + 1)
+    (where_found o (λ e. turns (record e { wants_reply = wanted }) []) l)
+found_one None number m wanted l is = omega arith
+found_one (Some e) number m wanted l is =
+    let same = how_many_both (is_reply_on number) l.written [] in
+    let most = due_most number (put (record e { wants_reply = wanted }) l.entries) in
+    omega (arith, same, most)
 
-pub request_owe : (number m : ℕ) (wanted : Bool) (l : Lines) → l.written ≡ [] →
-    LinesOwe (replies_on number) 1 (wants m wanted l)
-request_owe number m wanted l none =
-    let most = due_most number (wants m wanted l).entries in
-    let zero : how_many (is_reply_on number) (wants m wanted l).written ≡ 0 =
-    ap (how_many (is_reply_on number)) (wants_none (find m l.entries) wanted l none) in
-    omega (arith, most, zero)
+pub request_owe : (number m : ℕ) (wanted : Bool) (l : Lines) →
+    LinesOwe (replies_on number) (lines_owe (replies_on number) l + 1) (wants m wanted l)
+request_owe number m wanted l = found_one (find m l.entries) number m wanted l refl

@@ -77,5 +77,6 @@ untouched session table fits w e r = record {
   outstanding = r.outstanding;
   keepalives = r.keepalives;
   disconnected = r.disconnected;
+  keys = r.keys;
   live = r.live;
 }

@@ -13,7 +13,8 @@ use Rattle.ssh_channels.specs.Entry.{Entry, closes_now, flushed, flush_out, gran
 use Rattle.ssh_channels.specs.Entry.{more_may_come, close_may_come, all_framed}
 use Rattle.ssh_channels.specs.Lines.{Lines, find, settles, where_found, is_taken, next_number}
 use Rattle.ssh_channels.specs.Lines.{takes_data, takes_eof, takes_close, peer_closes, takes_grant}
-use Rattle.ssh_channels.specs.Lines.{takes_in, wants, says, confirms, fails, drawn}
+use Rattle.ssh_channels.specs.Lines.{takes_in, wants, says, confirms, fails, drawn, numbers}
+use Rattle.ssh_channels.specs.Lines.{goes_on, each_goes_on, all_go_on}
 use Rattle.ssh_channels.proofs.Frees.{found_free}
 use Rattle.ssh_channels.proofs.Standing.{at_is}
 
@@ -178,3 +179,14 @@ confirmed_pends m peer window limit l = at_pends m (find m l.entries) _ l
 pub failed_pends : (m : ℕ) (l : Lines) → (fails m l).pending ≡ l.pending
 failed_pends m l = at_pends m (find m l.entries) _ l
     (λ e. chosen_pends (not e.confirmed) _ _ l.pending refl refl)
+
+goes_on_pends : (m : ℕ) (l : Lines) → (goes_on m l).pending ≡ l.pending
+goes_on_pends m l = at_pends m (find m l.entries) _ l
+    (λ e. settled_pends (flushed e) (flush_out e) l)
+
+each_pends : (ms : List ℕ) (l : Lines) → (each_goes_on ms l).pending ≡ l.pending
+each_pends [] l = refl
+each_pends (m ∷ ms) l = each_pends ms (goes_on m l) ∙ goes_on_pends m l
+
+pub all_pends : (l : Lines) → (all_go_on l).pending ≡ l.pending
+all_pends l = each_pends (numbers l.entries) l

@@ -35,7 +35,10 @@ use Rattle.ssh_session.specs.Messages.{message_layout}
 use Rattle.ssh_session.specs.Reading.{Said, Service, Request, Response, Connection, Unread, Says}
 use Rattle.ssh_session.specs.Reading.{service}
 use Rattle.ssh_session.specs.Rows.{row, concluded, asked_of}
-use Rattle.ssh_session.specs.Run.{OwesKind, Owes, finish_input}
+use Rattle.ssh_session.specs.declared.exchange.Passage.{Passage}
+use Rattle.ssh_session.specs.declared.exchange.Passage.TheVariants.{Begins, Steps, Barred, Late}
+use Rattle.ssh_session.specs.declared.exchange.Passage.TheVariants.{Passes}
+use Rattle.ssh_session.specs.Run.{OwesKind, OwesPassed, Owes, finish_input, passage, asks_for_keys}
 use Rattle.ssh_session.specs.Short.{IsShortOf}
 use Rattle.ssh_session.specs.World.{World, circumstances, hears}
 use Rattle.ssh_session.proofs.KeyFields.{AreOneAnswer, AreOneMethod}
@@ -225,7 +228,6 @@ said_one : (given : Circumstances) (w : World) (moment : ℕ) (at : Gate) (field
 said_one given w moment gate.Nothing fields a b h k = same_row w moment a b (h ∙ sym k)
 said_one given w moment gate.Ends fields a b h k = same_row w moment a b (h ∙ sym k)
 said_one given w moment gate.OverCap fields a b h k = same_row w moment a b (h ∙ sym k)
-said_one given w moment gate.NotBuilt fields a b h k = same_row w moment a b (h ∙ sym k)
 said_one given w moment gate.UserauthRequest fields a b h k =
     subst (λ x. AreOne (row w moment x) (row w moment b)) (sym h.2)
     (subst (λ x. AreOne (request_row w moment h.0) (row w moment x)) (sym k.2)
@@ -243,15 +245,26 @@ said_one given w moment gate.ServiceRequest fields a b h k =
 said_one given w moment (gate.Connection message) fields a b h k =
     same_row w moment a b (said_once Connection (message_layout w message) fields a b h k)
 
+-- so it does by its passage
+passed_one : (at : Passage) (accepts : Acceptance) (w : World) (moment : ℕ) (payload : List ℕ)
+    (plan other : Plan Outcome) → OwesPassed at accepts w moment payload plan
+    → OwesPassed at accepts w moment payload other → AreOne plan other
+passed_one Passes accepts w moment payload plan other h k =
+    subst (λ x. AreOne x other) (sym h.2)
+    (subst (λ x. AreOne (row w moment h.0) x) (sym k.2)
+    (said_one (circumstances accepts w.settings moment) w moment (gate_of w payload)
+    (drop 1 payload) h.0 k.0 h.1 k.1))
+passed_one Begins accepts w moment payload plan other h k = same plan other (h ∙ sym k)
+passed_one Steps accepts w moment payload plan other h k = same plan other (h ∙ sym k)
+passed_one Barred accepts w moment payload plan other h k = same plan other (h ∙ sym k)
+passed_one Late accepts w moment payload plan other h k = same plan other (h ∙ sym k)
+
 kind_one : (accepts : Acceptance) (w : World) (moment : ℕ) (kind : InputKind)
     (plan other : Plan Outcome) → OwesKind accepts w moment kind plan
     → OwesKind accepts w moment kind other → AreOne plan other
 kind_one accepts w moment (Payload payload) plan other h k =
     let v = hears payload w in
-    subst (λ x. AreOne x other) (sym h.2)
-    (subst (λ x. AreOne (row v moment h.0) x) (sym k.2)
-    (said_one (circumstances accepts v.settings moment) v moment (gate_of v payload)
-    (drop 1 payload) h.0 k.0 h.1 k.1))
+    passed_one (passage v payload) accepts v moment payload plan other h k
 kind_one accepts w moment End plan other h k = same plan other (h ∙ sym k)
 kind_one accepts w moment (Command ticket commanded) plan other h k = same plan other (h ∙ sym k)
 kind_one accepts w moment (OpenReply ticket answer) plan other h k = same plan other (h ∙ sym k)
@@ -259,14 +272,15 @@ kind_one accepts w moment KeepaliveTick plan other h k = same plan other (h ∙ 
 kind_one accepts w moment InactivityTick plan other h k = same plan other (h ∙ sym k)
 kind_one accepts w moment RekeyTick plan other h k = same plan other (h ∙ sym k)
 
-finished_one : (plan other : Plan Outcome) → AreOne plan other
-    → AreOne (after plan finish_input) (after other finish_input)
-finished_one plan other (inl s) = inl (finished_short plan other s)
-finished_one plan other (inr s) = inr (finished_short other plan s)
+finished_one : (ticked : Bool) (plan other : Plan Outcome) → AreOne plan other
+    → AreOne (after plan (finish_input ticked)) (after other (finish_input ticked))
+finished_one ticked plan other (inl s) = inl (finished_short ticked plan other s)
+finished_one ticked plan other (inr s) = inr (finished_short ticked other plan s)
 
 pub input_one : (accepts : Acceptance) (w : World) (input : Input) (plan other : Plan Outcome)
     → Owes accepts w input plan → Owes accepts w input other → AreOne plan other
 input_one accepts w input plan other h k =
+    let ticked = asks_for_keys input.kind in
     subst (λ x. AreOne x other) (sym h.2)
-    (subst (λ x. AreOne (after h.0 finish_input) x) (sym k.2)
-    (finished_one h.0 k.0 (kind_one accepts w input.moment input.kind h.0 k.0 h.1 k.1)))
+    (subst (λ x. AreOne (after h.0 (finish_input ticked)) x) (sym k.2)
+    (finished_one ticked h.0 k.0 (kind_one accepts w input.moment input.kind h.0 k.0 h.1 k.1)))

@@ -1,21 +1,25 @@
 -- What a row asks waits for its reply behind what waited (RFC 4254 section 4).
-use Rattle.std.proofs.Common.{◌≡◌, ◌||◌, ℕ, List, [], ◌∷◌, ◌++◌, Bool, false}
+use Rattle.std.proofs.Common.{◌≡◌, ◌||◌, ℕ, List, [], ◌∷◌, ◌++◌, map, Bool, false}
 use Rattle.std.proofs.Common.{Ok, refl, sym, ◌∙◌, ap, subst}
 use Rattle.std.specs.List.{list_any}
 use Rattle.std.proofs.lemmas.List.{append-nil}
 use Rattle.std.proofs.lemmas.List.Folds.{list_any-append}
 use Rattle.std.proofs.Math.Bool.{or-false}
+use Rattle.ssh_link.specs.Frames.{Frame}
 use Rattle.ssh_link.specs.declared.command.Command.{Command}
-use Rattle.ssh_link.specs.declared.link.TraceEntry.TheVariants.{Noticed}
-use Rattle.ssh_auth.specs.Plan.{Plan, Finish, Event, Told, Follows}
+use Rattle.ssh_link.specs.declared.link.TraceEntry.TheVariants.{Noticed, Sent}
+use Rattle.ssh_auth.specs.Plan.{Plan, Finish, Event, Told, Follows, Answer, answered}
 use Rattle.ssh_auth.proofs.Back.{lent_back, judged_back}
 use Rattle.ssh_session.specs.declared.outstanding.Outstanding.{Outstanding}
 use Rattle.ssh_session.specs.Acts.{Act, Notes, Calls, Judges_by, Listens_by, Adjusts_by, Turns}
-use Rattle.ssh_session.specs.Acts.{Is_over, Stops, acts, done_all}
+use Rattle.ssh_session.specs.Acts.{Is_over, Stops, acts, done_all, Exchanges, Exchanging}
+use Rattle.ssh_session.specs.Acts.{Beginning, Stepping, exchange_question, payloads_given}
+use Rattle.ssh_session.specs.Acts.{frames_given, moved, tell_all}
 use Rattle.ssh_session.specs.InOrder.{recorded, refuses_at, asked_from, asked_within, replied_in}
 use Rattle.ssh_session.specs.Outcome.{Outcome, Goes, Ends, Fails}
 use Rattle.ssh_session.specs.Valid.{recorded_so}
 use Rattle.ssh_session.specs.World.{World}
+use Rattle.ssh_session.proofs.Passing.{moved_so}
 use Rattle.ssh_session.proofs.Queueing.{AreUnlent, all_done, asked_same}
 
 -- ---- events
@@ -85,6 +89,7 @@ AreCalling (Listens_by address port by ∷ later) =
     ((granted : Bool) (bound : ℕ) → KeepsQueue (by granted bound)) × AreApart later
 AreCalling (Adjusts_by channel current by ∷ later) = ((window : ℕ) → KeepsQueue (by window))
     × AreCalling later
+AreCalling (Exchanges asked ∷ later) = AreCalling later
 AreCalling (Turns by ∷ later) = KeepsQueue by × AreCalling later
 AreCalling (Is_over ∷ later) = Unit {0}
 AreCalling (Stops why ∷ later) = Unit {0}
@@ -138,6 +143,7 @@ apart_stays (Stops why ∷ later) w (event ∷ events) outcome a f = absurd f
 apart_stays (Calls lent ∷ later) w events outcome a f = absurd a
 apart_stays (Judges_by judged by ∷ later) w events outcome a f = absurd a
 apart_stays (Listens_by address port by ∷ later) w events outcome a f = absurd a
+apart_stays (Exchanges asked ∷ later) w events outcome a f = absurd a
 
 -- ---- acts with a callback
 
@@ -178,6 +184,34 @@ waits_end waiting outcome other h is =
     let same : outcome ≡ other = cc in
     subst (λ l. Waits l other) (sym (append-nil waiting)) (subst (Waits waiting) same h)
 
+-- ---- the exchange of keys
+
+-- an exchange takes nothing from what waits
+pub moved_keeps : (asked : Exchanging) (answer : Answer (exchange_question asked)) (w : World) →
+    (moved asked answer w).globals.outstanding ≡ w.globals.outstanding
+moved_keeps asked answer w =
+    moved_so (λ v. v.globals.outstanding ≡ w.globals.outstanding) asked answer w (λ keys. refl)
+    (λ keys. refl)
+
+-- .. and records no commands
+step_unlent : (E F : Type 0) (asked : Exchanging) (answer : Answer (exchange_question asked)) →
+    recorded (answered {E = E} {F = F} (exchange_question asked) answer) ≡ []
+step_unlent E F Beginning answer = refl
+step_unlent E F (Stepping payload) answer = refl
+
+-- frames before it
+sent_waits : {E F : Type 0} (waiting : List Outstanding) (frames : List Frame)
+    (next : Plan Outcome) (events : List (Event E F)) (outcome : Outcome) →
+    Follows (tell_all (map Sent frames) next) events outcome →
+    ((rest : List (Event E F)) → Follows next rest outcome →
+    Waits (waiting ++ asked_within rest) outcome) →
+    Waits (waiting ++ asked_within events) outcome
+sent_waits waiting [] next events outcome f k = k events f
+sent_waits waiting (frame ∷ frames) next [] outcome f k = absurd (cc)
+sent_waits waiting (frame ∷ frames) next (event ∷ events) outcome f k =
+    waits_more waiting outcome event events (ap recorded f.0)
+    (sent_waits waiting frames next events outcome f.1 k)
+
 pub calling_waits : {E F : Type 0} (now : List Act) (w : World) (events : List (Event E F))
     (outcome : Outcome) → AreCalling now → Follows (acts now w) events outcome →
     Waits (w.globals.outstanding ++ asked_within events) outcome
@@ -211,6 +245,15 @@ calling_waits (Adjusts_by channel current by ∷ later) w (event ∷ events) out
     waits_more w.globals.outstanding outcome event events (ap recorded f.1)
     (subst (λ l. Waits (l ++ asked_within events) outcome) (a.0 f.0 w)
     (calling_waits later (by f.0 w) events outcome a.1 f.2))
+calling_waits (Exchanges asked ∷ later) w [] outcome a f = absurd (cc)
+calling_waits {E} {F} (Exchanges asked ∷ later) w (event ∷ events) outcome a f =
+    let v = moved asked f.0 w in
+    waits_more w.globals.outstanding outcome event events
+    (ap recorded f.1 ∙ step_unlent E F asked f.0)
+    (sent_waits w.globals.outstanding (frames_given (payloads_given asked f.0)) (acts later v)
+    events outcome f.2
+    (λ rest g. subst (λ l. Waits (l ++ asked_within rest) outcome) (moved_keeps asked f.0 w)
+    (calling_waits later v rest outcome a g)))
 calling_waits (Turns by ∷ later) w events outcome a f =
     subst (λ l. Waits (l ++ asked_within events) outcome) (a.0 w)
     (calling_waits later (by w) events outcome a.1 f)

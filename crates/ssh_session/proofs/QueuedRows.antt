@@ -21,6 +21,9 @@ use Rattle.ssh_channels.specs.declared.chunk.Chunk.{Chunk}
 use Rattle.ssh_channels.specs.Does.{coming_of}
 use Rattle.ssh_channels.specs.Entry.{Entry}
 use Rattle.ssh_channels.specs.Lines.{find, next_number}
+use Rattle.ssh_session.specs.declared.exchange.Passage.{Passage}
+use Rattle.ssh_session.specs.declared.exchange.Passage.TheVariants.{Begins, Steps, Barred, Late}
+use Rattle.ssh_session.specs.declared.exchange.Passage.TheVariants.{Passes}
 use Rattle.ssh_session.specs.declared.messages.Spoken.{Spoken}
 use Rattle.ssh_session.specs.declared.messages.Spoken.TheVariants as spoken
 use Rattle.ssh_session.specs.declared.opens.Handling.{Handling}
@@ -32,12 +35,12 @@ use Rattle.ssh_session.specs.Acts.{Act, Stops, acts}
 use Rattle.ssh_session.specs.InOrder.{recorded, asked_within}
 use Rattle.ssh_session.specs.Outcome.{Outcome}
 use Rattle.ssh_session.specs.Reading.{Said, Disconnect, Over_cap, Service, Request, Response, Open}
-use Rattle.ssh_session.specs.Reading.{Agreed, Unfit, Without_packets, Unread, Unbuilt}
+use Rattle.ssh_session.specs.Reading.{Agreed, Unfit, Without_packets, Unread}
 use Rattle.ssh_session.specs.Reading as read
 use Rattle.ssh_session.specs.Rows.{row, owed, greets, is_short, replied, concluded, asked_of}
 use Rattle.ssh_session.specs.Rows.{spoken_acts, on_entry, on_confirmed, data_told}
 use Rattle.ssh_session.specs.Rows.{failure_acts, confirmation_acts, open_acts, global_reply}
-use Rattle.ssh_session.specs.Rows.{bound_to, reply_of, fault_of}
+use Rattle.ssh_session.specs.Rows.{bound_to, reply_of, fault_of, exchange_acts}
 use Rattle.ssh_session.specs.Types.{handling}
 use Rattle.ssh_session.specs.Valid.{recorded_so}
 use Rattle.ssh_session.specs.World.{World, waits_for, lined, replies, settles_global, unless_ended}
@@ -156,8 +159,16 @@ owed_calling w Disconnect is = tt
 owed_calling w Over_cap is = (λ v. refl, tt)
 owed_calling w (Unfit why) is = tt
 owed_calling w Without_packets is = tt
-owed_calling w Unbuilt is = tt
 owed_calling w _ is = tt
+
+-- what goes to the exchange of keys
+pub exchange_calling : (payload : List ℕ) (at : Passage) →
+    AreCalling (exchange_acts payload at)
+exchange_calling payload Begins = tt
+exchange_calling payload Steps = tt
+exchange_calling payload Barred = tt
+exchange_calling payload Late = tt
+exchange_calling payload Passes = tt
 
 -- ---- authentication
 

@@ -1,47 +1,51 @@
 -- How a session that changed stands for a world that changed.
 use Rattle.std.proofs.Common.{◌≡◌, ◌<◌, ◌+◌, ◌||◌, ◌&&◌, ℕ, List, [], ◌∷◌, Bool, true, false}
-use Rattle.std.proofs.Common.{not, map, Option, Some, None}
+use Rattle.std.proofs.Common.{not, Option, Some, None}
 use Rattle.std.proofs.Common.{Result, Ok, Err, refl, sym, ◌∙◌, ap, subst}
-use Rattle.std.specs.Prelude.{◌^◌, length, OnOk, IfOk}
+use Rattle.std.specs.Prelude.{◌^◌, length, cond, OnOk, IfOk}
 use Rattle.std.specs.List.{list_any, list_all}
 use Rattle.std.specs.Map.{values_of}
 use Rattle.ssh_link.specs.Frames.{Frame}
-use Rattle.ssh_link.specs.declared.link.TraceEntry.TheVariants.{Sent}
 use Rattle.ssh_link.specs.declared.outcome.Refusal.{Refusal}
 use Rattle.ssh_link.specs.declared.outcome.Refusal.TheVariants.{UnknownChannel}
 use Rattle.ssh_channels.specs.declared.params.ChannelParams.{ChannelParams}
 use Rattle.ssh_channels.specs.Line.{is_established, data_waits}
 use Rattle.ssh_channels.specs.Table.{Table, line_at, has, is_one, some_wait}
 use Rattle.ssh_channels.specs.Numbers as numbers
-use Rattle.ssh_channels.specs.Calls.{Op, Byte, Flush_line, Grant, Adjust, Draw, op, adjust}
-use Rattle.ssh_channels.specs.Calls.{credit_after, adjusting_at, framed_at, hand_on}
+use Rattle.ssh_channels.specs.declared.chunk.Chunk.{Chunk}
+use Rattle.ssh_channels.specs.Calls.{Send}
+use Rattle.ssh_channels.specs.Calls.{Op, Byte, Flush_all, Flush_line, Grant, Adjust, Draw, op, adjust}
+use Rattle.ssh_channels.specs.Calls.{credit_after, adjusting_at, framed_at}
 use Rattle.ssh_channels.specs.Calls as calls
 use Rattle.ssh_channels.specs.Entry.{Entry, all_framed}
 use Rattle.ssh_channels.specs.Lines.{Lines, find, next_number, takes_in, hands_on}
+use Rattle.ssh_channels.specs.Lines.{all_go_on, takes_data, handed as handed_of}
 use Rattle.ssh_channels.specs.Stands.{Stands, AllHold}
 use Rattle.ssh_channels.specs.Does as standard
 use Rattle.ssh_channels.specs.Does.{IsMeant, does}
 use Rattle.ssh_channels.proofs.Keeping.{op_stands, op_answers}
-use Rattle.ssh_auth.specs.Plan.{Plan}
 use Rattle.ssh_channels.proofs.Opening.{hands_on_stands, handed_same}
 use Rattle.ssh_channels.proofs.Holding as holding
 use Rattle.ssh_channels.proofs.Standing.{Found, found}
-use Rattle.ssh_session.specs.declared.error.RunError.{RunError}
 use Rattle.ssh_session.specs.declared.session.Session.{Session}
-use Rattle.ssh_session.specs.Acts.{tell_all}
-use Rattle.ssh_session.specs.Heard.{Heard}
-use Rattle.ssh_session.specs.Outcome.{Outcome}
 use Rattle.ssh_session.specs.Effect.{not_usable, no_sending, no_closing}
-use Rattle.ssh_session.specs.Run.{nothing_waits, handed_on}
-use Rattle.ssh_session.specs.Serve.{Refines, Serves, TellsEach}
-use Rattle.ssh_session.specs.World.{World, lined, is_there}
-use Rattle.ssh_session.proofs.Serving.{settled_by}
+use Rattle.ssh_session.specs.declared.exchange.Keys.{Keys}
+use Rattle.ssh_session.specs.Acts.{renews}
+use Rattle.ssh_session.specs.Exchange.{given, heard, renewed}
+use Rattle.ssh_session.specs.Run.{nothing_waits, going_out, handed_on}
+use Rattle.ssh_session.specs.Serve.{Refines}
+use Rattle.ssh_session.specs.World.{World, hears, in_exchange, is_empty, is_held, keyed, lined, is_there}
 
 -- what follows from a value
 pub on_ok : {T E : Type 0} (A B : Type 0) (result : Result T E) → (A → B) → OnOk result A
     → OnOk result B
 on_ok A B (Ok value) f h = f h
 on_ok A B (Err e) f h = tt
+
+-- what is so anyway
+pub in_any_case : {T E : Type 0} (A : Type 0) (result : Result T E) → A → OnOk result A
+in_any_case A (Ok value) h = h
+in_any_case A (Err e) h = tt
 
 pub if_ok : {T E : Type 0} (P Q : T → Type 0) (result : Result T E)
     → ((value : T) → P value → Q value) → IfOk result P →
@@ -70,6 +74,7 @@ tabled session table fits w change r s = record {
   outstanding = r.outstanding;
   keepalives = r.keepalives;
   disconnected = r.disconnected;
+  keys = r.keys;
   live = r.live;
 }
 
@@ -82,6 +87,17 @@ called o session table fits w m e r =
     tabled session table fits w (does o) r
     (subst (λ t. Stands t (does o w.channels.lines)) (sym e)
     (op_stands o session.table w.channels.lines m r.table))
+
+-- data were accepted, which wait in an exchange of keys
+pub data_taken : (n : ℕ) (piece : Chunk) (rekeying : Bool) (session : Session) (table : Table)
+    (fits : length session.session_id < 2 ^ 32) (w : World) → rekeying ≡ in_exchange w →
+    table ≡ calls.send n piece rekeying session.table → Refines session w →
+    Refines (record session { table = table; session_id_fits = fits })
+    (lined (takes_data n piece (in_exchange w)) w)
+data_taken n piece rekeying session table fits w is e r =
+    subst (λ b. Refines (record session { table = table; session_id_fits = fits })
+    (lined (takes_data n piece b) w)) is
+    (called (Send n piece rekeying) session table fits w tt e r)
 
 -- what a call answers
 pub credit_same : (n amount : ℕ) (session : Session) (w : World) → Refines session w →
@@ -193,28 +209,88 @@ taken_in n count session table fits w e r =
     (lined (takes_in n count k) w)) r.target
     (called (Adjust n count session.target) session table fits w tt e r)
 
+-- ---- the exchange of keys
+
+-- its keys changed alone
+pub rekeyed : (session : Session) (keys : Keys) (fits : length session.session_id < 2 ^ 32)
+    (w : World) (to : Keys) → keys ≡ to → Refines session w →
+    Refines (record session { keys = keys; session_id_fits = fits }) (keyed to w)
+rekeyed session keys fits w to is r = record {
+  config = r.config;
+  session_id = r.session_id;
+  remote_sshid = r.remote_sshid;
+  state = r.state;
+  requested = r.requested;
+  name = r.name;
+  table = r.table;
+  opens = r.opens;
+  target = r.target;
+  wanted = r.wanted;
+  outstanding = r.outstanding;
+  keepalives = r.keepalives;
+  disconnected = r.disconnected;
+  keys = is;
+  live = r.live;
+}
+
+-- the peer was heard
+pub heard_by : (session : Session) (keepalives : ℕ) (keys : Keys)
+    (fits : length session.session_id < 2 ^ 32) (w : World) (payload : List ℕ) →
+    keepalives ≡ cond (is_empty payload) session.keepalives 0 →
+    keys ≡ heard payload session.keys → Refines session w →
+    Refines (record session { keepalives = keepalives; keys = keys; session_id_fits = fits })
+    (hears payload w)
+heard_by session keepalives keys fits w payload ticks is r = record {
+  config = r.config;
+  session_id = r.session_id;
+  remote_sshid = r.remote_sshid;
+  state = r.state;
+  requested = r.requested;
+  name = r.name;
+  table = r.table;
+  opens = r.opens;
+  target = r.target;
+  wanted = r.wanted;
+  outstanding = r.outstanding;
+  keepalives = ticks ∙ ap (λ n. cond (is_empty payload) n 0) r.keepalives;
+  disconnected = r.disconnected;
+  keys = is ∙ ap (heard payload) r.keys;
+  live = r.live;
+}
+
+-- the new keys are in use, and what waited goes on
+pub renewed_to : (session : Session) (table : Table) (keys : Keys)
+    (fits : length session.session_id < 2 ^ 32) (w : World) → table ≡ calls.flush_all session.table →
+    keys ≡ renewed → Refines session w →
+    Refines (record session { table = table; keys = keys; session_id_fits = fits }) (renews w)
+renewed_to session table keys fits w gone_on is r =
+    rekeyed (record session { table = table; session_id_fits = fits }) keys fits (lined all_go_on w)
+    renewed is (called (Flush_all false) session table fits w tt gone_on r)
+
 -- ---- the end of an input
 
--- the written frames were handed on
-pub handed : {E F : Type 0} (session : Session) (table : Table)
-    (fits : length session.session_id < 2
-    ^ 32) (w : World)
-    (next : World → Plan Outcome) (frames : List Frame) (a b : Heard E F)
-    (result : Result (Unit {0}) (RunError E F)) →
-    Refines session w → table ≡ hand_on false session.table → frames
-    ≡ calls.handed false session.table →
-    TellsEach Sent frames a b result →
-    Serves (tell_all (map Sent w.channels.lines.written) (next (handed_on w)))
-    (λ (_ : Unit {0}) world. next world) a b
-    (record session { table = table; session_id_fits = fits }) result
-handed session table fits w next frames a b result r e f h =
-    let new = record session { table = table; session_id_fits = fits } in
+-- the frames that are handed on
+pub handed_out : (held : Bool) (session : Session) (w : World) (frames : List Frame) →
+    Refines session w → held ≡ is_held w → frames ≡ calls.handed held session.table →
+    frames ≡ going_out w
+handed_out held session w frames r is f =
+    f ∙ (handed_same held session.table w.channels.lines r.table
+    ∙ ap (λ b. handed_of b w.channels.lines) is)
+
+-- they are handed on, or held
+pub handed_to : (held : Bool) (session : Session) (table : Table) (keys : Keys)
+    (fits : length session.session_id < 2 ^ 32) (w : World) (frames : List Frame) →
+    Refines session w → held ≡ is_held w → table ≡ calls.hand_on held session.table →
+    frames ≡ calls.handed held session.table → keys ≡ given frames session.keys →
+    Refines (record session { table = table; keys = keys; session_id_fits = fits }) (handed_on w)
+handed_to held session table keys fits w frames r is e f k =
     let all = w.channels.lines in
-    let s = subst (λ t. Stands t (hands_on false all)) (sym e) (hands_on_stands false session.table
-    all r.table) in
-    let q = tabled session table fits w (hands_on false) r s in
-    settled_by (tell_all (map Sent all.written) (next (handed_on w))) next a b (handed_on w) new
-    result q
-    (subst (λ l. Serves (tell_all (map Sent l) (next (handed_on w))) (λ (_ : Unit {0}) _.
-    next (handed_on w)) a b new result)
-    (f ∙ handed_same false session.table all r.table) (h (handed_on w) new q (next (handed_on w))))
+    let s = subst (λ t. Stands t (hands_on (is_held w) all)) (sym (e ∙ ap (λ b.
+    calls.hand_on b session.table) is))
+    (hands_on_stands (is_held w) session.table all r.table) in
+    let q = tabled session table fits w (hands_on (is_held w)) r s in
+    let to : keys ≡ given (going_out w) w.keys =
+    k ∙ (ap (λ l. given l session.keys) (handed_out held session w frames r is f)
+    ∙ ap (given (going_out w)) r.keys) in
+    rekeyed (record session { table = table; session_id_fits = fits }) keys fits
+    (lined (hands_on (is_held w)) w) (given (going_out w) w.keys) to q

@@ -1,10 +1,10 @@
 -- No more replies are sent than inputs want, of a measure of replies and by induction over a run
 -- (RFC 4254 sections 4 and 5.4).
 use Rattle.std.proofs.Common.{◌≡◌, ◌≤◌, ◌+◌, ℕ, List, [], ◌∷◌, ◌++◌, Bool, true, false}
-use Rattle.std.proofs.Common.{cond, Option, Some, None, refl, sym, ◌∙◌, subst, inl, inr, arith}
+use Rattle.std.proofs.Common.{not, cond, Option, Some, None, refl, sym, ◌∙◌, ap, subst, inl, inr}
+use Rattle.std.proofs.Common.{arith}
 use Rattle.std.specs.Prelude.{drop}
 use Rattle.ssh_wire.specs.declared.open.OpenChannelMessage.{OpenChannelMessage}
-use Rattle.ssh_link.specs.declared.command.Command.{Command}
 use Rattle.ssh_link.specs.declared.command.Command.TheVariants as command
 use Rattle.ssh_link.specs.declared.frame.InputKind.{InputKind}
 use Rattle.ssh_link.specs.declared.frame.InputKind.TheVariants as input
@@ -12,6 +12,7 @@ use Rattle.ssh_auth.specs.declared.question.Question.{Question}
 use Rattle.ssh_auth.specs.Plan.{Plan, Event, Follows, asked_in}
 use Rattle.ssh_auth.specs.Publickey.{Acceptance}
 use Rattle.ssh_channels.specs.Lines.{next_number, drawn, drops_pending}
+use Rattle.ssh_session.specs.declared.exchange.Passage.{Passage}
 use Rattle.ssh_session.specs.declared.opens.Handling.{Handling}
 use Rattle.ssh_session.specs.declared.opens.Handling.TheVariants.{Asks, Unsupported, Unknown}
 use Rattle.ssh_session.specs.Acts.{acts}
@@ -22,46 +23,42 @@ use Rattle.ssh_session.specs.Opens.{failure_frame}
 use Rattle.ssh_session.specs.Outcome.{Outcome, Goes}
 use Rattle.ssh_session.specs.Reading.{Said, Open, Says}
 use Rattle.ssh_session.specs.Replied.{events_of}
-use Rattle.ssh_session.specs.Rows.{row, open_acts, waits}
-use Rattle.ssh_session.specs.Run.{Turn, Owes, OwesKind, command_row}
+use Rattle.ssh_session.specs.Rows.{row, exchange_acts, open_acts, waits}
+use Rattle.ssh_session.specs.Run.{Turn, StartsOutside, Owes, OwesKind, asks_for_keys, command_row}
 use Rattle.ssh_session.specs.Ticks.{keepalive_acts}
 use Rattle.ssh_session.specs.Types.{handling, opening_by, unsupported, unknown}
-use Rattle.ssh_session.specs.World.{World, circumstances, hears, lined}
+use Rattle.ssh_session.specs.World.{World, circumstances, hears, in_exchange, lined}
 use Rattle.ssh_session.proofs.Accepting.{AllWalk}
-use Rattle.ssh_session.proofs.Acting.{PlanComes, ActsCome, acts_come}
-use Rattle.ssh_session.proofs.Counting.{Covered, covered, Allowed, input_allowed, still_one}
-use Rattle.ssh_session.proofs.Counting.{still_low, asks_in, returned, left_through, Within}
-use Rattle.ssh_session.proofs.Counting.{through_one, within_few, walks_within, follows_covered}
-use Rattle.ssh_session.proofs.Emptied.{owed_emptied, nothing_left}
+use Rattle.ssh_session.proofs.Acting.{PlanComes, ActsCome, acts_come, exchange_comes}
+use Rattle.ssh_session.proofs.Counting.{Covered, covered, Allowed, input_allowed, still_low}
+use Rattle.ssh_session.proofs.Counting.{asks_in, returned, left_through, Within}
+use Rattle.ssh_session.proofs.Counting.{within_few, walks_within, follows_covered}
+use Rattle.ssh_session.proofs.Emptied.{IsUnheld, owed_emptied, nothing_left}
 use Rattle.ssh_session.proofs.Guards.{Walks}
 use Rattle.ssh_session.proofs.Measured.{OfRead, row_upto, command_upto, tick_upto}
 use Rattle.ssh_session.proofs.Measures.{Measure, IsNoReply, how_many_both, how_many_same}
+use Rattle.ssh_session.proofs.Measuring.{exchanged_upto}
 use Rattle.ssh_session.proofs.Measuring.{owing, OwesUpTo, ComesUpTo, law, RequestOwes, writes_upto}
+use Rattle.ssh_session.proofs.Passing.{payload_so}
 use Rattle.ssh_session.proofs.Settled.{Anything}
 use Rattle.ssh_session.proofs.Telling.{kind_silent}
 use Rattle.ssh_session.proofs.Wanting.{BytesSay, payload_says}
 
--- what is so of a world before an input: nothing is written, and so many replies are left, at most
--- one
-pub record Owed (of : Measure) (left : ℕ) (w : World) : Type 0 where
-  pub none : w.channels.lines.written ≡ []
-  pub one : left ≤ 1
-  pub covered : owing of w ≤ left
-
--- so many are left once this input came: one, where it wants a reply
+-- so many are left once this input came: one more, where it wants a reply
 abbrev pub left_with : (wants : InputKind → Bool) → (left : ℕ) → InputKind → ℕ
-left_with wants left kind = cond (wants kind) 1 left
+left_with wants left kind = cond (wants kind) (left + 1) left
 
--- a measure of replies: no question and no open makes one, an answer to an open is none, and a
--- request makes one where its input wants one
+-- a measure of replies: no question and no open makes one, an answer to an open is none, a request
+-- makes one more where its input wants one, and where nothing is written at most one may come
 pub record Repays (of : Measure) (wants : InputKind → Bool) : Type 0 where
   pub never : (question : Question) → of.asks question ≡ false
   pub none_wait : (opens : List (ℕ × Opening)) → of.waiting opens ≡ 0
   pub apart : (m : ℕ) (payload : List ℕ) → IsNoReply (failure_frame m payload)
       → of.such (failure_frame m payload) ≡ false
   pub reads : (left : ℕ) (w : World) (payload : List ℕ) (said : Said)
-      → OfRead (BytesSay w payload) said → Owed of left w
+      → OfRead (BytesSay w payload) said → OwesUpTo of left w
       → OfRead (RequestOwes of (left_with wants left (input.Payload payload)) w) said
+  pub most : (w : World) → w.channels.lines.written ≡ [] → OwesUpTo of 1 w
 
 asks_never : (of : Measure) (never : (question : Question) → of.asks question ≡ false)
     (question : Option Question) → asks_in of.asks question ≡ false
@@ -72,10 +69,14 @@ never_many : {X : Type 0} (xs : List X) → how_many (λ x. false) xs ≡ 0
 never_many [] = refl
 never_many (x ∷ xs) = never_many xs
 
-more_step : (b : Bool) (left n m rest c : ℕ) → n + rest ≤ cond b 1 left → m ≤ rest + c →
+more_step : (b : Bool) (left n m rest c : ℕ) → n + rest ≤ cond b (left + 1) left → m ≤ rest + c →
     n + m ≤ left + cond b (c + 1) c
 more_step true left n m rest c h k = omega (arith, h, k)
 more_step false left n m rest c h k = omega (arith, h, k)
+
+not_true : (b : Bool) → not b ≡ true → b ≡ false
+not_true true is = absurd (cc)
+not_true false is = refl
 
 -- where nothing comes, nothing is sent
 none_few : {E F : Type 0} (of : Measure) (k : ℕ) (past span more : List (Turn E F)) →
@@ -129,54 +130,61 @@ module _ (of : Measure) (wants : InputKind → Bool) (pays : Repays of wants) wh
   payload_covered : (accepts : Acceptance) (left : ℕ) (w : World) (moment : ℕ)
       (payload : List ℕ) (said : Said)
       → Says (circumstances accepts w.settings moment) w (gate_of w payload) (drop 1 payload) said
-      → Owed of left w
+      → OwesUpTo of left w
       → Covered of (left_with wants left (input.Payload payload)) (row w moment said)
   payload_covered accepts left w moment payload said says h =
-      let b = wants (input.Payload payload) in
       let k = left_with wants left (input.Payload payload) in
-      covered of k k (row w moment said) (omega arith) (still_one b left h.one)
+      covered of k k (row w moment said) (omega arith)
       (row_come k w moment said
       (pays.reads left w payload said
       (payload_says (circumstances accepts w.settings moment) w payload said says) h)
-      (still_low b (owing of w) left h.covered h.one))
+      (still_low (wants (input.Payload payload)) (owing of w) left h))
 
-  -- where an input makes none by itself, as many are left as before, or one
-  plan_covered : (b : Bool) (left : ℕ) (plan : Plan Outcome) → left ≤ 1
-      → PlanComes Anything (ComesUpTo of left) plan → Covered of (cond b 1 left) plan
-  plan_covered b left plan one h =
-      covered of left (cond b 1 left) plan (still_low b left left (omega arith) one)
-      (still_one b left one) h
+  -- a step of an exchange of keys makes none, nor does what does not come in one
+  exchange_covered : (left : ℕ) (payload : List ℕ) (at : Passage) (w : World) → OwesUpTo of left w
+      → Covered of left (acts (exchange_acts payload at) w)
+  exchange_covered left payload at w h =
+      covered of left left (acts (exchange_acts payload at) w) (omega arith)
+      (exchange_comes (law of left) (exchanged_upto of left) payload at w h tt tt)
 
-  command_covered : (b : Bool) (left : ℕ) (w : World) (ticket : ℕ) (commanded : Command)
-      → Owed of left w → Covered of (cond b 1 left) (command_row w ticket commanded)
-  command_covered b left w ticket commanded h =
-      plan_covered b left (command_row w ticket commanded) h.one
-      (command_upto of left w ticket commanded h.covered)
+  -- where an input makes none by itself, as many are left as before, or one more
+  plan_covered : (b : Bool) (left : ℕ) (plan : Plan Outcome)
+      → PlanComes Anything (ComesUpTo of left) plan → Covered of (cond b (left + 1) left) plan
+  plan_covered b left plan h =
+      covered of left (cond b (left + 1) left) plan (still_low b left left (omega arith)) h
 
   kind_covered : (accepts : Acceptance) (left : ℕ) (w : World) (moment : ℕ) (kind : InputKind)
-      (plan : Plan Outcome) → OwesKind accepts w moment kind plan → Owed of left w
+      (plan : Plan Outcome) → OwesKind accepts w moment kind plan → OwesUpTo of left w
       → Covered of (left_with wants left kind) plan
   kind_covered accepts left w moment input.End plan o h =
-      rw o (still_low (wants input.End) (owing of w) left h.covered h.one)
+      rw o (still_low (wants input.End) (owing of w) left h)
   kind_covered accepts left w moment (input.Payload payload) plan o h =
-      rw o.2 (payload_covered accepts left (hears payload w) moment payload o.0 o.1
-      (record { none = h.none; one = h.one; covered = h.covered }))
+      let v = hears payload w in
+      let k = left_with wants left (input.Payload payload) in
+      payload_so accepts v moment payload plan (Covered of k) o
+      (λ said says. payload_covered accepts left v moment payload said says h)
+      (λ at. exchange_covered k payload at v
+      (still_low (wants (input.Payload payload)) (owing of v) left h))
   kind_covered accepts left w moment (input.Command ticket commanded) plan o h =
-      rw o (command_covered (wants (input.Command ticket commanded)) left w ticket commanded h)
+      rw o (plan_covered (wants (input.Command ticket commanded)) left
+      (command_row w ticket commanded) (command_upto of left w ticket commanded h))
   kind_covered accepts left w moment (input.OpenReply ticket answer) plan o h =
-      rw o (command_covered (wants (input.OpenReply ticket answer)) left w ticket
-      (command.Answer answer) h)
+      rw o (plan_covered (wants (input.OpenReply ticket answer)) left
+      (command_row w ticket (command.Answer answer))
+      (command_upto of left w ticket (command.Answer answer) h))
   kind_covered accepts left w moment input.KeepaliveTick plan o h =
-      rw o (plan_covered (wants input.KeepaliveTick) left (acts (keepalive_acts w) w) h.one
-      (tick_upto of left w h.covered))
+      rw o (plan_covered (wants input.KeepaliveTick) left (acts (keepalive_acts w) w)
+      (tick_upto of left w h))
   kind_covered accepts left w moment input.InactivityTick plan o h = rw o tt
-  kind_covered accepts left w moment input.RekeyTick plan o h = rw o tt
+  kind_covered accepts left w moment input.RekeyTick plan o h =
+      rw o (still_low (wants input.RekeyTick) (owing of w) left h)
 
   turn_allowed : {E F : Type 0} (accepts : Acceptance) (left : ℕ) (w : World) (turn : Turn E F)
-      (plan : Plan Outcome) → Owes accepts w turn.input plan → Owed of left w
+      (plan : Plan Outcome) → Owes accepts w turn.input plan → OwesUpTo of left w
       → Allowed of (left_with wants left turn.input.kind) plan
   turn_allowed accepts left w turn plan o h =
-      rw o.2 (input_allowed of (left_with wants left turn.input.kind) o.0
+      rw o.2 (input_allowed of (asks_for_keys turn.input.kind)
+      (left_with wants left turn.input.kind) o.0
       (kind_silent accepts w turn.input.moment turn.input.kind o.0 o.1)
       (kind_covered accepts left w turn.input.moment turn.input.kind o.0 o.1 h))
 
@@ -194,7 +202,7 @@ module _ (of : Measure) (wants : InputKind → Bool) (pays : Repays of wants) wh
       omega (arith, few, none)
 
   turn_few : {E F : Type 0} (accepts : Acceptance) (left : ℕ) (w : World) (turn : Turn E F)
-      (plan : Plan Outcome) → Owes accepts w turn.input plan → Owed of left w
+      (plan : Plan Outcome) → Owes accepts w turn.input plan → OwesUpTo of left w
       → Walks plan turn.events → how_many (sends of.such) turn.events
       + left_through of (left_with wants left turn.input.kind) turn.events
       ≤ left_with wants left turn.input.kind
@@ -205,24 +213,19 @@ module _ (of : Measure) (wants : InputKind → Bool) (pays : Repays of wants) wh
 
   -- after an input as many are left as it left
   turn_owed : {E F : Type 0} (accepts : Acceptance) (left : ℕ) (w : World) (turn : Turn E F)
-      (plan : Plan Outcome) (mid : World) → Owes accepts w turn.input plan → Owed of left w
+      (plan : Plan Outcome) (mid : World) → Owes accepts w turn.input plan → OwesUpTo of left w
       → Follows plan turn.events (Goes mid)
-      → Owed of (left_through of (left_with wants left turn.input.kind) turn.events) mid
+      → OwesUpTo of (left_through of (left_with wants left turn.input.kind) turn.events) mid
   turn_owed accepts left w turn plan mid o h f =
-      let k = left_with wants left turn.input.kind in
-      record {
-        none = owed_emptied accepts w turn plan mid o f;
-        one = through_one of k turn.events (still_one (wants turn.input.kind) left h.one);
-        covered = follows_covered of k plan turn.events mid
-            (turn_allowed accepts left w turn plan o h) f;
-      }
+      follows_covered of (left_with wants left turn.input.kind) plan turn.events mid
+      (turn_allowed accepts left w turn plan o h) f
 
   -- ---- a run
 
   -- one input and then more
   turns_few : {E F : Type 0} (accepts : Acceptance) (left : ℕ) (w : World) (turn : Turn E F)
       (turns : List (Turn E F)) (plan : Plan Outcome) → Owes accepts w turn.input plan
-      → Owed of left w → Walks plan turn.events
+      → OwesUpTo of left w → Walks plan turn.events
       → how_many (sends of.such) (events_of turns)
       ≤ left_through of (left_with wants left turn.input.kind) turn.events
       + how_many (λ t. wants t.input.kind) turns
@@ -238,20 +241,20 @@ module _ (of : Measure) (wants : InputKind → Bool) (pays : Repays of wants) wh
       omega (arith, both, all)
 
   pub past_few : {E F : Type 0} (accepts : Acceptance) (left : ℕ) (turns : List (Turn E F))
-      (w : World) → AllWalk accepts w turns → Owed of left w → (past more : List (Turn E F))
+      (w : World) → AllWalk accepts w turns → OwesUpTo of left w → (past more : List (Turn E F))
       → turns ≡ past ++ more → how_many (sends of.such) (events_of past)
       ≤ left + how_many (λ t. wants t.input.kind) past
   past_few accepts left [] w all h past more is =
       none_few of (left + how_many (λ t. wants t.input.kind) past) [] past more (sym is)
-  past_few accepts left (t ∷ turns) w (plan, owes, walks, next) h [] more is = omega arith
-  past_few accepts left (t ∷ turns) w (plan, owes, walks, inl last) h (p ∷ past) more is =
+  past_few accepts left (t ∷ turns) w all h [] more is = omega arith
+  past_few accepts left (t ∷ turns) w (plan, owes, walks, inl last, taken) h (p ∷ past) more is =
       let same : t ≡ p = cc in
       let rest : turns ≡ past ++ more = cc in
       subst (λ u. how_many (sends of.such) (events_of (u ∷ past))
       ≤ left + how_many (λ t. wants t.input.kind) (u ∷ past)) same
       (turns_few accepts left w t past plan owes h walks
       (none_few of _ [] past more (sym rest ∙ last)))
-  past_few accepts left (t ∷ turns) w (plan, owes, walks, inr next) h (p ∷ past) more is =
+  past_few accepts left (t ∷ turns) w (plan, owes, walks, inr next, taken) h (p ∷ past) more is =
       let same : t ≡ p = cc in
       let rest : turns ≡ past ++ more = cc in
       subst (λ u. how_many (sends of.such) (events_of (u ∷ past))
@@ -260,25 +263,37 @@ module _ (of : Measure) (wants : InputKind → Bool) (pays : Repays of wants) wh
       (past_few accepts (left_through of (left_with wants left t.input.kind) t.events) turns
       next.0 next.2 (turn_owed accepts left w t plan next.0 owes h next.1) past more rest))
 
-  -- while no request wants one, at most one is sent
-  pub span_few : {E F : Type 0} (accepts : Acceptance) (left : ℕ) (turns : List (Turn E F))
-      (w : World) → AllWalk accepts w turns → Owed of left w
-      → (past span more : List (Turn E F)) → turns ≡ past ++ (span ++ more)
-      → how_many (λ t. wants t.input.kind) span ≡ 0
+  -- from a world on in which nothing is written, and while no request wants one, at most one is
+  -- sent
+  free_few : {E F : Type 0} (accepts : Acceptance) (turns : List (Turn E F)) (w : World)
+      → AllWalk accepts w turns → w.channels.lines.written ≡ [] → (span more : List (Turn E F))
+      → turns ≡ span ++ more → how_many (λ t. wants t.input.kind) span ≡ 0
       → how_many (sends of.such) (events_of span) ≤ 1
-  span_few accepts left [] w all h past span more is none =
+  free_few accepts turns w all empty span more is none =
+      let few = past_few accepts 1 turns w all (pays.most w empty) span more is in
+      omega (arith, few, none)
+
+  -- the same from an input on that comes outside an exchange of keys
+  pub span_few : {E F : Type 0} (accepts : Acceptance) (turns : List (Turn E F))
+      (w : World) → AllWalk accepts w turns → IsUnheld w
+      → (past span more : List (Turn E F)) → turns ≡ past ++ (span ++ more)
+      → StartsOutside span → how_many (λ t. wants t.input.kind) span ≡ 0
+      → how_many (sends of.such) (events_of span) ≤ 1
+  span_few accepts [] w all h past span more is outside none =
       none_few of 1 past span more (sym is)
-  span_few accepts left (t ∷ turns) w (plan, owes, walks, next) h [] span more is none =
-      let few = past_few accepts left (t ∷ turns) w (plan, owes, walks, next) h span more is in
-      let one = h.one in
-      omega (arith, few, one, none)
-  span_few accepts left (t ∷ turns) w (plan, owes, walks, inl last) h (p ∷ past) span more is
+  span_few accepts (t ∷ turns) w all h [] [] more is outside none = omega arith
+  span_few accepts (t ∷ turns) w (plan, owes, walks, next, taken) h [] (s ∷ span) more is outside
       none =
+      let same : t ≡ s = cc in
+      let replies : t.replies ≡ true = ap (λ u. u.replies) same ∙ outside in
+      free_few accepts (t ∷ turns) w (plan, owes, walks, next, taken)
+      (h (not_true (in_exchange w) (sym taken.1 ∙ replies))) (s ∷ span) more is none
+  span_few accepts (t ∷ turns) w (plan, owes, walks, inl last, taken) h (p ∷ past) span more is
+      outside none =
       let rest : turns ≡ past ++ (span ++ more) = cc in
       none_few of 1 past span more (sym rest ∙ last)
-  span_few accepts left (t ∷ turns) w (plan, owes, walks, inr next) h (p ∷ past) span more is
-      none =
+  span_few accepts (t ∷ turns) w (plan, owes, walks, inr next, taken) h (p ∷ past) span more is
+      outside none =
       let rest : turns ≡ past ++ (span ++ more) = cc in
-      span_few accepts (left_through of (left_with wants left t.input.kind) t.events) turns
-      next.0 next.2 (turn_owed accepts left w t plan next.0 owes h next.1) past span more rest
-      none
+      span_few accepts turns next.0 next.2
+      (owed_emptied accepts w t plan next.0 owes next.1) past span more rest outside none

@@ -1,7 +1,7 @@
 -- The peer gets no more replies than its requests on a channel want, by induction over a run (RFC
 -- 4254 section 5.4).
-use Rattle.std.proofs.Common.{◌≡◌, ◌==◌, ◌&&◌, ℕ, List, ◌++◌, Bool, true, false, cond, Option}
-use Rattle.std.proofs.Common.{Result, refl, sym, arith}
+use Rattle.std.proofs.Common.{◌≡◌, ◌==◌, ◌&&◌, ◌+◌, ℕ, List, [], ◌++◌, Bool, true, false, cond}
+use Rattle.std.proofs.Common.{Option, Result, refl, sym, ap, arith}
 use Rattle.std.specs.Prelude.{option_to_list}
 use Rattle.ssh_wire.specs.declared.channel_id.ChannelId.{ChannelId}
 use Rattle.ssh_link.specs.declared.frame.InputKind.TheVariants as input
@@ -9,9 +9,10 @@ use Rattle.ssh_auth.specs.Publickey.{Acceptance}
 use Rattle.ssh_channels.specs.Lines.{wants}
 use Rattle.ssh_session.specs.declared.error.RunError.{RunError}
 use Rattle.ssh_session.specs.Account.{Closes}
+use Rattle.ssh_session.specs.Answered.{how_many}
 use Rattle.ssh_session.specs.Opens.{failure_frame}
 use Rattle.ssh_session.specs.Reading.{Said}
-use Rattle.ssh_session.specs.Replied.{is_reply, wants_reply_on, Replied}
+use Rattle.ssh_session.specs.Replied.{is_reply, is_reply_on, wants_reply_on, Replied}
 use Rattle.ssh_session.specs.Run.{Turn, Run}
 use Rattle.ssh_session.specs.World.{Settings, World, lined, opening_world}
 use Rattle.ssh_session.proofs.Accepting.{run_walks, last_walks}
@@ -19,32 +20,42 @@ use Rattle.ssh_session.proofs.Counting.{still_low}
 use Rattle.ssh_session.proofs.Measures.{untold, lines_owe}
 use Rattle.ssh_session.proofs.Measuring.{owing, OwesUpTo, RequestOwes, lined_upto, same_lines}
 use Rattle.ssh_session.proofs.Measured.{OfRead, read_weaker}
-use Rattle.ssh_session.proofs.Owing.{replies_on, unwanted_owe, request_owe}
-use Rattle.ssh_session.proofs.Repaying.{Owed, left_with, Repays, past_few, span_few}
+use Rattle.ssh_session.proofs.Owing.{replies_on, due_most, unwanted_owe, request_owe}
+use Rattle.ssh_session.proofs.Repaying.{left_with, Repays, past_few, span_few}
 use Rattle.ssh_session.proofs.Wanting.{BytesSay}
 
--- a request makes one where it wants one
+-- a request makes one more where it wants one
 request_step : (b : Bool) (number left : ℕ) (w : World) (channel : ChannelId) (wanted : Bool) →
-    b ≡ ((number == channel.0) && wanted) → Owed (replies_on number) left w →
-    OwesUpTo (replies_on number) (cond b 1 left) (lined (wants channel.0 wanted) w)
+    b ≡ ((number == channel.0) && wanted) → OwesUpTo (replies_on number) left w →
+    OwesUpTo (replies_on number) (cond b (left + 1) left) (lined (wants channel.0 wanted) w)
 request_step true number left w channel wanted is h =
-    let most = request_owe number channel.0 wanted w.channels.lines h.none in
-    omega (arith, most)
+    let most = request_owe number channel.0 wanted w.channels.lines in
+    omega (arith, most, h)
 request_step false number left w channel wanted is h =
     lined_upto (replies_on number) left (wants channel.0 wanted) w
     (unwanted_owe number (lines_owe (replies_on number) w.channels.lines) channel.0 wanted
-    w.channels.lines (sym is) (same_lines (replies_on number) w.channels.lines)) h.covered
+    w.channels.lines (sym is) (same_lines (replies_on number) w.channels.lines)) h
 
 request_reads : (number left : ℕ) (w : World) (payload : List ℕ) (said : Said) →
-    OfRead (BytesSay w payload) said → Owed (replies_on number) left w →
+    OfRead (BytesSay w payload) said → OwesUpTo (replies_on number) left w →
     OfRead (RequestOwes (replies_on number)
     (left_with (wants_reply_on number) left (input.Payload payload)) w) said
 request_reads number left w payload said q h =
     let b = wants_reply_on number (input.Payload payload) in
-    read_weaker (BytesSay w payload) (RequestOwes (replies_on number) (cond b 1 left) w) said
+    read_weaker (BytesSay w payload) (RequestOwes (replies_on number) (cond b (left + 1) left) w)
+    said
     (λ channel wanted is. request_step b number left w channel wanted (is number) h)
-    (λ wanted is. still_low b (owing (replies_on number) w) left h.covered h.one)
+    (λ wanted is. still_low b (owing (replies_on number) w) left h)
     (λ told is. tt) q
+
+-- where nothing is written, the reply that the channel's last request wants is all that may come
+request_most : (number : ℕ) (w : World) → w.channels.lines.written ≡ [] →
+    OwesUpTo (replies_on number) 1 w
+request_most number w empty =
+    let most = due_most number w.channels.lines.entries in
+    let none : how_many (is_reply_on number) w.channels.lines.written ≡ 0 =
+    ap (how_many (is_reply_on number)) empty in
+    omega (arith, most, none)
 
 replies_repay : (number : ℕ) → Repays (replies_on number) (wants_reply_on number)
 replies_repay number = record {
@@ -52,6 +63,7 @@ replies_repay number = record {
   none_wait = λ opens. refl;
   apart = λ m payload unlike. untold (number == m) (is_reply (failure_frame m payload)) unlike.0;
   reads = λ left w payload said q h. request_reads number left w payload said q h;
+  most = λ w empty. request_most number w empty;
 }
 
 -- a run sends no more replies than its requests want
@@ -64,16 +76,16 @@ pub replied : {E F : Type 0} (accepts : Acceptance) (settings : Settings) (turns
 replied accepts settings turns world count max last rose result run closes =
     let all = run_walks accepts (opening_world settings) turns world (option_to_list last) run
     (last_walks accepts world count max last rose result closes) in
-    let first : (number : ℕ) → Owed (replies_on number) 0 (opening_world settings) =
-    λ number. record { none = refl; one = omega arith; covered = omega arith } in
+    let first : (number : ℕ) → OwesUpTo (replies_on number) 0 (opening_world settings) =
+    λ number. omega arith in
     record {
       never_more = λ past more is number.
           let few = past_few (replies_on number) (wants_reply_on number) (replies_repay number)
           accepts 0 (turns ++ option_to_list last) (opening_world settings) all (first number) past
           more is in
           omega (arith, few);
-      one_each = λ past span more is number none.
-          span_few (replies_on number) (wants_reply_on number) (replies_repay number) accepts 0
-          (turns ++ option_to_list last) (opening_world settings) all (first number) past span more
-          is none;
+      one_each = λ past span more is number outside none.
+          span_few (replies_on number) (wants_reply_on number) (replies_repay number) accepts
+          (turns ++ option_to_list last) (opening_world settings) all (λ idle. refl) past span
+          more is outside none;
     }

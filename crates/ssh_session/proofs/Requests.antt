@@ -149,6 +149,7 @@ let_in requested user session fits w r is = record {
   outstanding = r.outstanding;
   keepalives = r.keepalives;
   disconnected = r.disconnected;
+  keys = r.keys;
   live = r.live;
 }
 
@@ -188,6 +189,7 @@ asked_again auth session fits w r = record {
   outstanding = r.outstanding;
   keepalives = r.keepalives;
   disconnected = r.disconnected;
+  keys = r.keys;
   live = r.live;
 }
 
@@ -209,6 +211,7 @@ noted_as requested session fits w r = record {
   outstanding = r.outstanding;
   keepalives = r.keepalives;
   disconnected = r.disconnected;
+  keys = r.keys;
   live = r.live;
 }
 

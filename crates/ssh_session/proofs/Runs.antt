@@ -1,6 +1,6 @@
 -- From input to input of a run.
 use Rattle.std.proofs.Common.{◌≡◌, ◌<◌, ◌≤◌, ◌+◌, ℕ, List, [], ◌∷◌, ◌++◌, length, Option, Some}
-use Rattle.std.proofs.Common.{None, Result, Ok, Err, Bool, true, false}
+use Rattle.std.proofs.Common.{None, Result, Ok, Err, Bool, false, not}
 use Rattle.std.proofs.Common.{refl, sym, ◌∙◌, ap, subst, arith}
 use Rattle.std.specs.Prelude.{flat_map}
 use Rattle.std.proofs.lemmas.List.{append-nil, length-append}
@@ -26,9 +26,9 @@ use Rattle.ssh_session.specs.declared.session.Session.{Session}
 use Rattle.ssh_session.specs.Account.{Told, Steps, Closes, Ran, Laws}
 use Rattle.ssh_session.specs.Failure.{error_of_link}
 use Rattle.ssh_session.specs.Run.{Owes, Turn, Turns, Run, calls_of, steps_of, entries}
-use Rattle.ssh_session.specs.Run.{nothing_waits}
+use Rattle.ssh_session.specs.Run.{wants_commands}
 use Rattle.ssh_session.specs.Serve.{Refines, IsSuited, cause_of, may_stop}
-use Rattle.ssh_session.specs.World.{Settings, World, opening_world}
+use Rattle.ssh_session.specs.World.{Settings, World, in_exchange, opening_world}
 use Rattle.ssh_session.proofs.Lawful.{lawful}
 use Rattle.ssh_session.proofs.Settled.{stays_set}
 use Rattle.ssh_session.proofs.Serving.{told_then, told_none, caused_rose}
@@ -98,37 +98,40 @@ stepped_more a b c turns turn h k =
 
 told_more : {E F : Type 0} (a b c d : Option (List TraceEntry)) (turns : List (Turn E F))
     (turn : Turn E F) →
-    Adds a b (flat_map entries turns) → Adds b c (Took turn.commands true turn.input ∷ [])
+    Adds a b (flat_map entries turns) → Adds b c (Took turn.commands turn.replies turn.input ∷ [])
     → Adds c d (told_in turn.events) →
     Adds a d (flat_map entries (turns ++ turn ∷ []))
 told_more a b c d turns turn h k l =
     let e = flat_map-append entries turns (turn ∷ []) ∙ ap (λ l. flat_map entries turns ++ l)
     (append-nil (entries turn)) in
     subst (Adds a d) (sym e) (adds_both a b d (flat_map entries turns) (entries turn) h
-    (adds_both b c d (Took turn.commands true turn.input ∷ []) (told_in turn.events) k l))
+    (adds_both b c d (Took turn.commands turn.replies turn.input ∷ []) (told_in turn.events) k l))
 
--- what is known of an input that was taken: the flag with which it was asked for, and what was told
+-- what is known of an input that was taken: the flags with which it was asked for, and what was told
 -- then
-pub record Taken {E F : Type 0} (session : Session) (before after : Told E F) (commands : Bool)
-    (input : Input) : Type 0 where
-  pub took : Adds before.trace after.trace (Took commands true input ∷ [])
+pub record Taken {E F : Type 0} (session : Session) (before after : Told E F)
+    (commands replies : Bool) (input : Input) : Type 0 where
+  pub took : Adds before.trace after.trace (Took commands replies input ∷ [])
   pub uncalled : after.calls ≡ before.calls
   pub unstepped : after.steps ≡ before.steps
-  pub asked : IsAsked commands true input.kind
-  pub flag : (w : World) → Refines session w → commands ≡ nothing_waits w
+  pub asked : IsAsked commands replies input.kind
+  pub for_commands : (w : World) → Refines session w → commands ≡ wants_commands w
+  pub for_replies : (w : World) → Refines session w → replies ≡ not (in_exchange w)
   pub later : before.faults ≤ after.faults
 
 -- an input was finished, and the run goes on
 pub goes_on : {E F : Type 0} (accepts : Acceptance) (settings : Settings) (a b c d : Told E F)
     (count : ℕ) (session session' : Session)
-    (commands : Bool) (input : Input) → Going accepts settings a b count session
-    → Taken session b c commands input →
-    ((w : World) → Refines session w → Steps (Owes accepts w input) c d session' (Ok Continue)) →
+    (commands replies : Bool) (input : Input) → Going accepts settings a b count session
+    → Taken session b c commands replies input →
+    ((w : World) → Refines session w → w.settings ≡ settings → Steps (Owes accepts w input) c d session' (Ok Continue)) →
     Going accepts settings a d (count + 1) session'
-goes_on {E} {F} accepts settings a b c d count session session' commands input going taken step =
+goes_on {E} {F} accepts settings a b c d count session session' commands replies input going taken
+    step =
     let w = going.world in
-    let done = step w going.refines in
-    let turn : Turn E F = record { input = input; commands = commands; events = done.events } in
+    let done = step w going.refines going.set in
+    let turn : Turn E F = record
+    { input = input; commands = commands; replies = replies; events = done.events } in
     let comes = done.comes in
     record {
       turns = going.turns ++ turn ∷ [];
@@ -138,7 +141,8 @@ goes_on {E} {F} accepts settings a b c d count session session' commands input g
         done.owes,
         comes.1,
         (
-          taken.flag w going.refines,
+          taken.for_commands w going.refines,
+          taken.for_replies w going.refines,
           taken.asked,
         ),
       );
@@ -159,16 +163,18 @@ goes_on {E} {F} accepts settings a b c d count session session' commands input g
 -- an input ended the run
 pub ends : {E F : Type 0} (accepts : Acceptance) (settings : Settings) (a b c d : Told E F)
     (count max : ℕ) (session session' : Session)
-    (commands : Bool) (input : Input) → Going accepts settings a b count session
-    → Taken session b c commands input →
-    ((w : World) → Refines session w → Steps (Owes accepts w input) c d session' (Ok Ended)) →
+    (commands replies : Bool) (input : Input) → Going accepts settings a b count session
+    → Taken session b c commands replies input →
+    ((w : World) → Refines session w → w.settings ≡ settings → Steps (Owes accepts w input) c d session' (Ok Ended)) →
     count < max
     → Ran accepts settings a d max (Ok tt)
-ends {E} {F} accepts settings a b c d count max session session' commands input going taken step
+ends {E} {F} accepts settings a b c d count max session session' commands replies input going taken
+    step
     room =
     let w = going.world in
-    let done = step w going.refines in
-    let turn : Turn E F = record { input = input; commands = commands; events = done.events } in
+    let done = step w going.refines going.set in
+    let turn : Turn E F = record
+    { input = input; commands = commands; replies = replies; events = done.events } in
     record {
       turns = going.turns;
       world = w;
@@ -176,7 +182,7 @@ ends {E} {F} accepts settings a b c d count max session session' commands input 
       last = Some turn;
       closes = (
         subst (λ n. n < max) (sym going.counted) room,
-        (taken.flag w going.refines, taken.asked),
+        (taken.for_commands w going.refines, taken.for_replies w going.refines, taken.asked),
         (done.plan, done.owes, done.comes),
       );
       called = called_more false a.calls b.calls d.calls going.turns turn going.called
@@ -192,17 +198,17 @@ ends {E} {F} accepts settings a b c d count max session session' commands input 
 -- an input was not finished
 pub stopped : {E F : Type 0} (accepts : Acceptance) (settings : Settings) (a b c d : Told E F)
     (count max : ℕ) (session session' : Session)
-    (commands : Bool) (input : Input) (e : RunError E F) → Going accepts settings a b count session
-    → Taken session b c commands input →
-    ((w : World) → Refines session w → Steps (Owes accepts w input) c d session' (Err e)) → count <
+    (commands replies : Bool) (input : Input) (e : RunError E F) → Going accepts settings a b count session
+    → Taken session b c commands replies input →
+    ((w : World) → Refines session w → w.settings ≡ settings → Steps (Owes accepts w input) c d session' (Err e)) → count <
     max →
     Ran accepts settings a d max (Err e)
-stopped {E} {F} accepts settings a b c d count max session session' commands input e going taken
-    step
-    room =
+stopped {E} {F} accepts settings a b c d count max session session' commands replies input e going
+    taken step room =
     let w = going.world in
-    let done = step w going.refines in
-    let turn : Turn E F = record { input = input; commands = commands; events = done.events } in
+    let done = step w going.refines going.set in
+    let turn : Turn E F = record
+    { input = input; commands = commands; replies = replies; events = done.events } in
     let rises : Rose c.faults d.faults → Rose a.faults d.faults =
     λ r. let x = going.later in let y = taken.later in omega (arith, x, y, r) in
     record {
@@ -212,7 +218,7 @@ stopped {E} {F} accepts settings a b c d count max session session' commands inp
       last = Some turn;
       closes = (
         subst (λ n. n < max) (sym going.counted) room,
-        (taken.flag w going.refines, taken.asked),
+        (taken.for_commands w going.refines, taken.for_replies w going.refines, taken.asked),
         (
           done.plan,
           done.owes,
@@ -335,3 +341,25 @@ still_suits suits accepts settings a b count session going h =
     ∙ ap (λ s. s.remote_sshid) going.set in
     subst (λ c. suits c session.common.remote_sshid) (sym config)
     (subst (suits settings.config) (sym line) h)
+
+-- whether this side can begin an exchange of keys is no part of a session
+pub repeating : (session : Session) (settings : Settings) (repeatable : Bool) →
+    Refines session (opening_world settings) →
+    Refines session (opening_world (record settings { repeatable = repeatable }))
+repeating session settings repeatable r = record {
+  config = r.config;
+  session_id = r.session_id;
+  remote_sshid = r.remote_sshid;
+  state = r.state;
+  requested = r.requested;
+  name = r.name;
+  table = r.table;
+  opens = r.opens;
+  target = r.target;
+  wanted = r.wanted;
+  outstanding = r.outstanding;
+  keepalives = r.keepalives;
+  disconnected = r.disconnected;
+  keys = r.keys;
+  live = r.live;
+}

@@ -9,13 +9,17 @@ use Rattle.ssh_wire.specs.declared.error.WireError.{WireError}
 use Rattle.ssh_wire.specs.declared.error.WireError.TheVariants as wire
 use Rattle.std.specs.Prelude.{OnOk, IfErr}
 use Rattle.ssh_link.specs.Faults.{Rose}
-use Rattle.ssh_link.specs.Told.{Adds, ToldBy}
+use Rattle.ssh_link.specs.Told.{Adds, AddsOne, ToldBy}
 use Rattle.ssh_link.proofs.Tellings.{adds_both, adds_nil, adds_weak, adds_then, adds_none}
+use Rattle.ssh_link.specs.declared.kex.KexCall.{KexCall}
+use Rattle.ssh_link.specs.declared.kex.KexFault.{KexFault}
+use Rattle.ssh_link.specs.declared.kex.KexFault.TheVariants as kex
 use Rattle.ssh_link.specs.declared.link.LinkFault.{LinkFault as LinkFailure}
 use Rattle.ssh_link.specs.declared.link.LinkFault.TheVariants as link
 use Rattle.ssh_link.specs.declared.link.TraceEntry.{TraceEntry}
 use Rattle.ssh_auth.specs.declared.question.Question.{Question}
-use Rattle.ssh_auth.specs.Plan.{Plan, Finish, Ask, Tell, after, Answer, Event, Called, Told}
+use Rattle.ssh_auth.specs.Plan.{Plan, Finish, Ask, Tell, after, Answer, Answered, Event, Called}
+use Rattle.ssh_auth.specs.Plan.{Stepped, Told, Refused as Refuses}
 use Rattle.ssh_auth.specs.Plan.{Handler_error, Exchange_error, calls_in, steps_in, told_in}
 use Rattle.ssh_auth.specs.Plan.{Reaches}
 use Rattle.ssh_auth.proofs.Plans.{reaches_both, reaches_begins, reaches_follows}
@@ -27,9 +31,9 @@ use Rattle.ssh_session.specs.declared.error.RunError.{RunError}
 use Rattle.ssh_session.specs.declared.error.RunError.TheVariants as error
 use Rattle.ssh_session.specs.declared.session.Session.{Session}
 use Rattle.ssh_session.specs.World.{World}
-use Rattle.ssh_session.specs.Failure.{run_error_of, error_of_link}
-use Rattle.ssh_session.specs.Heard.{Heard, AreSame, Gives}
-use Rattle.ssh_session.specs.Outcome.{Outcome, Goes, Fails, Encoding, Not_built}
+use Rattle.ssh_session.specs.Failure.{run_error_of, error_of_exchange, error_of_link}
+use Rattle.ssh_session.specs.Heard.{Heard, AreSame, AsksExchangeAlone, Exchanges, Gives}
+use Rattle.ssh_session.specs.Outcome.{Outcome, Goes, Fails, Encoding, Inconsistent, Pending}
 use Rattle.ssh_session.specs.Outcome.{Inactivity_timeout}
 use Rattle.ssh_session.specs.Acts.{Act, acts}
 use Rattle.ssh_session.specs.Serve.{Refines, Cause, Wants_memory, Link_failed, Limit_reached}
@@ -97,10 +101,10 @@ told_none false a = adds_nil a
 
 -- the same three as before
 pub same_as : {E F : Type 0} (a : Heard E F) → AreSame a a
-same_as a = (refl, refl, refl)
+same_as a = (refl, refl, refl, refl)
 
 pub same_both : {E F : Type 0} (a b c : Heard E F) → AreSame a b → AreSame b c → AreSame a c
-same_both a b c h k = (k.0 ∙ h.0, k.1 ∙ h.1, k.2 ∙ h.2)
+same_both a b c h k = (k.0 ∙ h.0, k.1 ∙ h.1, k.2 ∙ h.2, k.3 ∙ h.3)
 
 pub hears_then : {E F : Type 0} (stops : Bool) (a b c : Heard E F) (xs ys : List (Event E F)) →
     Hears false a b xs → Hears stops b c ys → Hears stops a c (xs ++ ys)
@@ -285,6 +289,56 @@ asked_in_vain question next later a b session e h = (
   breaks_first question next (Called h.0) (Handler_error e) h.1,
 )
 
+-- ---- the exchange of keys
+
+-- it was asked what the plan asks
+pub exchange_asked : {E F : Type 0} (question : Question) (answer : Answer question)
+    (next : Answer question → Plan Outcome) (call : KexCall F) (a b : Heard E F) (w : World)
+    (session : Session) → Refines session w → AsksExchangeAlone a b →
+    AddsOne a.steps b.steps call → Answered {E = E} {F = F} question answer (Stepped call) →
+    Serves (Ask question next) (λ given _. next given) a b session (Ok answer)
+exchange_asked question answer next call a b w session r alone added is = (
+  Stepped call ∷ [],
+  record {
+    called = subst (λ c. Adds a.calls c []) (sym alone.1) (adds_nil a.calls);
+    told = subst (λ t. Adds a.trace t []) (sym alone.2) (adds_nil a.trace);
+    later = let x = alone.3 in omega (arith, x);
+    stepped = added;
+    same = alone.0;
+  },
+  (w, (answer, is, refl), r),
+)
+
+-- .. and answered an error, or had no memory
+pub exchange_failed : {T U E F : Type 0} (question : Question)
+    (next : Answer question → Plan Outcome) (later : T → World → Plan Outcome)
+    (call : Result U F → KexCall F) (a b : Heard E F) (session : Session) (fault : KexFault F) →
+    Exchanges a b call (Err fault) →
+    ((e : F) → Refuses {E = E} {F = F} question (Exchange_error e) (Stepped (call (Err e)))) →
+    Serves {T = T} (Ask question next) later a b session (Err (error_of_exchange fault))
+exchange_failed question next later call a b session (kex.Refused e) h refused = (
+  Stepped (call (Err e)) ∷ [],
+  record {
+    called = subst (λ c. Adds a.calls c []) (sym h.0.1) (adds_nil a.calls);
+    told = subst (λ t. Adds a.trace t []) (sym h.0.2) (adds_nil a.trace);
+    later = let x = h.0.3 in omega (arith, x);
+    stepped = h.1;
+    same = h.0.0;
+  },
+  breaks_first question next (Stepped (call (Err e))) (Exchange_error e) (refused e),
+)
+exchange_failed question next later call a b session kex.NoMemory h refused = (
+  [],
+  record {
+    called = subst (λ c. Adds a.calls c []) (sym h.0.1) (adds_nil a.calls);
+    told = subst (λ t. Adds a.trace t []) (sym h.0.2) (adds_nil a.trace);
+    later = let x = h.0.3 in omega (arith, x);
+    stepped = h.1;
+    same = h.0.0;
+  },
+  (Ask question next, refl),
+)
+
 -- ---- rows
 
 -- acts that nothing follows are the whole row, and the run goes on
@@ -406,11 +460,17 @@ starved {T} plan next a session e result h is =
     subst (λ r. Serves {T = T} plan next a a session r) (sym (p.1 ∙ ap Err (p.2 ∙ is)))
     (starves plan next a session)
 
--- what is not built
-pub unbuilt_input : {T E F : Type 0} (next : T → World → Plan Outcome) (a : Heard E F)
+-- what does not come in an exchange of keys
+pub barred_input : {T E F : Type 0} (next : T → World → Plan Outcome) (a : Heard E F)
     (session : Session) →
-    Serves {T = T} {E = E} {F = F} (Finish (Fails Not_built)) next a a session (Err error.NotBuilt)
-unbuilt_input next a session = ([], hears_nothing false a, refl)
+    Serves {T = T} {E = E} {F = F} (Finish (Fails Inconsistent)) next a a session
+    (Err error.Inconsistent)
+barred_input next a session = ([], hears_nothing false a, refl)
+
+pub late_input : {T E F : Type 0} (next : T → World → Plan Outcome) (a : Heard E F)
+    (session : Session) →
+    Serves {T = T} {E = E} {F = F} (Finish (Fails Pending)) next a a session (Err error.Pending)
+late_input next a session = ([], hears_nothing false a, refl)
 
 -- nothing came from the peer for too long
 pub inactive_input : {T E F : Type 0} (next : T → World → Plan Outcome) (a : Heard E F)

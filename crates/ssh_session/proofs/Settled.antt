@@ -1,5 +1,5 @@
 -- What is fixed in a run stays so.
-use Rattle.std.proofs.Common.{◌≡◌, ℕ, List, [], ◌∷◌, subst}
+use Rattle.std.proofs.Common.{◌≡◌, ℕ, List, [], ◌∷◌, refl, subst}
 use Rattle.std.proofs.Common.{◌∙◌}
 use Rattle.ssh_link.specs.declared.command.Command.{Command}
 use Rattle.ssh_link.specs.declared.command.Command.TheVariants as command
@@ -8,7 +8,7 @@ use Rattle.ssh_link.specs.declared.frame.InputKind.TheVariants as input
 use Rattle.ssh_link.specs.declared.link.TraceEntry.TheVariants.{Answered}
 use Rattle.ssh_link.specs.declared.frame.Input.{Input}
 use Rattle.ssh_auth.specs.declared.question.Question.{Question}
-use Rattle.ssh_auth.specs.Plan.{Plan, Finish, Ask, Tell, Answer, Event, Follows}
+use Rattle.ssh_auth.specs.Plan.{Plan, Finish, Ask, Tell, Answer, Event, Follows, Reaches}
 use Rattle.ssh_auth.specs.Publickey.{Acceptance}
 use Rattle.ssh_session.specs.Effect.{effect, refused_for, done_by, said}
 use Rattle.ssh_session.specs.Effect.{accepts}
@@ -16,11 +16,15 @@ use Rattle.ssh_session.specs.Outcome.{Outcome, Goes, Ends, Fails}
 use Rattle.ssh_session.specs.Reading.{Said, Disconnect, Over_cap}
 use Rattle.ssh_session.specs.Rows.{row}
 use Rattle.ssh_session.specs.Ticks.{keepalive_acts}
-use Rattle.ssh_session.specs.Run.{OwesKind, Owes, command_row, handed_on}
+use Rattle.ssh_session.specs.declared.error.Flow.{Flow}
+use Rattle.ssh_session.specs.declared.error.Flow.TheVariants.{Continue, Ended}
+use Rattle.ssh_session.specs.Run.{OwesKind, Owes, command_row, asks_for_keys}
+use Rattle.ssh_session.specs.Serve.{comes}
 use Rattle.ssh_session.specs.World.{World, Settings}
 use Rattle.ssh_session.specs.World.{hears}
 use Rattle.ssh_session.proofs.Acting.{PlanComes, EffectComes, AllBuilt, Law, acts_come}
-use Rattle.ssh_session.proofs.Acting.{one_comes, input_comes, goes_or_ends}
+use Rattle.ssh_session.proofs.Acting.{one_comes, input_comes, exchange_comes}
+use Rattle.ssh_session.proofs.Passing.{payload_so}
 use Rattle.ssh_session.proofs.Apart.{refused_comes, apart_comes, tick_comes}
 use Rattle.ssh_session.proofs.Beside.{done_beside, settles_beside, opens_or_not_beside, row_beside}
 
@@ -45,8 +49,8 @@ any_built [] = tt
 any_built (command ∷ commands) = (tt, any_built commands)
 
 same_set : (settings : Settings) (w v : World) → v.settings ≡ w.settings
-    → v.disconnected ≡ w.disconnected → IsSet settings w → IsSet settings v
-same_set settings w v is ended h = is ∙ h
+    → v.disconnected ≡ w.disconnected → v.keys ≡ w.keys → IsSet settings w → IsSet settings v
+same_set settings w v is ended keys h = is ∙ h
 
 effect_set : (settings : Settings) (w : World) (commanded : Command) → IsSet settings w →
     EffectComes (IsSet settings) (effect w commanded)
@@ -93,7 +97,11 @@ kind_set : (accepts : Acceptance) (settings : Settings) (w : World) (moment : �
     plan
 kind_set accepts settings w moment input.End plan o h = rw o h
 kind_set accepts settings w moment (input.Payload payload) plan o h =
-    rw o.2 (row_set settings (hears payload w) moment o.0 h)
+    let v = hears payload w in
+    payload_so accepts v moment payload plan (PlanComes Anything (ComesSet settings)) o
+    (λ said says. row_set settings v moment said h)
+    (λ passage. exchange_comes (law settings) (λ u k. (λ keys later. k, λ keys. k)) payload passage v h
+    tt tt)
 kind_set accepts settings w moment (input.Command ticket commanded) plan o h =
     rw o (command_set settings w ticket commanded h)
 kind_set accepts settings w moment (input.OpenReply ticket answer) plan o h =
@@ -101,7 +109,7 @@ kind_set accepts settings w moment (input.OpenReply ticket answer) plan o h =
 kind_set accepts settings w moment input.KeepaliveTick plan o h =
     rw o (acts_come (law settings) (keepalive_acts w) w h (tick_comes (law settings) w tt h))
 kind_set accepts settings w moment input.InactivityTick plan o h = rw o tt
-kind_set accepts settings w moment input.RekeyTick plan o h = rw o tt
+kind_set accepts settings w moment input.RekeyTick plan o h = rw o h
 
 -- what an input leads to has the settings of the world before it
 follows_set : {E F : Type 0} (settings : Settings) (plan : Plan Outcome) (events : List (Event E F))
@@ -115,6 +123,18 @@ follows_set settings (Ask question next) (event ∷ events) outcome k h = follow
 follows_set settings (Tell entry next) (event ∷ events) outcome k h = follows_set settings next
     events outcome k h.1
 
+-- so has the world that it comes to before its frames are handed on
+pub kind_stays_set : {E F : Type 0} (accepts : Acceptance) (w : World) (moment : ℕ)
+    (kind : InputKind) (plan : Plan Outcome) (events : List (Event E F)) (flow : Flow)
+    (world : World) → OwesKind accepts w moment kind plan →
+    Reaches plan events (Finish (comes flow world)) → world.settings ≡ w.settings
+kind_stays_set accepts w moment kind plan events Continue world o f =
+    follows_set w.settings plan events (Goes world)
+    (kind_set accepts w.settings w moment kind plan o refl) f
+kind_stays_set accepts w moment kind plan events Ended world o f =
+    follows_set w.settings plan events (Ends world)
+    (kind_set accepts w.settings w moment kind plan o refl) f
+
 pub stays_set : {E F : Type 0} (accepts : Acceptance) (settings : Settings) (w : World)
     (input : Input) (plan : Plan Outcome)
     (events : List (Event E F)) (world : World) → Owes accepts w input plan
@@ -122,6 +142,6 @@ pub stays_set : {E F : Type 0} (accepts : Acceptance) (settings : Settings) (w :
     w.settings ≡ settings → world.settings ≡ settings
 stays_set accepts settings w input plan events world o f h =
     follows_set settings plan events (Goes world)
-    (rw o.2 (input_comes Anything (ComesSet settings) o.0 (λ v.
-    (λ x. goes_or_ends (ComesSet settings) (handed_on v) v.disconnected x x, λ x. x))
+    (rw o.2 (input_comes Anything (ComesSet settings) (asks_for_keys input.kind) o.0
+    (λ v. (λ x. (x, x), λ x. x, λ keys x. x))
     (kind_set accepts settings w input.moment input.kind o.0 o.1 h))) f

@@ -1,8 +1,8 @@
 -- What an input asks waits behind what waited, and a reply takes the oldest one (RFC 4254 section
 -- 4).
 use Rattle.std.proofs.Common.{◌≡◌, ◌⊎◌, ℕ, List, [], ◌∷◌, ◌++◌, map, Bool, true}
-use Rattle.std.proofs.Common.{false, Option, refl, sym, ◌∙◌, ap, subst}
-use Rattle.std.proofs.Common.{inl, inr}
+use Rattle.std.proofs.Common.{false, cond, Option, refl, sym, ◌∙◌, ap, subst}
+use Rattle.std.proofs.Common.{inl, inr, Ok, ◌||◌}
 use Rattle.std.specs.Prelude.{drop, flat_map, if◌then◌else◌, option_to_list}
 use Rattle.std.specs.List.{list_any}
 use Rattle.std.proofs.lemmas.List.{append-nil}
@@ -16,30 +16,35 @@ use Rattle.ssh_link.specs.declared.notice.Notice.{Notice}
 use Rattle.ssh_link.specs.declared.open_answer.OpenAnswer.{OpenAnswer}
 use Rattle.ssh_link.specs.declared.outcome.CommandOutcome.{CommandOutcome}
 use Rattle.ssh_link.specs.declared.outcome.CommandOutcome.TheVariants.{Accepted, Opened, Refused}
-use Rattle.ssh_auth.specs.Plan.{Plan, Finish, Ask, Tell, Event, Follows, after}
+use Rattle.ssh_link.specs.declared.kex.KexCall.TheVariants as kex
+use Rattle.ssh_auth.specs.Plan.{Plan, Finish, Ask, Tell, Event, Stepped, Told, Follows, after}
 use Rattle.ssh_auth.specs.Publickey.{Acceptance}
 use Rattle.ssh_session.specs.declared.messages.Spoken.TheVariants as spoken
 use Rattle.ssh_session.specs.declared.outstanding.Outstanding.{Outstanding}
 use Rattle.ssh_session.specs.declared.outstanding.Outstanding.TheVariants.{Keepalive}
-use Rattle.ssh_session.specs.Acts.{Turns, Is_over, Stops, tell_all, done, acts}
+use Rattle.ssh_session.specs.declared.exchange.Passage.{Passage}
+use Rattle.ssh_session.specs.Acts.{Turns, Is_over, Stops, tell_all, done, acts, frames_given}
+use Rattle.ssh_session.specs.Acts.{Beginning, moved}
 use Rattle.ssh_session.specs.Effect.{Effect, Does, effect, said}
 use Rattle.ssh_session.specs.InOrder.{asked_by, asked_outside, asked_within, is_refused}
 use Rattle.ssh_session.specs.InOrder.{replied_in, replies_told, with_notice, is_own_reply}
-use Rattle.ssh_session.specs.Outcome.{Outcome, Goes, Ends, Fails, Keepalive_timeout, Not_built}
+use Rattle.ssh_session.specs.InOrder.{recorded, refuses_at, told_in_event}
+use Rattle.ssh_session.specs.Outcome.{Outcome, Goes, Ends, Fails, Keepalive_timeout}
 use Rattle.ssh_session.specs.OwnMessages.{keepalive}
 use Rattle.ssh_session.specs.Reading.{Said, Connection}
-use Rattle.ssh_session.specs.Rows.{row, notes}
-use Rattle.ssh_session.specs.Run.{OwesKind, command_row, finish_input, handed_on}
-use Rattle.ssh_session.specs.Run.{goes_unless_ended}
+use Rattle.ssh_session.specs.Rows.{row, notes, exchange_acts}
+use Rattle.ssh_session.specs.Run.{OwesKind, command_row, finish_input, handed_on, going_out}
+use Rattle.ssh_session.specs.Run.{goes_unless_ended, begins, is_due}
 use Rattle.ssh_session.specs.Ticks.{inactivity_acts, is_too_many, one_more, ticked}
 use Rattle.ssh_session.specs.World.{World, circumstances, hears}
 use Rattle.ssh_session.specs.World.{settled_first}
-use Rattle.ssh_session.proofs.Acting.{goes_or_ends}
 use Rattle.ssh_session.proofs.Measured.{OfRead}
+use Rattle.ssh_session.proofs.Passing.{payload_so}
 use Rattle.ssh_session.proofs.Queueing.{Asks, effect_asks, AreUnlent}
 use Rattle.ssh_session.proofs.Queued.{Waits, RefuseNone, calling_waits}
-use Rattle.ssh_session.proofs.QueuedRows.{SaysNoReply, row_waits}
+use Rattle.ssh_session.proofs.QueuedRows.{SaysNoReply, row_waits, exchange_calling}
 use Rattle.ssh_session.proofs.Untold.{TellsNone, row_tells, command_tells, tick_tells}
+use Rattle.ssh_session.proofs.Untold.{calling_tell}
 use Rattle.ssh_session.proofs.Wanting.{BytesSay, payload_says}
 
 -- ---- the end of an input
@@ -96,11 +101,10 @@ pub record Handed {E F : Type 0} (waiting : List Outstanding) (events : List (Ev
   pub unrefused : list_any is_refused events ≡ false
   pub untold : replies_told events ≡ []
 
-frames_handed : {E F : Type 0} (waiting : List Outstanding) (frames : List Frame) (final : Outcome)
+none_handed : {E F : Type 0} (waiting : List Outstanding) (final : Outcome)
     (events : List (Event E F)) (outcome : Outcome) → Waits waiting final →
-    Follows (tell_all (map Sent frames) (Finish final)) events outcome →
-    Handed waiting events outcome
-frames_handed waiting [] final [] outcome h f =
+    Follows (Finish final) events outcome → Handed waiting events outcome
+none_handed waiting final [] outcome h f =
     let same : final ≡ outcome = cc in
     record {
       same = subst (Waits waiting) same h;
@@ -109,28 +113,70 @@ frames_handed waiting [] final [] outcome h f =
       unrefused = refl;
       untold = refl;
     }
-frames_handed waiting [] final (event ∷ events) outcome h f = absurd f
-frames_handed waiting (frame ∷ frames) final [] outcome h f = absurd (cc)
-frames_handed waiting (frame ∷ frames) final (event ∷ events) outcome h f =
-    let more = frames_handed waiting frames final events outcome h f.1 in
-    subst (λ x. Handed waiting (x ∷ events) outcome) (sym f.0) (record {
-      same = more.same;
-      unlent = (refl, more.unlent);
-      none = more.none;
-      unrefused = more.unrefused;
-      untold = more.untold;
-    })
+none_handed waiting final (event ∷ events) outcome h f = absurd f
 
-pub finish_handed : {E F : Type 0} (waiting : List Outstanding) (between : Outcome)
-    (events : List (Event E F)) (outcome : Outcome) → Waits waiting between →
-    Follows (finish_input between) events outcome → Handed waiting events outcome
-finish_handed waiting (Goes w) events outcome h f =
-    frames_handed waiting w.channels.lines.written (goes_unless_ended (handed_on w)) events outcome
-    (goes_or_ends (Waits waiting) (handed_on w) w.disconnected h tt) f
-finish_handed waiting (Ends w) events outcome h f =
-    frames_handed waiting w.channels.lines.written (Ends (handed_on w)) events outcome tt f
-finish_handed waiting (Fails why) events outcome h f =
-    frames_handed waiting [] (Fails why) events outcome tt f
+-- one more event that is no callback, no refusal and no notice
+handed_more : {E F : Type 0} (waiting : List Outstanding) (event : Event E F)
+    (events : List (Event E F)) (outcome : Outcome) → recorded event ≡ [] →
+    ((place : ℕ) → refuses_at place event ≡ false) → is_refused event ≡ false →
+    told_in_event event ≡ [] → Handed waiting events outcome →
+    Handed waiting (event ∷ events) outcome
+handed_more waiting event events outcome unlent none unrefused untold h = record {
+  same = h.same;
+  unlent = (unlent, h.unlent);
+  none = λ place. ap (λ b. b || list_any (refuses_at place) events) (none place) ∙ h.none place;
+  unrefused = ap (λ b. b || list_any is_refused events) unrefused ∙ h.unrefused;
+  untold = ap (λ l. l ++ replies_told events) untold ∙ h.untold;
+}
+
+frames_handed : {E F : Type 0} (waiting : List Outstanding) (frames : List Frame)
+    (next : Plan Outcome) (events : List (Event E F)) (outcome : Outcome) →
+    Follows (tell_all (map Sent frames) next) events outcome →
+    ((rest : List (Event E F)) → Follows next rest outcome → Handed waiting rest outcome) →
+    Handed waiting events outcome
+frames_handed waiting [] next events outcome f k = k events f
+frames_handed waiting (frame ∷ frames) next [] outcome f k = absurd (cc)
+frames_handed waiting (frame ∷ frames) next (event ∷ events) outcome f k =
+    subst (λ x. Handed waiting (x ∷ events) outcome) (sym f.0)
+    (handed_more waiting (Told (Sent frame)) events outcome refl (λ place. refl) refl refl
+    (frames_handed waiting frames next events outcome f.1 k))
+
+-- this side begins an exchange of keys, or does not
+begins_handed : {E F : Type 0} (waiting : List Outstanding) (due : Bool) (w : World)
+    (events : List (Event E F)) (outcome : Outcome) → w.globals.outstanding ≡ waiting →
+    Follows (acts (begins due) w) events outcome → Handed waiting events outcome
+begins_handed waiting false w events outcome h f = none_handed waiting (Goes w) events outcome h f
+begins_handed waiting true w [] outcome h f = absurd (cc)
+begins_handed waiting true w (event ∷ events) outcome h f =
+    let v = moved Beginning f.0 w in
+    subst (λ x. Handed waiting (x ∷ events) outcome) (sym f.1)
+    (handed_more waiting (Stepped (kex.Begun (Ok f.0))) events outcome refl (λ place. refl) refl
+    refl
+    (frames_handed waiting (frames_given (f.0 ∷ [])) (Finish (Goes v)) events outcome f.2
+    (λ rest g. none_handed waiting (Goes v) rest outcome h g)))
+
+ends_handed : {E F : Type 0} (waiting : List Outstanding) (ended due : Bool) (w : World)
+    (events : List (Event E F)) (outcome : Outcome) → w.globals.outstanding ≡ waiting →
+    Follows (cond ended (Finish (Ends w)) (acts (begins due) w)) events outcome →
+    Handed waiting events outcome
+ends_handed waiting true due w events outcome h f =
+    none_handed waiting (Ends w) events outcome tt f
+ends_handed waiting false due w events outcome h f =
+    begins_handed waiting due w events outcome h f
+
+pub finish_handed : {E F : Type 0} (waiting : List Outstanding) (ticked : Bool)
+    (between : Outcome) (events : List (Event E F)) (outcome : Outcome) → Waits waiting between →
+    Follows (finish_input ticked between) events outcome → Handed waiting events outcome
+finish_handed waiting ticked (Goes w) events outcome h f =
+    let v = handed_on w in
+    frames_handed waiting (going_out w) (goes_unless_ended ticked v) events outcome f
+    (λ rest g. ends_handed waiting v.disconnected (is_due ticked v) v rest outcome h g)
+finish_handed waiting ticked (Ends w) events outcome h f =
+    let v = handed_on w in
+    frames_handed waiting (going_out w) (Finish (Ends v)) events outcome f
+    (λ rest g. none_handed waiting (Ends v) rest outcome tt g)
+finish_handed waiting ticked (Fails why) events outcome h f =
+    none_handed waiting (Fails why) events outcome tt f
 
 -- ---- inputs that settle nothing
 
@@ -305,6 +351,17 @@ heard_is E F w payload plan (inr h) = inr (record {
   reply = h.reply;
 })
 
+-- what goes to the exchange of keys asks and settles nothing
+exchange_plain : (E F : Type 0) (w : World) (payload : List ℕ) (at : Passage) →
+    IsPlain E F w (input.Payload payload) (acts (exchange_acts payload at) (hears payload w))
+exchange_plain E F w payload at =
+    let v = hears payload w in
+    record {
+      asks = λ events outcome f. calling_waits (exchange_acts payload at) v events outcome
+          (exchange_calling payload at) f;
+      tells = calling_tell (exchange_acts payload at) v (exchange_calling payload at);
+    }
+
 pub kind_is : (E F : Type 0) (accepts : Acceptance) (w : World) (moment : ℕ) (kind : InputKind)
     (plan : Plan Outcome) → OwesKind accepts w moment kind plan →
     IsPlain E F w kind plan ⊎ Settles w kind plan
@@ -315,12 +372,13 @@ kind_is E F accepts w moment input.End plan o = inl (record {
 })
 kind_is E F accepts w moment (input.Payload payload) plan o =
     let v = hears payload w in
-    let said = o.0 in
-    let is = said_is E F v moment payload said
-    (payload_says (circumstances accepts v.settings moment) v payload said o.1)
-    (reply_or_not said) in
-    subst (λ p. IsPlain E F w (input.Payload payload) p ⊎ IsSettling w payload p) (sym o.2)
-    (heard_is E F w payload (row v moment said) is)
+    payload_so accepts v moment payload plan
+    (λ p. IsPlain E F w (input.Payload payload) p ⊎ IsSettling w payload p) o
+    (λ said says. heard_is E F w payload (row v moment said)
+    (said_is E F v moment payload said
+    (payload_says (circumstances accepts v.settings moment) v payload said says)
+    (reply_or_not said)))
+    (λ at. inl (exchange_plain E F w payload at))
 kind_is E F accepts w moment (input.Command ticket one) plan o =
     inl (subst (IsPlain E F w (input.Command ticket one)) (sym o) (command_plain E F w ticket one))
 kind_is E F accepts w moment (input.OpenReply ticket answer) plan o =
@@ -338,7 +396,7 @@ kind_is E F accepts w moment input.InactivityTick plan o = inl (record {
   tells = subst TellsNone (sym o) tt;
 })
 kind_is E F accepts w moment input.RekeyTick plan o = inl (record {
-  asks = λ events outcome f. calling_waits (Stops Not_built ∷ []) w events outcome tt
+  asks = λ events outcome f. calling_waits [] w events outcome tt
       (subst (λ p. Follows p events outcome) o f);
   tells = subst TellsNone (sym o) tt;
 })

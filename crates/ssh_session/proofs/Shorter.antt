@@ -1,9 +1,9 @@
 -- What a plan comes to that is short of another, the other comes to.
-use Rattle.std.proofs.Common.{◌≡◌, ◌≢◌, List, [], ◌∷◌, refl, sym, ap, subst}
+use Rattle.std.proofs.Common.{◌≡◌, ◌≢◌, List, [], ◌∷◌, Bool, refl, sym, ap, subst}
 use Rattle.ssh_auth.specs.Plan.{Plan, Finish, Ask, Tell, Event, Handler_error, after}
 use Rattle.ssh_auth.specs.Plan.{Reaches, Follows, Breaks}
 use Rattle.ssh_session.specs.Outcome.{Encoding, Inconsistent, Key, Unsupported, Starved}
-use Rattle.ssh_session.specs.Outcome.{Channels_full, Not_built, Outcome, Goes, Ends, Fails}
+use Rattle.ssh_session.specs.Outcome.{Channels_full, Pending, Outcome, Goes, Ends, Fails}
 use Rattle.ssh_session.specs.Outcome.{Keepalive_timeout, Inactivity_timeout}
 use Rattle.ssh_session.specs.Run.{finish_input}
 use Rattle.ssh_session.specs.Short.{IsShortOf}
@@ -20,7 +20,7 @@ end_whole (Fails Starved) = tt
 end_whole (Fails Channels_full) = refl
 end_whole (Fails Keepalive_timeout) = refl
 end_whole (Fails Inactivity_timeout) = refl
-end_whole (Fails Not_built) = refl
+end_whole (Fails Pending) = refl
 
 pub whole : (plan : Plan Outcome) → IsShortOf plan plan
 whole (Finish outcome) = end_whole outcome
@@ -43,39 +43,46 @@ ends_as (Fails Starved) other fed h = absurd (fed refl)
 ends_as (Fails Channels_full) other fed h = h
 ends_as (Fails Keepalive_timeout) other fed h = h
 ends_as (Fails Inactivity_timeout) other fed h = h
-ends_as (Fails Not_built) other fed h = h
+ends_as (Fails Pending) other fed h = h
 
 -- the same at the end of an input
-finished_as : (outcome : Outcome) (other : Plan Outcome) → other ≡ Finish outcome
-    → IsShortOf (finish_input outcome) (after other finish_input)
-finished_as outcome other e =
-    whole_as (finish_input outcome) (after other finish_input)
-    (sym (ap (λ x. after x finish_input) e))
+finished_as : (ticked : Bool) (outcome : Outcome) (other : Plan Outcome) → other ≡ Finish outcome
+    → IsShortOf (finish_input ticked outcome) (after other (finish_input ticked))
+finished_as ticked outcome other e =
+    whole_as (finish_input ticked outcome) (after other (finish_input ticked))
+    (sym (ap (λ x. after x (finish_input ticked)) e))
 
-end_finished : (outcome : Outcome) (other : Plan Outcome) → IsShortOf (Finish outcome) other
-    → IsShortOf (finish_input outcome) (after other finish_input)
-end_finished (Goes w) other h = finished_as (Goes w) other h
-end_finished (Ends w) other h = finished_as (Ends w) other h
-end_finished (Fails (Encoding why)) other h = finished_as (Fails (Encoding why)) other h
-end_finished (Fails Inconsistent) other h = finished_as (Fails Inconsistent) other h
-end_finished (Fails (Key why)) other h = finished_as (Fails (Key why)) other h
-end_finished (Fails Unsupported) other h = finished_as (Fails Unsupported) other h
-end_finished (Fails Starved) other h = tt
-end_finished (Fails Channels_full) other h = finished_as (Fails Channels_full) other h
-end_finished (Fails Keepalive_timeout) other h = finished_as (Fails Keepalive_timeout) other h
-end_finished (Fails Inactivity_timeout) other h = finished_as (Fails Inactivity_timeout) other h
-end_finished (Fails Not_built) other h = finished_as (Fails Not_built) other h
+end_finished : (ticked : Bool) (outcome : Outcome) (other : Plan Outcome)
+    → IsShortOf (Finish outcome) other
+    → IsShortOf (finish_input ticked outcome) (after other (finish_input ticked))
+end_finished ticked (Goes w) other h = finished_as ticked (Goes w) other h
+end_finished ticked (Ends w) other h = finished_as ticked (Ends w) other h
+end_finished ticked (Fails (Encoding why)) other h =
+    finished_as ticked (Fails (Encoding why)) other h
+end_finished ticked (Fails Inconsistent) other h = finished_as ticked (Fails Inconsistent) other h
+end_finished ticked (Fails (Key why)) other h = finished_as ticked (Fails (Key why)) other h
+end_finished ticked (Fails Unsupported) other h = finished_as ticked (Fails Unsupported) other h
+end_finished ticked (Fails Starved) other h = tt
+end_finished ticked (Fails Channels_full) other h = finished_as ticked (Fails Channels_full) other h
+end_finished ticked (Fails Keepalive_timeout) other h =
+    finished_as ticked (Fails Keepalive_timeout) other h
+end_finished ticked (Fails Inactivity_timeout) other h =
+    finished_as ticked (Fails Inactivity_timeout) other h
+end_finished ticked (Fails Pending) other h = finished_as ticked (Fails Pending) other h
 
-pub finished_short : (plan other : Plan Outcome) → IsShortOf plan other
-    → IsShortOf (after plan finish_input) (after other finish_input)
-finished_short (Finish outcome) other h = end_finished outcome other h
-finished_short (Ask question next) other h = (
-  λ answer. after (h.0 answer) finish_input,
-  ap (λ x. after x finish_input) h.1,
-  λ answer. finished_short (next answer) (h.0 answer) (h.2 answer),
+pub finished_short : (ticked : Bool) (plan other : Plan Outcome) → IsShortOf plan other
+    → IsShortOf (after plan (finish_input ticked)) (after other (finish_input ticked))
+finished_short ticked (Finish outcome) other h = end_finished ticked outcome other h
+finished_short ticked (Ask question next) other h = (
+  λ answer. after (h.0 answer) (finish_input ticked),
+  ap (λ x. after x (finish_input ticked)) h.1,
+  λ answer. finished_short ticked (next answer) (h.0 answer) (h.2 answer),
 )
-finished_short (Tell entry next) other h =
-    (after h.0 finish_input, ap (λ x. after x finish_input) h.1, finished_short next h.0 h.2)
+finished_short ticked (Tell entry next) other h = (
+  after h.0 (finish_input ticked),
+  ap (λ x. after x (finish_input ticked)) h.1,
+  finished_short ticked next h.0 h.2,
+)
 
 -- where the one comes, the other does
 abbrev ComesNear : {E F : Type 0} → Plan Outcome → List (Event E F) → Plan Outcome → Type 0

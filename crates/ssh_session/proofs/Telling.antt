@@ -1,7 +1,9 @@
--- What a row tells is no frame: frames are handed on at the end of an input.
+-- What a row tells is no frame, or one of an exchange of keys, which is handed on at once: other
+-- frames are handed on at the end of an input.
 use Rattle.std.proofs.Common.{◌+◌, ℕ, List, [], ◌∷◌, map, Option, Some, None, Bool}
-use Rattle.std.proofs.Common.{true, false}
-use Rattle.std.specs.Prelude.{bytes_eq, codes, if◌then◌else◌}
+use Rattle.std.proofs.Common.{true, false, cond, refl}
+use Rattle.std.specs.Prelude.{◌≡◌, bytes_eq, codes, filter, if◌then◌else◌}
+use Rattle.ssh_link.specs.Frames.{Frame}
 use Rattle.ssh_link.specs.declared.command.Command.{Command}
 use Rattle.ssh_link.specs.declared.command.Command.TheVariants as command
 use Rattle.ssh_link.specs.declared.frame.InputKind.{InputKind}
@@ -37,21 +39,29 @@ use Rattle.ssh_session.specs.declared.state.EncryptedState.{EncryptedState}
 use Rattle.ssh_session.specs.declared.state.EncryptedState.TheVariants.{WaitingAuthRequest}
 use Rattle.ssh_session.specs.Acts.{Act, Notes, Calls, Adjusts_by, Turns, Is_over, Stops, tell_all}
 use Rattle.ssh_session.specs.Acts.{tell_done, done, done_all, acts, Judges_by, Listens_by}
+use Rattle.ssh_session.specs.Acts.{Exchanges, payloads_given, frames_given, moved}
 use Rattle.ssh_session.specs.Effect.{Effect, Does, effect}
+use Rattle.ssh_session.specs.Exchange.{is_of_transport}
+use Rattle.ssh_session.specs.Layout.{at_once}
 use Rattle.ssh_session.specs.Outcome.{Outcome}
 use Rattle.ssh_session.specs.Reading.{Said, Service, Request, Response}
-use Rattle.ssh_session.specs.Rows.{row, owed, greets, replied, concluded, asked_of}
+use Rattle.ssh_session.specs.Rows.{row, owed, exchange_acts, greets, replied, concluded, asked_of}
 use Rattle.ssh_auth.specs.Verdict as verdicts
 use Rattle.ssh_session.specs.Run.{OwesKind, command_row}
 use Rattle.ssh_session.specs.Ticks.{keepalive_acts}
 use Rattle.ssh_session.specs.World.{World, hears, waits_for}
+use Rattle.ssh_session.proofs.Passing.{payload_so}
 
--- it is no frame
+-- a frame of an exchange of keys: it is on no channel, and its number is 1 to 49
+abbrev pub IsExchanged : Frame → Type 0
+IsExchanged frame = (frame.channel ≡ None) × (is_of_transport frame.payload ≡ true)
+
+-- it is no frame but one of an exchange
 abbrev pub IsUnsent : TraceEntry → Type 0
-IsUnsent (Sent frame) = ⊥
+IsUnsent (Sent frame) = IsExchanged frame
 IsUnsent _ = Unit {0}
 
--- whatever is answered, the link is told no frame
+-- whatever is answered, the link is told no other frame
 abbrev pub SendsNone : {O : Type 0} → Plan O → Type 0
 SendsNone (Finish outcome) = Unit {0}
 SendsNone (Ask question next) = (answer : Answer question) → SendsNone (next answer)
@@ -84,7 +94,22 @@ all_done place (command ∷ commands) w next h =
     (λ outcome world. told_done place outcome (done_all (place + 1) commands world next)
     (all_done (place + 1) commands world next h))
 
-acts_send_none : (now : List Act) (w : World) → SendsNone (acts now w)
+-- what an exchange gives
+given_step : (b : Bool) (payload : List ℕ) (payloads : List (List ℕ)) (next : Plan Outcome) →
+    is_of_transport payload ≡ b → SendsNone (tell_all (map Sent (frames_given payloads)) next) →
+    SendsNone (tell_all (map Sent (map at_once (cond b (payload ∷ filter is_of_transport payloads)
+    (filter is_of_transport payloads)))) next)
+given_step true payload payloads next is h = ((refl, is), h)
+given_step false payload payloads next is h = h
+
+pub given_unsent : (payloads : List (List ℕ)) (next : Plan Outcome) → SendsNone next →
+    SendsNone (tell_all (map Sent (frames_given payloads)) next)
+given_unsent [] next h = h
+given_unsent (payload ∷ payloads) next h =
+    given_step (is_of_transport payload) payload payloads next refl
+    (given_unsent payloads next h)
+
+pub acts_send_none : (now : List Act) (w : World) → SendsNone (acts now w)
 acts_send_none [] w = tt
 acts_send_none (Notes notice ∷ later) w = (tt, acts_send_none later w)
 acts_send_none (Calls lent ∷ later) w = λ commands. all_done 0 commands w (acts later)
@@ -97,6 +122,9 @@ acts_send_none (Listens_by address port by ∷ later) w = λ answer.
     (λ world. acts_send_none later (by answer.granted answer.port world))
 acts_send_none (Adjusts_by channel current by ∷ later) w = λ window. acts_send_none later
     (by window w)
+acts_send_none (Exchanges asked ∷ later) w = λ answer.
+    given_unsent (payloads_given asked answer) (acts later (moved asked answer w))
+    (acts_send_none later (moved asked answer w))
 acts_send_none (Turns by ∷ later) w = acts_send_none later (by w)
 acts_send_none (Is_over ∷ later) w = tt
 acts_send_none (Stops why ∷ later) w = tt
@@ -208,7 +236,9 @@ pub kind_silent : (accepts : Acceptance) (w : World) (moment : ℕ) (kind : Inpu
     OwesKind accepts w moment kind plan → SendsNone plan
 kind_silent accepts w moment input.End plan o = rw o tt
 kind_silent accepts w moment (input.Payload payload) plan o =
-    rw o.2 (row_silent (hears payload w) moment o.0)
+    let v = hears payload w in
+    payload_so accepts v moment payload plan SendsNone o (λ said says. row_silent v moment said)
+    (λ passage. acts_send_none (exchange_acts payload passage) v)
 kind_silent accepts w moment (input.Command ticket commanded) plan o =
     rw o (command_silent w ticket commanded)
 kind_silent accepts w moment (input.OpenReply ticket answer) plan o =

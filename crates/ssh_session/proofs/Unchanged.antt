@@ -28,6 +28,7 @@ made_room session outstanding fits w items r = record {
   outstanding = items ∙ r.outstanding;
   keepalives = r.keepalives;
   disconnected = r.disconnected;
+  keys = r.keys;
   live = r.live;
 }
 

@@ -1,5 +1,6 @@
 -- No row but a reply to this side's requests tells of one (RFC 4254 section 4).
 use Rattle.std.proofs.Common.{◌≡◌, ◌+◌, ℕ, List, [], ◌∷◌, ◌++◌, map, Bool, true, false, Some}
+use Rattle.std.proofs.Common.{cond}
 use Rattle.std.proofs.Common.{refl, ◌∙◌, ap, inl, inr}
 use Rattle.std.specs.Prelude.{bytes_eq, codes, if◌then◌else◌}
 use Rattle.ssh_link.specs.Frames.{Frame}
@@ -21,12 +22,14 @@ use Rattle.ssh_session.specs.declared.state.EncryptedState.{EncryptedState}
 use Rattle.ssh_session.specs.declared.state.EncryptedState.TheVariants.{WaitingAuthRequest}
 use Rattle.ssh_session.specs.Acts.{Act, Notes, Calls, Judges_by, Listens_by, Adjusts_by, Turns}
 use Rattle.ssh_session.specs.Acts.{Is_over, Stops, tell_all, tell_done, done, done_all, acts}
+use Rattle.ssh_session.specs.Acts.{Exchanges, payloads_given, frames_given, moved}
 use Rattle.ssh_session.specs.Effect.{Effect, Does, effect}
 use Rattle.ssh_session.specs.InOrder.{asked_by, told_in_entry, told_in_event, replies_told}
 use Rattle.ssh_session.specs.Outcome.{Outcome, Goes, Ends, Fails}
 use Rattle.ssh_session.specs.Reading.{Said, Service, Request, Response}
 use Rattle.ssh_session.specs.Rows.{row, owed, greets, is_short, replied, concluded, asked_of}
 use Rattle.ssh_session.specs.Run.{command_row, finish_input, handed_on, goes_unless_ended}
+use Rattle.ssh_session.specs.Run.{going_out, begins, is_due}
 use Rattle.ssh_session.specs.Ticks.{keepalive_acts, is_too_many, one_more}
 use Rattle.ssh_session.specs.World.{World, waits_for}
 use Rattle.ssh_session.proofs.Guards.{Walks}
@@ -73,6 +76,12 @@ all_done place (one ∷ commands) w next h =
     (λ outcome world. told_done place outcome (done_all (place + 1) commands world next)
     (all_done (place + 1) commands world next h))
 
+-- frames are no notices
+frames_tell : (frames : List Frame) (next : Plan Outcome) → TellsNone next →
+    TellsNone (tell_all (map Sent frames) next)
+frames_tell [] next h = h
+frames_tell (frame ∷ frames) next h = (refl, frames_tell frames next h)
+
 apart_tell : (now : List Act) (w : World) → AreApart now → TellsNone (acts now w)
 apart_tell [] w a = tt
 apart_tell (Notes notice ∷ later) w a = (a.0, apart_tell later w a.1)
@@ -84,6 +93,7 @@ apart_tell (Stops why ∷ later) w a = tt
 apart_tell (Calls lent ∷ later) w a = absurd a
 apart_tell (Judges_by judged by ∷ later) w a = absurd a
 apart_tell (Listens_by address port by ∷ later) w a = absurd a
+apart_tell (Exchanges asked ∷ later) w a = absurd a
 
 pub calling_tell : (now : List Act) (w : World) → AreCalling now → TellsNone (acts now w)
 calling_tell [] w a = tt
@@ -98,6 +108,9 @@ calling_tell (Listens_by address port by ∷ later) w a = λ answer.
     (λ world. apart_tell later (by answer.granted answer.port world) a.1)
 calling_tell (Adjusts_by channel current by ∷ later) w a = λ window.
     calling_tell later (by window w) a.1
+calling_tell (Exchanges asked ∷ later) w a = λ answer.
+    frames_tell (frames_given (payloads_given asked answer)) (acts later (moved asked answer w))
+    (calling_tell later (moved asked answer w) a)
 calling_tell (Turns by ∷ later) w a = calling_tell later (by w) a.1
 calling_tell (Is_over ∷ later) w a = tt
 calling_tell (Stops why ∷ later) w a = tt
@@ -162,21 +175,28 @@ tick_tells w = tick_step w (is_too_many w.settings.config (one_more w.keepalives
 
 -- ---- inputs
 
-frames_tell : (frames : List Frame) (next : Plan Outcome) → TellsNone next →
-    TellsNone (tell_all (map Sent frames) next)
-frames_tell [] next h = h
-frames_tell (frame ∷ frames) next h = (refl, frames_tell frames next h)
+begins_tell : (due : Bool) (w : World) → TellsNone (acts (begins due) w)
+begins_tell true w = λ payload. frames_tell (frames_given (payload ∷ [])) _ tt
+begins_tell false w = tt
 
-finish_tells : (outcome : Outcome) → TellsNone (finish_input outcome)
-finish_tells (Goes w) =
-    frames_tell w.channels.lines.written (Finish (goes_unless_ended (handed_on w))) tt
-finish_tells (Ends w) = frames_tell w.channels.lines.written (Finish (Ends (handed_on w))) tt
-finish_tells (Fails why) = tt
+ends_tell : (ended due : Bool) (w : World) →
+    TellsNone (cond ended (Finish (Ends w)) (acts (begins due) w))
+ends_tell true due w = tt
+ends_tell false due w = begins_tell due w
 
-pub input_tells : (plan : Plan Outcome) → TellsNone plan → TellsNone (after plan finish_input)
-input_tells (Finish outcome) h = finish_tells outcome
-input_tells (Ask question next) h = λ answer. input_tells (next answer) (h answer)
-input_tells (Tell entry next) h = (h.0, input_tells next h.1)
+finish_tells : (ticked : Bool) (outcome : Outcome) → TellsNone (finish_input ticked outcome)
+finish_tells ticked (Goes w) =
+    let v = handed_on w in
+    frames_tell (going_out w) (goes_unless_ended ticked v)
+    (ends_tell v.disconnected (is_due ticked v) v)
+finish_tells ticked (Ends w) = frames_tell (going_out w) (Finish (Ends (handed_on w))) tt
+finish_tells ticked (Fails why) = tt
+
+pub input_tells : (ticked : Bool) (plan : Plan Outcome) → TellsNone plan →
+    TellsNone (after plan (finish_input ticked))
+input_tells ticked (Finish outcome) h = finish_tells ticked outcome
+input_tells ticked (Ask question next) h = λ answer. input_tells ticked (next answer) (h answer)
+input_tells ticked (Tell entry next) h = (h.0, input_tells ticked next h.1)
 
 -- ---- events
 

@@ -375,9 +375,7 @@ state_numbers config Authenticated n = connection_numbers n
 all_numbers : (w : World) (n : ℕ) (fields : List ℕ) → NumbersRequest n (gate_of w (n ∷ fields))
 all_numbers w n fields =
     let P : Gate → Type 0 = NumbersRequest n in
-    picked (n == 1) P gate.Ends _ (λ is. tt)
-    (picked (n == 20) P gate.NotBuilt (state_gate w.settings.config w.user.state n) (λ is. tt)
-    (state_numbers w.settings.config w.user.state n))
+    picked (n == 1) P gate.Ends _ (λ is. tt) (state_numbers w.settings.config w.user.state n)
 
 is_request : (w : World) (payload : List ℕ) → gate_of w payload ≡ gate.Connection message.Request →
     (message_of payload == channel_request.number) ≡ true
@@ -446,7 +444,6 @@ gate_says : (so : Claims) (given : Circumstances) (w : World)
 gate_says so given w gate.Nothing fields said q g s h = subst (OfRead so) (sym h) tt
 gate_says so given w gate.Ends fields said q g s h = subst (OfRead so) (sym h) tt
 gate_says so given w gate.OverCap fields said q g s h = subst (OfRead so) (sym h) tt
-gate_says so given w gate.NotBuilt fields said q g s h = subst (OfRead so) (sym h) tt
 gate_says so given w gate.ServiceRequest fields said q g s h =
     subst (OfRead so) (sym h.2) (service_says so h.0)
 gate_says so given w gate.UserauthRequest fields said q g s h = subst (OfRead so) (sym h.2) tt

@@ -1,5 +1,5 @@
 -- What is said of a step, and of a run, law by law.
-use Rattle.std.specs.Prelude.{◌≡◌, ◌<◌, ◌≤◌, ℕ, List, [], ◌++◌, length, flat_map, Option, Some}
+use Rattle.std.specs.Prelude.{◌≡◌, ◌<◌, ◌≤◌, ℕ, List, ◌++◌, length, flat_map, Option, Some}
 use Rattle.std.specs.Prelude.{None, option_to_list, IfSome, IsSomeAnd, OnOk, Result, Ok, Err}
 use Rattle.ssh_link.specs.Faults.{Rose}
 use Rattle.ssh_link.specs.Told.{Adds, ToldBy}
@@ -15,10 +15,12 @@ use Rattle.ssh_session.specs.declared.error.RunError.TheVariants as error
 use Rattle.ssh_session.specs.declared.session.Session.{Session}
 use Rattle.ssh_session.specs.Answered.{Answered}
 use Rattle.ssh_session.specs.Authorised.{Authorised}
+use Rattle.ssh_session.specs.Exchanged.{Exchanged, IsNextExchanged}
 use Rattle.ssh_session.specs.GlobalReplied.{GlobalReplied}
 use Rattle.ssh_session.specs.InOrder.{InOrder, IsNextInOrder}
 use Rattle.ssh_session.specs.Ledger.{Ledgered_after}
 use Rattle.ssh_session.specs.Outcome.{Outcome, Goes, Ends}
+use Rattle.ssh_session.specs.Parting.{IsParted, IsUnparted}
 use Rattle.ssh_session.specs.Replied.{Replied}
 use Rattle.ssh_session.specs.Run.{Owes, Turn, Run, IsTaken, calls_of, steps_of, entries}
 use Rattle.ssh_session.specs.Serve.{Refines, cause_of, IsCaused, may_stop}
@@ -114,10 +116,15 @@ pub record Lawful {E F : Type 0} {accepts : Acceptance} {settings : Settings}
   pub ended : OnOk result (IsSomeAnd account.last (IsEnding account.world))
   -- nothing of the connection is served before an accepted authentication
   pub authorised : Authorised accepts settings (account.turns ++ option_to_list account.last)
-  -- after each finished input each channel has sent exactly its first min(accepted, granted) bytes,
-  -- in order
+  -- after each finished input no channel has sent more than its first min(accepted, granted) bytes,
+  -- in order, and outside an exchange of keys exactly those
   pub ledger : (earlier later : List (Turn E F)) → account.turns ≡ earlier ++ later
       → Ledgered_after accepts settings earlier
+  -- no command ended the connection in a finished input, and where one ended it in the last one,
+  -- nothing goes out behind its DISCONNECT
+  pub unparted : (earlier later : List (Turn E F)) → account.turns ≡ earlier ++ later
+      → IsUnparted accepts settings earlier
+  pub parted : IfSome account.last (IsParted accepts account.world)
   -- an open of the peer's gets at most one answer, and none before its callback returned
   pub answered : Answered (account.turns ++ option_to_list account.last)
   -- the peer gets no more replies to its requests on a channel than it wanted
@@ -128,6 +135,10 @@ pub record Lawful {E F : Type 0} {accepts : Acceptance} {settings : Settings}
   pub in_order : (earlier later : List (Turn E F)) → account.turns ≡ earlier ++ later
       → InOrder accepts settings earlier
   pub last_in_order : IfSome account.last (IsNextInOrder account.world)
+  -- in an exchange of keys only its own frames are handed on, and in the last input too, unless a
+  -- command ended the connection in it
+  pub exchanged : Exchanged account.turns
+  pub last_exchanged : IfSome account.last (IsNextExchanged account.turns)
   -- where no fault of the link rose and the last input was valid, it ends well, or memory or the
   -- limit of inputs ends it
   pub complete : after.faults ≡ before.faults → IfSome account.last (IsValid accepts account.world)

@@ -1,7 +1,7 @@
 -- A CHANNEL_OPEN of the peer's gets at most one answer, and none before its callback returned (RFC
 -- 4254 section 5.1).
 use Rattle.std.specs.Prelude.{◌≡◌, ◌≤◌, ◌+◌, ◌==◌, ◌&&◌, ◌||◌, ℕ, List, [], ◌∷◌, ◌++◌, flat_map}
-use Rattle.std.specs.Prelude.{Bool, true, false, cond, if◌then◌else◌, Option, Some, None, is_some}
+use Rattle.std.specs.Prelude.{Bool, true, false, not, cond, if◌then◌else◌, Option, Some, None, is_some}
 use Rattle.ssh_wire.specs.Messages.{channel_open, channel_open_confirmation, channel_open_failure}
 use Rattle.ssh_wire.specs.declared.channel_id.ChannelId.{ChannelId}
 use Rattle.ssh_link.specs.Frames.{Frame}
@@ -14,7 +14,7 @@ use Rattle.ssh_auth.specs.declared.question.Question.TheVariants.{Lends}
 use Rattle.ssh_auth.specs.Plan.{Event, Called, Told}
 use Rattle.ssh_auth.specs.Was.{asked_of}
 use Rattle.ssh_channels.specs.Sent.{is_tagged, message_of}
-use Rattle.ssh_session.specs.Run.{Turn, calls_of}
+use Rattle.ssh_session.specs.Run.{Turn, StartsOutside, calls_of}
 
 -- how many of these are such
 abbrev pub how_many : {X : Type 0} → (such : X → Bool) → List X → ℕ
@@ -67,24 +67,43 @@ is_none (x ∷ xs) = false
 abbrev pub is_uncalled : {E F : Type 0} → Turn E F → Bool
 is_uncalled turn = is_open turn.input.kind && is_none (calls_of turn)
 
--- what happened in the other inputs, one after another
+-- .. outside an exchange of keys: replies were asked for with it
+abbrev pub is_uncalled_outside : {E F : Type 0} → Turn E F → Bool
+is_uncalled_outside turn = is_uncalled turn && turn.replies
+
+-- .. or in one, so that its answer is held
+abbrev pub is_uncalled_inside : {E F : Type 0} → Turn E F → Bool
+is_uncalled_inside turn = is_uncalled turn && not turn.replies
+
+-- what happened in the inputs but for those outside an exchange in which no callback was made, one
+-- after another
+abbrev pub shown : {E F : Type 0} → Turn E F → List (Event E F)
+shown turn = cond (is_uncalled_outside turn) [] turn.events
+
 abbrev pub called_events : {E F : Type 0} → List (Turn E F) → List (Event E F)
-called_events turns = flat_map (λ turn. cond (is_uncalled turn) [] turn.events) turns
+called_events turns = flat_map shown turns
 
 pub record Answered {E F : Type 0} (turns : List (Turn E F)) : Type 0 where
   -- a CHANNEL_OPEN makes the callback of an open at most once, and no other input does
   pub called_once : (before after : List (Turn E F)) (turn : Turn E F)
       → turns ≡ before ++ turn ∷ after
       → how_many open_returned turn.events ≤ (if is_open turn.input.kind then 1 else 0)
-  -- an open whose type has no callback gets at most one answer in its input
+  -- an open outside an exchange of keys whose type has no callback gets at most one answer in its
+  -- input
   pub at_once : (before after : List (Turn E F)) (turn : Turn E F) → turns ≡ before ++ turn ∷ after
-      → is_uncalled turn ≡ true → how_many (sends is_answer) turn.events ≤ 1
-  -- in the other inputs, at every moment and on each number, no more answers were sent than
-  -- callbacks of opens have returned
-  pub after_call : (past more : List (Event E F)) → called_events turns ≡ past ++ more
-      → (number : ℕ) → how_many (sends (is_answer_on number)) past
-      ≤ how_many (open_returned_on number) past
-  -- and while no further one returns, at most one answer is sent
-  pub one_each : (past span more : List (Event E F)) → called_events turns ≡ past ++ (span ++ more)
-      → (number : ℕ) → how_many (open_returned_on number) span ≡ 0
-      → how_many (sends (is_answer_on number)) span ≤ 1
+      → is_uncalled_outside turn ≡ true → how_many (sends is_answer) turn.events ≤ 1
+  -- in the other inputs, at every moment and on each number, no more answers were sent than callbacks
+  -- of opens have returned, and one for each open in an exchange of keys whose type has no callback,
+  -- which is held
+  pub after_call : (before after : List (Turn E F)) (turn : Turn E F) (past more : List (Event E F))
+      → turns ≡ before ++ turn ∷ after → shown turn ≡ past ++ more → (number : ℕ)
+      → how_many (sends (is_answer_on number)) (called_events before ++ past)
+      ≤ how_many (open_returned_on number) (called_events before ++ past)
+      + how_many is_uncalled_inside (before ++ turn ∷ [])
+  -- and while no further one comes, at most one answer is sent, from an input on that comes outside
+  -- an exchange of keys
+  pub one_each : (past span more : List (Turn E F)) → turns ≡ past ++ (span ++ more)
+      → (number : ℕ) → StartsOutside span
+      → how_many (open_returned_on number) (called_events span) ≡ 0
+      → how_many is_uncalled_inside span ≡ 0
+      → how_many (sends (is_answer_on number)) (called_events span) ≤ 1

@@ -1,27 +1,35 @@
 -- What is done between two inputs, by whoever holds the session, and what the next input owes then.
-use Rattle.std.specs.Prelude.{◌≡◌, ℕ, cond, Bool, true, false, List, ◌++◌, map}
-use Rattle.std.specs.Prelude.{◌⊎◌, Result, Err, IfOk, IfErr, OnErr}
+use Rattle.std.specs.Prelude.{◌≡◌, ◌≤◌, ℕ, cond, Bool, true, false, List, [], ◌++◌, map}
+use Rattle.std.specs.Prelude.{Option, None}
+use Rattle.std.specs.Prelude.{◌⊎◌, Result, Ok, Err, IfOk, IfErr, OnErr}
 use Rattle.ssh_wire.specs.declared.error.WireError.{WireError}
 use Rattle.ssh_wire.specs.declared.error.WireError.TheVariants.{NoMemory}
 use Rattle.ssh_link.specs.declared.command.Command.{Command}
 use Rattle.ssh_link.specs.declared.frame.Input.{Input}
+use Rattle.ssh_link.specs.declared.kex.KexCall.{KexCall}
+use Rattle.ssh_link.specs.declared.link.TraceEntry.{TraceEntry}
 use Rattle.ssh_link.specs.declared.link.TraceEntry.TheVariants.{Noticed}
 use Rattle.ssh_link.specs.declared.notice.Notice.{Notice}
 use Rattle.ssh_link.specs.declared.outcome.CommandOutcome.{CommandOutcome}
 use Rattle.ssh_link.specs.declared.outcome.CommandOutcome.TheVariants.{Accepted}
-use Rattle.ssh_auth.specs.Plan.{Plan, Finish}
+use Rattle.ssh_link.specs.Faults.{Rose}
+use Rattle.ssh_link.specs.Told.{Adds}
+use Rattle.ssh_auth.specs.Plan.{Plan, Finish, Event, Exchange_error, Begins, Breaks, Follows}
+use Rattle.ssh_auth.specs.Plan.{calls_in, steps_in, told_in}
 use Rattle.ssh_auth.specs.Publickey.{Acceptance}
 use Rattle.ssh_channels.specs.Does.{goes_out}
 use Rattle.ssh_channels.specs.Lines.{find}
+use Rattle.ssh_session.specs.declared.error.FlushError.{FlushError}
+use Rattle.ssh_session.specs.declared.error.FlushError.TheVariants as flush
 use Rattle.ssh_session.specs.declared.error.Flow.{Flow}
 use Rattle.ssh_session.specs.declared.error.RunError.{RunError}
 use Rattle.ssh_session.specs.declared.session.Session.{Session}
-use Rattle.ssh_session.specs.Account.{Told, Steps}
-use Rattle.ssh_session.specs.Acts.{tell_all}
+use Rattle.ssh_session.specs.Account.{Told, told_by, Steps}
+use Rattle.ssh_session.specs.Acts.{acts, tell_all}
 use Rattle.ssh_session.specs.Effect.{Effect, Does, effect}
 use Rattle.ssh_session.specs.Heard.{Heard}
-use Rattle.ssh_session.specs.Outcome.{Outcome, Goes, Ends}
-use Rattle.ssh_session.specs.Run.{Owes, hand_on}
+use Rattle.ssh_session.specs.Outcome.{Outcome, Goes}
+use Rattle.ssh_session.specs.Run.{Owes, begins, hand_on, is_due, is_over}
 use Rattle.ssh_session.specs.Serve.{Refines, Completes, IsUnchanged, IsSameSession}
 use Rattle.ssh_session.specs.World.{World}
 
@@ -61,7 +69,7 @@ pub record AppliesData (command : Command) (before after : Session)
 -- 11.1)
 abbrev pub OwesUnlessEnded : (ended : Bool) → Acceptance → World → Input → Plan Outcome → Type 0
 OwesUnlessEnded false accepts w input plan = Owes accepts w input plan
-OwesUnlessEnded true accepts w input plan = plan ≡ hand_on w Ends
+OwesUnlessEnded true accepts w input plan = plan ≡ hand_on w is_over
 
 -- what an input owes where these notices were not told yet: they are told first
 abbrev pub OwesBehind : (notices : List Notice) → Acceptance → World → Input → Plan Outcome
@@ -107,3 +115,49 @@ TakesBehind {E} {F} notices accepts w input before after session result =
     × Completes plan before after session result)
     ⊎ ((e : RunError E F) × (result ≡ Err e)
     × Completes (tell_all (map Noticed notices) (Finish (Goes w))) before after session result)
+
+-- ---- the end of an input without one
+
+-- keys are exchanged where as much passed under them as may, unless the connection was ended
+abbrev pub flushed : World → Plan Outcome
+flushed w = cond w.disconnected (Finish (Goes w)) (acts (begins (is_due false w)) w)
+
+-- the notices that were not told yet are told, and the frames that were written are handed on
+abbrev pub OwesFlush : (notices : List Notice) → World → Plan Outcome → Type 0
+OwesFlush notices w plan = plan ≡ tell_all (map Noticed notices) (hand_on w flushed)
+
+-- what an exchange and a link have told, where no handler is called
+abbrev pub told_beneath : {K L F : Type 0} → (K → Option (List (KexCall F)))
+    → (L → Option (List TraceEntry)) → (L → ℕ) → K → L → Told (Unit {0}) F
+told_beneath steps trace faults kex link =
+    told_by {H = Unit {0}} (λ _. None) steps trace faults tt kex link
+
+-- with these events it ends so: the session goes on in a world, or stops by a cause
+abbrev pub ComesFlushed : {E F : Type 0} → Plan Outcome → List (Event E F) → (rose : Type 0)
+    → Session → Result (Unit {0}) (FlushError F) → Type 0
+ComesFlushed plan events rose session (Ok done) = (world : World)
+    × Follows plan events (Goes world) × Refines session world
+ComesFlushed plan events rose session (Err flush.NoMemory) = Begins plan events
+ComesFlushed plan events rose session (Err flush.LinkFault) = rose × Begins plan events
+ComesFlushed plan events rose session (Err (flush.Kex e)) =
+    Breaks plan events (Exchange_error e)
+
+-- what the exchange was asked and the link was told is what was owed, and so is the answer
+pub record Flushes {E F : Type 0} (notices : List Notice) (w : World) (before after : Told E F)
+    (session : Session) (result : Result (Unit {0}) (FlushError F)) : Type 0 where
+  pub plan : Plan Outcome
+  pub owes : OwesFlush notices w plan
+  pub events : List (Event E F)
+  -- no handler is called
+  pub uncalled : calls_in events ≡ []
+  pub told : Adds before.trace after.trace (told_in events)
+  pub later : before.faults ≤ after.faults
+  pub stepped : Adds before.steps after.steps (steps_in events)
+  pub comes : ComesFlushed plan events (Rose before.faults after.faults) session result
+
+-- the same, with this exchange and this link before it and after it
+abbrev pub FlushesBy : {E F K L : Type 0} → (notices : List Notice) → World
+    → (told : K → L → Told E F) → (kex : K) → (link : L) → (kex_after : K) → (link_after : L)
+    → Session → Result (Unit {0}) (FlushError F) → Type 0
+FlushesBy notices w told kex link kex_after link_after session result =
+    Flushes notices w (told kex link) (told kex_after link_after) session result

@@ -35,7 +35,7 @@ use Rattle.ssh_session.specs.OwnRequests.{exit_signal}
 use Rattle.ssh_session.specs.Layout.{at_once}
 use Rattle.ssh_session.specs.OwnMessages.{OwnMessage, forward, cancel, keepalive, ping, debug}
 use Rattle.ssh_session.specs.OwnMessages.{disconnect}
-use Rattle.ssh_session.specs.World.{World, lined, writes, replies, awaits, ends_by}
+use Rattle.ssh_session.specs.World.{World, in_exchange, lined, writes, replies, awaits, ends_by}
 use Rattle.ssh_session.specs.World.{settles_global}
 
 -- what a command needs, to be done
@@ -230,9 +230,9 @@ done_apart w other = opens_or_not (asking other) w
 -- a command that lacks nothing is done: one line a command
 abbrev pub done_by : World → Command → Effect
 done_by w (command.Data channel bytes) =
-    accepts (lined (takes_data channel.0 (chunk Plain bytes) false) w)
+    accepts (lined (takes_data channel.0 (chunk Plain bytes) (in_exchange w)) w)
 done_by w (command.ExtendedData channel code bytes) =
-    accepts (lined (takes_data channel.0 (chunk (Extended code) bytes) false) w)
+    accepts (lined (takes_data channel.0 (chunk (Extended code) bytes) (in_exchange w)) w)
 done_by w (command.Eof channel) = accepts (lined (takes_eof channel.0) w)
 done_by w (command.Close channel) = accepts (lined (takes_close channel.0) w)
 done_by w (command.ChannelSuccess channel) =

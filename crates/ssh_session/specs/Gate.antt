@@ -47,12 +47,11 @@ state_gate config (WaitingAuthRequest auth) n = authentication_gate config auth 
 state_gate config InitCompression n = connection_gate n
 state_gate config Authenticated n = connection_gate n
 
--- what a payload is to a session: DISCONNECT is 1, and an exchange of keys begins with 20
+-- what a payload is to a session: DISCONNECT is 1
 abbrev pub gate_of : World → List ℕ → Gate
 gate_of w [] = gate.Nothing
 gate_of w (n ∷ fields) =
-    if n == 1 then gate.Ends else (if n == 20 then gate.NotBuilt else state_gate w.settings.config
-    w.user.state n)
+    if n == 1 then gate.Ends else state_gate w.settings.config w.user.state n
 
 -- requests of authentication are waited for
 abbrev pub IsRequesting : EncryptedState → Type 0

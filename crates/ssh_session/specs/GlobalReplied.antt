@@ -9,7 +9,7 @@ use Rattle.ssh_link.specs.declared.frame.InputKind.TheVariants.{Payload}
 use Rattle.ssh_channels.specs.Sent.{message_of}
 use Rattle.ssh_session.specs.Answered.{how_many, sends}
 use Rattle.ssh_session.specs.Replied.{events_of}
-use Rattle.ssh_session.specs.Run.{Turn}
+use Rattle.ssh_session.specs.Run.{Turn, StartsOutside}
 
 -- a payload that replies to a global request: REQUEST_SUCCESS is 81, REQUEST_FAILURE 82 (section 4)
 abbrev pub replies_globally : (payload : List ℕ) → Bool
@@ -41,6 +41,8 @@ pub record GlobalReplied {E F : Type 0} (turns : List (Turn E F)) : Type 0 where
   -- come that want one
   pub never_more : (past more : List (Turn E F)) → turns ≡ past ++ more
       → how_many (sends is_global_reply) (events_of past) ≤ how_many wants_globally past
-  -- and while no further one comes, at most one reply is sent
+  -- and while no further one comes, at most one reply is sent, from an input on that comes outside
+  -- an exchange of keys
   pub one_each : (past span more : List (Turn E F)) → turns ≡ past ++ (span ++ more)
-      → how_many wants_globally span ≡ 0 → how_many (sends is_global_reply) (events_of span) ≤ 1
+      → StartsOutside span → how_many wants_globally span ≡ 0
+      → how_many (sends is_global_reply) (events_of span) ≤ 1

@@ -1,4 +1,5 @@
 pub mod Opening
+pub mod Exchange
 pub mod World
 pub mod Layout
 pub mod Opens
@@ -28,7 +29,10 @@ pub mod Answered
 pub mod Replied
 pub mod GlobalReplied
 pub mod Ledger
+pub mod Parting
 pub mod Valid
 pub mod InOrder
+pub mod Exchanged
 pub mod Account
 pub mod Between
+pub mod KeyExchange

@@ -9,6 +9,8 @@ pub data Fault : Type 0 where
   Encoding : (why : WireError) → Fault
   -- the payload contradicts the protocol
   Inconsistent : Fault
+  -- too much came before the peer's KEXINIT
+  Pending : Fault
   -- the blob of a key or a certificate, or a signature, does not fit its layout
   Key : (why : KeyError) → Fault
   -- the handler does not have keyboard-interactive
@@ -22,8 +24,6 @@ pub data Fault : Type 0 where
   Keepalive_timeout : Fault
   -- nothing came from the peer for too long
   Inactivity_timeout : Fault
-  -- what it asks for is not built
-  Not_built : Fault
 
 pub data Outcome : Type 0 where
   -- this is the world from then on

@@ -41,8 +41,6 @@ pub data Said : Type 0 where
   Unfit : (why : WireError) → Said
   -- a packet size of 0
   Without_packets : Said
-  -- it is not built
-  Unbuilt : Said
 
 -- string service (RFC 4253 section 10)
 abbrev pub service : Layout (List ℕ)
@@ -95,4 +93,3 @@ Says given w gate.ChannelOpen fields said = SaysOpen fields said
 Says given w gate.OpenConfirmation fields said = SaysConfirmation fields said
 Says given w (gate.Connection message) fields said =
     ReadsAs Connection (message_layout w message) fields said
-Says given w gate.NotBuilt fields said = said ≡ Unbuilt

@@ -9,7 +9,7 @@ use Rattle.ssh_link.specs.declared.frame.InputKind.TheVariants.{Payload}
 use Rattle.ssh_auth.specs.Plan.{Event}
 use Rattle.ssh_channels.specs.Sent.{is_tagged, message_of}
 use Rattle.ssh_session.specs.Answered.{how_many, sends}
-use Rattle.ssh_session.specs.Run.{Turn}
+use Rattle.ssh_session.specs.Run.{Turn, StartsOutside}
 
 -- a frame that replies to a request: CHANNEL_SUCCESS is 99, CHANNEL_FAILURE 100 (section 5.4)
 abbrev pub is_reply : Frame → Bool
@@ -52,7 +52,8 @@ pub record Replied {E F : Type 0} (turns : List (Turn E F)) : Type 0 where
   -- on it have come that want one
   pub never_more : (past more : List (Turn E F)) → turns ≡ past ++ more → (number : ℕ)
       → how_many (sends (is_reply_on number)) (events_of past) ≤ how_many (wants_on number) past
-  -- and while no further one comes, at most one reply is sent
+  -- and while no further one comes, at most one reply is sent, from an input on that comes outside
+  -- an exchange of keys: in one replies are held, and go out at its end
   pub one_each : (past span more : List (Turn E F)) → turns ≡ past ++ (span ++ more) → (number : ℕ)
-      → how_many (wants_on number) span ≡ 0
+      → StartsOutside span → how_many (wants_on number) span ≡ 0
       → how_many (sends (is_reply_on number)) (events_of span) ≤ 1

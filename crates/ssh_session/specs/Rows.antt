@@ -56,13 +56,15 @@ use Rattle.ssh_session.specs.Layout.{service_accept, banner, too_many_attempts, 
 use Rattle.ssh_session.specs.Opens.{own, failure_frame}
 use Rattle.ssh_session.specs.Types.{handling, opening_by, unsupported, unknown}
 use Rattle.ssh_session.specs.Outcome.{Fault, Encoding, Inconsistent, Key, Unsupported, Starved}
-use Rattle.ssh_session.specs.Outcome.{Channels_full, Not_built, Outcome}
+use Rattle.ssh_session.specs.Outcome.{Channels_full, Pending, Outcome}
 use Rattle.ssh_session.specs.Reading.{Said, Disconnect, Over_cap, Service, Request, Response, Open}
-use Rattle.ssh_session.specs.Reading.{Agreed, Connection, Unread, Unfit, Without_packets, Unbuilt}
+use Rattle.ssh_session.specs.Reading.{Agreed, Connection, Unread, Unfit, Without_packets}
 use Rattle.ssh_session.specs.World.{World, waits_for, lined, writes, replies, wants_global}
 use Rattle.ssh_session.specs.World.{settles_global, settled_first, unless_ended}
 use Rattle.ssh_session.specs.Acts.{Act, Notes, Calls, Judges_by, Listens_by, Adjusts_by, Turns}
-use Rattle.ssh_session.specs.Acts.{Is_over, Stops, acts}
+use Rattle.ssh_session.specs.Acts.{Exchanges, Beginning, Stepping, Is_over, Stops, acts}
+use Rattle.ssh_session.specs.declared.exchange.Passage.{Passage}
+use Rattle.ssh_session.specs.declared.exchange.Passage.TheVariants as passage
 
 -- ---- the service (RFC 4253 section 10)
 
@@ -362,6 +364,16 @@ spoken_acts w (spoken.AsksGloballyUnknown wanted) =
 spoken_acts w (spoken.Settles told) = Turns settled_first ∷ notes told
 spoken_acts w spoken.Inconsistent = Stops Inconsistent ∷ []
 
+-- ---- the exchange of keys (RFC 4253 section 7)
+
+-- what goes to the exchange, and what does not come in one, by the passage of the payload
+abbrev pub exchange_acts : (payload : List ℕ) → Passage → List Act
+exchange_acts payload passage.Begins = Exchanges Beginning ∷ Exchanges (Stepping payload) ∷ []
+exchange_acts payload passage.Steps = Exchanges (Stepping payload) ∷ []
+exchange_acts payload passage.Barred = Stops Inconsistent ∷ []
+exchange_acts payload passage.Late = Stops Pending ∷ []
+exchange_acts payload passage.Passes = []
+
 -- ---- one line a row
 
 abbrev pub owed : World → Said → List Act
@@ -374,7 +386,6 @@ owed w Disconnect = Is_over ∷ []
 owed w Over_cap = Turns (writes (at_once too_many_attempts ∷ [])) ∷ Is_over ∷ []
 owed w (Unfit why) = Stops (Encoding why) ∷ []
 owed w Without_packets = Stops Inconsistent ∷ []
-owed w Unbuilt = Stops Not_built ∷ []
 owed w _ = []
 
 -- what a payload owes by what it says

@@ -1,5 +1,5 @@
 -- What serving does, and how a session stands for a world.
-use Rattle.std.specs.Prelude.{◌≡◌, ◌≤◌, ℕ, Bool, true, false, not, List, [], ◌++◌, map}
+use Rattle.std.specs.Prelude.{◌&&◌, ◌≡◌, ◌≤◌, ℕ, Bool, true, false, not, List, [], ◌++◌, map}
 use Rattle.std.specs.Prelude.{option_to_list, Result, Ok, Err}
 use Rattle.ssh_link.specs.declared.link.TraceEntry.{TraceEntry}
 use Rattle.ssh_link.specs.Faults.{Rose}
@@ -23,9 +23,10 @@ use Rattle.ssh_session.specs.Acts.{Act, acts, tell_all}
 use Rattle.ssh_session.specs.Effect.{Effect, Does as Does_so}
 use Rattle.ssh_session.specs.Heard.{Heard, AreSame, Calls}
 use Rattle.ssh_session.specs.Outcome.{Fault, Encoding, Inconsistent, Key, Unsupported}
-use Rattle.ssh_session.specs.Outcome.{Channels_full, Not_built, Outcome, Goes, Ends, Fails}
+use Rattle.ssh_session.specs.Outcome.{Channels_full, Pending, Outcome, Goes, Ends, Fails}
 use Rattle.ssh_session.specs.Outcome.{Keepalive_timeout, Inactivity_timeout}
-use Rattle.ssh_session.specs.Run.{goes_unless_ended}
+use Rattle.ssh_session.specs.Exchange.{is_running}
+use Rattle.ssh_session.specs.Run.{goes_unless_ended, is_over}
 use Rattle.ssh_session.specs.World.{Settings, World, opening_world}
 
 -- ---- how a session stands for a world
@@ -34,16 +35,20 @@ use Rattle.ssh_session.specs.World.{Settings, World, opening_world}
 abbrev pub is_spent : Session → Bool
 is_spent session = session.spent
 
--- what a session lends to a callback, which has recorded no command yet: commands are taken from
--- outside where no data wait, and answers to opens always
+-- an exchange of keys runs
+abbrev pub is_exchanging : Session → Bool
+is_exchanging session = is_running session.keys.exchange
+
+-- what a session lends to a callback, which has recorded no command yet: answers to opens are taken
+-- from outside where no exchange of keys runs, and commands where besides no data wait
 abbrev pub lends : Session → Loan
 lends session = record {
   recorded = [];
   table = session.table;
   config = session.common.config;
   remote_sshid = session.common.remote_sshid;
-  commands_wanted = not (some_wait session.table);
-  replies_wanted = true;
+  commands_wanted = not (is_exchanging session) && not (some_wait session.table);
+  replies_wanted = not (is_exchanging session);
 }
 
 -- a handler that suits these servers and peers suits the session: it may be called with what the
@@ -71,6 +76,7 @@ pub record Refines (session : Session) (w : World) : Type 0 where
   pub outstanding : session.outstanding.items ≡ w.globals.outstanding
   pub keepalives : session.keepalives ≡ w.keepalives
   pub disconnected : session.common.disconnected ≡ w.disconnected
+  pub keys : session.keys ≡ w.keys
   pub live : session.spent ≡ false
 
 -- the session stands for each world that it stood for
@@ -99,6 +105,7 @@ cause_of error.LinkFault = Link_failed
 cause_of error.InputLimit = Limit_reached
 cause_of (error.Encoding why) = Faulty (Encoding why)
 cause_of error.Inconsistent = Faulty Inconsistent
+cause_of error.Pending = Faulty Pending
 cause_of (error.Key why) = Faulty (Key why)
 cause_of error.UnsupportedAuthMethod = Faulty Unsupported
 cause_of (error.Handler e) = Refused_by e
@@ -106,7 +113,6 @@ cause_of (error.Kex e) = Broken_by e
 cause_of error.ChannelsFull = Faulty Channels_full
 cause_of error.KeepaliveTimeout = Faulty Keepalive_timeout
 cause_of error.InactivityTimeout = Faulty Inactivity_timeout
-cause_of error.NotBuilt = Faulty Not_built
 
 -- with these events the plan gives this cause; rose says that the link's faults rose
 abbrev pub IsCaused : {E F : Type 0} → Cause E F → Plan Outcome → (rose : Type 0) → List (Event E F)
@@ -173,10 +179,10 @@ abbrev pub comes : Flow → World → Outcome
 comes Continue w = Goes w
 comes Ended w = Ends w
 
--- and whether it does so at the end of an input
-abbrev pub comes_at_end : Flow → World → Outcome
-comes_at_end Continue w = goes_unless_ended w
-comes_at_end Ended w = Ends w
+-- and what is owed once the frames of an input are handed on
+abbrev pub ends_by_flow : (ticked : Bool) → Flow → World → Plan Outcome
+ends_by_flow ticked Continue w = goes_unless_ended ticked w
+ends_by_flow ticked Ended w = is_over w
 
 -- the plan came to its end
 abbrev pub Completes : {E F : Type 0} → Plan Outcome → Heard E F → Heard E F → Session

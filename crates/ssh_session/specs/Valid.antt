@@ -14,7 +14,7 @@ use Rattle.ssh_auth.specs.Requested.{Named, Is_none, Is_password, Is_publickey, 
 use Rattle.ssh_auth.specs.Requested.{Is_other, named_by, head_fields}
 use Rattle.ssh_link.specs.declared.frame.InputKind.{InputKind}
 use Rattle.ssh_link.specs.declared.frame.InputKind.TheVariants.{Payload, Command, OpenReply, End}
-use Rattle.ssh_link.specs.declared.frame.InputKind.TheVariants.{KeepaliveTick}
+use Rattle.ssh_link.specs.declared.frame.InputKind.TheVariants.{KeepaliveTick, RekeyTick}
 use Rattle.ssh_keys.specs.declared.signature.Signature.{Signature}
 use Rattle.ssh_keys.specs.Signatures.{EndsInSignature}
 use Rattle.ssh_auth.specs.Layout.{pk_ok, info_request}
@@ -51,7 +51,9 @@ use Rattle.ssh_session.specs.Effect.{is_too_long}
 use Rattle.ssh_session.specs.Messages.{message_layout}
 use Rattle.ssh_session.specs.Spelling.{Layout, Leaves, Rest, Whole, Fields}
 use Rattle.ssh_session.specs.Ticks.{is_too_many, one_more}
-use Rattle.ssh_session.specs.Run.{Turn, calls_of, steps_of}
+use Rattle.ssh_session.specs.declared.exchange.Passage.{Passage}
+use Rattle.ssh_session.specs.declared.exchange.Passage.TheVariants as passage
+use Rattle.ssh_session.specs.Run.{Turn, calls_of, steps_of, passage as passage_at}
 
 -- boolean signed, string algorithm name, string blob: nothing that can be used is offered, and the
 -- rest is not read; or a usable offer is asked about; or it is signed, and string signature ends
@@ -129,19 +131,27 @@ AreValidFields given w gate.OpenConfirmation fields = (message : ChannelOpenConf
     × SpellsConfirmation message fields [] × (is_waiting w message.recipient_channel ≡ true)
 AreValidFields given w (gate.Connection message) fields =
     FitsLayout w (message_layout w message) fields
-AreValidFields given w gate.NotBuilt fields = ⊥
+
+-- no message of a service comes behind the peer's KEXINIT, nor too many bytes of them before it (RFC
+-- 4253 section 7.1); what is not the exchange's fits
+abbrev pub IsValidPassed : Circumstances → World → Passage → (payload : List ℕ) → Type 0
+IsValidPassed given w passage.Passes payload =
+    AreValidFields given w (gate_of w payload) (drop 1 payload)
+IsValidPassed given w passage.Begins payload = Unit {0}
+IsValidPassed given w passage.Steps payload = Unit {0}
+IsValidPassed given w _ payload = ⊥
 
 abbrev pub IsValidPayload : Circumstances → World → (payload : List ℕ) → Type 0
-IsValidPayload given w payload = AreValidFields given w (gate_of w payload) (drop 1 payload)
+IsValidPayload given w payload = IsValidPassed given w (passage_at w payload) payload
 
--- no more keepalive ticks come than are allowed, and no tick of inactivity; one that asks for new
--- keys is not built
+-- no more keepalive ticks come than are allowed, and no tick of inactivity
 abbrev pub IsValidKind : Circumstances → World → InputKind → Type 0
 IsValidKind given w End = Unit {0}
 IsValidKind given w (Payload payload) = IsValidPayload given (hears payload w) payload
 IsValidKind given w (Command ticket commanded) = Unit {0}
 IsValidKind given w (OpenReply ticket answer) = Unit {0}
 IsValidKind given w KeepaliveTick = is_too_many w.settings.config (one_more w.keepalives) ≡ false
+IsValidKind given w RekeyTick = Unit {0}
 IsValidKind given w _ = ⊥
 
 -- PK_OK, the reply to a probe whose key may sign, is no longer than a payload can be (RFC 4252

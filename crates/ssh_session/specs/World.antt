@@ -8,9 +8,12 @@ use Rattle.ssh_handler.specs.declared.config.Config.{Config}
 use Rattle.ssh_auth.specs.Publickey.{Acceptance, Circumstances}
 use Rattle.ssh_channels.specs.Does.{has}
 use Rattle.ssh_channels.specs.Lines.{Lines, no_lines, write, wants, says}
+use Rattle.ssh_session.specs.declared.exchange.ExchangeState.TheVariants.{Idle}
+use Rattle.ssh_session.specs.declared.exchange.Keys.{Keys}
 use Rattle.ssh_session.specs.declared.outstanding.Outstanding.{Outstanding}
 use Rattle.ssh_session.specs.declared.state.EncryptedState.{EncryptedState}
 use Rattle.ssh_session.specs.declared.state.EncryptedState.TheVariants.{WaitingAuthServiceRequest}
+use Rattle.ssh_session.specs.Exchange.{heard, is_running}
 use Rattle.ssh_session.specs.Layout.{at_once}
 use Rattle.ssh_session.specs.Opening.{Opening}
 
@@ -21,12 +24,18 @@ pub record Settings : Type 0 where
   pub session_id : List ℕ
   -- the line by which the peer's software named itself (RFC 4253 section 4.2)
   pub remote_sshid : List ℕ
+  -- this side can begin an exchange of keys by itself
+  pub repeatable : Bool
 
 -- a run of a server that is set up so, over a key exchange with this session id, for a peer of this
--- name
-abbrev pub settings_of : Config → List ℕ → List ℕ → Settings
-settings_of config session_id remote_sshid =
-    record { config = config; session_id = session_id; remote_sshid = remote_sshid }
+-- name, and whether this side can begin an exchange of keys
+abbrev pub settings_of : Config → List ℕ → List ℕ → Bool → Settings
+settings_of config session_id remote_sshid repeatable = record {
+  config = config;
+  session_id = session_id;
+  remote_sshid = remote_sshid;
+  repeatable = repeatable;
+}
 
 -- how far authentication has come (RFC 4252)
 pub record User : Type 0 where
@@ -63,6 +72,8 @@ pub record World : Type 0 where
   -- a command ended the connection: a DISCONNECT was written, behind which nothing goes out (RFC
   -- 4253 section 11.1)
   pub disconnected : Bool
+  -- the exchange of keys, and how much passed under the keys in use (RFC 4253 sections 7 and 9)
+  pub keys : Keys
 
 -- before the first input
 abbrev pub opening_world : Settings → World
@@ -73,6 +84,7 @@ opening_world settings = record {
   globals = record { wanted = false; outstanding = [] };
   keepalives = 0;
   disconnected = false;
+  keys = record { exchange = Idle; taken = 0; handed_on = 0 };
 }
 
 -- what a request at this moment is judged by, where the verifier accepts these signatures
@@ -145,6 +157,22 @@ abbrev pub is_empty : List ℕ → Bool
 is_empty [] = true
 is_empty (n ∷ rest) = false
 
--- the peer was heard: a payload that is not empty came
+-- the peer was heard: a payload that is not empty came, and its bytes count
 abbrev pub hears : (payload : List ℕ) → World → World
-hears payload w = record w { keepalives = cond (is_empty payload) w.keepalives 0 }
+hears payload w = record w {
+  keepalives = cond (is_empty payload) w.keepalives 0;
+  keys = heard payload w.keys;
+}
+
+-- the keys are these from now on
+abbrev pub keyed : Keys → World → World
+keyed keys w = record w { keys = keys }
+
+-- an exchange of keys runs
+abbrev pub in_exchange : World → Bool
+in_exchange w = is_running w.keys.exchange
+
+-- what is written is held: an exchange runs, and no DISCONNECT was written (RFC 4253 sections 7.1
+-- and 11.1)
+abbrev pub is_held : World → Bool
+is_held w = in_exchange w && not w.disconnected

@@ -155,7 +155,8 @@ impl Session {
     {
         match command {
             Command::Data { channel, bytes } => {
-                self.table.data(channel, bytes, false)?;
+                let in_exchange = self.in_exchange();
+                self.table.data(channel, bytes, in_exchange)?;
                 Ok(Done::accepted())
             }
             Command::ExtendedData {
@@ -163,7 +164,8 @@ impl Session {
                 ext,
                 bytes,
             } => {
-                self.table.extended_data(channel, ext, bytes, false)?;
+                let in_exchange = self.in_exchange();
+                self.table.extended_data(channel, ext, bytes, in_exchange)?;
                 Ok(Done::accepted())
             }
             Command::Eof { channel } => {

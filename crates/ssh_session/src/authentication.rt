@@ -39,9 +39,9 @@ impl Session {
         ensures does { (w : World) → Refines self.old w → (said : Said)
             × Says (circumstances (V.accepts verifier.now) w.settings moment) w
             gate.UserauthRequest (drop 1 payload.now) said
-            × Completes (row w moment said) (O.heard outside.old) (O.heard outside.new) self.new
-            result }
-        ensures same { AreSame (O.heard outside.old) (O.heard outside.new) }
+            × Completes (row w moment said) (O.Transport.heard outside.old)
+            (O.Transport.heard outside.new) self.new result }
+        ensures same { AreSame (O.Transport.heard outside.old) (O.Transport.heard outside.new) }
     {
         let EncryptedState::WaitingAuthRequest(auth) = &mut self.state else {
             return Ok(Flow::Continue);
@@ -64,9 +64,9 @@ impl Session {
         requires state { IsRequesting self.old.state }
         ensures does { (w : World) → Refines self.old w → (said : Said)
             × SaysResponse (drop 1 payload.now) said
-            × Completes (row w moment said) (O.heard outside.old) (O.heard outside.new) self.new
-            result }
-        ensures same { AreSame (O.heard outside.old) (O.heard outside.new) }
+            × Completes (row w moment said) (O.Transport.heard outside.old)
+            (O.Transport.heard outside.new) self.new result }
+        ensures same { AreSame (O.Transport.heard outside.old) (O.Transport.heard outside.new) }
     {
         let requested = self.requested;
         let EncryptedState::WaitingAuthRequest(auth) = &mut self.state else {
@@ -89,8 +89,8 @@ impl Session {
         requires suits { IsSuited O.suits self.old }
         ensures does { (w : World) → Refines self.old w →
             Does (replied w moment requested step.reply step.verdict) w
-            (O.heard outside.old) (O.heard outside.new) self.new result }
-        ensures same { AreSame (O.heard outside.old) (O.heard outside.new) }
+            (O.Transport.heard outside.old) (O.Transport.heard outside.new) self.new result }
+        ensures same { AreSame (O.Transport.heard outside.old) (O.Transport.heard outside.new) }
     {
         let AuthStep { reply, verdict } = step;
         match verdict {
@@ -161,8 +161,8 @@ impl Session {
         requires suits { IsSuited O.suits self.old }
         ensures does { (w : World) (moment : ℕ) → Refines self.old w →
             Does (replied w moment requested reply verdict.Accepted) w
-            (O.heard outside.old) (O.heard outside.new) self.new result }
-        ensures same { AreSame (O.heard outside.old) (O.heard outside.new) }
+            (O.Transport.heard outside.old) (O.Transport.heard outside.new) self.new result }
+        ensures same { AreSame (O.Transport.heard outside.old) (O.Transport.heard outside.new) }
     {
         let user = self.requested_user()?;
         self.write(Frame::new(reply, None, None))?;

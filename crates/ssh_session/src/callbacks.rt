@@ -10,7 +10,7 @@ ghost use Rattle.ssh_session.specs.Rows.{told, aims};
 ghost use Rattle.ssh_session.specs.Heard.{AreSame};
 ghost use Rattle.ssh_session.specs.Serve.{Refines, Does, Serves, Puts, IsSuited, IsSameSession, lends};
 
-use crate::outside::Outside;
+use crate::outside::{Outside, Transport};
 use crate::{RunError, Session};
 use ssh_auth::{Happening, Judged, Lent};
 use ssh_handler::Commands;
@@ -35,7 +35,8 @@ impl Session {
     /// Makes a callback, and answers the commands that it recorded.
     fn put<O: Outside>(&self, outside: &mut O, lent: Lent) -> Result<CommandList, O::Error>
         requires suits { IsSuited O.suits self.now }
-        ensures { Puts (Lends lent) (O.heard outside.old) (O.heard outside.new) result }
+        ensures { Puts (Lends lent) (O.Transport.heard outside.old)
+            (O.Transport.heard outside.new) result }
     {
         let mut commands = self.lend();
         match outside.ask(lent, &mut commands) {
@@ -53,9 +54,10 @@ impl Session {
     ) -> Result<(bool, CommandList), O::Error>
         requires suits { IsSuited O.suits self.now }
         ensures { MatchResult result
-            (λ given. Puts (Judges judged) (O.heard outside.old) (O.heard outside.new)
-            (Ok (record { granted = given.0; commands = given.1 })))
-            (λ e. Puts (Judges judged) (O.heard outside.old) (O.heard outside.new) (Err e)) }
+            (λ given. Puts (Judges judged) (O.Transport.heard outside.old)
+            (O.Transport.heard outside.new) (Ok (record { granted = given.0; commands = given.1 })))
+            (λ e. Puts (Judges judged) (O.Transport.heard outside.old)
+            (O.Transport.heard outside.new) (Err e)) }
     {
         let mut commands = self.lend();
         match outside.judge(judged, &mut commands) {
@@ -74,10 +76,11 @@ impl Session {
     ) -> Result<(bool, u32, CommandList), O::Error>
         requires suits { IsSuited O.suits self.now }
         ensures { MatchResult result
-            (λ given. Puts (Listens address.now port) (O.heard outside.old) (O.heard outside.new)
+            (λ given. Puts (Listens address.now port) (O.Transport.heard outside.old)
+            (O.Transport.heard outside.new)
             (Ok (record { granted = given.0; port = given.1; commands = given.2 })))
-            (λ e. Puts (Listens address.now port) (O.heard outside.old) (O.heard outside.new)
-            (Err e)) }
+            (λ e. Puts (Listens address.now port) (O.Transport.heard outside.old)
+            (O.Transport.heard outside.new) (Err e)) }
     {
         let mut commands = self.lend();
         let mut bound = port;
@@ -88,7 +91,7 @@ impl Session {
     }
 
     /// Tells the users of the channels.
-    pub(crate) fn note<O: Outside>(
+    pub(crate) fn note<O: Transport>(
         &self,
         outside: &mut O,
         notice: Notice,
@@ -110,9 +113,10 @@ impl Session {
     ) -> Result<(), RunError<O::Error, O::KexError>>
         requires suits { IsSuited O.suits self.old }
         ensures does { (w : World) → Refines self.old w →
-            Does (Calls lent ∷ []) w (O.heard outside.old) (O.heard outside.new) self.new result }
+            Does (Calls lent ∷ []) w (O.Transport.heard outside.old)
+            (O.Transport.heard outside.new) self.new result }
         ensures session { IsSameSession self.old self.new }
-        ensures same { AreSame (O.heard outside.old) (O.heard outside.new) }
+        ensures same { AreSame (O.Transport.heard outside.old) (O.Transport.heard outside.new) }
     {
         match self.put(outside, lent) {
             Ok(commands) => self.finish_commands(outside, commands),
@@ -130,10 +134,10 @@ impl Session {
         requires suits { IsSuited O.suits self.old }
         ensures does { (w : World) → Refines self.old w → (next : Bool → World → Plan Outcome) →
             Serves (Ask (Judges judged) (λ judgement. done_all 0 judgement.commands w
-            (next judgement.granted))) next (O.heard outside.old) (O.heard outside.new) self.new
-            result }
+            (next judgement.granted))) next (O.Transport.heard outside.old)
+            (O.Transport.heard outside.new) self.new result }
         ensures session { IsSameSession self.old self.new }
-        ensures same { AreSame (O.heard outside.old) (O.heard outside.new) }
+        ensures same { AreSame (O.Transport.heard outside.old) (O.Transport.heard outside.new) }
     {
         match self.put_judged(outside, judged) {
             Ok((granted, commands)) => match self.finish_commands(outside, commands) {
@@ -157,10 +161,10 @@ impl Session {
             (next : Bool → ℕ → World → Plan Outcome) →
             Serves (Ask (Listens address.now port) (λ listening. done_all 0 listening.commands w
             (next listening.granted listening.port)))
-            (λ given. next given.0 given.1) (O.heard outside.old) (O.heard outside.new) self.new
-            result }
+            (λ given. next given.0 given.1) (O.Transport.heard outside.old)
+            (O.Transport.heard outside.new) self.new result }
         ensures session { IsSameSession self.old self.new }
-        ensures same { AreSame (O.heard outside.old) (O.heard outside.new) }
+        ensures same { AreSame (O.Transport.heard outside.old) (O.Transport.heard outside.new) }
     {
         match self.put_listening(outside, address, port) {
             Ok((granted, bound, commands)) => match self.finish_commands(outside, commands) {
@@ -181,10 +185,10 @@ impl Session {
     ) -> Result<(), RunError<O::Error, O::KexError>>
         requires suits { IsSuited O.suits self.old }
         ensures does { (w : World) → Refines self.old w →
-            Does (told channel message happening) w (O.heard outside.old) (O.heard outside.new)
-            self.new result }
+            Does (told channel message happening) w (O.Transport.heard outside.old)
+            (O.Transport.heard outside.new) self.new result }
         ensures session { IsSameSession self.old self.new }
-        ensures same { AreSame (O.heard outside.old) (O.heard outside.new) }
+        ensures same { AreSame (O.Transport.heard outside.old) (O.Transport.heard outside.new) }
     {
         self.note(outside, Notice::Channel(channel, message))?;
         self.call(outside, Lent::Happened(channel, happening))
@@ -198,10 +202,10 @@ impl Session {
         current: u32,
     ) -> Result<(), RunError<O::Error, O::KexError>>
         ensures does { (w : World) → Refines self.old w →
-            Does (Adjusts_by channel current aims ∷ []) w (O.heard outside.old)
-            (O.heard outside.new) self.new result }
+            Does (Adjusts_by channel current aims ∷ []) w (O.Transport.heard outside.old)
+            (O.Transport.heard outside.new) self.new result }
         ensures session { IsSameSession self.old self.new }
-        ensures same { AreSame (O.heard outside.old) (O.heard outside.new) }
+        ensures same { AreSame (O.Transport.heard outside.old) (O.Transport.heard outside.new) }
     {
         match outside.adjust_window(channel, current) {
             Ok(window) => {

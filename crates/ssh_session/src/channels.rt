@@ -97,8 +97,8 @@ impl Session {
     /// CLOSE that waited behind it; with the CLOSE the channel is gone (RFC 4254 sections 5.2 and
     /// 5.3). Answers how many bytes of data were written, and 0 where there is no such channel.
     /// Behind a DISCONNECT nothing is written, and the answer is 0. `NoMemory` is the only error,
-    /// and leaves the session as it was. What is written is handed on at the end of the next input.
-    /// The session must not be spent.
+    /// and leaves the session as it was. What is written is handed on at the end of the next input,
+    /// or by `flush`, and in an exchange of keys not before it ends. The session must not be spent.
     pub fn flush_pending(&mut self, channel: ChannelId) -> Result<usize, TableError>
         requires live { is_spent self.old ≡ false }
         ensures framed { (w : World) → Refines self.old w →

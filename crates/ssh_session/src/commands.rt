@@ -24,8 +24,8 @@ impl Session {
         command: Command,
     ) -> Result<Flow, RunError<O::Error, O::KexError>>
         ensures does { (w : World) → Refines self.old w → Completes (command_row w ticket command)
-            (O.heard outside.old) (O.heard outside.new) self.new result }
-        ensures same { AreSame (O.heard outside.old) (O.heard outside.new) }
+            (O.Transport.heard outside.old) (O.Transport.heard outside.new) self.new result }
+        ensures same { AreSame (O.Transport.heard outside.old) (O.Transport.heard outside.new) }
     {
         let Done { notice, outcome } = self.carry_out(command)?;
         self.give(outside, notice)?;
@@ -40,10 +40,10 @@ impl Session {
         mut commands: CommandList,
     ) -> Result<(), RunError<O::Error, O::KexError>>
         ensures does { (w : World) → Refines self.old w → (next : World → Plan Outcome) →
-            Serves (done_all 0 commands w next) (λ _. next) (O.heard outside.old)
-            (O.heard outside.new) self.new result }
+            Serves (done_all 0 commands w next) (λ _. next) (O.Transport.heard outside.old)
+            (O.Transport.heard outside.new) self.new result }
         ensures session { IsSameSession self.old self.new }
-        ensures same { AreSame (O.heard outside.old) (O.heard outside.new) }
+        ensures same { AreSame (O.Transport.heard outside.old) (O.Transport.heard outside.new) }
     {
         for place in 0..commands.len() {
             let Some(command) = commands.take_first() else {
@@ -67,9 +67,9 @@ impl Session {
             (later : List CommandOf) (next : World → Plan Outcome) →
             Serves (done_all place (command ∷ later) w next)
             (λ _ world. done_all (place + 1) later world next)
-            (O.heard outside.old) (O.heard outside.new) self.new result }
+            (O.Transport.heard outside.old) (O.Transport.heard outside.new) self.new result }
         ensures session { IsSameSession self.old self.new }
-        ensures same { AreSame (O.heard outside.old) (O.heard outside.new) }
+        ensures same { AreSame (O.Transport.heard outside.old) (O.Transport.heard outside.new) }
     {
         let Done { notice, outcome } = self.carry_out(command)?;
         self.give(outside, notice)?;
@@ -84,8 +84,8 @@ impl Session {
     ) -> Result<(), RunError<O::Error, O::KexError>>
         ensures does { (w : World) → Refines self.now w → (next : Plan Outcome) →
             Serves (tell_all (map Noticed (option_to_list notice)) next) (λ _ _. next)
-            (O.heard outside.old) (O.heard outside.new) self.now result }
-        ensures same { AreSame (O.heard outside.old) (O.heard outside.new) }
+            (O.Transport.heard outside.old) (O.Transport.heard outside.new) self.now result }
+        ensures same { AreSame (O.Transport.heard outside.old) (O.Transport.heard outside.new) }
     {
         match notice {
             Some(notice) => self.note(outside, notice),
@@ -101,9 +101,9 @@ impl Session {
         outcome: CommandOutcome,
     ) -> Result<(), RunError<O::Error, O::KexError>>
         ensures does { (w : World) → Refines self.now w → (next : Plan Outcome) →
-            Serves (tell_done place outcome next) (λ _ _. next) (O.heard outside.old)
-            (O.heard outside.new) self.now result }
-        ensures same { AreSame (O.heard outside.old) (O.heard outside.new) }
+            Serves (tell_done place outcome next) (λ _ _. next) (O.Transport.heard outside.old)
+            (O.Transport.heard outside.new) self.now result }
+        ensures same { AreSame (O.Transport.heard outside.old) (O.Transport.heard outside.new) }
     {
         match outcome {
             CommandOutcome::Accepted => Ok(()),

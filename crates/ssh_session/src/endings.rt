@@ -32,9 +32,9 @@ impl Session {
     ) -> Result<(), RunError<O::Error, O::KexError>>
         requires suits { IsSuited O.suits self.old }
         ensures does { (w : World) → Refines self.old w →
-            Does (spoken_acts w (Close channel)) w (O.heard outside.old) (O.heard outside.new)
-            self.new result }
-        ensures same { AreSame (O.heard outside.old) (O.heard outside.new) }
+            Does (spoken_acts w (Close channel)) w (O.Transport.heard outside.old)
+            (O.Transport.heard outside.new) self.new result }
+        ensures same { AreSame (O.Transport.heard outside.old) (O.Transport.heard outside.new) }
     {
         let there = self.take_peer_close(channel)?;
         if !there {

@@ -2,12 +2,12 @@
 ghost use Rattle.std.specs.Prelude.{◌≡◌};
 ghost use Rattle.ssh_session.specs.declared.error.RunError.TheVariants.{NoMemory};
 ghost use Rattle.ssh_session.specs.Failure.{run_error_of, error_of_auth, error_of_layout};
-ghost use Rattle.ssh_session.specs.Failure.{error_of_link, error_of_table};
+ghost use Rattle.ssh_session.specs.Failure.{error_of_link, error_of_exchange, error_of_table};
 
 use ssh_auth::AuthError;
 use ssh_channels::TableError;
 use ssh_keys::KeyError;
-use ssh_link::LinkFault as LinkFailure;
+use ssh_link::{KexFault, LinkFault as LinkFailure};
 use ssh_wire::{LayoutError, WireError};
 use std::alloc::{AllocError, AllocFailed};
 
@@ -35,8 +35,13 @@ pub enum RunError<HE, KE> {
     Encoding(WireError),
     /// A request of authentication names another service than `ssh-connection`, an open or a
     /// confirmation has a packet size of 0, a confirmation is for no open of this side that waits,
-    /// a refusal is for an open that was agreed to, or the session is spent.
+    /// a refusal is for an open that was agreed to; a message of authentication or of the connection
+    /// comes between the peer's KEXINIT and the end of the exchange of keys (RFC 4253 section 7.1);
+    /// or the session is spent.
     Inconsistent,
+    /// Between this side's KEXINIT and the peer's more bytes of messages of authentication and of
+    /// the connection came than twice `Config::window_size`.
+    Pending,
     /// The blob of a key or a certificate in a request does not fit its layout, or a signature
     /// does not: always `KeyError::Blob`.
     Key(KeyError),
@@ -52,8 +57,17 @@ pub enum RunError<HE, KE> {
     KeepaliveTimeout,
     /// A tick said that nothing came from the peer for too long.
     InactivityTimeout,
-    /// The input asks for what is not built yet: an exchange of keys.
-    NotBuilt,
+}
+
+/// Why `Session::flush` was not finished. `E` is the error of the exchange of keys.
+#[derive(Debug, Drop)]
+pub enum FlushError<E> {
+    /// There was no memory.
+    NoMemory,
+    /// The link failed: its count of faults rose.
+    LinkFault,
+    /// The exchange of keys cannot go on, for this reason.
+    Kex(E),
 }
 
 impl<HE, KE> From<AllocError> for RunError<HE, KE> {
@@ -113,6 +127,17 @@ impl<HE, KE> From<LinkFailure> for RunError<HE, KE> {
         match fault {
             LinkFailure::Failed => RunError::LinkFault,
             LinkFailure::NoMemory => RunError::NoMemory,
+        }
+    }
+}
+
+impl<HE, KE> From<KexFault<KE>> for RunError<HE, KE> {
+    ghost from_gives = { λ e r. r ≡ error_of_exchange e };
+
+    fn from(fault: KexFault<KE>) -> RunError<HE, KE> {
+        match fault {
+            KexFault::Refused(e) => RunError::Kex(e),
+            KexFault::NoMemory => RunError::NoMemory,
         }
     }
 }

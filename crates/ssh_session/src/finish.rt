@@ -1,23 +1,22 @@
 // The end of an input.
-ghost use Rattle.std.specs.Prelude.{◌≡◌, ◌++◌, [], map, OnOk};
+ghost use Rattle.std.specs.Prelude.{◌≡◌, [], OnOk};
 ghost use Rattle.ssh_link.specs.declared.link.TraceEntry.TheVariants.{Sent, Noticed};
 ghost use Rattle.ssh_auth.specs.Plan.{Plan};
-ghost use Rattle.ssh_session.specs.Outcome.{Outcome, Ends};
+ghost use Rattle.ssh_session.specs.Outcome.{Outcome};
 ghost use Rattle.ssh_session.specs.World.{World};
-ghost use Rattle.ssh_session.specs.Acts.{tell_all};
-ghost use Rattle.ssh_session.specs.Run.{handed_on, hand_on};
+ghost use Rattle.ssh_session.specs.Run.{hand_on, handed_on, is_over, goes_unless_ended};
 ghost use Rattle.ssh_session.specs.Heard.{AreSame};
-ghost use Rattle.ssh_session.specs.Serve.{Refines, Serves, Completes, TellsEach, comes};
-ghost use Rattle.ssh_session.specs.Serve.{comes_at_end};
+ghost use Rattle.ssh_session.specs.Serve.{Refines, Serves, Completes, TellsEach, ends_by_flow};
+ghost use Rattle.ssh_session.specs.Serve.{IsSameSession};
 
-use crate::outside::Outside;
+use crate::outside::Transport;
 use crate::{Flow, RunError, Session};
 use ssh_channels::FrameSink;
 use ssh_link::{Frame, Notice};
 use std::collections::VecDeque;
 
 /// Hands frames on, in order.
-fn send_each<O: Outside>(
+pub(crate) fn send_each<O: Transport>(
     outside: &mut O,
     frames: Vec<Frame>,
 ) -> Result<(), RunError<O::Error, O::KexError>>
@@ -31,7 +30,7 @@ fn send_each<O: Outside>(
 }
 
 /// Tells notices, in order, and takes them away as they are told.
-pub(crate) fn tell_each<O: Outside>(
+pub(crate) fn tell_each<O: Transport>(
     outside: &mut O,
     notices: &mut VecDeque<Notice>,
 ) -> Result<(), RunError<O::Error, O::KexError>>
@@ -50,28 +49,33 @@ pub(crate) fn tell_each<O: Outside>(
 }
 
 impl Session {
-    /// The written frames are handed on.
-    pub(crate) fn hand_on<O: Outside>(
+    /// The written frames are handed on, unless they are held.
+    pub(crate) fn hand_on<O: Transport>(
         &mut self,
         outside: &mut O,
     ) -> Result<(), RunError<O::Error, O::KexError>>
         ensures does { (w : World) → Refines self.old w → (next : World → Plan Outcome) →
-            Serves (tell_all (map Sent w.channels.lines.written) (next (handed_on w)))
-            (λ _ world. next world)
-            (O.heard outside.old) (O.heard outside.new) self.new result }
+            Serves (hand_on w next) (λ _ _. next (handed_on w)) (O.heard outside.old)
+            (O.heard outside.new) self.new result }
+        ensures world { OnOk result ((w : World) → Refines self.old w →
+            Refines self.new (handed_on w)) }
+        ensures session { IsSameSession self.old self.new }
         ensures same { AreSame (O.heard outside.old) (O.heard outside.new) }
     {
-        let mut frames = FrameSink::new(self.alloc);
-        self.table.flush(&mut frames, false)?;
-        send_each(outside, frames.into_vec())
+        let mut sink = FrameSink::new(self.alloc);
+        let is_held = self.is_held();
+        self.table.flush(&mut sink, is_held)?;
+        let frames = sink.into_vec();
+        self.keys.give(frames.as_slice());
+        send_each(outside, frames)
     }
 
     /// The run is over as soon as they are.
-    pub(crate) fn end_run<O: Outside>(
+    pub(crate) fn end_run<O: Transport>(
         &mut self,
         outside: &mut O,
     ) -> Result<Flow, RunError<O::Error, O::KexError>>
-        ensures does { (w : World) → Refines self.old w → Completes (hand_on w Ends)
+        ensures does { (w : World) → Refines self.old w → Completes (hand_on w is_over)
             (O.heard outside.old) (O.heard outside.new) self.new result }
         ensures same { AreSame (O.heard outside.old) (O.heard outside.new) }
     {
@@ -79,15 +83,44 @@ impl Session {
         Ok(Flow::Ended)
     }
 
-    /// How the run goes on behind an input that came to this: it is over where the connection was
-    /// ended (RFC 4253 section 11.1).
-    pub(crate) fn at_end(&self, flow: Flow) -> Flow
-        ensures { (w : World) → Refines self.now w → comes result w ≡ comes_at_end flow w }
+    /// The end of an input that came to this, and may be the tick that asks for new keys.
+    pub(crate) fn finish<O: Transport>(
+        &mut self,
+        outside: &mut O,
+        ticked: bool,
+        flow: Flow,
+    ) -> Result<Flow, RunError<O::Error, O::KexError>>
+        ensures does { (w : World) → Refines self.old w → w.settings.repeatable
+            ≡ (O.heard outside.old).repeats → Completes (hand_on w (ends_by_flow ticked flow))
+            (O.heard outside.old) (O.heard outside.new) self.new result }
+        ensures same { AreSame (O.heard outside.old) (O.heard outside.new) }
+    {
+        self.hand_on(outside)?;
+        match flow {
+            Flow::Continue => self.go_on(outside, ticked),
+            Flow::Ended => Ok(Flow::Ended),
+        }
+    }
+
+    /// The run is over where the connection was ended (RFC 4253 section 11.1); elsewhere it goes on,
+    /// and keys are exchanged where that is due.
+    fn go_on<O: Transport>(
+        &mut self,
+        outside: &mut O,
+        ticked: bool,
+    ) -> Result<Flow, RunError<O::Error, O::KexError>>
+        ensures does { (w : World) → Refines self.old w → w.settings.repeatable
+            ≡ (O.heard outside.old).repeats → Completes (goes_unless_ended ticked w)
+            (O.heard outside.old) (O.heard outside.new) self.new result }
+        ensures same { AreSame (O.heard outside.old) (O.heard outside.new) }
     {
         if self.common.disconnected {
-            Flow::Ended
-        } else {
-            flow
+            return Ok(Flow::Ended);
         }
+        if !self.is_due(ticked, outside.repeatable()) {
+            return Ok(Flow::Continue);
+        }
+        self.begin_exchange(outside)?;
+        Ok(Flow::Continue)
     }
 }

@@ -1,5 +1,5 @@
 // The frames that a session writes by itself.
-ghost use Rattle.std.specs.Prelude.{◌≡◌, ◌≤◌, ◌<◌, ◌^◌, ◌⊎◌, length, IfOk, IfErr};
+ghost use Rattle.std.specs.Prelude.{◌≡◌, ◌≤◌, ◌<◌, ◌^◌, ◌⊎◌, length, map, IfOk, IfErr};
 ghost use Rattle.ssh_wire.specs.declared.error.WireError.TheVariants.{NoMemory, TooLong};
 ghost use Rattle.ssh_session.specs.Layout.{at_once, service_accept, banner, too_many_attempts};
 
@@ -15,6 +15,18 @@ pub(crate) fn frame_at_once(payload: Vec<u8>) -> Result<Frame, WireError>
     ensures memory { IfErr result (λ e. e ≡ NoMemory) }
 {
     Ok(Frame::new(Bytes::from_vec(payload)?, None, None))
+}
+
+/// Frames of no channel with these payloads, which may go out at once.
+pub(crate) fn frames_of(alloc: Global, payloads: &[Bytes]) -> Result<Vec<Frame>, WireError>
+    ensures ok { IfOk result (λ frames. frames.items ≡ map at_once payloads.now) }
+    ensures memory { IfErr result (λ e. e ≡ NoMemory) }
+{
+    let mut frames = Vec::with_capacity(alloc, payloads.len())?;
+    for payload in payloads {
+        frames.push(Frame::new(payload.clone()?, None, None))?;
+    }
+    Ok(frames)
 }
 
 /// SERVICE_ACCEPT for the service `ssh-userauth` (RFC 4253 section 10).

@@ -12,8 +12,8 @@ use crate::state::EncryptedState;
 use ssh_auth::AuthRequest;
 use ssh_handler::Config;
 use ssh_wire::message::{
-    CHANNEL_OPEN, CHANNEL_OPEN_CONFIRMATION, DISCONNECT, KEXINIT, SERVICE_REQUEST,
-    USERAUTH_INFO_RESPONSE, USERAUTH_REQUEST,
+    CHANNEL_OPEN, CHANNEL_OPEN_CONFIRMATION, DISCONNECT, SERVICE_REQUEST, USERAUTH_INFO_RESPONSE,
+    USERAUTH_REQUEST,
 };
 
 /// What a payload is to a session, by its number alone.
@@ -37,8 +37,6 @@ pub enum Gate {
     OpenConfirmation,
     /// It is another message of the connection protocol.
     Connection(ConnectionMessage),
-    /// What it asks for is not built.
-    NotBuilt,
 }
 
 impl Session {
@@ -56,9 +54,6 @@ impl Session {
         let number = *number;
         if number == DISCONNECT {
             return Gate::Ends;
-        }
-        if number == KEXINIT {
-            return Gate::NotBuilt;
         }
         state_gate(&self.common.config, &self.state, number)
     }

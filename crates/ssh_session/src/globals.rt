@@ -119,9 +119,9 @@ impl Session {
     ) -> Result<(), RunError<O::Error, O::KexError>>
         requires suits { IsSuited O.suits self.old }
         ensures does { (w : World) → Refines self.old w →
-            Does (spoken_acts w (AsksToForward wanted address port)) w (O.heard outside.old)
-            (O.heard outside.new) self.new result }
-        ensures same { AreSame (O.heard outside.old) (O.heard outside.new) }
+            Does (spoken_acts w (AsksToForward wanted address port)) w
+            (O.Transport.heard outside.old) (O.Transport.heard outside.new) self.new result }
+        ensures same { AreSame (O.Transport.heard outside.old) (O.Transport.heard outside.new) }
     {
         self.want_global(wanted);
         let (granted, bound) = self.listen(outside, address.as_str(), port)?;
@@ -137,9 +137,9 @@ impl Session {
     ) -> Result<(), RunError<O::Error, O::KexError>>
         requires suits { IsSuited O.suits self.old }
         ensures does { (w : World) → Refines self.old w →
-            Does (spoken_acts w (AsksGlobally wanted judged)) w (O.heard outside.old)
-            (O.heard outside.new) self.new result }
-        ensures same { AreSame (O.heard outside.old) (O.heard outside.new) }
+            Does (spoken_acts w (AsksGlobally wanted judged)) w (O.Transport.heard outside.old)
+            (O.Transport.heard outside.new) self.new result }
+        ensures same { AreSame (O.Transport.heard outside.old) (O.Transport.heard outside.new) }
     {
         self.want_global(wanted);
         let granted = self.judge(outside, judged)?;
@@ -166,9 +166,9 @@ impl Session {
         told: Option<Notice>,
     ) -> Result<(), RunError<O::Error, O::KexError>>
         ensures does { (w : World) → Refines self.old w →
-            Does (spoken_acts w (Settles told)) w (O.heard outside.old) (O.heard outside.new)
-            self.new result }
-        ensures same { AreSame (O.heard outside.old) (O.heard outside.new) }
+            Does (spoken_acts w (Settles told)) w (O.Transport.heard outside.old)
+            (O.Transport.heard outside.new) self.new result }
+        ensures same { AreSame (O.Transport.heard outside.old) (O.Transport.heard outside.new) }
     {
         self.settle_first();
         self.give(outside, told)

@@ -75,9 +75,9 @@ impl Session {
         requires suits { IsSuited O.suits self.old }
         ensures does { (w : World) (moment : ℕ) → Refines self.old w →
             (said : Said) × SaysOpen fields.now said
-            × Completes (row w moment said) (O.heard outside.old) (O.heard outside.new) self.new
-            result }
-        ensures same { AreSame (O.heard outside.old) (O.heard outside.new) }
+            × Completes (row w moment said) (O.Transport.heard outside.old)
+            (O.Transport.heard outside.new) self.new result }
+        ensures same { AreSame (O.Transport.heard outside.old) (O.Transport.heard outside.new) }
     {
         let mut reader = Reader::new(fields);
         match OpenChannelMessage::parse(self.alloc, &mut reader) {
@@ -98,9 +98,9 @@ impl Session {
         requires suits { IsSuited O.suits self.old }
         requires packets { message.recipient_maximum_packet_size ≢ 0 }
         ensures does { (w : World) → Refines self.old w →
-            Does (owed w (Open message)) w (O.heard outside.old) (O.heard outside.new) self.new
-            result }
-        ensures same { AreSame (O.heard outside.old) (O.heard outside.new) }
+            Does (owed w (Open message)) w (O.Transport.heard outside.old)
+            (O.Transport.heard outside.new) self.new result }
+        ensures same { AreSame (O.Transport.heard outside.old) (O.Transport.heard outside.new) }
     {
         let said = PeerOpen {
             peer: message.recipient_channel,
@@ -131,9 +131,9 @@ impl Session {
     ) -> Result<(), RunError<O::Error, O::KexError>>
         requires suits { IsSuited O.suits self.old }
         ensures does { (w : World) → Refines self.old w →
-            Does (asks_first (next_number w.channels.lines) said kind) w (O.heard outside.old)
-            (O.heard outside.new) self.new result }
-        ensures same { AreSame (O.heard outside.old) (O.heard outside.new) }
+            Does (asks_first (next_number w.channels.lines) said kind) w
+            (O.Transport.heard outside.old) (O.Transport.heard outside.new) self.new result }
+        ensures same { AreSame (O.Transport.heard outside.old) (O.Transport.heard outside.new) }
     {
         match self.draw(said) {
             Ok(number) => self.call(outside, Lent::Opens(number, kind)),

@@ -1,22 +1,26 @@
 // Whom a session tells and asks: one outside, of a handler, an exchange of keys and a link.
-ghost use Rattle.std.specs.Prelude.{◌≡◌, ◌<◌, ◌^◌, [], List, ℕ, length, drop};
+ghost use Rattle.std.specs.Prelude.{◌≡◌, ◌<◌, ◌^◌, [], None, List, ℕ, length, drop, All, IfOk};
+ghost use Rattle.ssh_link.specs.Exchange.{IsKexinit, IsOfTransport};
+ghost use Rattle.ssh_link.specs.declared.kex.KexCall.TheVariants.{Begun, Stepped};
 ghost use Rattle.ssh_link.specs.declared.link.TraceEntry.TheVariants.{Noticed, Answered, Sent};
 ghost use Rattle.ssh_handler.specs.declared.config.Config.{Config as ConfigOf};
 ghost use Rattle.ssh_auth.specs.Calls.{lent_call, judged_call};
 ghost use Rattle.ssh_auth.specs.Serve.{IsNumbered};
 ghost use Rattle.ssh_auth.specs.declared.call.Call.TheVariants.{AuthenticationBanner, AdjustWindow};
 ghost use Rattle.ssh_auth.specs.declared.call.Call.TheVariants.{CommandDone, TcpipForward};
-ghost use Rattle.ssh_session.specs.Heard.{Heard, Gives, Calls, AnswersRequest, AnswersResponse};
+ghost use Rattle.ssh_session.specs.Heard.{Heard, Gives, Exchanges, Calls, AnswersRequest};
+ghost use Rattle.ssh_session.specs.Heard.{AnswersResponse};
 
+use bytes::Bytes;
 use ssh_auth::{AuthError, AuthRequest, AuthStep, Judged, Lent, serve_request, serve_response};
 use ssh_handler::{Commands, Handler, ask, judge};
 use ssh_keys::Verifier;
-use ssh_link::{CommandOutcome, Frame, Kex, Link, LinkFault, Notice};
+use ssh_link::{CommandOutcome, Frame, Kex, KexFault, KexStep, Link, LinkFault, Notice};
 use ssh_wire::{ChannelId, Text};
 use std::alloc::Global;
 
-/// Whom a session tells and asks.
-pub(crate) trait Outside {
+/// What a session tells and asks but for its handler: a link and an exchange of keys.
+pub(crate) trait Transport {
     /// Why a callback cannot go on.
     type Error: Drop;
 
@@ -25,9 +29,6 @@ pub(crate) trait Outside {
 
     /// What was told and asked so far.
     ghost heard: { Self → Heard Self.Error Self.KexError };
-
-    /// The servers and the peers whose callbacks may be made.
-    ghost suits: { ConfigOf → List ℕ → Type 0 };
 
     /// Tells the users of the channels what happened.
     fn notice(&mut self, notice: Notice) -> Result<(), LinkFault>
@@ -41,9 +42,30 @@ pub(crate) trait Outside {
     fn send(&mut self, frame: Frame) -> Result<(), LinkFault>
         ensures { Gives (heard self.old) (heard self.new) (Sent frame) result };
 
+    /// Whether this side can begin an exchange of keys by itself.
+    fn repeatable(&self) -> bool
+        ensures { result ≡ (heard self.now).repeats };
+
+    /// Begins an exchange of keys, and answers this side's KEXINIT (RFC 4253 section 7.1).
+    fn begin_exchange(&mut self) -> Result<Bytes, KexFault<Self::KexError>>
+        ensures begun { Exchanges (heard self.old) (heard self.new) Begun result }
+        ensures kexinit { IfOk result (λ payload. IsKexinit payload) };
+
+    /// Hands a payload of the peer's to the exchange of keys (RFC 4253 section 7).
+    fn step_exchange(&mut self, payload: &[u8]) -> Result<KexStep, KexFault<Self::KexError>>
+        ensures stepped { Exchanges (heard self.old) (heard self.new) (Stepped payload.now) result }
+        ensures frames { IfOk result (λ step. All IsOfTransport step.frames) };
+}
+
+/// Whom a session tells and asks: these, and its handler.
+pub(crate) trait Outside: Transport {
+    /// The servers and the peers whose callbacks may be made.
+    ghost suits: { ConfigOf → List ℕ → Type 0 };
+
     /// Asks for the banner (RFC 4252 section 5.4).
     fn banner(&mut self) -> Result<Option<Text>, Self::Error>
-        ensures { Calls (heard self.old) (heard self.new) result (AuthenticationBanner result) };
+        ensures { Calls (Self.heard self.old)
+            (Self.heard self.new) result (AuthenticationBanner result) };
 
     /// Serves a request of authentication (RFC 4252 section 5).
     fn request<V: Verifier>(
@@ -59,7 +81,8 @@ pub(crate) trait Outside {
         requires number { IsNumbered 50 payload.now }
         ensures { AnswersRequest (record
             { accepts = V.accepts verifier.now; session_id = session_id.now; moment = moment })
-            (drop 1 payload.now) (heard self.old) (heard self.new) auth.old auth.new result };
+            (drop 1 payload.now) (Self.heard self.old)
+            (Self.heard self.new) auth.old auth.new result };
 
     /// Serves a response to prompts (RFC 4256 section 3.4).
     fn response(
@@ -69,21 +92,21 @@ pub(crate) trait Outside {
         payload: &[u8],
     ) -> Result<AuthStep, AuthError<Self::Error>>
         requires number { IsNumbered 61 payload.now }
-        ensures { AnswersResponse (drop 1 payload.now) (heard self.old) (heard self.new) auth.old
-            auth.new result };
+        ensures { AnswersResponse (drop 1 payload.now) (Self.heard self.old)
+            (Self.heard self.new) auth.old auth.new result };
 
     /// Makes a callback that is lent commands.
     fn ask(&mut self, lent: Lent, session: &mut Commands<'_>) -> Result<(), Self::Error>
         requires fresh { session.old.recorded ≡ [] }
         requires suits { suits session.old.config session.old.remote_sshid }
-        ensures { Calls (heard self.old) (heard self.new) result
+        ensures { Calls (Self.heard self.old) (Self.heard self.new) result
             (lent_call lent result session.new.recorded) };
 
     /// Makes a callback that is lent commands, and answers whether something is granted.
     fn judge(&mut self, judged: Judged, session: &mut Commands<'_>) -> Result<bool, Self::Error>
         requires fresh { session.old.recorded ≡ [] }
         requires suits { suits session.old.config session.old.remote_sshid }
-        ensures { Calls (heard self.old) (heard self.new) result
+        ensures { Calls (Self.heard self.old) (Self.heard self.new) result
             (judged_call judged result session.new.recorded) };
 
     /// Asks whether connections to an address are forwarded, and at which port the handler listens.
@@ -95,17 +118,17 @@ pub(crate) trait Outside {
     ) -> Result<bool, Self::Error>
         requires fresh { session.old.recorded ≡ [] }
         requires suits { suits session.old.config session.old.remote_sshid }
-        ensures { Calls (heard self.old) (heard self.new) result
+        ensures { Calls (Self.heard self.old) (Self.heard self.new) result
             (TcpipForward address.now port.old port.new result session.new.recorded) };
 
     /// Asks how large the window of a channel is from now on.
     fn adjust_window(&mut self, channel: ChannelId, current: u32) -> Result<u32, Self::Error>
-        ensures { Calls (heard self.old) (heard self.new) result
+        ensures { Calls (Self.heard self.old) (Self.heard self.new) result
             (AdjustWindow channel current result) };
 
     /// Tells what came of a command that a callback recorded.
     fn command_done(&mut self, place: usize, outcome: CommandOutcome) -> Result<(), Self::Error>
-        ensures { Calls (heard self.old) (heard self.new) result
+        ensures { Calls (Self.heard self.old) (Self.heard self.new) result
             (CommandDone place outcome result) };
 }
 
@@ -131,7 +154,7 @@ impl<'a, H: Handler, K: Kex, L: Link> Sides<'a, H, K, L> {
     }
 }
 
-impl<'a, H: Handler, K: Kex, L: Link> Outside for Sides<'a, H, K, L> {
+impl<'a, H: Handler, K: Kex, L: Link> Transport for Sides<'a, H, K, L> {
     type Error = H::Error;
 
     type KexError = K::Error;
@@ -144,9 +167,8 @@ impl<'a, H: Handler, K: Kex, L: Link> Outside for Sides<'a, H, K, L> {
       handler = sides.handler.ghost_name;
       kex = sides.kex.ghost_name;
       link = sides.link.ghost_name;
+      repeats = K.repeats sides.kex.now;
     } };
-
-    ghost suits = { H.suits };
 
     fn notice(&mut self, notice: Notice) -> Result<(), LinkFault> {
         self.link.notice(notice)
@@ -159,6 +181,22 @@ impl<'a, H: Handler, K: Kex, L: Link> Outside for Sides<'a, H, K, L> {
     fn send(&mut self, frame: Frame) -> Result<(), LinkFault> {
         self.link.send(frame)
     }
+
+    fn repeatable(&self) -> bool {
+        self.kex.repeatable()
+    }
+
+    fn begin_exchange(&mut self) -> Result<Bytes, KexFault<K::Error>> {
+        self.kex.begin()
+    }
+
+    fn step_exchange(&mut self, payload: &[u8]) -> Result<KexStep, KexFault<K::Error>> {
+        self.kex.step(payload)
+    }
+}
+
+impl<'a, H: Handler, K: Kex, L: Link> Outside for Sides<'a, H, K, L> {
+    ghost suits = { H.suits };
 
     fn banner(&mut self) -> Result<Option<Text>, H::Error> {
         self.handler.authentication_banner()
@@ -216,5 +254,66 @@ impl<'a, H: Handler, K: Kex, L: Link> Outside for Sides<'a, H, K, L> {
 
     fn command_done(&mut self, place: usize, outcome: CommandOutcome) -> Result<(), H::Error> {
         self.handler.command_done(place, outcome)
+    }
+}
+
+/// An exchange of keys and a link, where no callback is made: the name of a handler is that of the
+/// exchange.
+#[derive(Drop)]
+pub(crate) struct Ends<'a, K, L> {
+    pub(crate) kex: &'a mut K,
+    pub(crate) link: &'a mut L,
+}
+
+impl<'a, K: Kex, L: Link> Ends<'a, K, L> {
+    /// These two.
+    pub(crate) fn new(kex: &'a mut K, link: &'a mut L) -> Ends<'a, K, L>
+        ensures same_kex { result.kex.ghost_name ≡ kex.entry.ghost_name }
+        ensures same_link { result.link.ghost_name ≡ link.entry.ghost_name }
+        ensures kex { result.kex.now ≡ kex.old }
+        ensures link { result.link.now ≡ link.old }
+    {
+        Ends { kex, link }
+    }
+}
+
+impl<'a, K: Kex, L: Link> Transport for Ends<'a, K, L> {
+    type Error = ();
+
+    type KexError = K::Error;
+
+    ghost heard = { λ ends. record {
+      calls = None;
+      steps = K.steps ends.kex.now;
+      trace = L.trace ends.link.now;
+      faults = L.faults ends.link.now;
+      handler = ends.kex.ghost_name;
+      kex = ends.kex.ghost_name;
+      link = ends.link.ghost_name;
+      repeats = K.repeats ends.kex.now;
+    } };
+
+    fn notice(&mut self, notice: Notice) -> Result<(), LinkFault> {
+        self.link.notice(notice)
+    }
+
+    fn answer(&mut self, ticket: u64, outcome: CommandOutcome) -> Result<(), LinkFault> {
+        self.link.answer(ticket, outcome)
+    }
+
+    fn send(&mut self, frame: Frame) -> Result<(), LinkFault> {
+        self.link.send(frame)
+    }
+
+    fn repeatable(&self) -> bool {
+        self.kex.repeatable()
+    }
+
+    fn begin_exchange(&mut self) -> Result<Bytes, KexFault<K::Error>> {
+        self.kex.begin()
+    }
+
+    fn step_exchange(&mut self, payload: &[u8]) -> Result<KexStep, KexFault<K::Error>> {
+        self.kex.step(payload)
     }
 }

@@ -61,9 +61,9 @@ impl Session {
         requires suits { IsSuited O.suits self.old }
         ensures does { (w : World) (moment : ℕ) → Refines self.old w →
             (said : Said) × SaysConfirmation fields.now said
-            × Completes (row w moment said) (O.heard outside.old) (O.heard outside.new) self.new
-            result }
-        ensures same { AreSame (O.heard outside.old) (O.heard outside.new) }
+            × Completes (row w moment said) (O.Transport.heard outside.old)
+            (O.Transport.heard outside.new) self.new result }
+        ensures same { AreSame (O.Transport.heard outside.old) (O.Transport.heard outside.new) }
     {
         let mut reader = Reader::new(fields);
         match ChannelOpenConfirmation::parse(&mut reader) {
@@ -87,8 +87,8 @@ impl Session {
         requires window { message.initial_window_size < 2 ^ 32 }
         ensures does { (w : World) → Refines self.old w →
             Does (confirmation_acts (is_waiting w message.recipient_channel) message) w
-            (O.heard outside.old) (O.heard outside.new) self.new result }
-        ensures same { AreSame (O.heard outside.old) (O.heard outside.new) }
+            (O.Transport.heard outside.old) (O.Transport.heard outside.new) self.new result }
+        ensures same { AreSame (O.Transport.heard outside.old) (O.Transport.heard outside.new) }
     {
         let waited = self.table.confirm(&message)?;
         if !waited {
@@ -129,9 +129,9 @@ impl Session {
         reason: ChannelOpenFailure,
     ) -> Result<(), RunError<O::Error, O::KexError>>
         ensures does { (w : World) → Refines self.old w →
-            Does (spoken_acts w (Failed channel reason)) w (O.heard outside.old)
-            (O.heard outside.new) self.new result }
-        ensures same { AreSame (O.heard outside.old) (O.heard outside.new) }
+            Does (spoken_acts w (Failed channel reason)) w (O.Transport.heard outside.old)
+            (O.Transport.heard outside.new) self.new result }
+        ensures same { AreSame (O.Transport.heard outside.old) (O.Transport.heard outside.new) }
     {
         if self.is_there(channel) {
             return Err(RunError::Inconsistent);

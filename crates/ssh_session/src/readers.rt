@@ -1,11 +1,11 @@
 // What a session says of itself: what it also lends to a callback.
-ghost use Rattle.std.specs.Prelude.{◌≡◌};
+ghost use Rattle.std.specs.Prelude.{◌≡◌, not};
 ghost use Rattle.ssh_channels.specs.Line as line;
 ghost use Rattle.ssh_channels.specs.Table as table_of;
 ghost use Rattle.ssh_channels.specs.Calls as calls;
 ghost use Rattle.ssh_handler.specs.Receiving as receiving;
-ghost use Rattle.ssh_session.specs.World.{World};
-ghost use Rattle.ssh_session.specs.Run.{nothing_waits};
+ghost use Rattle.ssh_session.specs.World.{World, in_exchange};
+ghost use Rattle.ssh_session.specs.Run.{wants_commands};
 ghost use Rattle.ssh_session.specs.Serve.{Refines, lends};
 
 use crate::Session;
@@ -30,19 +30,21 @@ impl Session {
         self.common.remote_sshid.as_slice()
     }
 
-    /// Whether commands are taken from outside: on no channel data wait.
+    /// Whether commands are taken from outside: no exchange of keys runs, and on no channel data
+    /// wait.
     pub fn commands_wanted(&self) -> bool
-        ensures world { (w : World) → Refines self.now w → result ≡ nothing_waits w }
+        ensures world { (w : World) → Refines self.now w → result ≡ wants_commands w }
         ensures lent { result ≡ (lends self.now).commands_wanted }
     {
-        !self.table.has_any_pending_data()
+        !self.in_exchange() && !self.table.has_any_pending_data()
     }
 
-    /// Whether answers to opens are taken from outside: they always are.
+    /// Whether answers to opens are taken from outside: no exchange of keys runs.
     pub fn replies_wanted(&self) -> bool
-        ensures { result ≡ (lends self.now).replies_wanted }
+        ensures world { (w : World) → Refines self.now w → result ≡ not (in_exchange w) }
+        ensures lent { result ≡ (lends self.now).replies_wanted }
     {
-        true
+        !self.in_exchange()
     }
 
     /// The most bytes of data that the peer may send on the channel in one message now, and 0 where

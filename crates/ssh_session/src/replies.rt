@@ -104,9 +104,9 @@ impl Session {
     ) -> Result<(), RunError<O::Error, O::KexError>>
         requires suits { IsSuited O.suits self.old }
         ensures does { (w : World) → Refines self.old w →
-            Does (spoken_acts w (Asks channel wanted message happening)) w (O.heard outside.old)
-            (O.heard outside.new) self.new result }
-        ensures same { AreSame (O.heard outside.old) (O.heard outside.new) }
+            Does (spoken_acts w (Asks channel wanted message happening)) w
+            (O.Transport.heard outside.old) (O.Transport.heard outside.new) self.new result }
+        ensures same { AreSame (O.Transport.heard outside.old) (O.Transport.heard outside.new) }
     {
         self.want_reply(channel, wanted);
         self.tell(outside, channel, message, happening)
@@ -136,9 +136,9 @@ impl Session {
     ) -> Result<(), RunError<O::Error, O::KexError>>
         requires suits { IsSuited O.suits self.old }
         ensures does { (w : World) → Refines self.old w →
-            Does (spoken_acts w (AsksForAgent channel wanted)) w (O.heard outside.old)
-            (O.heard outside.new) self.new result }
-        ensures same { AreSame (O.heard outside.old) (O.heard outside.new) }
+            Does (spoken_acts w (AsksForAgent channel wanted)) w (O.Transport.heard outside.old)
+            (O.Transport.heard outside.new) self.new result }
+        ensures same { AreSame (O.Transport.heard outside.old) (O.Transport.heard outside.new) }
     {
         self.want_reply(channel, wanted);
         let message = ChannelMsg::AgentForward { want_reply: true };

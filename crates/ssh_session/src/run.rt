@@ -1,5 +1,5 @@
 // A run: inputs from a link, one after another, until one ends it.
-ghost use Rattle.std.specs.Prelude.{◌<◌, ◌^◌, length};
+ghost use Rattle.std.specs.Prelude.{◌≡◌, ◌<◌, ◌^◌, length};
 ghost use Rattle.ssh_session.specs.World.{Settings, settings_of, opening_world};
 ghost use Rattle.ssh_session.specs.Account.{told_by, Ran, KeepsLaws};
 ghost use Rattle.ssh_session.specs.Serve.{Refines, BeginsSuited};
@@ -28,9 +28,10 @@ pub fn run_stream<H: Handler, V: Verifier, K: Kex, L: Link>(
 ) -> Result<(), RunError<H::Error, K::Error>>
     requires session_id { length session_id.now < 2 ^ 32 }
     requires suits { H.suits config.now remote_sshid.now }
-    ensures laws { KeepsLaws (V.accepts verifier.now) (settings_of config.now session_id.now
-        remote_sshid.now) (told_by H.AuthHandler.told K.steps L.trace L.faults) handler.old kex.old
-        link.old handler.new kex.new link.new max_inputs result }
+    ensures laws { KeepsLaws (V.accepts verifier.now)
+        (settings_of config.now session_id.now remote_sshid.now (K.repeats kex.old))
+        (told_by H.AuthHandler.told K.steps L.trace L.faults) handler.old kex.old link.old
+        handler.new kex.new link.new max_inputs result }
 {
     let mut session = Session::new(alloc, config, session_id, remote_sshid)?;
     let result = run_inputs(&mut session, handler, verifier, kex, link, max_inputs);
@@ -49,7 +50,7 @@ fn run_inputs<H: Handler, V: Verifier, K: Kex, L: Link>(
 ) -> Result<(), RunError<H::Error, K::Error>>
     requires begins { BeginsSuited H.suits session.old }
     ensures { (settings : Settings) → Refines session.old (opening_world settings) →
-        Ran (V.accepts verifier.now) settings
+        settings.repeatable ≡ K.repeats kex.old → Ran (V.accepts verifier.now) settings
         (told_by H.AuthHandler.told K.steps L.trace L.faults handler.old kex.old link.old)
         (told_by H.AuthHandler.told K.steps L.trace L.faults handler.new kex.new link.new)
         max_inputs result }

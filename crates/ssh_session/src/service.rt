@@ -27,9 +27,9 @@ impl Session {
     ) -> Result<Flow, RunError<O::Error, O::KexError>>
         ensures does { (w : World) (moment : ℕ) → Refines self.old w →
             (read : Result (List ℕ) Misfit) × Spells service fields.now read
-            × Completes (row w moment (said_of Service read)) (O.heard outside.old)
-            (O.heard outside.new) self.new result }
-        ensures same { AreSame (O.heard outside.old) (O.heard outside.new) }
+            × Completes (row w moment (said_of Service read)) (O.Transport.heard outside.old)
+            (O.Transport.heard outside.new) self.new result }
+        ensures same { AreSame (O.Transport.heard outside.old) (O.Transport.heard outside.new) }
     {
         let name = read_text(fields)?;
         self.serve_service(outside, name)?;
@@ -44,8 +44,8 @@ impl Session {
     ) -> Result<(), RunError<O::Error, O::KexError>>
         ensures does { (w : World) → Refines self.old w →
             Serves (service_row w name.now) (λ _ world. Finish (Goes world))
-            (O.heard outside.old) (O.heard outside.new) self.new result }
-        ensures same { AreSame (O.heard outside.old) (O.heard outside.new) }
+            (O.Transport.heard outside.old) (O.Transport.heard outside.new) self.new result }
+        ensures same { AreSame (O.Transport.heard outside.old) (O.Transport.heard outside.new) }
     {
         if name != "ssh-userauth" {
             return Ok(());

@@ -1,6 +1,7 @@
 // A session and what it is made of.
 ghost use Rattle.std.specs.Prelude.{◌<◌, ◌^◌, length};
 
+use crate::exchange::Keys;
 use crate::outstanding::Outstanding;
 use crate::peer_open::PeerOpen;
 use crate::state::{CommonSession, EncryptedState};
@@ -33,12 +34,14 @@ pub struct Session {
     pub(crate) keepalives: u64,
     /// The notices that commands between inputs gave, which the next input tells first.
     pub(crate) untold: VecDeque<Notice>,
+    /// The exchange of keys, and how much passed under the keys in use.
+    pub(crate) keys: Keys,
     pub(crate) spent: bool,
     ghost session_id_fits: { length session_id < 2 ^ 32 },
 }
 
 impl Session {
-    ghost use Rattle.std.specs.Prelude.{◌≡◌, ◌<◌, ◌^◌, [], length, IfOk, IfErr};
+    ghost use Rattle.std.specs.Prelude.{◌≡◌, ◌<◌, ◌^◌, [], length, Bool, IfOk, IfErr};
     ghost use Rattle.ssh_wire.specs.declared.error.WireError.TheVariants.{NoMemory};
     ghost use Rattle.ssh_session.specs.World.{World, settings_of, opening_world};
     ghost use Rattle.ssh_session.specs.Serve.{Refines, is_spent};
@@ -53,9 +56,9 @@ impl Session {
         remote_sshid: &[u8],
     ) -> Result<Session, WireError>
         requires { length session_id.now < 2 ^ 32 }
-        ensures opens { IfOk result (λ session.
-            Refines session (opening_world (settings_of config.now session_id.now
-            remote_sshid.now))) }
+        ensures opens { (repeatable : Bool) → IfOk result (λ session.
+            Refines session (opening_world (settings_of config.now session_id.now remote_sshid.now
+            repeatable))) }
         ensures told { IfOk result (λ session. untold session ≡ []) }
         ensures memory { IfErr result (λ e. e ≡ NoMemory) }
     {
@@ -80,6 +83,7 @@ impl Session {
             outstanding: VecDeque::new(alloc),
             keepalives: 0,
             untold: VecDeque::new(alloc),
+            keys: Keys::renewed(),
             spent: false,
         })
     }

@@ -6,15 +6,17 @@ ghost use Rattle.ssh_session.specs.World.{World, circumstances, hears};
 ghost use Rattle.ssh_session.specs.Gate.{gate_of};
 ghost use Rattle.ssh_session.specs.Reading.{Said, Says};
 ghost use Rattle.ssh_session.specs.Rows.{row};
-ghost use Rattle.ssh_session.specs.Run.{OwesKind, Owes};
+ghost use Rattle.ssh_session.specs.Run.{OwesKind, OwesPayload, Owes, asks_for_keys};
 ghost use Rattle.ssh_session.specs.Heard.{AreSame};
 ghost use Rattle.ssh_session.specs.Between.{StepsBehind, TakesBehind, OwesUnlessEnded, untold};
 ghost use Rattle.ssh_session.specs.Account.{told_by, Steps, StepsBy, TellsNothing};
 ghost use Rattle.ssh_session.specs.Serve.{Refines, Completes, is_spent, IsSuited, IsSameSession};
 
+use crate::exchange::Passage;
 use crate::finish::tell_each;
 use crate::gate::Gate;
 use crate::outside::{Outside, Sides};
+use crate::ticks::ticks_behind;
 use crate::{Flow, RunError, Session};
 use ssh_handler::Handler;
 use ssh_keys::Verifier;
@@ -22,13 +24,23 @@ use ssh_link::{Command, Input, InputKind, Kex, Link, Notice};
 use ssh_wire::fields_of;
 use std::collections::VecDeque;
 
+/// Whether the input is the tick that asks for new keys.
+fn asks_for_keys(kind: &InputKind) -> bool
+    ensures { result ≡ asks_for_keys kind.now }
+{
+    matches!(kind, InputKind::RekeyTick)
+}
+
 impl Session {
     /// Takes one input and finishes it: tells the notices that commands since the last one gave,
-    /// makes the callbacks that the input owes, and then hands its frames on. Where such a command
-    /// ended the connection, the input is not looked at: what was written is handed on, and the run
-    /// is over. After an error or `Ended` the session is spent, and each later call answers
-    /// `Inconsistent`, calls nothing and hands nothing on. The handler has to suit the config and
-    /// the peer of the session (`Handler::suits`).
+    /// makes the callbacks that the input owes, and then hands its frames on: in an exchange of
+    /// keys only the exchange's (RFC 4253 section 7.1), and the rest when it ends. Where the bytes
+    /// of a direction are at their limit, or the input is a tick for new keys, it then begins an
+    /// exchange (RFC 4253 section 9). Where such a command ended the connection, the input is not
+    /// looked at: what was written is handed on, and the run is over. After an error or `Ended` the
+    /// session is spent, and each later call answers `Inconsistent`, calls nothing and hands
+    /// nothing on. The handler has to suit the config and the peer of the session
+    /// (`Handler::suits`).
     pub fn step<H: Handler, V: Verifier, K: Kex, L: Link>(
         &mut self,
         handler: &mut H,
@@ -38,11 +50,12 @@ impl Session {
         input: Input,
     ) -> Result<Flow, RunError<H::Error, K::Error>>
         requires suits { is_spent self.old ≢ true → IsSuited H.suits self.old }
-        ensures taken { (w : World) → Refines self.old w →
-            StepsBehind (untold self.old) (V.accepts verifier.now) w input
+        ensures taken { (w : World) → Refines self.old w → w.settings.repeatable
+            ≡ K.repeats kex.old → StepsBehind (untold self.old) (V.accepts verifier.now) w input
             (told_by H.AuthHandler.told K.steps L.trace L.faults) handler.old kex.old link.old
             handler.new kex.new link.new self.new result }
         ensures told { OnOk result (untold self.new ≡ []) }
+        ensures repeats { K.repeats kex.new ≡ K.repeats kex.old }
         ensures spends { is_spent self.old ≢ true → result ≢ Ok Flow.Continue →
             is_spent self.new ≡ true }
         ensures refused { is_spent self.old ≡ true → result ≡ Err RunError.Inconsistent }
@@ -71,10 +84,11 @@ impl Session {
         input: Input,
     ) -> Result<Flow, RunError<H::Error, K::Error>>
         requires suits { IsSuited H.suits self.old }
-        ensures taken { (w : World) → Refines self.old w →
-            StepsBy (Owes (V.accepts verifier.now) w input)
+        ensures taken { (w : World) → Refines self.old w → w.settings.repeatable
+            ≡ K.repeats kex.old → StepsBy (Owes (V.accepts verifier.now) w input)
             (told_by H.AuthHandler.told K.steps L.trace L.faults) handler.old kex.old link.old
             handler.new kex.new link.new self.new result }
+        ensures repeats { K.repeats kex.new ≡ K.repeats kex.old }
     {
         let mut sides = Sides::new(handler, kex, link);
         self.take_over(&mut sides, verifier, input)
@@ -92,7 +106,9 @@ impl Session {
         ensures same_handler { sides.new.handler.ghost_name ≡ sides.old.handler.ghost_name }
         ensures same_kex { sides.new.kex.ghost_name ≡ sides.old.kex.ghost_name }
         ensures same_link { sides.new.link.ghost_name ≡ sides.old.link.ghost_name }
+        ensures repeats { K.repeats sides.new.kex.now ≡ K.repeats sides.old.kex.now }
         ensures taken { (w : World) → Refines self.old w →
+            w.settings.repeatable ≡ K.repeats sides.old.kex.now →
             StepsBehind notices.old.items (V.accepts verifier.now) w input
             (told_by H.AuthHandler.told K.steps L.trace L.faults) sides.old.handler.now
             sides.old.kex.now sides.old.link.now sides.new.handler.now sides.new.kex.now
@@ -114,11 +130,12 @@ impl Session {
         input: Input,
     ) -> Result<Flow, RunError<O::Error, O::KexError>>
         requires suits { IsSuited O.suits self.old }
-        ensures does { (w : World) → Refines self.old w →
-            TakesBehind notices.old.items (V.accepts verifier.now) w input (O.heard outside.old)
-            (O.heard outside.new) self.new result }
+        ensures does { (w : World) → Refines self.old w → w.settings.repeatable
+            ≡ (O.Transport.heard outside.old).repeats →
+            TakesBehind notices.old.items (V.accepts verifier.now) w input
+            (O.Transport.heard outside.old) (O.Transport.heard outside.new) self.new result }
         ensures told { OnOk result (notices.new.items ≡ []) }
-        ensures same { AreSame (O.heard outside.old) (O.heard outside.new) }
+        ensures same { AreSame (O.Transport.heard outside.old) (O.Transport.heard outside.new) }
     {
         tell_each(outside, notices)?;
         self.take_unless_ended(outside, verifier, input)
@@ -132,10 +149,13 @@ impl Session {
         input: Input,
     ) -> Result<Flow, RunError<O::Error, O::KexError>>
         requires suits { IsSuited O.suits self.old }
-        ensures does { (w : World) → Refines self.old w → (plan : Plan Outcome)
-            × OwesUnlessEnded w.disconnected (V.accepts verifier.now) w input plan
-            × Completes plan (O.heard outside.old) (O.heard outside.new) self.new result }
-        ensures same { AreSame (O.heard outside.old) (O.heard outside.new) }
+        ensures does { (w : World) → Refines self.old w → w.settings.repeatable
+            ≡ (O.Transport.heard outside.old).repeats →
+            (plan : Plan Outcome) ×
+            OwesUnlessEnded w.disconnected (V.accepts verifier.now) w input plan
+            × Completes plan (O.Transport.heard outside.old)
+            (O.Transport.heard outside.new) self.new result }
+        ensures same { AreSame (O.Transport.heard outside.old) (O.Transport.heard outside.new) }
     {
         if self.common.disconnected {
             return self.end_run(outside);
@@ -154,8 +174,9 @@ impl Session {
         ensures same_handler { sides.new.handler.ghost_name ≡ sides.old.handler.ghost_name }
         ensures same_kex { sides.new.kex.ghost_name ≡ sides.old.kex.ghost_name }
         ensures same_link { sides.new.link.ghost_name ≡ sides.old.link.ghost_name }
-        ensures taken { (w : World) → Refines self.old w →
-            Steps (Owes (V.accepts verifier.now) w input)
+        ensures repeats { K.repeats sides.new.kex.now ≡ K.repeats sides.old.kex.now }
+        ensures taken { (w : World) → Refines self.old w → w.settings.repeatable
+            ≡ K.repeats sides.old.kex.now → Steps (Owes (V.accepts verifier.now) w input)
             (told_by H.AuthHandler.told K.steps L.trace L.faults sides.old.handler.now
             sides.old.kex.now sides.old.link.now)
             (told_by H.AuthHandler.told K.steps L.trace L.faults sides.new.handler.now
@@ -186,15 +207,17 @@ impl Session {
         input: Input,
     ) -> Result<Flow, RunError<O::Error, O::KexError>>
         requires suits { IsSuited O.suits self.old }
-        ensures does { (w : World) → Refines self.old w → (plan : Plan Outcome)
-            × Owes (V.accepts verifier.now) w input plan
-            × Completes plan (O.heard outside.old) (O.heard outside.new) self.new result }
-        ensures same { AreSame (O.heard outside.old) (O.heard outside.new) }
+        ensures does { (w : World) → Refines self.old w → w.settings.repeatable
+            ≡ (O.Transport.heard outside.old).repeats →
+            (plan : Plan Outcome) × Owes (V.accepts verifier.now) w input plan
+            × Completes plan (O.Transport.heard outside.old)
+            (O.Transport.heard outside.new) self.new result }
+        ensures same { AreSame (O.Transport.heard outside.old) (O.Transport.heard outside.new) }
     {
         let Input { moment, kind } = input;
+        let ticked = asks_for_keys(&kind);
         let flow = self.serve(outside, verifier, moment, kind)?;
-        self.hand_on(outside)?;
-        Ok(self.at_end(flow))
+        self.finish(outside, ticked, flow)
     }
 
     /// An input, up to its end: makes the calls and tells the notices that it owes, and writes its
@@ -209,8 +232,9 @@ impl Session {
         requires suits { IsSuited O.suits self.old }
         ensures does { (w : World) → Refines self.old w → (plan : Plan Outcome)
             × OwesKind (V.accepts verifier.now) w moment kind plan
-            × Completes plan (O.heard outside.old) (O.heard outside.new) self.new result }
-        ensures same { AreSame (O.heard outside.old) (O.heard outside.new) }
+            × Completes plan (O.Transport.heard outside.old)
+            (O.Transport.heard outside.new) self.new result }
+        ensures same { AreSame (O.Transport.heard outside.old) (O.Transport.heard outside.new) }
     {
         match kind {
             InputKind::Payload(payload) => {
@@ -227,23 +251,53 @@ impl Session {
                 Ok(Flow::Continue)
             }
             InputKind::InactivityTick => Err(RunError::InactivityTimeout),
-            InputKind::RekeyTick => Err(RunError::NotBuilt),
+            InputKind::RekeyTick => Ok(Flow::Continue),
         }
     }
 
-    /// The peer was heard, where the payload is not empty.
+    /// The peer was heard, where the payload is not empty, and its bytes count.
     fn hear(&mut self, payload: &[u8])
         ensures world { (w : World) → Refines self.old w →
             Refines self.new (hears payload.now w) }
         ensures session { IsSameSession self.old self.new }
     {
-        if !payload.is_empty() {
-            self.keepalives = 0;
+        self.keepalives = ticks_behind(payload, self.keepalives);
+        self.keys.hear(payload);
+    }
+
+    /// A payload: what is of an exchange of keys goes to it, and what may come is read.
+    fn serve_payload<O: Outside, V: Verifier>(
+        &mut self,
+        outside: &mut O,
+        verifier: &V,
+        moment: u64,
+        payload: &[u8],
+    ) -> Result<Flow, RunError<O::Error, O::KexError>>
+        requires suits { IsSuited O.suits self.old }
+        ensures does { (w : World) → Refines self.old w → (plan : Plan Outcome)
+            × OwesPayload (V.accepts verifier.now) w moment payload.now plan
+            × Completes plan (O.Transport.heard outside.old)
+            (O.Transport.heard outside.new) self.new result }
+        ensures same { AreSame (O.Transport.heard outside.old) (O.Transport.heard outside.new) }
+    {
+        match self.passage(payload) {
+            Passage::Begins => {
+                self.begin_exchange(outside)?;
+                self.step_exchange(outside, payload)?;
+                Ok(Flow::Continue)
+            }
+            Passage::Steps => {
+                self.step_exchange(outside, payload)?;
+                Ok(Flow::Continue)
+            }
+            Passage::Barred => Err(RunError::Inconsistent),
+            Passage::Late => Err(RunError::Pending),
+            Passage::Passes => self.serve_passed(outside, verifier, moment, payload),
         }
     }
 
-    /// A payload, by what its number means to the session.
-    fn serve_payload<O: Outside, V: Verifier>(
+    /// A payload that is not the exchange's, by what its number means to the session.
+    fn serve_passed<O: Outside, V: Verifier>(
         &mut self,
         outside: &mut O,
         verifier: &V,
@@ -254,9 +308,9 @@ impl Session {
         ensures does { (w : World) → Refines self.old w → (said : Said)
             × Says (circumstances (V.accepts verifier.now) w.settings moment) w
             (gate_of w payload.now) (drop 1 payload.now) said
-            × Completes (row w moment said) (O.heard outside.old) (O.heard outside.new) self.new
-            result }
-        ensures same { AreSame (O.heard outside.old) (O.heard outside.new) }
+            × Completes (row w moment said) (O.Transport.heard outside.old)
+            (O.Transport.heard outside.new) self.new result }
+        ensures same { AreSame (O.Transport.heard outside.old) (O.Transport.heard outside.new) }
     {
         let fields = fields_of(payload);
         match self.gate(payload) {
@@ -271,7 +325,6 @@ impl Session {
             Gate::ChannelOpen => self.serve_channel_open(outside, fields),
             Gate::OpenConfirmation => self.serve_open_confirmation(outside, fields),
             Gate::Connection(message) => self.serve_connection_message(outside, message, fields),
-            Gate::NotBuilt => Err(RunError::NotBuilt),
         }
     }
 }

@@ -90,9 +90,9 @@ impl Session {
     ) -> Result<(), RunError<O::Error, O::KexError>>
         requires suits { IsSuited O.suits self.old }
         ensures does { (w : World) → Refines self.old w →
-            Does (spoken_acts w (Grant channel amount)) w (O.heard outside.old)
-            (O.heard outside.new) self.new result }
-        ensures same { AreSame (O.heard outside.old) (O.heard outside.new) }
+            Does (spoken_acts w (Grant channel amount)) w (O.Transport.heard outside.old)
+            (O.Transport.heard outside.new) self.new result }
+        ensures same { AreSame (O.Transport.heard outside.old) (O.Transport.heard outside.new) }
     {
         let Some(new_size) = self.take_grant(channel, amount)? else {
             return Ok(());
@@ -116,9 +116,9 @@ impl Session {
     ) -> Result<(), RunError<O::Error, O::KexError>>
         requires suits { IsSuited O.suits self.old }
         ensures does { (w : World) → Refines self.old w →
-            Does (spoken_acts w (Data channel piece)) w (O.heard outside.old) (O.heard outside.new)
-            self.new result }
-        ensures same { AreSame (O.heard outside.old) (O.heard outside.new) }
+            Does (spoken_acts w (Data channel piece)) w (O.Transport.heard outside.old)
+            (O.Transport.heard outside.new) self.new result }
+        ensures same { AreSame (O.Transport.heard outside.old) (O.Transport.heard outside.new) }
     {
         let target = self.target;
         match self.take_in(channel, &piece.bytes)? {
@@ -142,8 +142,8 @@ impl Session {
         ensures does { (w : World) → Refines self.now w → (next : Plan Outcome) →
             Serves (Tell (Noticed (Channel channel (data_notice piece.now.kind piece.now.bytes)))
             next) (λ _ _. next)
-            (O.heard outside.old) (O.heard outside.new) self.now result }
-        ensures same { AreSame (O.heard outside.old) (O.heard outside.new) }
+            (O.Transport.heard outside.old) (O.Transport.heard outside.new) self.now result }
+        ensures same { AreSame (O.Transport.heard outside.old) (O.Transport.heard outside.new) }
     {
         let message = message_of(piece.kind, piece.bytes.clone()?);
         self.note(outside, Notice::Channel(channel, message))
@@ -159,8 +159,8 @@ impl Session {
         requires suits { IsSuited O.suits self.old }
         ensures does { (w : World) → Refines self.old w →
             Does (called channel piece ∷ []) w
-            (O.heard outside.old) (O.heard outside.new) self.new result }
-        ensures same { AreSame (O.heard outside.old) (O.heard outside.new) }
+            (O.Transport.heard outside.old) (O.Transport.heard outside.new) self.new result }
+        ensures same { AreSame (O.Transport.heard outside.old) (O.Transport.heard outside.new) }
     {
         let happening = happening_of(piece.kind, piece.bytes);
         self.call(outside, Lent::Happened(channel, happening))
@@ -176,8 +176,8 @@ impl Session {
         requires suits { IsSuited O.suits self.old }
         ensures does { (w : World) → Refines self.old w →
             Does (noted channel piece ∷ called channel piece ∷ []) w
-            (O.heard outside.old) (O.heard outside.new) self.new result }
-        ensures same { AreSame (O.heard outside.old) (O.heard outside.new) }
+            (O.Transport.heard outside.old) (O.Transport.heard outside.new) self.new result }
+        ensures same { AreSame (O.Transport.heard outside.old) (O.Transport.heard outside.new) }
     {
         self.note_data(outside, channel, &piece)?;
         self.call_data(outside, channel, piece)

@@ -12,8 +12,8 @@ use Rattle.ssh_session.proofs.finish.send_each.Goals as goal
 pub loop-frame-init : goal.loop-frame-init
 loop-frame-init g c = record {
   items = search rules;
-  does = none_told Sent (g.O.Outside.heard c.args.outside.now);
-  same = same_as (g.O.Outside.heard c.args.outside.now);
+  does = none_told Sent (g.O.Transport.heard c.args.outside.now);
+  same = same_as (g.O.Transport.heard c.args.outside.now);
 }
 
 pub loop-frame-preserved : goal.loop-frame-preserved
@@ -23,19 +23,19 @@ loop-frame-preserved g c = record {
       ∙ c.loop-frame.invariant.items;
   does = told_more Sent c.loop-frame.yielded c.in-Some.frame _ _ _ c.loop-frame.invariant.does
       c.in_ok-send.ensures;
-  same = same_both (g.O.Outside.heard c.args.outside.now)
-      (g.O.Outside.heard c.loop-frame.outside) (g.O.Outside.heard c.send.new.self)
+  same = same_both (g.O.Transport.heard c.args.outside.now)
+      (g.O.Transport.heard c.loop-frame.outside) (g.O.Transport.heard c.send.new.self)
       c.loop-frame.invariant.same c.in_ok-send.ensures.0.0;
 }
 
 pub returns-in_err-send-clause-does : goal.returns-in_err-send-clause-does
 returns-in_err-send-clause-does g c =
     let p = err_from_is_err_and c.from_residual.result c.from_residual.ensures.1 in
-    subst (λ x. TellsEach Sent c.args.frames.items (g.O.Outside.heard c.args.outside.now)
-    (g.O.Outside.heard c.send.new.self) x)
+    subst (λ x. TellsEach Sent c.args.frames.items (g.O.Transport.heard c.args.outside.now)
+    (g.O.Transport.heard c.send.new.self) x)
     (sym (p.1 ∙ ap Err p.2))
-    (subst (λ l. TellsEach Sent l (g.O.Outside.heard c.args.outside.now)
-    (g.O.Outside.heard c.send.new.self) (Err (error_of_link c.in_err-send.field-0.0)))
+    (subst (λ l. TellsEach Sent l (g.O.Transport.heard c.args.outside.now)
+    (g.O.Transport.heard c.send.new.self) (Err (error_of_link c.in_err-send.field-0.0)))
     c.loop-frame.invariant.items
     (not_told Sent c.loop-frame.yielded c.loop-frame.frame-iterator.rest.items c.in-Some.frame _ _
     _ _
@@ -48,6 +48,6 @@ returns-clause-does g c =
     nil_from_length c.loop-frame.frame-iterator.rest.items (search rules) in
     let e : c.loop-frame.yielded ≡ c.args.frames.items = sym (append-nil c.loop-frame.yielded)
     ∙ ap (λ l. c.loop-frame.yielded ++ l) (sym none) ∙ c.loop-frame.invariant.items in
-    subst (λ l. TellsEach Sent l (g.O.Outside.heard c.args.outside.now)
-    (g.O.Outside.heard c.loop-frame.outside) (Ok tt)) e
+    subst (λ l. TellsEach Sent l (g.O.Transport.heard c.args.outside.now)
+    (g.O.Transport.heard c.loop-frame.outside) (Ok tt)) e
     c.loop-frame.invariant.does

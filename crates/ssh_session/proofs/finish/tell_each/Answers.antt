@@ -11,8 +11,8 @@ use Rattle.ssh_session.proofs.finish.tell_each.Goals as goal
 
 pub loop-told-init : goal.loop-told-init
 loop-told-init g c =
-    let none = none_told Noticed (g.O.Outside.heard c.args.outside.now) in
-    ([], refl, omega arith, none, same_as (g.O.Outside.heard c.args.outside.now))
+    let none = none_told Noticed (g.O.Transport.heard c.args.outside.now) in
+    ([], refl, omega arith, none, same_as (g.O.Transport.heard c.args.outside.now))
 
 pub loop-told-preserved : goal.loop-told-preserved
 loop-told-preserved g c =
@@ -25,8 +25,8 @@ loop-told-preserved g c =
           ∙ ap (λ l. i.0 ++ l) (sym popped) ∙ i.1,
       omega (arith, count, fewer),
       told_more Noticed i.0 c.in-Some.notice _ _ _ i.3 c.in_ok-notice.ensures,
-      same_both (g.O.Outside.heard c.args.outside.now)
-          (g.O.Outside.heard c.loop-told.outside) (g.O.Outside.heard c.notice.new.self) i.4
+      same_both (g.O.Transport.heard c.args.outside.now)
+          (g.O.Transport.heard c.loop-told.outside) (g.O.Transport.heard c.notice.new.self) i.4
           c.in_ok-notice.ensures.0.0,
     )
 
@@ -34,11 +34,11 @@ pub returns-in_err-notice-clause-does : goal.returns-in_err-notice-clause-does
 returns-in_err-notice-clause-does g c =
     let i = c.loop-told.invariant in
     let p = err_from_is_err_and c.from_residual.result c.from_residual.ensures.1 in
-    subst (λ x. TellsEach Noticed c.args.notices.now.items (g.O.Outside.heard c.args.outside.now)
-    (g.O.Outside.heard c.notice.new.self) x)
+    subst (λ x. TellsEach Noticed c.args.notices.now.items (g.O.Transport.heard c.args.outside.now)
+    (g.O.Transport.heard c.notice.new.self) x)
     (sym (p.1 ∙ ap Err p.2))
-    (subst (λ l. TellsEach Noticed l (g.O.Outside.heard c.args.outside.now)
-    (g.O.Outside.heard c.notice.new.self) (Err (error_of_link c.in_err-notice.field-0.0)))
+    (subst (λ l. TellsEach Noticed l (g.O.Transport.heard c.args.outside.now)
+    (g.O.Transport.heard c.notice.new.self) (Err (error_of_link c.in_err-notice.field-0.0)))
     i.1
     (not_told Noticed i.0 c.loop-told.notices.items c.in-Some.notice _ _ _ _ i.3
     c.in_err-notice.ensures))
@@ -53,5 +53,5 @@ returns-clause-does g c =
     (omega (arith, count, end, over)) in
     let all : i.0 ≡ c.args.notices.now.items =
     sym (append-nil i.0) ∙ ap (λ l. i.0 ++ l) (sym none) ∙ i.1 in
-    subst (λ l. TellsEach Noticed l (g.O.Outside.heard c.args.outside.now)
-    (g.O.Outside.heard c.loop-told.outside) (Ok tt)) all i.3
+    subst (λ l. TellsEach Noticed l (g.O.Transport.heard c.args.outside.now)
+    (g.O.Transport.heard c.loop-told.outside) (Ok tt)) all i.3

@@ -9,5 +9,6 @@ abbrev pub invariant-loop-told : goal.invariant-loop-told
 invariant-loop-told g l = (told : List Notice)
     × (told ++ l.notices.items ≡ l.fn.notices.items)
     × (l._told + length l.notices.items ≡ length l.fn.notices.items)
-    × TellsEach Noticed told (g.O.Outside.heard l.fn.outside) (g.O.Outside.heard l.outside) (Ok tt)
-    × AreSame (g.O.Outside.heard l.fn.outside) (g.O.Outside.heard l.outside)
+    × TellsEach Noticed told (g.O.Transport.heard l.fn.outside) (g.O.Transport.heard l.outside)
+    (Ok tt)
+    × AreSame (g.O.Transport.heard l.fn.outside) (g.O.Transport.heard l.outside)

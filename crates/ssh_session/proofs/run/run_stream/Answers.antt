@@ -1,4 +1,4 @@
-use Rattle.std.proofs.Common.{◌≡◌, sym, ◌∙◌, ap, subst, Err}
+use Rattle.std.proofs.Common.{◌≡◌, refl, sym, ◌∙◌, ap, subst, Err}
 use Rattle.std.proofs.lemmas.Result.{err_from_is_err_and}
 use Rattle.ssh_session.specs.declared.error.RunError.TheVariants as error
 use Rattle.ssh_session.specs.Account.{Laws}
@@ -9,7 +9,8 @@ use Rattle.ssh_session.proofs.run.run_stream.Goals as goal
 
 pub returns-in_err-session : goal.returns-in_err-session
 returns-in_err-session g c =
-    let settings = settings_of c.args.config.now c.args.session_id.now c.args.remote_sshid.now in
+    let settings = settings_of c.args.config.now c.args.session_id.now c.args.remote_sshid.now
+    (g.K.Kex.repeats c.args.kex.now) in
     let p = err_from_is_err_and c.from_residual.result c.from_residual.ensures.1 in
     let is : c.from_residual.result ≡ Err error.NoMemory = p.1
     ∙ ap Err (p.2 ∙ ap run_error_of c.in_err-session.ensures.memory) in
@@ -25,9 +26,23 @@ returns-in_err-session g c =
 
 pub returns : goal.returns
 returns g c =
-    let settings = settings_of c.args.config.now c.args.session_id.now c.args.remote_sshid.now in
+    let settings = settings_of c.args.config.now c.args.session_id.now c.args.remote_sshid.now
+    (g.K.Kex.repeats c.args.kex.now) in
     record {
       laws = laws_of (g.V.Verifier.accepts c.args.verifier.now) settings _ _
           c.args.max_inputs c.run_inputs-result.result
-          (c.run_inputs-result.ensures settings c.in_ok-session.ensures.opens);
+          (c.run_inputs-result.ensures settings
+          (c.in_ok-session.ensures.opens (g.K.Kex.repeats c.args.kex.now)) refl);
+    }
+
+pub run_inputs-result-requires : goal.run_inputs-result-requires
+run_inputs-result-requires g c =
+    let settings = settings_of c.args.config.now c.args.session_id.now c.args.remote_sshid.now
+    (g.K.Kex.repeats c.args.kex.now) in
+    record {
+      begins = (
+        settings,
+        c.in_ok-session.ensures.opens (g.K.Kex.repeats c.args.kex.now),
+        c.requires.suits,
+      );
     }

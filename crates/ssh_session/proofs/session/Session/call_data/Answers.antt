@@ -9,6 +9,6 @@ pub returns-clause-does : goal.returns-clause-does
 returns-clause-does g c = λ w r later.
     subst (λ what. Serves (acts (Calls (Happened c.args.channel what) ∷ later) w) (λ (_ : Unit {0}).
     acts later)
-    (g.O.Outside.heard c.args.outside.now) (g.O.Outside.heard c.call.new.outside) c.call.new.self
-    c.call.result)
+    (g.O.Transport.heard c.args.outside.now) (g.O.Transport.heard c.call.new.outside)
+    c.call.new.self c.call.result)
     c.happening_of-happening.ensures (c.call.ensures.does w r later)

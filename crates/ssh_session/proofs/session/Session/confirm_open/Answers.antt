@@ -35,7 +35,7 @@ returns-clause-does g c = λ w r.
       writes (frame ∷ []) (lined (adds (opened n o.peer o.window room o.packet)) (answered n w)),
       ap (λ s. confirms n s w) (sym c.said.view_is),
       changed old _ w (remove_entry (is_at (nat_cmp n)) w.channels.opens)
-          (write (frame ∷ []) (adds (opened n o.peer o.window room o.packet) lines)) refl refl refl
+          (write (frame ∷ []) (adds (opened n o.peer o.window room o.packet) lines)) refl refl refl refl
           refl refl refl refl refl
           (c.remove.ensures.entries ∙ ap (remove_entry (is_at (nat_cmp n))) r.opens)
           (subst (λ (k : Config). Stands c.insert_with.new.self

@@ -1,14 +1,14 @@
-use Rattle.std.proofs.Common.{false, ap, subst, sym}
+use Rattle.std.proofs.Common.{ap, subst, sym}
 use Rattle.ssh_channels.specs.declared.chunk.DataKind.TheVariants.{Plain, Extended}
-use Rattle.ssh_channels.specs.Calls.{Send, Eof, Close}
+use Rattle.ssh_channels.specs.Calls.{Eof, Close}
 use Rattle.ssh_channels.specs.Layout.{chunk}
 use Rattle.ssh_channels.specs.Lines.{takes_data, takes_eof, takes_close}
 use Rattle.ssh_session.specs.Effect.{done_by}
 use Rattle.ssh_session.specs.Failure.{error_of_table}
 use Rattle.ssh_session.specs.Serve.{HasEffect}
-use Rattle.ssh_session.specs.World.{lined}
+use Rattle.ssh_session.specs.World.{in_exchange, lined}
 use Rattle.ssh_session.proofs.Effects.{accepted, starved_effect, done_other}
-use Rattle.ssh_session.proofs.Refining.{called}
+use Rattle.ssh_session.proofs.Refining.{called, data_taken}
 use Rattle.ssh_session.proofs.session.Session.do_command.Goals as goal
 
 pub returns-in_err-data-in-Data-clause-does : goal.returns-in_err-data-in-Data-clause-does
@@ -21,9 +21,10 @@ returns-in_ok-data-in-Data-clause-does g c = λ w r.
     let n = c.in-Data.channel.0 in
     let piece = chunk Plain c.in-Data.bytes in
     accepted g.row.E.Denot g.row.F.Denot (done_by w c.args.command)
-    (lined (takes_data n piece false) w) _
+    (lined (takes_data n piece (in_exchange w)) w) _
     c.accepted.result (ap (done_by w) c.in-Data.is)
-    c.accepted.ensures (called (Send n piece false) c.args.self.now c.data.new.self _ w tt
+    c.accepted.ensures (data_taken n piece c.in_exchange-in_exchange.result c.args.self.now
+    c.data.new.self _ w (c.in_exchange-in_exchange.ensures.world w r)
     c.in_ok-data-in-Data.ensures.table r)
 
 pub returns-in_err-extended_data-in-ExtendedData-clause-does :
@@ -39,10 +40,11 @@ returns-in_ok-extended_data-in-ExtendedData-clause-does g c = λ w r.
     let n = c.in-ExtendedData.channel.0 in
     let piece = chunk (Extended c.in-ExtendedData.ext) c.in-ExtendedData.bytes in
     accepted g.row.E.Denot g.row.F.Denot (done_by w c.args.command)
-    (lined (takes_data n piece false) w) _
+    (lined (takes_data n piece (in_exchange w)) w) _
     c.accepted-in-ExtendedData.result
     (ap (done_by w) c.in-ExtendedData.is) c.accepted-in-ExtendedData.ensures
-    (called (Send n piece false) c.args.self.now c.extended_data.new.self _ w tt
+    (data_taken n piece c.in_exchange-in_exchange-in-ExtendedData.result c.args.self.now
+    c.extended_data.new.self _ w (c.in_exchange-in_exchange-in-ExtendedData.ensures.world w r)
     c.in_ok-extended_data-in-ExtendedData.ensures.table r)
 
 pub returns-in_err-eof-in-Eof-clause-does : goal.returns-in_err-eof-in-Eof-clause-does

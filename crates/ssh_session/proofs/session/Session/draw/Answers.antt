@@ -15,7 +15,7 @@ returns-clause-world c = λ w r.
     let n = c.in_ok-number.number.0 in
     let old = c.args.self.now in
     changed old _ w (insert_entry nat_cmp w.channels.opens n c.args.said)
-    (drawn (Some n) w.channels.lines) refl refl refl refl refl refl refl refl
+    (drawn (Some n) w.channels.lines) refl refl refl refl refl refl refl refl refl
     (c.in_ok-insert.ensures.entries ∙ ap (λ l. insert_entry nat_cmp l n c.args.said) r.opens)
     (draws_stands c.new_channel_id.new.self old w n c.in_ok-number.ensures.table
     (sym (next_same old w r) ∙ c.in_ok-number.ensures.number) r) r

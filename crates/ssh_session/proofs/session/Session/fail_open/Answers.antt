@@ -36,7 +36,7 @@ returns-in_ok-stage-in-Ok-clause-does g c = λ w r.
           ∙ ap (λ (x : Done). Does (option_to_list x.notice) x.outcome world)
           (sym c.accepted.ensures),
       changed old _ w (remove_entry (is_at (nat_cmp n)) w.channels.opens)
-          (write (failure_frame n payload ∷ []) (drops_pending n lines)) refl refl refl refl refl
+          (write (failure_frame n payload ∷ []) (drops_pending n lines)) refl refl refl refl refl refl
           refl refl refl
           (c.remove.ensures.entries ∙ ap (remove_entry (is_at (nat_cmp n))) r.opens)
           (subst (λ f. Stands c.drop_pending.new.self (write (f ∷ []) (drops_pending n lines)))

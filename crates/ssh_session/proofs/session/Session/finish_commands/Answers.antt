@@ -15,7 +15,7 @@ loop-place-init g c = record {
   does = λ w r next. serves_nothing tt (λ (_ : Unit {0}) world. done_all 0 c.args.commands world
       next) _ w c.args.self.now r;
   session = (refl, refl, refl);
-  same = same_as (g.O.Outside.heard c.args.outside.now);
+  same = same_as (g.O.Transport.heard c.args.outside.now);
 }
 
 pub loop-place-preserved : goal.loop-place-preserved
@@ -35,8 +35,8 @@ loop-place-preserved g c = record {
       c.take_first.new.self next));
   session = let a = c.loop-place.invariant.session in let b = c.finish_command.ensures.session in
       (b.0 ∙ a.0, b.1 ∙ a.1, b.2 ∙ a.2);
-  same = same_both (g.O.Outside.heard c.args.outside.now)
-      (g.O.Outside.heard c.loop-place.outside) (g.O.Outside.heard c.finish_command.new.outside)
+  same = same_both (g.O.Transport.heard c.args.outside.now)
+      (g.O.Transport.heard c.loop-place.outside) (g.O.Transport.heard c.finish_command.new.outside)
       c.loop-place.invariant.same c.finish_command.ensures.same;
 }
 
@@ -51,7 +51,7 @@ returns-in-Err-clause-does g c = λ w r next.
     (λ v. λ (_ : Unit {0}) u. done_all (place + 1) c.take_first.new.self u next)
     (λ v q. subst (λ l. Serves (done_all place l v next) (λ (_ : Unit {0}) u. done_all (place + 1)
     c.take_first.new.self u next)
-    (g.O.Outside.heard c.loop-place.outside) (g.O.Outside.heard c.finish_command.new.outside)
+    (g.O.Transport.heard c.loop-place.outside) (g.O.Transport.heard c.finish_command.new.outside)
     c.finish_command.new.self (Err c.in-Err.e))
     (sym c.in-Some.ensures) (c.in-Err.ensures.does v q c.take_first.new.self next))
 

@@ -13,7 +13,7 @@ invariant-loop-place g l = record {
   does : (w : World) → Refines l.fn.self w → (next : World → Plan Outcome) →
       Serves (done_all 0 l.fn.commands w next) (λ (_ : Unit {0}) world. done_all l.place l.commands
       world next)
-      (g.O.Outside.heard l.fn.outside) (g.O.Outside.heard l.outside) l.self (Ok tt);
+      (g.O.Transport.heard l.fn.outside) (g.O.Transport.heard l.outside) l.self (Ok tt);
   session : IsSameSession l.fn.self l.self;
-  same : AreSame (g.O.Outside.heard l.fn.outside) (g.O.Outside.heard l.outside);
+  same : AreSame (g.O.Transport.heard l.fn.outside) (g.O.Transport.heard l.outside);
 }

@@ -1,20 +1,40 @@
-use Rattle.std.proofs.Common.{◌++◌, false, ap, ◌∙◌}
+use Rattle.std.proofs.Common.{◌≡◌, ◌++◌, ap, ◌∙◌}
 use Rattle.ssh_channels.specs.Calls as calls
+use Rattle.ssh_session.specs.Exchange.{given}
 use Rattle.ssh_session.specs.Failure.{error_of_table}
-use Rattle.ssh_session.proofs.Refining.{handed}
+use Rattle.ssh_session.specs.Run.{going_out, handed_on}
+use Rattle.ssh_session.proofs.Finishing.{told_all}
+use Rattle.ssh_session.proofs.Refining.{handed_out, handed_to, in_any_case}
 use Rattle.ssh_session.proofs.Serving.{starved}
 use Rattle.ssh_session.proofs.session.Session.hand_on.Goals as goal
 
 pub returns-in_err-flush-clause-does : goal.returns-in_err-flush-clause-does
 returns-in_err-flush-clause-does g c = λ w r next.
-    starved _ (λ (_ : Unit {0}) world. next world) _ _ _ _ c.from_residual.ensures.1
+    starved _ (λ (_ : Unit {0}) _. next (handed_on w)) _ _ _ _ c.from_residual.ensures.1
     (ap error_of_table c.in_err-flush.ensures.memory)
 
 pub returns-clause-does : goal.returns-clause-does
 returns-clause-does g c = λ w r next.
     let old = c.args.self.now in
-    handed old c.flush.new.self _ w next c.into_vec.result.items _ _ c.send_each.result r
-    c.in_ok-flush.ensures.table
-    (c.into_vec.ensures ∙ c.in_ok-flush.ensures.sink ∙ ap (λ l. l ++ calls.handed false old.table)
-    c.new-frames.ensures)
+    let held = c.is_held-is_held.result in
+    let frames = c.into_vec-frames.result.items in
+    let is = c.is_held-is_held.ensures w r in
+    let out : frames ≡ calls.handed held old.table =
+    c.into_vec-frames.ensures ∙ c.in_ok-flush.ensures.sink
+    ∙ ap (λ l. l ++ calls.handed held old.table) c.new-sink.ensures in
+    told_all frames (going_out w) (next (handed_on w)) _ _ (handed_on w) _ c.send_each.result
+    (handed_out held old w frames r is out)
+    (handed_to held old c.flush.new.self c.give.new.self _ w frames r is
+    c.in_ok-flush.ensures.table out
+    (c.give.ensures ∙ ap (λ l. given l old.keys) c.as_slice.ensures.value))
     c.send_each.ensures.does
+
+pub returns-clause-world : goal.returns-clause-world
+returns-clause-world g c = in_any_case _ c.send_each.result (λ w r.
+    let old = c.args.self.now in
+    let held = c.is_held-is_held.result in
+    handed_to held old c.flush.new.self c.give.new.self _ w c.into_vec-frames.result.items r
+    (c.is_held-is_held.ensures w r) c.in_ok-flush.ensures.table
+    (c.into_vec-frames.ensures ∙ c.in_ok-flush.ensures.sink
+    ∙ ap (λ l. l ++ calls.handed held old.table) c.new-sink.ensures)
+    (c.give.ensures ∙ ap (λ l. given l old.keys) c.as_slice.ensures.value))

@@ -17,7 +17,7 @@ pub returns-clause-does : goal.returns-clause-does
 returns-clause-does g c = λ w r next.
     subst (λ message. Serves (Tell (Noticed (Channel c.args.channel message)) next)
     (λ (_ : Unit {0}) _. next)
-    (g.O.Outside.heard c.args.outside.now) (g.O.Outside.heard c.note.new.outside) c.args.self.now
-    c.note.result)
+    (g.O.Transport.heard c.args.outside.now) (g.O.Transport.heard c.note.new.outside)
+    c.args.self.now c.note.result)
     (c.message_of-message.ensures ∙ ap (data_notice c.args.piece.now.kind)
     c.in_ok-clone.ensures.cases) (c.note.ensures.does w r next)

@@ -24,8 +24,8 @@ returns-in-Dropped-clause-does g c = λ w r later.
     let a = c.args.piece in
     let v = lined (takes_in n (length a.bytes) w.channels.target) w in
     subst (λ l. Serves (acts (l ++ later) w) (λ (_ : Unit {0}). acts later)
-    (g.O.Outside.heard c.args.outside.now)
-    (g.O.Outside.heard c.args.outside.now) c.take_in.new.self (Ok tt))
+    (g.O.Transport.heard c.args.outside.now)
+    (g.O.Transport.heard c.args.outside.now) c.take_in.new.self (Ok tt))
     (sym (arrives n w a Dropped (sym (c.in_ok-take_in.ensures.coming w r) ∙ c.in-Dropped.is)))
     (serves_nothing tt (λ (_ : Unit {0}). acts later) _ v c.take_in.new.self
     (c.in_ok-take_in.ensures.world w r))
@@ -36,8 +36,8 @@ returns-in-Kept-clause-does g c = λ w r later.
     let a = c.args.piece in
     let v = lined (takes_in n (length a.bytes) w.channels.target) w in
     subst (λ l. Serves (acts (l ++ later) w) (λ (_ : Unit {0}). acts later)
-    (g.O.Outside.heard c.args.outside.now)
-    (g.O.Outside.heard c.tell_data.new.outside) c.tell_data.new.self c.tell_data.result)
+    (g.O.Transport.heard c.args.outside.now)
+    (g.O.Transport.heard c.tell_data.new.outside) c.tell_data.new.self c.tell_data.result)
     (sym (arrives n w a Kept (sym (c.in_ok-take_in.ensures.coming w r) ∙ c.in-Kept.is)))
     (c.tell_data.ensures.does v (c.in_ok-take_in.ensures.world w r) later)
 
@@ -50,8 +50,8 @@ returns-in_err-note_data-in-Granted-clause-does g c = λ w r later.
     let v = lined (takes_in n (length a.bytes) target) w in
     let rest = acts (Adjusts_by c.args.channel target aims ∷ called c.args.channel a ∷ later) v in
     subst (λ l. Serves (acts (l ++ later) w) (λ (_ : Unit {0}). acts later)
-    (g.O.Outside.heard c.args.outside.now)
-    (g.O.Outside.heard c.note_data.new.outside) c.take_in.new.self
+    (g.O.Transport.heard c.args.outside.now)
+    (g.O.Transport.heard c.note_data.new.outside) c.take_in.new.self
     c.from_residual-in_err-note_data-in-Granted.result)
     (sym (arrives n w a (Granted c.in-Granted.field-0) (sym (c.in_ok-take_in.ensures.coming w r)
     ∙ c.in-Granted.is)))
@@ -71,8 +71,8 @@ returns-in_err-aim-in-Granted-clause-does g c = λ w r later.
     let after = called c.args.channel a ∷ later in
     let rest = acts (Adjusts_by c.args.channel target aims ∷ after) v in
     subst (λ l. Serves (acts (l ++ later) w) (λ (_ : Unit {0}). acts later)
-    (g.O.Outside.heard c.args.outside.now)
-    (g.O.Outside.heard c.aim.new.outside) c.aim.new.self
+    (g.O.Transport.heard c.args.outside.now)
+    (g.O.Transport.heard c.aim.new.outside) c.aim.new.self
     c.from_residual-in_err-aim-in-Granted.result)
     (sym (arrives n w a (Granted c.in-Granted.field-0) (sym (c.in_ok-take_in.ensures.coming w r)
     ∙ c.in-Granted.is)))
@@ -84,8 +84,8 @@ returns-in_err-aim-in-Granted-clause-does g c = λ w r later.
     rest)
     (λ _ _. subst (λ t. Serves (acts (Adjusts_by c.args.channel t aims ∷ after) v)
     (λ (_ : Unit {0}). acts after)
-    (g.O.Outside.heard c.note_data.new.outside) (g.O.Outside.heard c.aim.new.outside) c.aim.new.self
-    (Err c.in_err-aim-in-Granted.field-0.0)) r.target
+    (g.O.Transport.heard c.note_data.new.outside) (g.O.Transport.heard c.aim.new.outside)
+    c.aim.new.self (Err c.in_err-aim-in-Granted.field-0.0)) r.target
     (c.in_err-aim-in-Granted.ensures.does v q after)))
 
 pub returns-in_ok-aim-in-Granted-clause-does : goal.returns-in_ok-aim-in-Granted-clause-does
@@ -98,8 +98,8 @@ returns-in_ok-aim-in-Granted-clause-does g c = λ w r later.
     let after = called c.args.channel a ∷ later in
     let rest = acts (Adjusts_by c.args.channel target aims ∷ after) v in
     subst (λ l. Serves (acts (l ++ later) w) (λ (_ : Unit {0}). acts later)
-    (g.O.Outside.heard c.args.outside.now)
-    (g.O.Outside.heard c.call_data.new.outside) c.call_data.new.self c.call_data.result)
+    (g.O.Transport.heard c.args.outside.now)
+    (g.O.Transport.heard c.call_data.new.outside) c.call_data.new.self c.call_data.result)
     (sym (arrives n w a (Granted c.in-Granted.field-0) (sym (c.in_ok-take_in.ensures.coming w r)
     ∙ c.in-Granted.is)))
     (served_both tt (Tell (Noticed (Channel c.args.channel (data_notice a.kind a.bytes))) rest)
@@ -111,7 +111,7 @@ returns-in_ok-aim-in-Granted-clause-does g c = λ w r later.
     c.call_data.new.self c.call_data.result
     (subst (λ t. Serves (acts (Adjusts_by c.args.channel t aims ∷ after) v) (λ (_ : Unit {0}).
     acts after)
-    (g.O.Outside.heard c.note_data.new.outside) (g.O.Outside.heard c.aim.new.outside) c.aim.new.self
-    (Ok tt)) r.target
+    (g.O.Transport.heard c.note_data.new.outside) (g.O.Transport.heard c.aim.new.outside)
+    c.aim.new.self (Ok tt)) r.target
     (c.in_ok-aim-in-Granted.ensures.does v q after))
     (λ u p. c.call_data.ensures.does u p later)))

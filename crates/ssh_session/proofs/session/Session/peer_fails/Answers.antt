@@ -1,4 +1,4 @@
-use Rattle.std.proofs.Common.{◌∙◌, sym, true, false}
+use Rattle.std.proofs.Common.{[], ◌∙◌, refl, sym, true, false}
 use Rattle.ssh_link.specs.declared.link.TraceEntry.TheVariants.{Noticed}
 use Rattle.ssh_link.specs.declared.notice.ChannelMsg.TheVariants.{OpenFailure}
 use Rattle.ssh_link.specs.declared.notice.Notice.TheVariants.{Channel}
@@ -8,9 +8,15 @@ use Rattle.ssh_channels.specs.Lines.{fails}
 use Rattle.ssh_session.specs.Acts.{acts}
 use Rattle.ssh_session.specs.World.{lined}
 use Rattle.ssh_session.proofs.Refining.{called}
-use Rattle.ssh_session.proofs.Rows.{failure_by, waiting_same, not_failed}
-use Rattle.ssh_session.proofs.Serving.{serves_nothing, settled_by}
+use Rattle.ssh_session.proofs.Rows.{failure_by, open_waits_not, waiting_same, not_failed}
+use Rattle.ssh_session.proofs.Serving.{hears_nothing, serves_nothing, settled_by}
 use Rattle.ssh_session.proofs.session.Session.peer_fails.Goals as goal
+
+pub returns-then-is_there-clause-does : goal.returns-then-is_there-clause-does
+returns-then-is_there-clause-does g c = λ w r later.
+    let there = sym (c.is_there.ensures w r) ∙ c.if-is_there.true in
+    rw (failure_by w c.args.channel c.args.reason true false there
+    (open_waits_not c.args.channel.0 w there)) ([], hears_nothing false _, refl)
 
 pub returns-then-not-waited-clause-does : goal.returns-then-not-waited-clause-does
 returns-then-not-waited-clause-does g c = λ w r later.

@@ -7,8 +7,8 @@ pub returns-in-Ok : goal.returns-in-Ok
 returns-in-Ok g c = (
   lent_call c.args.lent (Ok tt) c.into_list.result,
   refl,
-  subst (λ l. Calls (g.O.Outside.heard c.args.outside.now) (g.O.Outside.heard c.ask.new.self) (Ok l)
-      (lent_call c.args.lent (Ok tt) l))
+  subst (λ l. Calls (g.O.Transport.heard c.args.outside.now) (g.O.Transport.heard c.ask.new.self)
+      (Ok l) (lent_call c.args.lent (Ok tt) l))
       (sym c.into_list.ensures) c.in-Ok.ensures,
 )
 

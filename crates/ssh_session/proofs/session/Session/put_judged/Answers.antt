@@ -7,8 +7,8 @@ pub returns-in-Ok : goal.returns-in-Ok
 returns-in-Ok g c = (
   judged_call c.args.judged (Ok c.in-Ok.granted) c.into_list.result,
   refl,
-  subst (λ l. Calls (g.O.Outside.heard c.args.outside.now)
-      (g.O.Outside.heard c.judge.new.self) (Ok c.in-Ok.granted)
+  subst (λ l. Calls (g.O.Transport.heard c.args.outside.now)
+      (g.O.Transport.heard c.judge.new.self) (Ok c.in-Ok.granted)
       (judged_call c.args.judged (Ok c.in-Ok.granted) l))
       (sym c.into_list.ensures) c.in-Ok.ensures,
 )

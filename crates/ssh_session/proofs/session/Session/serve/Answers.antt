@@ -2,15 +2,14 @@ use Rattle.std.proofs.Common.{refl, Ok, Err}
 use Rattle.ssh_link.specs.declared.command.Command.TheVariants.{Answer}
 use Rattle.ssh_auth.specs.Plan.{Finish}
 use Rattle.ssh_session.specs.declared.error.Flow.{Flow}
-use Rattle.ssh_session.specs.declared.error.Flow.TheVariants.{Ended}
+use Rattle.ssh_session.specs.declared.error.Flow.TheVariants.{Continue, Ended}
 use Rattle.ssh_session.specs.Acts.{acts}
-use Rattle.ssh_session.specs.Outcome.{Goes, Ends, Fails, Not_built}
-use Rattle.ssh_session.specs.Rows.{row}
+use Rattle.ssh_session.specs.Outcome.{Goes, Ends}
 use Rattle.ssh_session.specs.Run.{command_row}
 use Rattle.ssh_session.specs.Serve.{comes}
 use Rattle.ssh_session.specs.Ticks.{keepalive_acts, inactivity_acts}
 use Rattle.ssh_session.specs.World.{hears}
-use Rattle.ssh_session.proofs.Serving.{serves_nothing, unbuilt_input, inactive_input, completes}
+use Rattle.ssh_session.proofs.Serving.{serves_nothing, inactive_input, completes}
 use Rattle.ssh_session.proofs.Serving.{goes_on, turned, passed}
 use Rattle.ssh_session.proofs.session.Session.serve.Goals as goal
 
@@ -19,7 +18,7 @@ returns-in-Payload-clause-does g c = λ w r.
     let v = hears c.in-Payload.payload w in
     let q = rw c.as_slice.ensures at (c.hear.ensures.world w r) in
     let s = rw c.as_slice-in-Payload.ensures at (c.serve_payload.ensures.does v q) in
-    (row v c.args.moment s.0, rw c.in-Payload.is (s.0, s.1, refl), s.2)
+    (s.0, rw c.in-Payload.is s.1, s.2)
 
 pub returns-in-Command-clause-does : goal.returns-in-Command-clause-does
 returns-in-Command-clause-does g c = λ w r. (
@@ -46,7 +45,7 @@ pub returns-in_err-keepalive_tick-in-KeepaliveTick-clause-does :
     goal.returns-in_err-keepalive_tick-in-KeepaliveTick-clause-does
 returns-in_err-keepalive_tick-in-KeepaliveTick-clause-does g c = λ w r.
     let plan = acts (keepalive_acts w) w in
-    let heard = g.O.Outside.heard c.args.outside.now in
+    let heard = g.O.Transport.heard c.args.outside.now in
     let session = c.keepalive_tick.new.self in
     let e = c.in_err-keepalive_tick-in-KeepaliveTick.field-0.0 in (
       plan,
@@ -62,7 +61,7 @@ returns-in_err-keepalive_tick-in-KeepaliveTick-clause-does g c = λ w r.
 pub returns-in_ok-keepalive_tick-in-KeepaliveTick-clause-does :
     goal.returns-in_ok-keepalive_tick-in-KeepaliveTick-clause-does
 returns-in_ok-keepalive_tick-in-KeepaliveTick-clause-does g c = λ w r.
-    let heard = g.O.Outside.heard c.args.outside.now in
+    let heard = g.O.Transport.heard c.args.outside.now in
     let session = c.keepalive_tick.new.self in (
       acts (keepalive_acts w) w,
       rw c.in-KeepaliveTick.is refl,
@@ -80,7 +79,7 @@ returns-in-InactivityTick-clause-does g c = λ w r. (
 
 pub returns-in-RekeyTick-clause-does : goal.returns-in-RekeyTick-clause-does
 returns-in-RekeyTick-clause-does g c = λ w r. (
-  Finish (Fails Not_built),
+  Finish (Goes w),
   rw c.in-RekeyTick.is refl,
-  unbuilt_input (λ (flow : Flow) world. Finish (comes flow world)) _ c.args.self.now,
+  serves_nothing Continue (λ flow world. Finish (comes flow world)) _ w c.args.self.now r,
 )

@@ -30,7 +30,7 @@ returns-in_err-conclude-clause-does g c = λ w r.
     let v = waits_for (WaitingAuthRequest new) w in
     let d = subst (λ q. Does (replied v c.args.moment q c.in_ok-step.step.reply
     c.in_ok-step.step.verdict) v
-    (g.O.Outside.heard c.response.new.self) (g.O.Outside.heard c.conclude.new.outside)
+    (g.O.Transport.heard c.response.new.self) (g.O.Transport.heard c.conclude.new.outside)
     c.conclude.new.self
     (Err c.in_err-conclude.field-0.0)) r.requested
     (c.in_err-conclude.ensures.does v (asked_again new c.args.self.now _ w r)) in
@@ -53,7 +53,7 @@ returns-clause-does g c = λ w r.
     let v = waits_for (WaitingAuthRequest new) w in
     let d = subst (λ q. Does (replied v c.args.moment q c.in_ok-step.step.reply
     c.in_ok-step.step.verdict) v
-    (g.O.Outside.heard c.response.new.self) (g.O.Outside.heard c.conclude.new.outside)
+    (g.O.Transport.heard c.response.new.self) (g.O.Transport.heard c.conclude.new.outside)
     c.conclude.new.self
     (Ok tt)) r.requested
     (c.in_ok-conclude.ensures.does v (asked_again new c.args.self.now _ w r)) in

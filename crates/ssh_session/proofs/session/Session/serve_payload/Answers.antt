@@ -1,115 +1,124 @@
-use Rattle.std.proofs.Common.{drop, refl, subst}
+use Rattle.std.proofs.Common.{◌∷◌, [], Ok, Err, refl, subst}
 use Rattle.ssh_auth.specs.Plan.{Finish}
 use Rattle.ssh_session.specs.declared.error.Flow.{Flow}
-use Rattle.ssh_session.specs.declared.error.Flow.TheVariants.{Continue, Ended}
-use Rattle.ssh_session.specs.Reading.{Says, Nothing, Disconnect, Over_cap, Unbuilt}
-use Rattle.ssh_session.specs.Reading.{Service, Connection, said_of}
-use Rattle.ssh_session.specs.Rows.{row}
+use Rattle.ssh_session.specs.declared.error.Flow.TheVariants.{Continue}
+use Rattle.ssh_session.specs.declared.exchange.Passage.TheVariants as passage
+use Rattle.ssh_session.specs.Acts.{Exchanges, Stepping, acts}
+use Rattle.ssh_session.specs.Outcome.{Goes}
+use Rattle.ssh_session.specs.Rows.{exchange_acts, row}
+use Rattle.ssh_session.specs.Run.{OwesPassed}
 use Rattle.ssh_session.specs.Serve.{comes}
-use Rattle.ssh_session.specs.World.{circumstances}
-use Rattle.ssh_session.proofs.Serving.{serves_nothing, unbuilt_input, quiet}
+use Rattle.ssh_session.proofs.Serving.{barred_input, completes, goes_on, late_input, passed}
+use Rattle.ssh_session.proofs.Serving.{served_both}
 use Rattle.ssh_session.proofs.session.Session.serve_payload.Goals as goal
 
-pub returns-in-ServiceRequest-clause-does : goal.returns-in-ServiceRequest-clause-does
-returns-in-ServiceRequest-clause-does g c = λ w r.
-    let served = rw c.fields_of-fields.ensures at (c.serve_service_request.ensures.does w
-    c.args.moment r) in
-    let said = said_of Service served.0 in (
-      said,
-      subst (λ at. Says (circumstances (g.V.Verifier.accepts c.args.verifier.now) w.settings
-          c.args.moment) w at (drop 1 c.args.payload.now) said)
-          (c.in-ServiceRequest.ensures.gate w r) (served.0, served.1, refl),
-      served.2,
+pub returns-in_err-begin_exchange-in-Begins-clause-does :
+    goal.returns-in_err-begin_exchange-in-Begins-clause-does
+returns-in_err-begin_exchange-in-Begins-clause-does g c = λ w r.
+    let payload = c.args.payload.now in
+    let plan = acts (exchange_acts payload passage.Begins) w in (
+      plan,
+      subst (λ at. OwesPassed at (g.V.Verifier.accepts c.args.verifier.now) w c.args.moment payload
+          plan) (c.in-Begins.ensures w r) refl,
+      passed plan (λ (_ : Unit {0}). acts (Exchanges (Stepping payload) ∷ []))
+          (λ flow world. Finish (comes flow world)) _ _ c.begin_exchange.new.self
+          c.begin_exchange.new.self _ _ c.from_residual.ensures.1
+          (c.in_err-begin_exchange-in-Begins.ensures.does w r (Exchanges (Stepping payload) ∷ [])),
     )
 
-pub returns-in-ChannelOpen-clause-does : goal.returns-in-ChannelOpen-clause-does
-returns-in-ChannelOpen-clause-does g c = λ w r.
-    let served = rw c.fields_of-fields.ensures at (c.serve_channel_open.ensures.does w c.args.moment
-    r) in (
-      served.0,
-      subst (λ at. Says (circumstances (g.V.Verifier.accepts c.args.verifier.now) w.settings
-          c.args.moment) w at (drop 1 c.args.payload.now) served.0)
-          (c.in-ChannelOpen.ensures.gate w r) served.1,
-      served.2,
+pub returns-in_err-step_exchange-in-Begins-clause-does :
+    goal.returns-in_err-step_exchange-in-Begins-clause-does
+returns-in_err-step_exchange-in-Begins-clause-does g c = λ w r.
+    let payload = c.args.payload.now in
+    let step = Exchanges (Stepping payload) ∷ [] in
+    let plan = acts (exchange_acts payload passage.Begins) w in (
+      plan,
+      subst (λ at. OwesPassed at (g.V.Verifier.accepts c.args.verifier.now) w c.args.moment payload
+          plan) (c.in-Begins.ensures w r) refl,
+      served_both tt plan (λ (_ : Unit {0}). acts step) (λ flow world. Finish (comes flow world))
+          _ _ _ c.begin_exchange.new.self c.step_exchange.new.self _
+          (c.in_ok-begin_exchange-in-Begins.ensures.does w r step)
+          (λ v q. passed (acts step v) (λ (_ : Unit {0}) world. Finish (Goes world))
+          (λ flow world. Finish (comes flow world)) _ _ c.step_exchange.new.self
+          c.step_exchange.new.self _ _
+          c.from_residual-in_err-step_exchange-in-Begins.ensures.1
+          (completes step v _ _ c.step_exchange.new.self (Err _)
+          (c.in_err-step_exchange-in-Begins.ensures.does v q))),
     )
 
-pub returns-in-OpenConfirmation-clause-does : goal.returns-in-OpenConfirmation-clause-does
-returns-in-OpenConfirmation-clause-does g c = λ w r.
-    let served = rw c.fields_of-fields.ensures at (c.serve_open_confirmation.ensures.does w
-    c.args.moment r) in (
-      served.0,
-      subst (λ at. Says (circumstances (g.V.Verifier.accepts c.args.verifier.now) w.settings
-          c.args.moment) w at (drop 1 c.args.payload.now) served.0)
-          (c.in-OpenConfirmation.ensures.gate w r) served.1,
-      served.2,
+pub returns-in_ok-step_exchange-in-Begins-clause-does :
+    goal.returns-in_ok-step_exchange-in-Begins-clause-does
+returns-in_ok-step_exchange-in-Begins-clause-does g c = λ w r.
+    let payload = c.args.payload.now in
+    let step = Exchanges (Stepping payload) ∷ [] in
+    let plan = acts (exchange_acts payload passage.Begins) w in (
+      plan,
+      subst (λ at. OwesPassed at (g.V.Verifier.accepts c.args.verifier.now) w c.args.moment payload
+          plan) (c.in-Begins.ensures w r) refl,
+      served_both tt plan (λ (_ : Unit {0}). acts step) (λ flow world. Finish (comes flow world))
+          _ _ _ c.begin_exchange.new.self c.step_exchange.new.self (Ok Continue)
+          (c.in_ok-begin_exchange-in-Begins.ensures.does w r step)
+          (λ v q. goes_on step v _ _ c.step_exchange.new.self
+          (c.in_ok-step_exchange-in-Begins.ensures.does v q)),
     )
 
-pub returns-in-Connection-clause-does : goal.returns-in-Connection-clause-does
-returns-in-Connection-clause-does g c = λ w r.
-    let served = rw c.fields_of-fields.ensures at (c.serve_connection_message.ensures.does w
-    c.args.moment r) in
-    let said = said_of Connection served.0 in (
-      said,
-      subst (λ at. Says (circumstances (g.V.Verifier.accepts c.args.verifier.now) w.settings
-          c.args.moment) w at (drop 1 c.args.payload.now) said)
-          (c.in-Connection.ensures.gate w r) (served.0, served.1, refl),
-      served.2,
+pub returns-in_err-step_exchange-in-Steps-clause-does :
+    goal.returns-in_err-step_exchange-in-Steps-clause-does
+returns-in_err-step_exchange-in-Steps-clause-does g c = λ w r.
+    let payload = c.args.payload.now in
+    let step = Exchanges (Stepping payload) ∷ [] in
+    let plan = acts step w in (
+      plan,
+      subst (λ at. OwesPassed at (g.V.Verifier.accepts c.args.verifier.now) w c.args.moment payload
+          plan) (c.in-Steps.ensures w r) refl,
+      passed plan (λ (_ : Unit {0}) world. Finish (Goes world))
+          (λ flow world. Finish (comes flow world)) _ _ c.step_exchange-in-Steps.new.self
+          c.step_exchange-in-Steps.new.self _ _
+          c.from_residual-in_err-step_exchange-in-Steps.ensures.1
+          (completes step w _ _ c.step_exchange-in-Steps.new.self (Err _)
+          (c.in_err-step_exchange-in-Steps.ensures.does w r)),
     )
 
-pub returns-in-UserauthRequest-clause-does : goal.returns-in-UserauthRequest-clause-does
-returns-in-UserauthRequest-clause-does g c = λ w r.
-    let served = c.serve_userauth_request.ensures.does w r in (
-      served.0,
-      subst (λ at. Says (circumstances (g.V.Verifier.accepts c.args.verifier.now) w.settings
-          c.args.moment) w at (drop 1 c.args.payload.now) served.0)
-          (c.in-UserauthRequest.ensures.gate w r) served.1,
-      served.2,
+pub returns-in_ok-step_exchange-in-Steps-clause-does :
+    goal.returns-in_ok-step_exchange-in-Steps-clause-does
+returns-in_ok-step_exchange-in-Steps-clause-does g c = λ w r.
+    let payload = c.args.payload.now in
+    let step = Exchanges (Stepping payload) ∷ [] in
+    let plan = acts step w in (
+      plan,
+      subst (λ at. OwesPassed at (g.V.Verifier.accepts c.args.verifier.now) w c.args.moment payload
+          plan) (c.in-Steps.ensures w r) refl,
+      goes_on step w _ _ c.step_exchange-in-Steps.new.self
+          (c.in_ok-step_exchange-in-Steps.ensures.does w r),
     )
 
-pub returns-in-InfoResponse-clause-does : goal.returns-in-InfoResponse-clause-does
-returns-in-InfoResponse-clause-does g c = λ w r.
-    let served = c.serve_info_response.ensures.does w r in (
-      served.0,
-      subst (λ at. Says (circumstances (g.V.Verifier.accepts c.args.verifier.now) w.settings
-          c.args.moment) w at (drop 1 c.args.payload.now) served.0)
-          (c.in-InfoResponse.ensures.gate w r) served.1,
-      served.2,
+pub returns-in-Barred-clause-does : goal.returns-in-Barred-clause-does
+returns-in-Barred-clause-does g c = λ w r.
+    let payload = c.args.payload.now in
+    let plan = acts (exchange_acts payload passage.Barred) w in (
+      plan,
+      subst (λ at. OwesPassed at (g.V.Verifier.accepts c.args.verifier.now) w c.args.moment payload
+          plan) (c.in-Barred.ensures w r) refl,
+      barred_input (λ (flow : Flow) world. Finish (comes flow world)) _ c.args.self.now,
     )
 
-pub returns-in-Nothing-clause-does : goal.returns-in-Nothing-clause-does
-returns-in-Nothing-clause-does g c = λ w r. (
-  Nothing,
-  subst (λ at. Says (circumstances (g.V.Verifier.accepts c.args.verifier.now) w.settings
-      c.args.moment) w at (drop 1 c.args.payload.now) Nothing)
-      (c.in-Nothing.ensures.gate w r) refl,
-  serves_nothing Continue (λ flow world. Finish (comes flow world)) _ w c.args.self.now r,
-)
+pub returns-in-Late-clause-does : goal.returns-in-Late-clause-does
+returns-in-Late-clause-does g c = λ w r.
+    let payload = c.args.payload.now in
+    let plan = acts (exchange_acts payload passage.Late) w in (
+      plan,
+      subst (λ at. OwesPassed at (g.V.Verifier.accepts c.args.verifier.now) w c.args.moment payload
+          plan) (c.in-Late.ensures w r) refl,
+      late_input (λ (flow : Flow) world. Finish (comes flow world)) _ c.args.self.now,
+    )
 
-pub returns-in-Ends-clause-does : goal.returns-in-Ends-clause-does
-returns-in-Ends-clause-does g c = λ w r. (
-  Disconnect,
-  subst (λ at. Says (circumstances (g.V.Verifier.accepts c.args.verifier.now) w.settings
-      c.args.moment) w at (drop 1 c.args.payload.now) Disconnect)
-      (c.in-Ends.ensures.gate w r) refl,
-  serves_nothing Ended (λ flow world. Finish (comes flow world)) _ w c.args.self.now r,
-)
-
-pub returns-in-OverCap-clause-does : goal.returns-in-OverCap-clause-does
-returns-in-OverCap-clause-does g c = λ w r. (
-  Over_cap,
-  subst (λ at. Says (circumstances (g.V.Verifier.accepts c.args.verifier.now) w.settings
-      c.args.moment) w at (drop 1 c.args.payload.now) Over_cap)
-      (c.in-OverCap.ensures.gate w r) refl,
-  quiet (row w c.args.moment Over_cap) (λ flow world. Finish (comes flow world)) _
-      c.serve_over_cap.new.self c.serve_over_cap.result
-      (c.serve_over_cap.ensures w c.args.moment r),
-)
-
-pub returns-in-NotBuilt-clause-does : goal.returns-in-NotBuilt-clause-does
-returns-in-NotBuilt-clause-does g c = λ w r. (
-  Unbuilt,
-  subst (λ at. Says (circumstances (g.V.Verifier.accepts c.args.verifier.now) w.settings
-      c.args.moment) w at (drop 1 c.args.payload.now) Unbuilt)
-      (c.in-NotBuilt.ensures.gate w r) refl,
-  unbuilt_input (λ (flow : Flow) world. Finish (comes flow world)) _ c.args.self.now,
-)
+pub returns-in-Passes-clause-does : goal.returns-in-Passes-clause-does
+returns-in-Passes-clause-does g c = λ w r.
+    let payload = c.args.payload.now in
+    let s = c.serve_passed.ensures.does w r in
+    let plan = row w c.args.moment s.0 in (
+      plan,
+      subst (λ at. OwesPassed at (g.V.Verifier.accepts c.args.verifier.now) w c.args.moment payload
+          plan) (c.in-Passes.ensures w r) (s.0, s.1, refl),
+      s.2,
+    )

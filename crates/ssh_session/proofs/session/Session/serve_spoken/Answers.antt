@@ -68,4 +68,4 @@ returns-in-Settles-clause-does g c = λ w r later.
 
 pub returns-in-Inconsistent-clause-does : goal.returns-in-Inconsistent-clause-does
 returns-in-Inconsistent-clause-does g c = λ w r later.
-    rw c.in-Inconsistent.is ([], hears_nothing false (g.O.Outside.heard c.args.outside.now), refl)
+    rw c.in-Inconsistent.is ([], hears_nothing false (g.O.Transport.heard c.args.outside.now), refl)

@@ -1,4 +1,4 @@
-use Rattle.std.proofs.Common.{map, refl, inl, inr}
+use Rattle.std.proofs.Common.{map, refl, sym, ◌∙◌, inl, inr}
 use Rattle.std.proofs.lemmas.Result.{err_from_is_err_and}
 use Rattle.ssh_link.specs.declared.link.TraceEntry.TheVariants.{Noticed}
 use Rattle.ssh_auth.specs.Plan.{Finish}
@@ -9,7 +9,7 @@ use Rattle.ssh_session.proofs.Serving.{passed, served_both}
 use Rattle.ssh_session.proofs.session.Session.take_behind.Goals as goal
 
 pub returns-in_err-tell_each-clause-does : goal.returns-in_err-tell_each-clause-does
-returns-in_err-tell_each-clause-does g c = λ w r.
+returns-in_err-tell_each-clause-does g c = λ w r repeats.
     let old = c.args.self.now in
     let alone = tell_all (map Noticed c.args.notices.now.items) (Finish (Goes w)) in
     let p = err_from_is_err_and c.from_residual.result c.from_residual.ensures.1 in
@@ -22,9 +22,10 @@ returns-in_err-tell_each-clause-does g c = λ w r.
     )
 
 pub returns-clause-does : goal.returns-clause-does
-returns-clause-does g c = λ w r.
+returns-clause-does g c = λ w r repeats.
     let old = c.args.self.now in
-    let t = c.take_unless_ended.ensures.does w r in
+    let t = c.take_unless_ended.ensures.does w r
+    (repeats ∙ sym c.in_ok-tell_each.ensures.same.3) in
     let all = tell_all (map Noticed c.args.notices.now.items) t.0 in
     inl (
       all,

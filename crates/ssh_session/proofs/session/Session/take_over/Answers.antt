@@ -3,7 +3,8 @@ use Rattle.ssh_session.proofs.Stepping.{noted, unchanged_by}
 use Rattle.ssh_session.proofs.session.Session.take_over.Goals as goal
 
 pub returns-clause-taken : goal.returns-clause-taken
-returns-clause-taken g c = λ w r.
+returns-clause-taken g c = λ w r repeats.
     noted (Owes (g.V.Verifier.accepts c.args.verifier.now) w c.args.input) _ _
     c.take-outcome.new.self c.note_end.new.self c.take-outcome.result
-    (λ goes. unchanged_by _ _ (c.note_end.ensures.continues goes)) (c.take-outcome.ensures.does w r)
+    (λ goes. unchanged_by _ _ (c.note_end.ensures.continues goes))
+    (c.take-outcome.ensures.does w r repeats)

@@ -1,21 +1,20 @@
 use Rattle.std.proofs.Common.{sym, ◌∙◌, subst, refl}
 use Rattle.ssh_session.specs.Between.{OwesUnlessEnded}
-use Rattle.ssh_session.specs.Outcome.{Ends}
-use Rattle.ssh_session.specs.Run.{hand_on}
+use Rattle.ssh_session.specs.Run.{hand_on, is_over}
 use Rattle.ssh_session.proofs.session.Session.take_unless_ended.Goals as goal
 
 pub returns-then-self-clause-does : goal.returns-then-self-clause-does
-returns-then-self-clause-does g c = λ w r. (
-  hand_on w Ends,
+returns-then-self-clause-does g c = λ w r repeats. (
+  hand_on w is_over,
   subst (λ b. OwesUnlessEnded b (g.V.Verifier.accepts c.args.verifier.now) w c.args.input
-      (hand_on w Ends))
+      (hand_on w is_over))
       (sym c.if-self.true ∙ r.disconnected) refl,
   c.end_run.ensures.does w r,
 )
 
 pub returns-clause-does : goal.returns-clause-does
-returns-clause-does g c = λ w r.
-    let s = c.take.ensures.does w r in (
+returns-clause-does g c = λ w r repeats.
+    let s = c.take.ensures.does w r repeats in (
       s.0,
       subst (λ b. OwesUnlessEnded b (g.V.Verifier.accepts c.args.verifier.now) w c.args.input s.0)
           (sym c.if-self.false ∙ r.disconnected) s.1,

@@ -1,0 +1,253 @@
+-- The end of an input without one.
+use Rattle.std.proofs.Common.{◌≡◌, Bool, true, false, cond, List, [], ◌∷◌, ◌++◌, map}
+use Rattle.std.proofs.Common.{Result, Ok, Err, refl, sym, ◌∙◌, ap, subst}
+use Rattle.ssh_link.specs.Faults.{Rose}
+use Rattle.ssh_link.specs.declared.link.TraceEntry.{TraceEntry}
+use Rattle.ssh_link.specs.declared.link.TraceEntry.TheVariants.{Noticed, Sent}
+use Rattle.ssh_link.specs.declared.notice.Notice.{Notice}
+use Rattle.ssh_auth.specs.declared.question.Question.{Question}
+use Rattle.ssh_auth.specs.declared.question.Question.TheVariants as asked
+use Rattle.ssh_auth.specs.Plan.{Plan, Finish, Ask, Tell, Answer, Answered, Event, Reaches}
+use Rattle.ssh_auth.specs.Plan.{Handler_error, Exchange_error, Breaks, Refused, calls_in}
+use Rattle.ssh_auth.proofs.Plans.{calls_in_both}
+use Rattle.ssh_session.specs.declared.error.RunError.{RunError}
+use Rattle.ssh_session.specs.declared.error.RunError.TheVariants as error
+use Rattle.ssh_session.specs.declared.session.Session.{Session}
+use Rattle.ssh_session.specs.Acts.{Beginning, Exchanges, acts, frames_given, moved, tell_all}
+use Rattle.ssh_session.specs.Between.{ComesFlushed, Flushes, flushed}
+use Rattle.ssh_session.specs.Failure.{flush_error_of}
+use Rattle.ssh_session.specs.Heard.{Heard}
+use Rattle.ssh_session.specs.Outcome.{Outcome, Goes, Fails}
+use Rattle.ssh_session.specs.Outcome as outcome
+use Rattle.ssh_session.specs.Run.{begins, going_out, hand_on, handed_on, is_due}
+use Rattle.ssh_session.specs.Serve.{Refines, Cause, Wants_memory, Link_failed, Limit_reached}
+use Rattle.ssh_session.specs.Serve.{Faulty, Refused_by, Broken_by, IsCaused, Serves, Does, cause_of}
+use Rattle.ssh_session.specs.World.{World}
+use Rattle.ssh_session.proofs.Serving.{completes, serves_nothing}
+use Rattle.ssh_session.proofs.Stepping.{told_of}
+
+-- ---- behind the frames
+
+ended_step : {E F : Type 0} (ended due : Bool) (w : World) (a : Heard E F) (session : Session) →
+    ended ≡ true → Refines session w →
+    Serves (cond ended (Finish (Goes w)) (acts (begins due) w))
+    (λ (_ : Unit {0}) world. Finish (Goes world)) a a session (Ok tt)
+ended_step true due w a session is r =
+    serves_nothing tt (λ (_ : Unit {0}) world. Finish (Goes world)) a w session r
+ended_step false due w a session is r = absurd (cc)
+
+none_step : {E F : Type 0} (ended due : Bool) (w : World) (a : Heard E F) (session : Session) →
+    ended ≡ false → due ≡ false → Refines session w →
+    Serves (cond ended (Finish (Goes w)) (acts (begins due) w))
+    (λ (_ : Unit {0}) world. Finish (Goes world)) a a session (Ok tt)
+none_step true due w a session stands none r = absurd (cc)
+none_step false true w a session stands none r = absurd (cc)
+none_step false false w a session stands none r =
+    serves_nothing tt (λ (_ : Unit {0}) world. Finish (Goes world)) a w session r
+
+one_step : {E F : Type 0} (ended due : Bool) (w : World) (a b : Heard E F) (session : Session)
+    (result : Result (Unit {0}) (RunError E F)) → ended ≡ false → due ≡ true →
+    Serves (acts (begins true) w) (λ (_ : Unit {0}) world. Finish (Goes world)) a b session result →
+    Serves (cond ended (Finish (Goes w)) (acts (begins due) w))
+    (λ (_ : Unit {0}) world. Finish (Goes world)) a b session result
+one_step true due w a b session result stands is h = absurd (cc)
+one_step false true w a b session result stands is h = h
+one_step false false w a b session result stands is h = absurd (cc)
+
+-- the connection was ended
+pub flush_ended : {E F : Type 0} (w : World) (a : Heard E F) (session : Session) →
+    w.disconnected ≡ true → Refines session w →
+    Serves (flushed w) (λ (_ : Unit {0}) world. Finish (Goes world)) a a session (Ok tt)
+flush_ended w a session is r = ended_step w.disconnected (is_due false w) w a session is r
+
+-- it was not, and no exchange of keys is due
+pub flush_none : {E F : Type 0} (w : World) (a : Heard E F) (session : Session) →
+    w.disconnected ≡ false → is_due false w ≡ false → Refines session w →
+    Serves (flushed w) (λ (_ : Unit {0}) world. Finish (Goes world)) a a session (Ok tt)
+flush_none w a session stands none r =
+    none_step w.disconnected (is_due false w) w a session stands none r
+
+-- one is, and is begun, or is not
+pub flush_one : {E F : Type 0} (w : World) (a b : Heard E F) (session : Session)
+    (result : Result (Unit {0}) (RunError E F)) → w.disconnected ≡ false →
+    is_due false w ≡ true → Does (Exchanges Beginning ∷ []) w a b session result →
+    Serves (flushed w) (λ (_ : Unit {0}) world. Finish (Goes world)) a b session result
+flush_one w a b session result stands due h =
+    one_step w.disconnected (is_due false w) w a b session result stands due
+    (completes (Exchanges Beginning ∷ []) w a b session result h)
+
+-- ---- no other errors
+
+-- nothing is asked but that an exchange begins, and no fault comes of it
+abbrev Begins_alone : Plan Outcome → Type 0
+Begins_alone (Finish (Fails fault)) = ⊥
+Begins_alone (Finish other) = Unit {0}
+Begins_alone (Ask question next) = (question ≡ asked.Begins)
+    × ((answer : Answer question) → Begins_alone (next answer))
+Begins_alone (Tell entry next) = Begins_alone next
+
+still_alone : {E F : Type 0} (plan : Plan Outcome) (events : List (Event E F))
+    (rest : Plan Outcome) → Begins_alone plan → Reaches plan events rest → Begins_alone rest
+still_alone plan [] rest h r = subst Begins_alone r h
+still_alone (Ask question next) (event ∷ events) rest h r =
+    still_alone (next r.0) events rest (h.1 r.0) r.2
+still_alone (Tell entry next) (event ∷ events) rest h r = still_alone next events rest h r.1
+still_alone (Finish other) (event ∷ events) rest h r = absurd r
+
+not_begun : {E F : Type 0} (question : Question) (last : Event E F) (e : E) →
+    question ≡ asked.Begins → Refused {E = E} {F = F} question (Handler_error e) last → ⊥
+not_begun {E} {F} question last e is r =
+    subst (λ q. Refused {E = E} {F = F} q (Handler_error e) last) is r
+
+-- no handler answers an error where none is asked
+unasked : {E F : Type 0} (plan : Plan Outcome) (events : List (Event E F)) (e : E) →
+    Begins_alone plan → Breaks plan events (Handler_error e) → ⊥
+unasked plan events e h b =
+    let q = still_alone plan b.before (Ask b.question b.next) h b.reaches in
+    not_begun b.question b.last e q.0 b.refused
+
+faultless : {E F : Type 0} (plan : Plan Outcome) (events : List (Event E F))
+    (fault : outcome.Fault) → Begins_alone plan → Reaches plan events (Finish (Fails fault)) → ⊥
+faultless plan events fault h r = still_alone plan events (Finish (Fails fault)) h r
+
+fails_so : {E F : Type 0} (plan : Plan Outcome) (rose : Type 0) (events : List (Event E F))
+    (session : Session) (e : RunError E F) → Begins_alone plan →
+    IsCaused (cause_of e) plan rose events →
+    ComesFlushed plan events rose session (Err (flush_error_of e))
+fails_so plan rose events session error.NoMemory h k = k
+fails_so plan rose events session error.LinkFault h k = k
+fails_so plan rose events session error.InputLimit h k = absurd k
+fails_so plan rose events session (error.Encoding why) h k =
+    absurd (faultless plan events (outcome.Encoding why) h k)
+fails_so plan rose events session error.Inconsistent h k =
+    absurd (faultless plan events outcome.Inconsistent h k)
+fails_so plan rose events session error.Pending h k =
+    absurd (faultless plan events outcome.Pending h k)
+fails_so plan rose events session (error.Key why) h k =
+    absurd (faultless plan events (outcome.Key why) h k)
+fails_so plan rose events session error.UnsupportedAuthMethod h k =
+    absurd (faultless plan events outcome.Unsupported h k)
+fails_so plan rose events session (error.Handler e) h k = absurd (unasked plan events e h k)
+fails_so plan rose events session (error.Kex e) h k = k
+fails_so plan rose events session error.ChannelsFull h k =
+    absurd (faultless plan events outcome.Channels_full h k)
+fails_so plan rose events session error.KeepaliveTimeout h k =
+    absurd (faultless plan events outcome.Keepalive_timeout h k)
+fails_so plan rose events session error.InactivityTimeout h k =
+    absurd (faultless plan events outcome.Inactivity_timeout h k)
+
+told_alone : (entries : List TraceEntry) (next : Plan Outcome) → Begins_alone next →
+    Begins_alone (tell_all entries next)
+told_alone [] next h = h
+told_alone (entry ∷ entries) next h = told_alone entries next h
+
+begun_alone : (ended due : Bool) (w : World) →
+    Begins_alone (cond ended (Finish (Goes w)) (acts (begins due) w))
+begun_alone true due w = tt
+begun_alone false true w = (
+  refl,
+  λ answer. told_alone (map Sent (frames_given (answer ∷ [])))
+      (Finish (Goes (moved Beginning answer w))) tt,
+)
+begun_alone false false w = tt
+
+flushed_alone : (notices : List Notice) (w : World) →
+    Begins_alone (tell_all (map Noticed notices) (hand_on w flushed))
+flushed_alone notices w =
+    let v = handed_on w in
+    told_alone (map Noticed notices) (hand_on w flushed)
+    (told_alone (map Sent (going_out w)) (flushed v)
+    (begun_alone v.disconnected (is_due false v) v))
+
+-- ---- no calls
+
+-- whoever is asked so is no handler
+begun_uncalled : {E F : Type 0} (question : Question) (answer : Answer question)
+    (event : Event E F) → question ≡ asked.Begins → Answered question answer event →
+    calls_in (event ∷ []) ≡ []
+begun_uncalled question answer event is a =
+    subst (λ q. (given : Answer q) → Answered q given event → calls_in (event ∷ []) ≡ []) (sym is)
+    (λ given b. subst (λ x. calls_in (x ∷ []) ≡ []) (sym b) refl) answer a
+
+refused_uncalled : {E F : Type 0} (question : Question) (event : Event E F) (e : F) →
+    question ≡ asked.Begins → Refused {E = E} {F = F} question (Exchange_error e) event →
+    calls_in (event ∷ []) ≡ []
+refused_uncalled {E} {F} question event e is a =
+    subst (λ q. Refused {E = E} {F = F} q (Exchange_error e) event → calls_in (event ∷ []) ≡ [])
+    (sym is) (λ b. subst (λ x. calls_in (x ∷ []) ≡ []) (sym b) refl) a
+
+both_uncalled : {E F : Type 0} (xs ys : List (Event E F)) → calls_in xs ≡ [] →
+    calls_in ys ≡ [] → calls_in (xs ++ ys) ≡ []
+both_uncalled xs ys h k =
+    calls_in_both xs ys ∙ (ap (λ l. l ++ calls_in ys) h ∙ k)
+
+reached_uncalled : {E F : Type 0} (plan : Plan Outcome) (events : List (Event E F))
+    (rest : Plan Outcome) → Begins_alone plan → Reaches plan events rest → calls_in events ≡ []
+reached_uncalled plan [] rest h r = refl
+reached_uncalled (Ask question next) (event ∷ events) rest h r =
+    both_uncalled (event ∷ []) events (begun_uncalled question r.0 event h.0 r.1)
+    (reached_uncalled (next r.0) events rest (h.1 r.0) r.2)
+reached_uncalled (Tell entry next) (event ∷ events) rest h r =
+    both_uncalled (event ∷ []) events (subst (λ x. calls_in (x ∷ []) ≡ []) (sym r.0) refl)
+    (reached_uncalled next events rest h r.1)
+reached_uncalled (Finish other) (event ∷ events) rest h r = absurd r
+
+broken_uncalled : {E F : Type 0} (plan : Plan Outcome) (events : List (Event E F)) (e : F) →
+    Begins_alone plan → Breaks plan events (Exchange_error e) → calls_in events ≡ []
+broken_uncalled plan events e h b =
+    let asks = Ask b.question b.next in
+    let q = still_alone plan b.before asks h b.reaches in
+    ap calls_in b.is ∙ both_uncalled b.before (b.last ∷ [])
+    (reached_uncalled plan b.before asks h b.reaches)
+    (refused_uncalled b.question b.last e q.0 b.refused)
+
+caused_uncalled : {E F : Type 0} (cause : Cause E F) (plan : Plan Outcome) (rose : Type 0)
+    (events : List (Event E F)) → Begins_alone plan → IsCaused cause plan rose events →
+    calls_in events ≡ []
+caused_uncalled Wants_memory plan rose events h k = reached_uncalled plan events k.0 h k.1
+caused_uncalled Link_failed plan rose events h k = reached_uncalled plan events k.1.0 h k.1.1
+caused_uncalled Limit_reached plan rose events h k = absurd k
+caused_uncalled (Faulty fault) plan rose events h k =
+    reached_uncalled plan events (Finish (Fails fault)) h k
+caused_uncalled (Refused_by e) plan rose events h k = absurd (unasked plan events e h k)
+caused_uncalled (Broken_by e) plan rose events h k = broken_uncalled plan events e h k
+
+-- ---- what it comes to
+
+-- it is finished
+pub flush_goes : {E F : Type 0} (notices : List Notice) (w : World) (a b : Heard E F)
+    (session : Session) → Serves (tell_all (map Noticed notices) (hand_on w flushed))
+    (λ (_ : Unit {0}) world. Finish (Goes world)) a b session (Ok tt) →
+    Flushes notices w (told_of a) (told_of b) session (Ok tt)
+flush_goes notices w a b session h =
+    let owed = tell_all (map Noticed notices) (hand_on w flushed) in
+    record {
+      plan = owed;
+      owes = refl;
+      events = h.0;
+      uncalled = reached_uncalled owed h.0 (Finish (Goes h.2.0)) (flushed_alone notices w) h.2.1;
+      told = h.1.told;
+      later = h.1.later;
+      stepped = h.1.stepped;
+      comes = (h.2.0, h.2.1, h.2.2);
+    }
+
+-- it is not, and the session is spent
+pub flush_fails : {E F : Type 0} (notices : List Notice) (w : World) (a b : Heard E F)
+    (session session' : Session) (e : RunError E F) →
+    Serves (tell_all (map Noticed notices) (hand_on w flushed))
+    (λ (_ : Unit {0}) world. Finish (Goes world)) a b session (Err e) →
+    Flushes notices w (told_of a) (told_of b) session' (Err (flush_error_of e))
+flush_fails notices w a b session session' e h =
+    let owed = tell_all (map Noticed notices) (hand_on w flushed) in
+    let rose = Rose a.faults b.faults in
+    record {
+      plan = owed;
+      owes = refl;
+      events = h.0;
+      uncalled = caused_uncalled (cause_of e) owed rose h.0 (flushed_alone notices w) h.2;
+      told = h.1.told;
+      later = h.1.later;
+      stepped = h.1.stepped;
+      comes = fails_so owed rose h.0 session' e (flushed_alone notices w) h.2;
+    }

@@ -1,0 +1,31 @@
+use Rattle.std.proofs.Common.{◌∙◌, sym}
+use Rattle.ssh_auth.specs.Plan.{Finish}
+use Rattle.ssh_session.specs.declared.error.Flow.TheVariants.{Ended}
+use Rattle.ssh_session.specs.Run.{goes_unless_ended, hand_on, handed_on, is_over}
+use Rattle.ssh_session.specs.Serve.{comes, ends_by_flow}
+use Rattle.ssh_session.proofs.Serving.{passed, served_both, settled}
+use Rattle.ssh_session.proofs.session.Session.finish.Goals as goal
+
+pub returns-in_err-hand_on-clause-does : goal.returns-in_err-hand_on-clause-does
+returns-in_err-hand_on-clause-does g c = λ w r repeats.
+    let next = ends_by_flow c.args.ticked c.args.flow in
+    passed {U = Unit {0}} (hand_on w next) (λ _ _. next (handed_on w))
+    (λ flow world. Finish (comes flow world)) _ _
+    c.hand_on.new.self c.hand_on.new.self _ _ c.from_residual.ensures.1
+    (c.in_err-hand_on.ensures.does w r next)
+
+pub returns-in-Continue-clause-does : goal.returns-in-Continue-clause-does
+returns-in-Continue-clause-does g c = λ w r repeats.
+    let next = goes_unless_ended c.args.ticked in
+    let v = handed_on w in
+    rw c.in-Continue.is (served_both tt (hand_on w next) (λ (_ : Unit {0}) _. next v)
+    (λ flow world. Finish (comes flow world)) _ _ _ c.hand_on.new.self c.go_on.new.self
+    c.go_on.result (c.in_ok-hand_on.ensures.does w r next)
+    (λ _ _. c.go_on.ensures.does v (c.in_ok-hand_on.ensures.world w r)
+    (repeats ∙ sym c.in_ok-hand_on.ensures.same.3)))
+
+pub returns-in-Ended-clause-does : goal.returns-in-Ended-clause-does
+returns-in-Ended-clause-does g c = λ w r repeats.
+    rw c.in-Ended.is (settled Ended (hand_on w is_over) (λ flow world. Finish (comes flow world)) _ _
+    (handed_on w) c.hand_on.new.self (c.in_ok-hand_on.ensures.world w r)
+    (c.in_ok-hand_on.ensures.does w r is_over))

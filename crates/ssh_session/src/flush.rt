@@ -1,0 +1,125 @@
+// The end of an input without one, for whoever applied commands between two inputs.
+ghost use Rattle.std.specs.Prelude.{◌≡◌, [], false, true, map, OnOk, OnErr};
+ghost use Rattle.ssh_link.specs.declared.link.TraceEntry.TheVariants.{Noticed};
+ghost use Rattle.ssh_auth.specs.Plan.{Finish};
+ghost use Rattle.ssh_session.specs.Acts.{tell_all};
+ghost use Rattle.ssh_session.specs.Between.{FlushesBy, told_beneath, flushed, untold};
+ghost use Rattle.ssh_session.specs.Failure.{flush_error_of};
+ghost use Rattle.ssh_session.specs.Heard.{AreSame};
+ghost use Rattle.ssh_session.specs.Outcome.{Goes};
+ghost use Rattle.ssh_session.specs.Run.{hand_on};
+ghost use Rattle.ssh_session.specs.Serve.{Refines, Serves, IsSameSession, is_spent};
+ghost use Rattle.ssh_session.specs.World.{World};
+
+use crate::finish::tell_each;
+use crate::outside::{Ends, Transport};
+use crate::{FlushError, RunError, Session};
+use ssh_link::{Kex, Link, Notice};
+use std::collections::VecDeque;
+
+/// The error that it is where no input was taken.
+fn flush_error<E>(error: RunError<(), E>) -> FlushError<E>
+    ensures { result ≡ flush_error_of error }
+{
+    match error {
+        RunError::LinkFault => FlushError::LinkFault,
+        RunError::Kex(e) => FlushError::Kex(e),
+        _ => FlushError::NoMemory,
+    }
+}
+
+impl Session {
+    /// Ends an input without one, for whoever applied commands between two inputs: tells the
+    /// notices that they gave, hands on the frames that were written, unless an exchange of keys
+    /// runs, and begins one where as many bytes passed under the keys as may (RFC 4253 section 9).
+    /// Where such a command ended the connection it begins none, and the next input ends the run.
+    /// After an error the session is spent. It must not be spent before.
+    pub fn flush<K: Kex, L: Link>(
+        &mut self,
+        kex: &mut K,
+        link: &mut L,
+    ) -> Result<(), FlushError<K::Error>>
+        requires live { is_spent self.old ≡ false }
+        ensures flushed { (w : World) → Refines self.old w → w.settings.repeatable
+            ≡ K.repeats kex.old → FlushesBy (untold self.old) w
+            (told_beneath K.steps L.trace L.faults) kex.old link.old kex.new link.new self.new
+            result }
+        ensures told { OnOk result (untold self.new ≡ []) }
+        ensures repeats { K.repeats kex.new ≡ K.repeats kex.old }
+        ensures session { OnOk result (IsSameSession self.old self.new) }
+        ensures goes_on { OnOk result (is_spent self.new ≡ false) }
+        ensures spends { OnErr result (is_spent self.new ≡ true) }
+    {
+        let mut ends = Ends::new(kex, link);
+        let mut notices = self.take_untold();
+        let outcome = self.flush_behind(&mut ends, &mut notices);
+        self.keep_untold(notices);
+        outcome
+    }
+
+    /// The end of an input without one behind these notices, over these two.
+    fn flush_behind<K: Kex, L: Link>(
+        &mut self,
+        ends: &mut Ends<'_, K, L>,
+        notices: &mut VecDeque<Notice>,
+    ) -> Result<(), FlushError<K::Error>>
+        ensures same_kex { ends.new.kex.ghost_name ≡ ends.old.kex.ghost_name }
+        ensures same_link { ends.new.link.ghost_name ≡ ends.old.link.ghost_name }
+        ensures repeats { K.repeats ends.new.kex.now ≡ K.repeats ends.old.kex.now }
+        ensures flushed { (w : World) → Refines self.old w → w.settings.repeatable
+            ≡ K.repeats ends.old.kex.now → FlushesBy notices.old.items w
+            (told_beneath K.steps L.trace L.faults) ends.old.kex.now ends.old.link.now
+            ends.new.kex.now ends.new.link.now self.new result }
+        ensures told { OnOk result (notices.new.items ≡ []) }
+        ensures session { OnOk result (IsSameSession self.old self.new) }
+        ensures spends { OnErr result (is_spent self.new ≡ true) }
+    {
+        match self.flush_over(ends, notices) {
+            Ok(()) => Ok(()),
+            Err(error) => {
+                self.spent = true;
+                Err(flush_error(error))
+            }
+        }
+    }
+
+    /// The same of a session that is not spent.
+    fn flush_over<O: Transport>(
+        &mut self,
+        outside: &mut O,
+        notices: &mut VecDeque<Notice>,
+    ) -> Result<(), RunError<O::Error, O::KexError>>
+        ensures does { (w : World) → Refines self.old w → w.settings.repeatable
+            ≡ (O.heard outside.old).repeats → Serves
+            (tell_all (map Noticed notices.old.items) (hand_on w flushed))
+            (λ _ world. Finish (Goes world)) (O.heard outside.old) (O.heard outside.new) self.new
+            result }
+        ensures told { OnOk result (notices.new.items ≡ []) }
+        ensures session { IsSameSession self.old self.new }
+        ensures same { AreSame (O.heard outside.old) (O.heard outside.new) }
+    {
+        tell_each(outside, notices)?;
+        self.hand_on(outside)?;
+        self.begin_unless_ended(outside)
+    }
+
+    /// Keys are exchanged where that is due, unless the connection was ended.
+    fn begin_unless_ended<O: Transport>(
+        &mut self,
+        outside: &mut O,
+    ) -> Result<(), RunError<O::Error, O::KexError>>
+        ensures does { (w : World) → Refines self.old w → w.settings.repeatable
+            ≡ (O.heard outside.old).repeats → Serves (flushed w) (λ _ world. Finish (Goes world))
+            (O.heard outside.old) (O.heard outside.new) self.new result }
+        ensures session { IsSameSession self.old self.new }
+        ensures same { AreSame (O.heard outside.old) (O.heard outside.new) }
+    {
+        if self.common.disconnected {
+            return Ok(());
+        }
+        if !self.is_due(false, outside.repeatable()) {
+            return Ok(());
+        }
+        self.begin_exchange(outside)
+    }
+}
