@@ -56,7 +56,7 @@ status_small (Err (error.Kex e)) status h = some_small 1 status (omega arith) h
 status_small (Err error.ChannelsFull) status h = some_small 1 status (omega arith) h
 status_small (Err error.KeepaliveTimeout) status h = some_small 1 status (omega arith) h
 status_small (Err error.InactivityTimeout) status h = some_small 1 status (omega arith) h
-status_small (Err error.NotBuilt) status h = some_small 1 status (omega arith) h
+status_small (Err error.Pending) status h = some_small 1 status (omega arith) h
 
 shows_small : (read : Result Scene ℕ) (status : ℕ) (text : List ℕ) → Shows read status text
     → status < 3

@@ -241,25 +241,27 @@ pub kept : (scene : Scene) (status : ℕ)
     (result : Result (Unit {0}) (RunError Failure PlainKexError))
     (lost lost' : Bool) (queues queues' : Queues) (old all : List Question)
     (steps steps' : List (KexCall PlainKexError)) (inputs inputs' : List Input)
-    (moment moment' : ℕ) (trace trace' : List TraceEntry) (id text : List ℕ) →
-    lost ≡ false → lost' ≡ false → queues ≡ scene.queues → old ≡ [] →
+    (moment moment' : ℕ) (trace trace' : List TraceEntry) (id : List ℕ) (repeatable : Bool)
+    (text : List ℕ) → repeatable ≡ true → lost ≡ false → lost' ≡ false → queues ≡ scene.queues → old ≡ [] →
     steps ≡ [] → IsExchanged false steps' → inputs ≡ scene.inputs → moment ≡ scene.moment →
     trace ≡ [] →
     as_given (left_until moment' inputs') trace' ≡ trace' → status_of result ≡ Some status →
     id ≡ scene.session_id →
-    Ran (scene_accepts scene) (settings_of scene.config id [])
+    Ran (scene_accepts scene) (settings_of scene.config id [] repeatable)
     (told lost queues old steps inputs moment trace)
     (told lost' queues' all steps' inputs' moment' trace') scene.max_inputs result →
     text ≡ flat_map question_line all ++ entry_lines 0 trace' ++ last_line result →
     IsRun scene status text
 kept scene status result lost lost' queues queues' old all steps steps' inputs inputs' moment
-    moment' trace trace' id text l m qe oe se exchanged ie me te given h de given_ran texts =
+    moment' trace trace' id repeatable text repeats l m qe oe se exchanged ie me te given h de given_ran texts =
     let before : Told Failure PlainKexError = told lost queues old steps inputs moment trace in
     let after : Told Failure PlainKexError = told lost' queues' all steps' inputs' moment' trace' in
     let ran : Ran (scene_accepts scene) (scene_settings scene) before after scene.max_inputs
     result =
-    subst (λ x. Ran (scene_accepts scene) (settings_of scene.config x []) before after
-    scene.max_inputs result) de given_ran in
+    subst (λ x. Ran (scene_accepts scene) (settings_of scene.config x [] true) before after
+    scene.max_inputs result) de
+    (subst (λ b. Ran (scene_accepts scene) (settings_of scene.config id [] b) before after
+    scene.max_inputs result) repeats given_ran) in
     let calls = flat_map calls_of (ran.turns ++ option_to_list ran.last) in
     let asked = flat_map steps_of (ran.turns ++ option_to_list ran.last) in
     let told = flat_map entries (ran.turns ++ option_to_list ran.last) in

@@ -14,7 +14,7 @@ use Rattle.ssh_session.specs.declared.error.RunError.TheVariants as error
 use Rattle.ssh_session.specs.Account.{Concludes, Closes}
 use Rattle.ssh_session.specs.Outcome.{Outcome, Goes, Ends, Fails, Encoding, Inconsistent, Key}
 use Rattle.ssh_session.specs.Outcome.{Unsupported, Starved, Channels_full, Keepalive_timeout}
-use Rattle.ssh_session.specs.Outcome.{Inactivity_timeout, Not_built}
+use Rattle.ssh_session.specs.Outcome.{Inactivity_timeout, Pending}
 use Rattle.ssh_session.specs.Run.{Owes, Turn, IsTaken, Turns, Run, calls_of, steps_of, entries}
 use Rattle.ssh_session.specs.Short.{IsShortOf}
 use Rattle.ssh_session.specs.World.{World}
@@ -63,7 +63,7 @@ less left turn = record {
 
 -- the script gives the turn, where this is left of it
 abbrev Plays : Remaining → ScriptTurn → Type 0
-Plays left turn = (turn.input ≡ next_input turn.commands true left.supply)
+Plays left turn = (turn.input ≡ next_input turn.commands turn.replies left.supply)
     × IsAnswered left.queues (calls_of turn) × IsExchanged left.both (steps_of turn)
 
 -- it gives these turns
@@ -114,7 +114,7 @@ Matches (Ok (Fails Starved)) result = ⊥
 Matches (Ok (Fails Channels_full)) result = result ≡ Err error.ChannelsFull
 Matches (Ok (Fails Keepalive_timeout)) result = result ≡ Err error.KeepaliveTimeout
 Matches (Ok (Fails Inactivity_timeout)) result = result ≡ Err error.InactivityTimeout
-Matches (Ok (Fails Not_built)) result = result ≡ Err error.NotBuilt
+Matches (Ok (Fails Pending)) result = result ≡ Err error.Pending
 Matches (Err (Handler_error e)) result = result ≡ Err (error.Handler e)
 Matches (Err (Exchange_error e)) result = result ≡ Err (error.Kex e)
 
@@ -130,7 +130,7 @@ matches_once (Ok (Fails Starved)) r s h k = absurd h
 matches_once (Ok (Fails Channels_full)) r s h k = h ∙ sym k
 matches_once (Ok (Fails Keepalive_timeout)) r s h k = h ∙ sym k
 matches_once (Ok (Fails Inactivity_timeout)) r s h k = h ∙ sym k
-matches_once (Ok (Fails Not_built)) r s h k = h ∙ sym k
+matches_once (Ok (Fails Pending)) r s h k = h ∙ sym k
 matches_once (Err (Handler_error e)) r s h k = h ∙ sym k
 matches_once (Err (Exchange_error e)) r s h k = h ∙ sym k
 
@@ -146,7 +146,7 @@ matches_fed (Ok (Fails Starved)) r h = h
 matches_fed (Ok (Fails Channels_full)) r h = tt
 matches_fed (Ok (Fails Keepalive_timeout)) r h = tt
 matches_fed (Ok (Fails Inactivity_timeout)) r h = tt
-matches_fed (Ok (Fails Not_built)) r h = tt
+matches_fed (Ok (Fails Pending)) r h = tt
 matches_fed (Err e) r h = tt
 
 abbrev Ended : Acceptance → World → ScriptTurn → RunEnd → Type 0
@@ -177,7 +177,7 @@ came plan events (Err error.KeepaliveTimeout) status c h =
     (Ok (Fails Keepalive_timeout), c, refl)
 came plan events (Err error.InactivityTimeout) status c h =
     (Ok (Fails Inactivity_timeout), c, refl)
-came plan events (Err error.NotBuilt) status c h = (Ok (Fails Not_built), c, refl)
+came plan events (Err error.Pending) status c h = (Ok (Fails Pending), c, refl)
 
 closes_some : (accepts : Acceptance) (w : World) (n max : ℕ) (turn : ScriptTurn) (result : RunEnd)
     (status : ℕ) → Closes accepts w n max (Some turn) ⊥ result → status_of result ≡ Some status →
@@ -195,8 +195,9 @@ closes_none accepts w n max (Err error.InputLimit) status c h = (c, refl)
 closes_none accepts w n max _ status c h = absurd c
 
 turn_same : (t u : ScriptTurn) → t.input ≡ u.input → t.commands ≡ u.commands
-    → t.events ≡ u.events → t ≡ u
-turn_same t u e c f = λ i. record { input = e i; commands = c i; events = f i }
+    → t.replies ≡ u.replies → t.events ≡ u.events → t ≡ u
+turn_same t u e c r f =
+    λ i. record { input = e i; commands = c i; replies = r i; events = f i }
 
 -- the rest of a run, from this world on, after so many inputs
 pub record Tail (accepts : Acceptance) (w : World) (left : Remaining) (n max : ℕ)
@@ -226,10 +227,16 @@ same_commands : (w : World) (t u : ScriptTurn) → IsTaken w t → IsTaken w u
     → t.commands ≡ u.commands
 same_commands w t u i j = i.0 ∙ sym j.0
 
+same_replies : (w : World) (t u : ScriptTurn) → IsTaken w t → IsTaken w u
+    → t.replies ≡ u.replies
+same_replies w t u i j = i.1 ∙ sym j.1
+
 same_input : (w : World) (left : Remaining) (t u : ScriptTurn) → Takes w left t
     → Takes w left u → t.input ≡ u.input
-same_input w left t u i j = i.1.0 ∙ (ap (λ asked. next_input asked true left.supply)
-    (same_commands w t u i.0 j.0) ∙ sym j.1.0)
+same_input w left t u i j = i.1.0
+    ∙ (ap (λ asked. next_input asked t.replies left.supply) (same_commands w t u i.0 j.0)
+    ∙ ap (λ replies. next_input u.commands replies left.supply) (same_replies w t u i.0 j.0)
+    ∙ sym j.1.0)
 
 -- two turns at one place, whatever they come to
 same_turn : (accepts : Acceptance) (w : World) (left : Remaining) (t u : ScriptTurn)
@@ -280,7 +287,7 @@ both_last accepts w left t u r s a b i j =
     let m = same_turn accepts w left t u a.0 b.0 a.2 b.2 p q a.1 b.1
     (matches_fed a.2 r a.4) (matches_fed b.2 s b.4) a.3 b.3 in (
       same_cons t u [] [] (turn_same t u (same_input w left t u p q)
-          (same_commands w t u a.5 b.5) m.0) refl,
+          (same_commands w t u a.5 b.5) (same_replies w t u a.5 b.5) m.0) refl,
       matches_once a.2 r s a.4 (subst (λ o. Matches o s) (sym m.1) b.4),
     )
 
@@ -367,7 +374,8 @@ once accepts w left n max (t ∷ ts) (u ∷ us) last mast r s h k =
     let m = same_turn accepts w left t u h.run.1.0 k.run.1.0 (Ok (Goes h.run.0))
     (Ok (Goes k.run.0)) i j h.run.1.1 k.run.1.1 tt tt h.run.1.2 k.run.1.2 in
     let g = goes_once h.run.0 k.run.0 m.1 in
-    let e : t ≡ u = turn_same t u (same_input w left t u i j) (same_commands w t u i.0 j.0) m.0 in
+    let e : t ≡ u = turn_same t u (same_input w left t u i j) (same_commands w t u i.0 j.0)
+    (same_replies w t u i.0 j.0) m.0 in
     let k1 : Tail accepts k.run.0 (less left u) (n + 1) max us mast s
     = tail_next accepts w left n max u us mast s k in
     let k2 : Tail accepts h.run.0 (less left u) (n + 1) max us mast s

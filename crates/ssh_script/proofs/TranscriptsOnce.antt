@@ -131,7 +131,7 @@ run_not_two (Err (error.Kex e)) h = not_two 1 (omega arith) h
 run_not_two (Err error.ChannelsFull) h = not_two 1 (omega arith) h
 run_not_two (Err error.KeepaliveTimeout) h = not_two 1 (omega arith) h
 run_not_two (Err error.InactivityTimeout) h = not_two 1 (omega arith) h
-run_not_two (Err error.NotBuilt) h = not_two 1 (omega arith) h
+run_not_two (Err error.Pending) h = not_two 1 (omega arith) h
 
 two_shown : (read : Result Scene ℕ) (m : ℕ) (text : List ℕ) (lines : List (List ℕ))
     → Gives 0 opening_scene lines read → Shows read m text → m ≡ 2 →

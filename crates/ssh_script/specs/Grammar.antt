@@ -215,6 +215,10 @@ number_form name digits =
     then Of_number (λ count. line.Setting (setting.Attempts count)) digits
     else if bytes_eq name (codes "keepalive")
     then Of_number (λ count. line.Setting (setting.Keepalive count)) digits
+    else if bytes_eq name (codes "rekey-write")
+    then Of_number (λ bytes. line.Setting (setting.RekeyWrite bytes)) digits
+    else if bytes_eq name (codes "rekey-read")
+    then Of_number (λ bytes. line.Setting (setting.RekeyRead bytes)) digits
     else if bytes_eq name (codes "reject")
     then Of_number (λ time. line.Setting (setting.Reject time)) digits
     else if bytes_eq name (codes "reject-initial")
@@ -407,6 +411,7 @@ abbrev pub tick_form : List ℕ → Form
 tick_form word =
     if bytes_eq word (codes "keepalive") then Whole (line.Input input.KeepaliveTick)
     else if bytes_eq word (codes "inactivity") then Whole (line.Input input.InactivityTick)
+    else if bytes_eq word (codes "rekey") then Whole (line.Input input.RekeyTick)
     else No_form
 
 -- a word, and what follows it

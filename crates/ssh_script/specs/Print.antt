@@ -89,7 +89,7 @@ variant_name (error.Kex e) = codes "Kex"
 variant_name error.ChannelsFull = codes "ChannelsFull"
 variant_name error.KeepaliveTimeout = codes "KeepaliveTimeout"
 variant_name error.InactivityTimeout = codes "InactivityTimeout"
-variant_name error.NotBuilt = codes "NotBuilt"
+variant_name error.Pending = codes "Pending"
 
 -- how a run ended
 abbrev pub last_line : {E F : Type 0} → Result (Unit {0}) (RunError E F) → List ℕ

@@ -6,6 +6,8 @@ use Rattle.ssh_link.specs.declared.frame.Input.{Input}
 use Rattle.ssh_link.specs.declared.frame.InputKind.{InputKind}
 use Rattle.ssh_link.specs.declared.frame.InputKind.TheVariants.{Payload, Command, OpenReply}
 use Rattle.ssh_link.specs.declared.frame.InputKind.TheVariants.{KeepaliveTick, InactivityTick}
+use Rattle.ssh_link.specs.declared.frame.InputKind.TheVariants.{RekeyTick}
+use Rattle.ssh_wire.specs.declared.limits.Limits.{Limits}
 use Rattle.ssh_handler.specs.declared.config.Config.{Config}
 use Rattle.ssh_handler.specs.Settings.{standard_config}
 use Rattle.ssh_keys.specs.declared.table_verifier.AcceptedSignature.{AcceptedSignature}
@@ -72,6 +74,10 @@ opening_scene = record {
 abbrev pub with_standing : Standing → Scene → Scene
 with_standing standing s = record s { queues = record s.queues { standing = standing } }
 
+-- after a setting of when keys are exchanged again
+abbrev pub limited : Limits → Scene → Scene
+limited limits s = record s { config = record s.config { limits = limits } }
+
 -- after a setting; None where it is out of range
 abbrev pub set : Setting → Scene → Option Scene
 set (setting.Session id) s = if nat_lt (length id) (2 ^ 32) then Some (record s { session_id = id })
@@ -88,6 +94,10 @@ set (setting.Attempts count) s = Some
     (record s { config = record s.config { max_auth_attempts = count } })
 set (setting.Keepalive count) s = Some
     (record s { config = record s.config { keepalive_max = count } })
+set (setting.RekeyWrite bytes) s =
+    Some (limited (record s.config.limits { rekey_write_limit = bytes }) s)
+set (setting.RekeyRead bytes) s =
+    Some (limited (record s.config.limits { rekey_read_limit = bytes }) s)
 set (setting.Sign signature) s = Some (record s { accepted = s.accepted ++ signature ∷ [] })
 set (setting.AnswerNone verdict) s =
     Some (record s { queues = record s.queues { none = s.queues.none ++ verdict ∷ [] } })
@@ -148,6 +158,7 @@ after_input (input.Reply answer) s = with_input (OpenReply (s.tickets + 1) answe
     (with_ticket (begun s))
 after_input input.KeepaliveTick s = with_input KeepaliveTick (begun s)
 after_input input.InactivityTick s = with_input InactivityTick (begun s)
+after_input input.RekeyTick s = with_input RekeyTick (begun s)
 after_input input.End s = record s { stage = stage.Ended }
 
 -- once the peer is gone, input lines are not taken

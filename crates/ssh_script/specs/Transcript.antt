@@ -1,6 +1,6 @@
 -- What the program owes: its status, and the text that it writes.
 use Rattle.std.specs.Prelude.{◌≡◌, ◌≢◌, ◌<◌, ◌≤◌, ◌⊎◌, ℕ, List, [], ◌∷◌, ◌++◌, codes, flat_map}
-use Rattle.std.specs.Prelude.{length, false, Option, Some}
+use Rattle.std.specs.Prelude.{length, true, false, Option, Some}
 use Rattle.std.specs.Prelude.{None, option_to_list, Result, Ok, Err}
 use Rattle.std.specs.Fmt.{decimal}
 use Rattle.ssh_link.specs.Told.{Adds}
@@ -31,9 +31,10 @@ status_of (Err error.NoMemory) = None
 status_of (Err (error.Handler record_error.NoMemory)) = None
 status_of (Err e) = Some 1
 
--- a script does not name the software of its peer
+-- a script does not name the software of its peer, and its exchange of keys can be begun by this
+-- side
 abbrev pub scene_settings : Scene → Settings
-scene_settings scene = settings_of scene.config scene.session_id []
+scene_settings scene = settings_of scene.config scene.session_id [] true
 
 -- the signatures that are accepted are those of the scene
 abbrev pub scene_accepts : Scene → Acceptance

@@ -310,6 +310,8 @@ fn number_line(alloc: Global, name: &str, digits: &str) -> Result<Option<Line>, 
     match name {
         "attempts" => Ok(number.map(|count| Line::Setting(Setting::Attempts(count)))),
         "keepalive" => Ok(number.map(|count| Line::Setting(Setting::Keepalive(count)))),
+        "rekey-write" => Ok(number.map(|bytes| Line::Setting(Setting::RekeyWrite(bytes)))),
+        "rekey-read" => Ok(number.map(|bytes| Line::Setting(Setting::RekeyRead(bytes)))),
         "reject" => Ok(number.map(|time| Line::Setting(Setting::Reject(time)))),
         "reject-initial" => Ok(number.map(|time| Line::Setting(Setting::RejectInitial(time)))),
         _ => Ok(None),
@@ -364,6 +366,7 @@ fn tick_line(word: &str) -> Option<Line>
     match word {
         "keepalive" => Some(Line::Input(InputLine::KeepaliveTick)),
         "inactivity" => Some(Line::Input(InputLine::InactivityTick)),
+        "rekey" => Some(Line::Input(InputLine::RekeyTick)),
         _ => None,
     }
 }

@@ -27,6 +27,10 @@ pub(crate) enum Setting {
     Attempts(u64),
     /// How many keepalive requests may go unanswered, and 0 for no such limit.
     Keepalive(u64),
+    /// After how many bytes that are sent keys are exchanged again.
+    RekeyWrite(u64),
+    /// After how many bytes that are received keys are exchanged again.
+    RekeyRead(u64),
     /// One more signature that the verifier accepts.
     Sign(AcceptedSignature),
     /// One more answer to the requests of method none.
@@ -70,6 +74,8 @@ pub(crate) enum InputLine {
     KeepaliveTick,
     /// Nothing came from the peer for too long.
     InactivityTick,
+    /// It is time for new keys.
+    RekeyTick,
     /// The peer is gone.
     End,
 }

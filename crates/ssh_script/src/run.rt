@@ -70,7 +70,7 @@ fn variant_name(error: &RunError<RecordError<ScriptError>, PlainKexError>) -> &'
         RunError::ChannelsFull => "ChannelsFull",
         RunError::KeepaliveTimeout => "KeepaliveTimeout",
         RunError::InactivityTimeout => "InactivityTimeout",
-        RunError::NotBuilt => "NotBuilt",
+        RunError::Pending => "Pending",
     }
 }
 

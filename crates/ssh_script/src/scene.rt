@@ -72,6 +72,8 @@ impl Script {
             Setting::RejectInitial(time) => self.config.auth_rejection_time_initial = Some(time),
             Setting::Attempts(count) => self.config.max_auth_attempts = count as usize,
             Setting::Keepalive(count) => self.config.keepalive_max = count as usize,
+            Setting::RekeyWrite(bytes) => self.config.limits.rekey_write_limit = bytes,
+            Setting::RekeyRead(bytes) => self.config.limits.rekey_read_limit = bytes,
             Setting::Sign(accepted) => self.accept(accepted)?,
             Setting::AnswerNone(verdict) => self.answers.none.push(verdict)?,
             Setting::AnswerPassword(verdict) => self.answers.password.push(verdict)?,
@@ -162,6 +164,7 @@ impl Script {
             InputLine::Reply(answer) => self.push_reply(answer),
             InputLine::KeepaliveTick => self.push(InputKind::KeepaliveTick),
             InputLine::InactivityTick => self.push(InputKind::InactivityTick),
+            InputLine::RekeyTick => self.push(InputKind::RekeyTick),
             InputLine::End => {
                 self.stage = Stage::Ended;
                 Ok(())

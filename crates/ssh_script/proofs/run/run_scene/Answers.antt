@@ -17,7 +17,7 @@ returns c = kept (scene_of c.args.script) c.in-Some.status c.run_stream-run.resu
     c.in-Ok.link.inputs.items c.run_stream-run.new.link.inputs.items c.in-Ok.link.last_moment
     c.run_stream-run.new.link.last_moment
     c.in-Ok.link.memory.trace c.run_stream-run.new.link.memory.trace c.as_slice.result.now
-    (string_bytes c.print_last.new.out)
+    c.new-kex.result.plain.repeatable (string_bytes c.print_last.new.out) c.new-kex.ensures.repeatable
     c.new-handler.ensures.lost c.if-handler.false
     (ap queues_in c.new-handler.ensures.answers) c.new-handler.ensures.asked
     c.new-kex.ensures.calls c.run_stream-run.new.kex.exchanged
