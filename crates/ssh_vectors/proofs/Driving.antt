@@ -1,6 +1,6 @@
 -- From payload to payload.
 use Rattle.std.proofs.Common.{◌≡◌, ◌≤◌, ◌+◌, ℕ, List, [], ◌∷◌, ◌++◌, length, Option, Some, None}
-use Rattle.std.proofs.Common.{Result, Ok, Err, Bool, false, refl, sym, ◌∙◌, ap, subst, arith}
+use Rattle.std.proofs.Common.{Result, Ok, Err, Bool, false, not, refl, sym, ◌∙◌, ap, subst, arith}
 use Rattle.std.proofs.Common.{append_assoc, inl, inr}
 use Rattle.std.specs.Prelude.{flat_map, map, option_to_list}
 use Rattle.std.proofs.lemmas.List.{append-nil}
@@ -25,15 +25,16 @@ use Rattle.ssh_session.specs.declared.session.Session.{Session}
 use Rattle.ssh_session.specs.Account.{Told, Steps, Concludes, Closes}
 use Rattle.ssh_session.specs.Between.{untold, OwesBehind, OwesUnlessEnded, StepsAfter}
 use Rattle.ssh_session.specs.Outcome.{Fault, Outcome, Goes, Fails}
-use Rattle.ssh_session.specs.Run.{Owes, Turn, Turns, Run, calls_of, steps_of, nothing_waits}
+use Rattle.ssh_session.specs.Run.{Owes, Turn, Turns, Run, calls_of, steps_of, wants_commands}
 use Rattle.ssh_session.specs.Serve.{Cause, Wants_memory, Link_failed, Limit_reached, Faulty}
 use Rattle.ssh_session.specs.Serve.{Refused_by, Broken_by}
 use Rattle.ssh_session.specs.Serve.{Refines, IsSuited, IsCaused, cause_of, may_stop}
-use Rattle.ssh_session.specs.World.{Settings, World, opening_world}
+use Rattle.ssh_session.specs.World.{Settings, World, in_exchange, opening_world}
 use Rattle.ssh_session.proofs.Accepting.{authorised}
 use Rattle.ssh_session.proofs.Answered.{answered}
-use Rattle.ssh_session.proofs.Books.{ledgered}
+use Rattle.ssh_session.proofs.Sums.{ledgered}
 use Rattle.ssh_session.proofs.Ended.{IsLive, run_live}
+use Rattle.ssh_session.proofs.Exchanged.{exchanged, last_exchanged}
 use Rattle.ssh_session.proofs.GlobalReplied.{globally_replied}
 use Rattle.ssh_session.proofs.InOrder.{in_order}
 use Rattle.ssh_session.proofs.Replied.{replied}
@@ -158,7 +159,8 @@ input_of moment payload = record { moment = moment; kind = Payload payload }
 abbrev turn_of : {E F : Type 0} → World → Input → List (Event E F) → Turn E F
 turn_of w input events = record {
   input = input;
-  commands = nothing_waits w;
+  commands = wants_commands w;
+  replies = not (in_exchange w);
   events = events;
 }
 
@@ -166,21 +168,21 @@ turn_of w input events = record {
 pub goes_on : {E F : Type 0} (accepts : Acceptance) (settings : Settings) (moment : ℕ)
     (payloads : List (List ℕ)) (payload : List ℕ) (a c d : Told E F) (session session' : Session)
     → Going accepts settings payloads a c session
-    → ((w : World) → Refines session w → StepsAfter (untold session) accepts w
+    → ((w : World) → Refines session w → w.settings ≡ settings → StepsAfter (untold session) accepts w
     (input_of moment payload) c d session' (Ok Continue))
     → untold session' ≡ [] → Going accepts settings (payloads ++ payload ∷ []) a d session'
 goes_on {E} {F} accepts settings moment payloads payload a c d session session' going taken told =
     let w = going.world in
     let live = run_live accepts (opening_world settings) going.turns w going.run refl in
     let done = taken_now (untold session) accepts w (input_of moment payload) c d session' Continue
-    going.all_told live (taken w going.refines) in
+    going.all_told live (taken w going.refines going.set) in
     let turn : Turn E F = turn_of w (input_of moment payload) done.events in
     let comes = done.comes in
     record {
       turns = going.turns ++ turn ∷ [];
       world = comes.0;
       run = run_more accepts (opening_world settings) going.turns w turn comes.0 going.run
-          (done.plan, done.owes, comes.1, (refl, refl));
+          (done.plan, done.owes, comes.1, (refl, refl, refl));
       given = given_more going.turns turn payloads payload going.given refl;
       called = told_more false calls_of going.turns turn a.calls c.calls d.calls going.called
           done.called;
@@ -241,6 +243,8 @@ served accepts settings all a d result turns w last left max rose end run closes
       globally_replied = globally_replied accepts settings turns w count max last rose end run
           closes;
       in_order = λ earlier more is. in_order accepts settings turns w run earlier more is;
+      exchanged = exchanged accepts settings turns w run;
+      last_exchanged = last_exchanged accepts settings turns w count max last rose end run closes;
     }
 
 -- the last that was looked at
@@ -262,7 +266,7 @@ served_with {E} {F} accepts settings moment payloads rest all payload a c d sess
     let count = length going.turns in
     served accepts settings all a d result going.turns w (Some turn) (map Payload rest) (count + 1)
     (Rose c.faults d.faults) end going.run
-    (omega arith, (refl, refl), (step.plan, step.owes, concludes))
+    (omega arith, (refl, refl, refl), (step.plan, step.owes, concludes))
     (given_left (going.turns ++ turn ∷ []) (payloads ++ payload ∷ []) rest all
     (given_more going.turns turn payloads payload going.given refl) is)
     (λ goes. absurd (not goes)) ends
@@ -315,14 +319,14 @@ all_served accepts settings payloads rest all a c session going is none =
 pub ended : {E F : Type 0} (accepts : Acceptance) (settings : Settings) (moment : ℕ)
     (payloads rest all : List (List ℕ)) (payload : List ℕ) (a c d : Told E F)
     (session session' : Session) → Going accepts settings payloads a c session
-    → ((w : World) → Refines session w → StepsAfter (untold session) accepts w
+    → ((w : World) → Refines session w → w.settings ≡ settings → StepsAfter (untold session) accepts w
     (input_of moment payload) c d session' (Ok Ended))
     → (payloads ++ payload ∷ []) ++ rest ≡ all → Served accepts settings all a d (Ok Ended)
 ended accepts settings moment payloads rest all payload a c d session session' going taken is =
     let w = going.world in
     let live = run_live accepts (opening_world settings) going.turns w going.run refl in
     let done = taken_now (untold session) accepts w (input_of moment payload) c d session' Ended
-    going.all_told live (taken w going.refines) in
+    going.all_told live (taken w going.refines going.set) in
     served_with accepts settings moment payloads rest all payload a c d session session' (Ok Ended)
     (Ok tt) going done done.comes (done.plan, done.owes, done.comes) is (λ h. cc)
 
@@ -383,7 +387,7 @@ ends_before accepts w plan rose rose' events error.KeepaliveTimeout is f h =
     no_fault plan w _ events is h
 ends_before accepts w plan rose rose' events error.InactivityTimeout is f h =
     no_fault plan w _ events is h
-ends_before accepts w plan rose rose' events error.NotBuilt is f h =
+ends_before accepts w plan rose rose' events error.Pending is f h =
     no_fault plan w _ events is h
 
 rises : {E F : Type 0} (a c d : Told E F) → a.faults ≤ c.faults → Rose c.faults d.faults
@@ -422,14 +426,14 @@ stopped_by accepts settings moment payloads rest all payload a c d session sessi
 pub stopped : {E F : Type 0} (accepts : Acceptance) (settings : Settings) (moment : ℕ)
     (payloads rest all : List (List ℕ)) (payload : List ℕ) (a c d : Told E F)
     (session session' : Session) (e : RunError E F) → Going accepts settings payloads a c session
-    → ((w : World) → Refines session w → StepsAfter (untold session) accepts w
+    → ((w : World) → Refines session w → w.settings ≡ settings → StepsAfter (untold session) accepts w
     (input_of moment payload) c d session' (Err e))
     → (payloads ++ payload ∷ []) ++ rest ≡ all → Served accepts settings all a d (Err e)
 stopped accepts settings moment payloads rest all payload a c d session session' e going taken is =
     stopped_by accepts settings moment payloads rest all payload a c d session session' e
     (untold session) going.all_told going
     (run_live accepts (opening_world settings) going.turns going.world going.run refl)
-    (taken going.world going.refines) is
+    (taken going.world going.refines going.set) is
 
 -- it could not begin
 pub not_begun : (E F : Type 0) (accepts : Acceptance) (settings : Settings)

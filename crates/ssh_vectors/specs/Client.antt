@@ -1,6 +1,6 @@
 -- What a program has that drives a session itself, from the contract of one input.
 use Rattle.std.specs.Prelude.{◌≡◌, ◌≤◌, ℕ, List, [], ◌++◌, map, flat_map, Option, Some, None}
-use Rattle.std.specs.Prelude.{option_to_list}
+use Rattle.std.specs.Prelude.{option_to_list, IfSome}
 use Rattle.std.specs.Prelude.{Result, Ok, Err}
 use Rattle.ssh_link.specs.Faults.{Rose}
 use Rattle.ssh_link.specs.Told.{Adds, ToldBy}
@@ -16,6 +16,7 @@ use Rattle.ssh_session.specs.declared.error.RunError.TheVariants as error
 use Rattle.ssh_session.specs.Account.{Told}
 use Rattle.ssh_session.specs.Answered.{Answered}
 use Rattle.ssh_session.specs.Authorised.{Authorised}
+use Rattle.ssh_session.specs.Exchanged.{Exchanged, IsNextExchanged}
 use Rattle.ssh_session.specs.GlobalReplied.{GlobalReplied}
 use Rattle.ssh_session.specs.InOrder.{InOrder}
 use Rattle.ssh_session.specs.Ledger.{Ledgered_after}
@@ -69,8 +70,8 @@ pub record Served {E F : Type 0} (accepts : Acceptance) (settings : Settings)
   pub told : Adds before.trace after.trace (flat_map told_of (turns ++ option_to_list last))
   -- nothing of the connection is served before an accepted authentication
   pub authorised : Authorised accepts settings (turns ++ option_to_list last)
-  -- after each that was finished each channel has sent exactly its first min(accepted, granted)
-  -- bytes, in order
+  -- after each that was finished, outside an exchange of keys, each channel has sent exactly its
+  -- first min(accepted, granted) bytes, in order
   pub ledger : (earlier later : List (Turn E F)) → turns ≡ earlier ++ later
       → Ledgered_after accepts settings earlier
   -- an open of the peer's gets at most one answer, and none before its callback returned
@@ -81,3 +82,7 @@ pub record Served {E F : Type 0} (accepts : Acceptance) (settings : Settings)
   -- the replies to this side's global requests are taken in the order of the requests
   pub in_order : (earlier later : List (Turn E F)) → turns ≡ earlier ++ later
       → InOrder accepts settings earlier
+  -- in an exchange of keys only its own frames are handed on, and in the last input too, unless a
+  -- command ended the connection in it
+  pub exchanged : Exchanged turns
+  pub last_exchanged : IfSome last (IsNextExchanged turns)

@@ -18,9 +18,9 @@ use std::alloc::Global;
 /// connection or fails. The premises and the errors are those of `run_stream`.
 ///
 /// What is promised follows from the contract of `Session::step`: nothing of the connection is
-/// served before an accepted authentication (RFC 4252 section 6), after each payload each channel
-/// has sent exactly the first min(accepted, granted) bytes (RFC 4254 section 5.2), and the peer's
-/// opens and requests are answered as those of a run are.
+/// served before an accepted authentication (RFC 4252 section 6), after each payload outside an
+/// exchange of keys each channel has sent exactly the first min(accepted, granted) bytes (RFC 4254
+/// section 5.2), and the peer's opens and requests are answered as those of a run are.
 pub fn serve_payloads<H: Handler, V: Verifier, K: Kex, L: Link>(
     alloc: Global,
     config: &Config,
@@ -36,7 +36,7 @@ pub fn serve_payloads<H: Handler, V: Verifier, K: Kex, L: Link>(
     requires session_id { length session_id.now < 2 ^ 32 }
     requires suits { H.suits config.now remote_sshid.now }
     ensures served { Served (V.accepts verifier.now)
-        (settings_of config.now session_id.now remote_sshid.now) payloads.items
+        (settings_of config.now session_id.now remote_sshid.now (K.repeats kex.old)) payloads.items
         (told_by H.AuthHandler.told K.steps L.trace L.faults handler.old kex.old link.old)
         (told_by H.AuthHandler.told K.steps L.trace L.faults handler.new kex.new link.new) result }
 {
@@ -59,6 +59,7 @@ fn serve_each<H: Handler, V: Verifier, K: Kex, L: Link>(
     requires begins { BeginsSuited H.suits session.old }
     requires told { untold session.old ≡ [] }
     ensures served { (settings : Settings) → Refines session.old (opening_world settings) →
+        settings.repeatable ≡ K.repeats kex.old →
         Served (V.accepts verifier.now) settings payloads.items
         (told_by H.AuthHandler.told K.steps L.trace L.faults handler.old kex.old link.old)
         (told_by H.AuthHandler.told K.steps L.trace L.faults handler.new kex.new link.new) result }
