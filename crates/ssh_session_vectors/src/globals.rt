@@ -3,6 +3,7 @@
 mod asked;
 mod between;
 mod disconnects;
+mod exchanges;
 mod own;
 mod refusals;
 mod ticks;
@@ -40,7 +41,8 @@ enum Ends {
     Inconsistent,
     KeepaliveTimeout,
     InactivityTimeout,
-    NotBuilt,
+    Pending,
+    Kex,
     Otherwise,
 }
 
@@ -123,7 +125,7 @@ fn not_begun(alloc: Global, allowed: usize, plan: Plan) -> Result<Side, Fail> {
         session: Session::new(alloc, &config, b"", b"")?,
         handler: Deciding::new(alloc, plan),
         verifier: TableVerifier::new(alloc),
-        kex: PlainKex::new(alloc, false),
+        kex: PlainKex::new(alloc, true),
         link,
     })
 }
@@ -150,7 +152,8 @@ fn end_of<HE, KE>(answer: &Result<Flow, RunError<HE, KE>>) -> Ends {
         Err(RunError::Inconsistent) => Ends::Inconsistent,
         Err(RunError::KeepaliveTimeout) => Ends::KeepaliveTimeout,
         Err(RunError::InactivityTimeout) => Ends::InactivityTimeout,
-        Err(RunError::NotBuilt) => Ends::NotBuilt,
+        Err(RunError::Pending) => Ends::Pending,
+        Err(RunError::Kex(_)) => Ends::Kex,
         Err(_) => Ends::Otherwise,
     }
 }

@@ -1,5 +1,5 @@
 //! Worked examples of sessions, as tests: sessions that are driven input by input and by commands
-//! between inputs, runs over links and handlers that fail, and what is told of callbacks.
+//! between inputs, runs over links and handlers that fail, and what a callback is lent.
 #![tactic(auto)]
 
 #[cfg(test)]

@@ -40,7 +40,6 @@ enum Ends {
     GoesOn,
     Over,
     Encoding,
-    NotBuilt,
     Otherwise,
 }
 
@@ -147,7 +146,6 @@ fn end_of<HE, KE>(answer: &Result<Flow, RunError<HE, KE>>) -> Ends {
         Ok(Flow::Continue) => Ends::GoesOn,
         Ok(Flow::Ended) => Ends::Over,
         Err(RunError::Encoding(_)) => Ends::Encoding,
-        Err(RunError::NotBuilt) => Ends::NotBuilt,
         Err(_) => Ends::Otherwise,
     }
 }

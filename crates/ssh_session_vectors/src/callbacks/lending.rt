@@ -1,7 +1,6 @@
 // What a session lends to a callback, as a callback reads it.
 ghost use Rattle.std.specs.Prelude.{◌≡◌, []};
 
-use super::events::CHANNEL;
 use crate::taking::{Habit, Lent, Taking, Told};
 use bytes::Bytes;
 use ssh_channels::{ChannelParams, Encrypted, TableError};
@@ -9,6 +8,9 @@ use ssh_handler::{Commands, Config, Handler};
 use ssh_wire::ChannelId;
 use std::alloc::Global;
 use std::test::Fail;
+
+// The channel of the callback.
+const CHANNEL: ChannelId = ChannelId(2);
 
 // The line by which the peer's software names itself.
 const LINE: &[u8] = b"SSH-2.0-test";
@@ -18,7 +20,7 @@ const LINE: &[u8] = b"SSH-2.0-test";
 pub(super) struct Lender {
     alloc: Global,
     table: Encrypted,
-    pub(super) config: Config,
+    config: Config,
     commands_wanted: bool,
     replies_wanted: bool,
 }

@@ -11,12 +11,12 @@ use std::alloc::Global;
 /// The callback that failed. It counts the window of the config that it was lent, or what it was
 /// told in its place, and 0 where it was told no number.
 #[derive(Clone, Copy, Drop, PartialEq, Eq)]
-pub(super) struct Failed(pub(super) &'static str, pub(super) u32);
+pub(crate) struct Failed(pub(crate) &'static str, pub(crate) u32);
 
 /// It lets anna in by method none, and everybody by the code 1234. Each other callback fails.
 #[derive(Drop)]
-pub(super) struct Failing {
-    pub(super) alloc: Global,
+pub(crate) struct Failing {
+    pub(crate) alloc: Global,
 }
 
 // Of a callback that is lent commands.
@@ -25,7 +25,7 @@ fn fails<T>(callback: &'static str, session: &Commands<'_>) -> Result<T, Failed>
 }
 
 /// Asks for a code, which is not shown.
-pub(super) fn prompt(alloc: Global) -> Result<Auth, WireError> {
+pub(crate) fn prompt(alloc: Global) -> Result<Auth, WireError> {
     let name = Text::new(alloc, "")?;
     let instructions = Text::new(alloc, "")?;
     let mut prompts = Prompts::new(alloc);

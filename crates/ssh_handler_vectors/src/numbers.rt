@@ -1,10 +1,10 @@
 // The callbacks that are told a number and may choose another, and the one for what came of a
 // command: they are passed on and told.
-use super::accepting::Accepting;
-use super::events::CHANNEL;
-use super::failing::{Failed, Failing};
-use super::lending::Lender;
-use super::told::{Call, Error};
+use crate::accepting::Accepting;
+use crate::events::CHANNEL;
+use crate::failing::{Failed, Failing};
+use crate::lender::Lender;
+use crate::told::{Call, Error};
 use ssh_handler::{Handler, RecordError, Recorded};
 use ssh_link::{CommandOutcome, Refusal};
 use std::alloc::Global;

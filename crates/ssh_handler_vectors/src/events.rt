@@ -5,11 +5,11 @@ use ssh_wire::{ChannelId, Modes, Sig, Text, WireError};
 use std::alloc::Global;
 
 /// This side's number of the channel that each is about.
-pub(super) const CHANNEL: ChannelId = ChannelId(2);
+pub(crate) const CHANNEL: ChannelId = ChannelId(2);
 
 /// What a callback is told that answers nothing but an error.
 #[derive(Clone, Copy)]
-pub(super) enum Event {
+pub(crate) enum Event {
     Succeeded,
     Session,
     X11,
@@ -34,7 +34,7 @@ pub(super) enum Event {
 
 /// What a callback is asked to grant.
 #[derive(Clone, Copy)]
-pub(super) enum Asked {
+pub(crate) enum Asked {
     Agent,
     CancelTcpip,
     Streamlocal,
@@ -125,7 +125,7 @@ fn happened(alloc: Global, event: Event) -> Result<Happening, WireError> {
 }
 
 /// What the event tells. `NoMemory` is the only error.
-pub(super) fn lent(alloc: Global, event: Event) -> Result<Lent, WireError> {
+pub(crate) fn lent(alloc: Global, event: Event) -> Result<Lent, WireError> {
     Ok(match event {
         Event::Succeeded => Lent::Succeeded,
         Event::Session
@@ -138,7 +138,7 @@ pub(super) fn lent(alloc: Global, event: Event) -> Result<Lent, WireError> {
 }
 
 /// What is asked. `NoMemory` is the only error.
-pub(super) fn judged(alloc: Global, asked: Asked) -> Result<Judged, WireError> {
+pub(crate) fn judged(alloc: Global, asked: Asked) -> Result<Judged, WireError> {
     Ok(match asked {
         Asked::Agent => Judged::AgentRequest { channel: CHANNEL },
         Asked::CancelTcpip => Judged::CancelTcpipForward {

@@ -1,8 +1,8 @@
 // The callbacks of authentication are passed on and told, and those that are not written let nobody
 // in.
-use super::accepting::Accepting;
-use super::failing::{Failed, Failing, prompt};
-use super::told::{Call, Error};
+use crate::accepting::Accepting;
+use crate::failing::{Failed, Failing, prompt};
+use crate::told::{Call, Error};
 use bytes::Bytes;
 use ssh_auth::{Auth, AuthHandler, PublicKeyOffer, Response, Unwritten, VerifiedPublicKey};
 use ssh_handler::{RecordError, Recorded};
@@ -13,7 +13,7 @@ use std::test::Fail;
 
 /// What a request is answered.
 #[derive(Clone, Copy, PartialEq, Eq)]
-pub(super) enum Verdict {
+pub(crate) enum Verdict {
     Accepted,
     // It names no methods, and nothing was right.
     Refused,
@@ -38,7 +38,7 @@ fn verdict_of<E>(answer: &Result<Auth, E>) -> Verdict {
 }
 
 /// The verdict of an answer that is done with.
-pub(super) fn spent<E: Drop>(answer: Result<Auth, E>) -> Verdict {
+pub(crate) fn spent<E: Drop>(answer: Result<Auth, E>) -> Verdict {
     let verdict = verdict_of(&answer);
     drop(answer);
     verdict
@@ -131,7 +131,7 @@ fn is_own(answer: &Result<Auth, Error>, callback: &'static str) -> bool {
 }
 
 /// Whether a request by this callback is told, with its user and its verdict.
-pub(super) fn is_told(call: &Call, callback: &'static str, user: &str, expected: Verdict) -> bool {
+pub(crate) fn is_told(call: &Call, callback: &'static str, user: &str, expected: Verdict) -> bool {
     match asked(call) {
         Some((name, by, answer)) => {
             let is_named = name == callback && by == user;

@@ -1,5 +1,5 @@
 // A handler that writes what it has to.
-use super::failing::Failed;
+use crate::failing::Failed;
 use ssh_auth::{AuthHandler, Unwritten};
 use ssh_handler::{Commands, Handler};
 use ssh_link::ChannelOpenHandle;
@@ -7,7 +7,7 @@ use ssh_wire::ChannelId;
 
 /// It accepts each channel, and writes no callback that has a body of its own.
 #[derive(Drop)]
-pub(super) struct Accepting;
+pub(crate) struct Accepting;
 
 fn accept(reply: ChannelOpenHandle, session: &mut Commands<'_>) -> Result<(), Failed> {
     session

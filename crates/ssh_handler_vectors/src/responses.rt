@@ -1,7 +1,7 @@
 // Prompts are passed on as they are, and responses are told as they came.
-use super::failing::{Failing, prompt};
-use super::told::Call;
-use super::users::{Verdict, is_told, spent};
+use crate::failing::{Failing, prompt};
+use crate::told::Call;
+use crate::users::{Verdict, is_told, spent};
 use ssh_auth::{AuthHandler, Response};
 use ssh_handler::Recorded;
 use ssh_wire::Blobs;

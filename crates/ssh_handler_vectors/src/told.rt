@@ -1,8 +1,8 @@
 // Each callback is passed on and told, and one that is not written goes on and asks for nothing.
-use super::accepting::Accepting;
-use super::events::{Asked, CHANNEL, Event, judged, lent};
-use super::failing::{Failed, Failing};
-use super::lending::Lender;
+use crate::accepting::Accepting;
+use crate::events::{Asked, CHANNEL, Event, judged, lent};
+use crate::failing::{Failed, Failing};
+use crate::lender::Lender;
 use ssh_auth::{Judged, Lent};
 use ssh_handler::{RecordError, Recorded, ask, judge};
 use ssh_link::{ChannelOpenHandle, Command, CommandList};
@@ -10,10 +10,10 @@ use std::alloc::Global;
 use std::test::Fail;
 
 /// Why a recording handler over one of the handlers here cannot go on.
-pub(super) type Error = RecordError<Failed>;
+pub(crate) type Error = RecordError<Failed>;
 
 /// A call as such a handler tells it.
-pub(super) type Call = ssh_auth::Call<Error>;
+pub(crate) type Call = ssh_auth::Call<Error>;
 
 // The callback and its answer, where it answers nothing but an error.
 fn heard(call: &Call) -> Option<(&'static str, Result<(), Error>)> {
