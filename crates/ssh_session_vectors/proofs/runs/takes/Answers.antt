@@ -1,0 +1,8 @@
+use Rattle.std.proofs.Common.{rules, ◌≤◌, length, false, sym, subst}
+use Rattle.ssh_session_vectors.proofs.runs.takes.Goals as goal
+
+pub step-answer-requires : goal.step-answer-requires
+step-answer-requires c = record {
+  suits = λ live. subst (λ line. 8 ≤ length line)
+      (sym (c.in-Ok.ensures.opens false).remote_sshid) (search rules);
+}
