@@ -171,11 +171,10 @@ abbrev pub TellsNothing : {E F H K L : Type 0} → (told : H → K → L → Tol
 TellsNothing told handler kex link handler_after kex_after link_after =
     told handler_after kex_after link_after ≡ told handler kex link
 
--- a run kept its laws, with these three before it and after it
-abbrev pub KeepsLaws : {E F H K L : Type 0} → Acceptance → Settings
-    → (told : H → K → L → Told E F) → (handler : H) → (kex : K) → (link : L)
-    → (handler_after : H) → (kex_after : K) → (link_after : L) → (max : ℕ)
-    → Result (Unit {0}) (RunError E F) → Type 0
-KeepsLaws accepts settings told handler kex link handler_after kex_after link_after max result =
+-- a run of at most so many inputs kept its laws, with these three before it and after it
+abbrev pub KeepsLaws : {E F H K L : Type 0} → (told : H → K → L → Told E F) → (max : ℕ)
+    → Result (Unit {0}) (RunError E F) → Settings → Acceptance → (handler : H) → (kex : K)
+    → (link : L) → (handler_after : H) → (kex_after : K) → (link_after : L) → Type 0
+KeepsLaws told max result settings accepts handler kex link handler_after kex_after link_after =
     Laws accepts settings (told handler kex link) (told handler_after kex_after link_after) max
     result

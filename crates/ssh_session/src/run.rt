@@ -28,10 +28,9 @@ pub fn run_stream<H: Handler, V: Verifier, K: Kex, L: Link>(
 ) -> Result<(), RunError<H::Error, K::Error>>
     requires session_id { length session_id.now < 2 ^ 32 }
     requires suits { H.suits config.now remote_sshid.now }
-    ensures laws { KeepsLaws (V.accepts verifier.now)
+    ensures laws { KeepsLaws (told_by H.AuthHandler.told K.steps L.trace L.faults) max_inputs result
         (settings_of config.now session_id.now remote_sshid.now (K.repeats kex.old))
-        (told_by H.AuthHandler.told K.steps L.trace L.faults) handler.old kex.old link.old
-        handler.new kex.new link.new max_inputs result }
+        (V.accepts verifier.now) handler.old kex.old link.old handler.new kex.new link.new }
 {
     let mut session = Session::new(alloc, config, session_id, remote_sshid)?;
     let result = run_inputs(&mut session, handler, verifier, kex, link, max_inputs);

@@ -143,6 +143,7 @@ static INTERACTIVE: Case = Case {
         000403333333333333333333333333333333333333333333333333333333333333333333333333333333333333\
         3333333333333333333333333333333333333333333\n\
         recv 5a0000000773657373696f6e000000000010000000004000\n\
+        recv 500000001c6e6f2d6d6f72652d73657373696f6e73406f70656e7373682e636f6d00\n\
         recv 6200000002000000077074792d726571010000000e787465726d2d323536636f6c6f72000000500000001\
         800000280000001e00000001081000096008000009600350000000100\n\
         recv 620000000200000003656e7600000000044c414e4700000007432e5554462d38\n\
@@ -183,29 +184,30 @@ static INTERACTIVE: Case = Case {
         notice 2 Ready 1048576 16384\n\
         send 2 5b00000000000000020020000000008000\n\
         input 7\n\
+        input 8\n\
         notice 2 RequestPty 1 787465726d2d323536636f6c6f72 80 24 640 480 129:38400,128:38400,53:1\n\
         send 2 6300000000\n\
-        input 8\n\
-        notice 2 SetEnv 1 4c414e47 432e5554462d38\n\
         input 9\n\
+        notice 2 SetEnv 1 4c414e47 432e5554462d38\n\
+        input 10\n\
         notice 2 RequestShell 1\n\
         send 2 6300000000\n\
-        input 10\n\
-        notice 2 Data 6c730a\n\
         input 11\n\
+        notice 2 Data 6c730a\n\
+        input 12\n\
         done 1 accepted\n\
         send 2 5e0000000000000002610a\n\
-        input 12\n\
+        input 13\n\
         done 2 accepted\n\
         send 2 62000000000000000b657869742d7374617475730000000000\n\
-        input 13\n\
+        input 14\n\
         done 3 accepted\n\
         send 2 6000000000\n\
-        input 14\n\
+        input 15\n\
         done 4 accepted\n\
         send 2 6100000000\n\
-        input 15\n\
         input 16\n\
+        input 17\n\
         ok\n",
 };
 
