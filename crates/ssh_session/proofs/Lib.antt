@@ -77,6 +77,8 @@ pub mod LayoutsOnce
 pub mod ResponsesOnce
 pub mod RequestsOnce
 pub mod PlansOnce
+pub mod Walking
+pub mod RunsOnce
 pub mod Flushing
 pub mod Untouched
 pub mod Running

@@ -1,6 +1,6 @@
 -- What a plan comes to that is short of another, the other comes to.
 use Rattle.std.proofs.Common.{◌≡◌, ◌≢◌, List, [], ◌∷◌, Bool, refl, sym, ap, subst}
-use Rattle.ssh_auth.specs.Plan.{Plan, Finish, Ask, Tell, Event, Handler_error, after}
+use Rattle.ssh_auth.specs.Plan.{Plan, Finish, Ask, Tell, Event, OutsideError, after}
 use Rattle.ssh_auth.specs.Plan.{Reaches, Follows, Breaks}
 use Rattle.ssh_session.specs.Outcome.{Encoding, Inconsistent, Key, Unsupported, Starved}
 use Rattle.ssh_session.specs.Outcome.{Channels_full, Pending, Outcome, Goes, Ends, Fails}
@@ -112,8 +112,8 @@ follows_longer plan other events outcome fed s h =
     subst (Reaches other events) (ends_as outcome near.0 fed near.2) near.1
 
 pub breaks_longer : {E F : Type 0} (plan other : Plan Outcome) (events : List (Event E F))
-    (error : E) → IsShortOf plan other → Breaks plan events (Handler_error error)
-    → Breaks other events (Handler_error error)
+    (error : OutsideError E F) → IsShortOf plan other → Breaks plan events error
+    → Breaks other events error
 breaks_longer plan other events error s h =
     let near = reaches_near plan other h.before (Ask h.question h.next) s h.reaches in
     record {

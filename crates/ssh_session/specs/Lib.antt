@@ -34,5 +34,6 @@ pub mod Valid
 pub mod InOrder
 pub mod Exchanged
 pub mod Account
+pub mod Once
 pub mod Between
 pub mod KeyExchange

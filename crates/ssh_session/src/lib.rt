@@ -48,6 +48,6 @@ mod windows;
 
 pub use error::{Flow, FlushError, RunError};
 pub use exchange_data::Exchange;
-pub use once::one_plan;
+pub use once::{one_plan, one_run};
 pub use run::run_stream;
 pub use session::Session;
