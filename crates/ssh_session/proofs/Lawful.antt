@@ -16,6 +16,7 @@ use Rattle.ssh_session.proofs.Ended.{ended, IsLive, run_live}
 use Rattle.ssh_session.proofs.Exchanged.{exchanged, last_exchanged}
 use Rattle.ssh_session.proofs.GlobalReplied.{globally_replied}
 use Rattle.ssh_session.proofs.InOrder.{in_order, last_in_order}
+use Rattle.ssh_session.proofs.LastWord.{last_word}
 use Rattle.ssh_session.proofs.Parted.{parted}
 use Rattle.ssh_session.proofs.Replied.{replied}
 use Rattle.ssh_session.proofs.Sums.{ledgered}
@@ -47,6 +48,8 @@ lawful {E} {F} accepts settings before after max result account =
           run_live accepts (opening_world settings) earlier world run refl;
       parted = parted accepts account.world account.last (run_live accepts
           (opening_world settings) account.turns account.world account.run refl);
+      last_word = last_word accepts settings account.turns account.world count max account.last
+          rose result account.run account.closes;
       answered = answered accepts settings account.turns account.world count max account.last rose
           result account.run account.closes;
       replied = replied accepts settings account.turns account.world count max account.last rose

@@ -70,6 +70,9 @@ pub mod Idling
 pub mod Sums
 pub mod Parting
 pub mod Parted
+pub mod Undisconnected
+pub mod LastFrame
+pub mod LastWord
 pub mod Lawful
 pub mod Runs
 pub mod Shorter

@@ -84,7 +84,7 @@ concluded_upto of k w moment requested (Replies reply verdict.Accepted state) be
     let v = waits_for (WaitingAuthRequest state) w in
     acts_come (law of k) (replied w moment requested reply verdict.Accepted) v h (
       writes_upto of k (at_once reply ∷ []) (lets_in (finishes requested v))
-          (of.untagged (at_once reply) refl beside, tt) h,
+          (of.untagged (at_once reply) refl beside.0, tt) h,
       λ world j. tt,
     )
 concluded_upto of k w moment requested (Replies reply (verdict.Rejected none_method) state) beside
@@ -92,11 +92,11 @@ concluded_upto of k w moment requested (Replies reply (verdict.Rejected none_met
     let frame = held reply (moment_after moment (rejection_hold w.settings.config none_method
     w.user.requested)) in
     writes_upto of k (frame ∷ []) (finishes requested (waits_for (WaitingAuthRequest state) w))
-    (of.untagged frame refl beside, tt) h
+    (of.untagged frame refl beside.0, tt) h
 concluded_upto of k w moment requested (Replies reply verdict.Continued state) beside h =
     writes_upto of k (at_once reply ∷ [])
     (finishes requested (waits_for (WaitingAuthRequest state) w))
-    (of.untagged (at_once reply) refl beside, tt) h
+    (of.untagged (at_once reply) refl beside.0, tt) h
 concluded_upto of k w moment requested (auth.Fails fault) beside h = tt
 
 asked_upto : (of : Measure) (k : ℕ) (state : EncryptedState)

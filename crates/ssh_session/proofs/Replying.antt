@@ -1,5 +1,5 @@
 -- A verdict on a request of authentication asks whether a user is let in and nothing else, and what
--- it replies by is no reply to a global request.
+-- it replies by is no reply to a global request and no DISCONNECT.
 use Rattle.std.proofs.Common.{◌≡◌, ℕ, List, Option, Some, None, Bool, true, false, refl}
 use Rattle.std.specs.Prelude.{◌^◌, nat_lt, length, codes, if◌then◌else◌}
 use Rattle.ssh_wire.specs.declared.error.WireError.TheVariants.{TooLong}
@@ -37,6 +37,7 @@ use Rattle.ssh_auth.specs.Verdict.{verdict as verdict_on, response_verdict}
 use Rattle.ssh_session.specs.GlobalReplied.{is_global_reply}
 use Rattle.ssh_session.specs.Layout.{at_once}
 use Rattle.ssh_session.specs.Outcome.{Outcome}
+use Rattle.ssh_session.specs.Parting.{is_disconnect}
 use Rattle.ssh_session.proofs.Acting.{PlanComes}
 
 -- whether a user is let in
@@ -62,47 +63,52 @@ so_then ends such comes (Ask question next) later e h = λ answer s.
     so_then ends such comes (next answer) later (e.1 answer) h
 so_then ends such comes (Tell entry next) later e h = absurd e
 
+-- it replies to no global request, and ends no connection
+abbrev pub IsUnlike : List ℕ → Type 0
+IsUnlike payload = (is_global_reply (at_once payload) ≡ false)
+    × (is_disconnect (at_once payload) ≡ false)
+
 abbrev pub IsBeside : AuthOutcome → Type 0
-IsBeside (Replies reply verdict state) = is_global_reply (at_once reply) ≡ false
+IsBeside (Replies reply verdict state) = IsUnlike reply
 IsBeside (Fails fault) = Unit {0}
 
 -- PK_OK or prompts, or nothing where they would be too long
 shown_beside : (payload : List ℕ) (auth : AuthRequest) (fits : Bool) →
-    is_global_reply (at_once payload) ≡ false →
+    IsUnlike payload →
     IsBeside (if fits then Replies payload Continued auth else Fails (Encoding TooLong))
 shown_beside payload auth true is = is
 shown_beside payload auth false is = tt
 
 method_answer : (auth : AuthRequest) (asked : MethodKind) (answer : Auth) →
     IsBeside (after_method auth asked answer)
-method_answer auth asked Accept = refl
-method_answer auth asked (Reject methods partial) = refl
-method_answer auth asked UnsupportedMethod = refl
-method_answer auth asked (Partial name instructions prompts) = refl
+method_answer auth asked Accept = (refl, refl)
+method_answer auth asked (Reject methods partial) = (refl, refl)
+method_answer auth asked UnsupportedMethod = (refl, refl)
+method_answer auth asked (Partial name instructions prompts) = (refl, refl)
 
 proof_answer : (auth : AuthRequest) (answer : Auth) → IsBeside (after_proof auth answer)
-proof_answer auth Accept = refl
-proof_answer auth (Reject methods partial) = refl
-proof_answer auth UnsupportedMethod = refl
-proof_answer auth (Partial name instructions prompts) = refl
+proof_answer auth Accept = (refl, refl)
+proof_answer auth (Reject methods partial) = (refl, refl)
+proof_answer auth UnsupportedMethod = (refl, refl)
+proof_answer auth (Partial name instructions prompts) = (refl, refl)
 
 offer_answer : (auth : AuthRequest) (offer : Offer) (answer : Auth) →
     IsBeside (after_offer auth offer answer)
 offer_answer auth offer Accept =
     shown_beside (pk_ok offer.name offer.blob)
     (record auth { current = Some (round.PublicKey offer.blob offer.name true) })
-    (nat_lt (length (pk_ok offer.name offer.blob)) (2 ^ 32)) refl
-offer_answer auth offer (Reject methods partial) = refl
-offer_answer auth offer UnsupportedMethod = refl
-offer_answer auth offer (Partial name instructions prompts) = refl
+    (nat_lt (length (pk_ok offer.name offer.blob)) (2 ^ 32)) (refl, refl)
+offer_answer auth offer (Reject methods partial) = (refl, refl)
+offer_answer auth offer UnsupportedMethod = (refl, refl)
+offer_answer auth offer (Partial name instructions prompts) = (refl, refl)
 
 prompt_answer : (auth : AuthRequest) (answer : Auth) → IsBeside (after_prompts auth answer)
-prompt_answer auth Accept = refl
-prompt_answer auth (Reject methods partial) = refl
+prompt_answer auth Accept = (refl, refl)
+prompt_answer auth (Reject methods partial) = (refl, refl)
 prompt_answer auth UnsupportedMethod = tt
 prompt_answer auth (Partial name instructions prompts) =
     let payload = info_request name instructions prompts in
-    shown_beside payload auth (nat_lt (length payload) (2 ^ 32)) refl
+    shown_beside payload auth (nat_lt (length payload) (2 ^ 32)) (refl, refl)
 
 proof_beside : (auth : AuthRequest) (user : List ℕ) (key : PublicKeyOrCertificate)
     (algorithm : Algorithm) → EndsSo IsBeside (proof auth user key algorithm)
@@ -113,13 +119,13 @@ proof_beside auth user (Certificate certificate) algorithm =
 signed_beside : (auth : AuthRequest) (user : List ℕ) (offer : Offer) (accepted : Option Bool) →
     EndsSo IsBeside (signed auth user offer accepted)
 signed_beside auth user offer None = tt
-signed_beside auth user offer (Some false) = refl
+signed_beside auth user offer (Some false) = (refl, refl)
 signed_beside auth user offer (Some true) = proof_beside auth user offer.key offer.algorithm
 
 permitted_beside : (auth : AuthRequest) (answer : Auth) (next : Plan AuthOutcome) →
     EndsSo IsBeside next → EndsSo IsBeside (permitted auth answer next)
 permitted_beside auth Accept next h = h
-permitted_beside auth _ next h = refl
+permitted_beside auth _ next h = (refl, refl)
 
 asked_beside : (auth : AuthRequest) (user : List ℕ) (offer : Offer) (accepted : Option Bool)
     (is_asked : Bool) →
@@ -139,9 +145,9 @@ method_beside auth user None_method =
     (tt, λ answer. method_answer auth method_kind.None answer)
 method_beside auth user (Password_method password) =
     (tt, λ answer. method_answer auth method_kind.Password answer)
-method_beside auth user (Change_method password new_password) = refl
-method_beside auth user Unusable_method = refl
-method_beside auth user Misnamed_method = refl
+method_beside auth user (Change_method password new_password) = (refl, refl)
+method_beside auth user Unusable_method = (refl, refl)
+method_beside auth user Misnamed_method = (refl, refl)
 method_beside auth user Broken_method = tt
 method_beside auth user (Probe_method offer) =
     (tt, λ answer. offer_answer auth offer answer)
@@ -152,7 +158,7 @@ method_beside auth user (Interactive_method submethods) = (
   λ answer. prompt_answer (record auth { current = Some (round.KeyboardInteractive submethods) })
       answer,
 )
-method_beside auth user Other_method = refl
+method_beside auth user Other_method = (refl, refl)
 method_beside auth user (Unfit_method why) = tt
 
 pub verdict_beside : (asked : Asked) (auth : AuthRequest) → EndsSo IsBeside (verdict_on auth asked)
@@ -164,7 +170,7 @@ verdict_beside asks.Unread auth = tt
 
 responded_beside : (auth : AuthRequest) (prompt : Option (List ℕ × List ℕ)) (said : Responded) →
     EndsSo IsBeside (responded auth prompt said)
-responded_beside auth None said = refl
+responded_beside auth None said = (refl, refl)
 responded_beside auth (Some prompt) (Responses responses) =
     (tt, λ answer. prompt_answer auth answer)
 responded_beside auth (Some prompt) (Unfit_responses why) = tt

@@ -1,8 +1,9 @@
--- What a row tells is no frame, or one of an exchange of keys, which is handed on at once: other
--- frames are handed on at the end of an input.
-use Rattle.std.proofs.Common.{◌+◌, ℕ, List, [], ◌∷◌, map, Option, Some, None, Bool}
-use Rattle.std.proofs.Common.{true, false, cond, refl}
-use Rattle.std.specs.Prelude.{◌≡◌, bytes_eq, codes, filter, if◌then◌else◌}
+-- What a row tells is no frame, or one that the exchange of keys gave before it, which is handed on
+-- at once: other frames are handed on at the end of an input.
+use Rattle.std.proofs.Common.{◌≡◌, ◌+◌, ℕ, List, [], ◌∷◌, ◌++◌, map, Bool, true, false, cond}
+use Rattle.std.proofs.Common.{None, refl, arith}
+use Rattle.std.specs.Prelude.{Contains, bytes_eq, codes, filter, if◌then◌else◌}
+use Rattle.std.proofs.lemmas.List.Elements.{Contains-append_right}
 use Rattle.ssh_link.specs.Frames.{Frame}
 use Rattle.ssh_link.specs.declared.command.Command.{Command}
 use Rattle.ssh_link.specs.declared.command.Command.TheVariants as command
@@ -13,44 +14,30 @@ use Rattle.ssh_link.specs.declared.link.TraceEntry.TheVariants.{Noticed, Sent}
 use Rattle.ssh_link.specs.declared.notice.Notice.{Notice}
 use Rattle.ssh_link.specs.declared.outcome.CommandOutcome.{CommandOutcome}
 use Rattle.ssh_link.specs.declared.outcome.CommandOutcome.TheVariants.{Accepted, Opened, Refused}
-use Rattle.ssh_keys.specs.declared.key_or_certificate.PublicKeyOrCertificate.{PublicKeyOrCertificate}
-use Rattle.ssh_keys.specs.declared.key_or_certificate.PublicKeyOrCertificate.TheVariants.{PublicKey as Plain}
-use Rattle.ssh_keys.specs.declared.key_or_certificate.PublicKeyOrCertificate.TheVariants.{Certificate}
-use Rattle.ssh_keys.specs.declared.algorithm.Algorithm.{Algorithm}
-use Rattle.ssh_keys.specs.Offers.{offered_key}
-use Rattle.ssh_auth.specs.declared.auth.Auth.{Auth}
-use Rattle.ssh_auth.specs.declared.auth.Auth.TheVariants.{Accept}
 use Rattle.ssh_auth.specs.declared.auth_request.AuthRequest.{AuthRequest}
-use Rattle.ssh_auth.specs.declared.question.Admission.TheVariants as by
-use Rattle.ssh_auth.specs.declared.question.Question.TheVariants.{Admits, Banner}
+use Rattle.ssh_auth.specs.declared.question.Question.{Question}
+use Rattle.ssh_auth.specs.declared.question.Question.TheVariants as ask
 use Rattle.ssh_auth.specs.Plan.{Plan, Finish, Ask, Tell, Answer, after}
-use Rattle.ssh_auth.specs.Publickey.{Acceptance, Offer}
-use Rattle.ssh_auth.specs.Request.{begun, is_probed, prompt_of}
-use Rattle.ssh_auth.specs.Response.{Responded, Responses, Unfit_responses, Unread_responses}
-use Rattle.ssh_auth.specs.Requested.{Method, None_method, Password_method, Change_method}
-use Rattle.ssh_auth.specs.Requested.{Unusable_method, Broken_method}
-use Rattle.ssh_auth.specs.Requested.{Probe_method, Misnamed_method, Signed_method}
-use Rattle.ssh_auth.specs.Requested.{Interactive_method, Other_method, Unfit_method}
-use Rattle.ssh_auth.specs.Requested.{Requested as Asked}
-use Rattle.ssh_auth.specs.Requested as asks
-use Rattle.ssh_auth.specs.Verdict.{AuthOutcome, proof, signed, permitted, method_verdict, responded}
-use Rattle.ssh_auth.specs.Verdict.{verdict as verdict_on, response_verdict}
+use Rattle.ssh_auth.specs.Publickey.{Acceptance}
+use Rattle.ssh_auth.specs.Verdict.{AuthOutcome, verdict as verdict_on, response_verdict}
+use Rattle.ssh_auth.specs.Verdict as verdicts
 use Rattle.ssh_session.specs.declared.state.EncryptedState.{EncryptedState}
 use Rattle.ssh_session.specs.declared.state.EncryptedState.TheVariants.{WaitingAuthRequest}
 use Rattle.ssh_session.specs.Acts.{Act, Notes, Calls, Adjusts_by, Turns, Is_over, Stops, tell_all}
 use Rattle.ssh_session.specs.Acts.{tell_done, done, done_all, acts, Judges_by, Listens_by}
-use Rattle.ssh_session.specs.Acts.{Exchanges, payloads_given, frames_given, moved}
+use Rattle.ssh_session.specs.Acts.{Exchanges, Exchanging, Beginning, Stepping, exchange_question}
+use Rattle.ssh_session.specs.Acts.{payloads_given, frames_given, moved}
 use Rattle.ssh_session.specs.Effect.{Effect, Does, effect}
 use Rattle.ssh_session.specs.Exchange.{is_of_transport}
 use Rattle.ssh_session.specs.Layout.{at_once}
 use Rattle.ssh_session.specs.Outcome.{Outcome}
 use Rattle.ssh_session.specs.Reading.{Said, Service, Request, Response}
 use Rattle.ssh_session.specs.Rows.{row, owed, exchange_acts, greets, replied, concluded, asked_of}
-use Rattle.ssh_auth.specs.Verdict as verdicts
 use Rattle.ssh_session.specs.Run.{OwesKind, command_row}
 use Rattle.ssh_session.specs.Ticks.{keepalive_acts}
 use Rattle.ssh_session.specs.World.{World, hears, waits_for}
 use Rattle.ssh_session.proofs.Passing.{payload_so}
+use Rattle.ssh_session.proofs.Replying.{EndsSo, IsBeside, verdict_beside, response_beside}
 
 -- a frame of an exchange of keys: it is on no channel, and its number is 1 to 49
 abbrev pub IsExchanged : Frame → Type 0
@@ -62,31 +49,64 @@ IsUnsent (Sent frame) = IsExchanged frame
 IsUnsent _ = Unit {0}
 
 -- whatever is answered, the link is told no other frame
-abbrev pub SendsNone : {O : Type 0} → Plan O → Type 0
+abbrev pub SendsNone : Plan Outcome → Type 0
 SendsNone (Finish outcome) = Unit {0}
 SendsNone (Ask question next) = (answer : Answer question) → SendsNone (next answer)
 SendsNone (Tell entry next) = IsUnsent entry × SendsNone next
 
+-- the payloads that the exchange gives by an answer
+abbrev pub given_at : (question : Question) → Answer question → List (List ℕ)
+given_at ask.Begins payload = payload ∷ []
+given_at (ask.Steps payload) step = step.frames
+given_at _ answer = []
+
+-- it is no frame but one of an exchange, which gave these
+abbrev pub IsGiven : (given : List (List ℕ)) → TraceEntry → Type 0
+IsGiven given (Sent frame) = IsExchanged frame × Contains given frame.payload
+IsGiven given _ = Unit {0}
+
+-- where it gave these before, each frame that the link is told it gave before that
+abbrev pub Sends : (given : List (List ℕ)) → Plan Outcome → Type 0
+Sends given (Finish outcome) = Unit {0}
+Sends given (Ask question next) = (answer : Answer question)
+    → Sends (given ++ given_at question answer) (next answer)
+Sends given (Tell entry next) = IsGiven given entry × Sends given next
+
+-- and so whatever it gave before
+abbrev pub SendsGiven : Plan Outcome → Type 0
+SendsGiven plan = (given : List (List ℕ)) → Sends given plan
+
+given_unsent : (given : List (List ℕ)) (entry : TraceEntry) → IsGiven given entry → IsUnsent entry
+given_unsent given (Sent frame) h = h.0
+given_unsent given _ h = tt
+
+sends_none : (given : List (List ℕ)) (plan : Plan Outcome) → Sends given plan → SendsNone plan
+sends_none given (Finish outcome) h = tt
+sends_none given (Ask question next) h = λ answer.
+    sends_none (given ++ given_at question answer) (next answer) (h answer)
+sends_none given (Tell entry next) h =
+    (given_unsent given entry h.0, sends_none given next h.1)
+
 -- ---- acts
 
-noted : (notices : List Notice) (next : Plan Outcome) → SendsNone next
-    → SendsNone (tell_all (map Noticed notices) next)
+noted : (notices : List Notice) (next : Plan Outcome) → SendsGiven next
+    → SendsGiven (tell_all (map Noticed notices) next)
 noted [] next h = h
-noted (notice ∷ notices) next h = (tt, noted notices next h)
+noted (notice ∷ notices) next h = λ given. (tt, noted notices next h given)
 
-told_done : (place : ℕ) (outcome : CommandOutcome) (next : Plan Outcome) → SendsNone next
-    → SendsNone (tell_done place outcome next)
+told_done : (place : ℕ) (outcome : CommandOutcome) (next : Plan Outcome) → SendsGiven next
+    → SendsGiven (tell_done place outcome next)
 told_done place Accepted next h = h
-told_done place (Opened channel) next h = λ _. h
-told_done place (Refused why) next h = λ _. h
+told_done place (Opened channel) next h = λ given answer. h (given ++ [])
+told_done place (Refused why) next h = λ given answer. h (given ++ [])
 
 one_done : (does : Effect) (next : CommandOutcome → World → Plan Outcome) →
-    ((outcome : CommandOutcome) (world : World) → SendsNone (next outcome world))
-    → SendsNone (done does next)
+    ((outcome : CommandOutcome) (world : World) → SendsGiven (next outcome world))
+    → SendsGiven (done does next)
 one_done (Does notices outcome world) next h = noted notices (next outcome world) (h outcome world)
 
 all_done : (place : ℕ) (commands : List Command) (w : World) (next : World → Plan Outcome) →
-    ((world : World) → SendsNone (next world)) → SendsNone (done_all place commands w next)
+    ((world : World) → SendsGiven (next world)) → SendsGiven (done_all place commands w next)
 all_done place [] w next h = h w
 all_done place (command ∷ commands) w next h =
     one_done (effect w command) (λ outcome world. tell_done place outcome
@@ -95,155 +115,126 @@ all_done place (command ∷ commands) w next h =
     (all_done (place + 1) commands world next h))
 
 -- what an exchange gives
-given_step : (b : Bool) (payload : List ℕ) (payloads : List (List ℕ)) (next : Plan Outcome) →
-    is_of_transport payload ≡ b → SendsNone (tell_all (map Sent (frames_given payloads)) next) →
-    SendsNone (tell_all (map Sent (map at_once (cond b (payload ∷ filter is_of_transport payloads)
-    (filter is_of_transport payloads)))) next)
-given_step true payload payloads next is h = ((refl, is), h)
-given_step false payload payloads next is h = h
+first_in : (payload : List ℕ) (payloads : List (List ℕ)) → Contains (payload ∷ payloads) payload
+first_in payload payloads = (0, omega arith, refl)
 
-pub given_unsent : (payloads : List (List ℕ)) (next : Plan Outcome) → SendsNone next →
-    SendsNone (tell_all (map Sent (frames_given payloads)) next)
-given_unsent [] next h = h
-given_unsent (payload ∷ payloads) next h =
-    given_step (is_of_transport payload) payload payloads next refl
-    (given_unsent payloads next h)
+given_step : (b : Bool) (given : List (List ℕ)) (payload : List ℕ) (payloads : List (List ℕ))
+    (next : Plan Outcome) → is_of_transport payload ≡ b → Contains given payload →
+    Sends given (tell_all (map Sent (frames_given payloads)) next) →
+    Sends given (tell_all (map Sent (map at_once (cond b
+    (payload ∷ filter is_of_transport payloads) (filter is_of_transport payloads)))) next)
+given_step true given payload payloads next is c h = (((refl, is), c), h)
+given_step false given payload payloads next is c h = h
+
+frames_sent : (given payloads : List (List ℕ)) (next : Plan Outcome) →
+    ((payload : List ℕ) → Contains payloads payload → Contains given payload) → Sends given next →
+    Sends given (tell_all (map Sent (frames_given payloads)) next)
+frames_sent given [] next c h = h
+frames_sent given (payload ∷ payloads) next c h =
+    given_step (is_of_transport payload) given payload payloads next refl
+    (c payload (first_in payload payloads))
+    (frames_sent given payloads next
+    (λ other d. c other (Contains-append_right (payload ∷ []) payloads other d)) h)
+
+step_sent : (asked : Exchanging) (answer : Answer (exchange_question asked))
+    (given : List (List ℕ)) (next : Plan Outcome) → SendsGiven next →
+    Sends (given ++ given_at (exchange_question asked) answer)
+    (tell_all (map Sent (frames_given (payloads_given asked answer))) next)
+step_sent Beginning payload given next h =
+    let more = payload ∷ [] in
+    frames_sent (given ++ more) more next (λ other c. Contains-append_right given more other c)
+    (h (given ++ more))
+step_sent (Stepping payload) step given next h =
+    let more = step.frames in
+    frames_sent (given ++ more) more next (λ other c. Contains-append_right given more other c)
+    (h (given ++ more))
+
+pub acts_given : (now : List Act) (w : World) → SendsGiven (acts now w)
+acts_given [] w = λ given. tt
+acts_given (Notes notice ∷ later) w = λ given. (tt, acts_given later w given)
+acts_given (Calls lent ∷ later) w = λ given commands.
+    all_done 0 commands w (acts later) (λ world. acts_given later world) (given ++ [])
+acts_given (Judges_by judged by ∷ later) w = λ given answer.
+    all_done 0 answer.commands w (λ world. acts later (by answer.granted world))
+    (λ world. acts_given later (by answer.granted world)) (given ++ [])
+acts_given (Listens_by address port by ∷ later) w = λ given answer.
+    all_done 0 answer.commands w (λ world. acts later (by answer.granted answer.port world))
+    (λ world. acts_given later (by answer.granted answer.port world)) (given ++ [])
+acts_given (Adjusts_by channel current by ∷ later) w = λ given window.
+    acts_given later (by window w) (given ++ [])
+acts_given (Exchanges asked ∷ later) w = λ given answer.
+    step_sent asked answer given (acts later (moved asked answer w))
+    (acts_given later (moved asked answer w))
+acts_given (Turns by ∷ later) w = acts_given later (by w)
+acts_given (Is_over ∷ later) w = λ given. tt
+acts_given (Stops why ∷ later) w = λ given. tt
 
 pub acts_send_none : (now : List Act) (w : World) → SendsNone (acts now w)
-acts_send_none [] w = tt
-acts_send_none (Notes notice ∷ later) w = (tt, acts_send_none later w)
-acts_send_none (Calls lent ∷ later) w = λ commands. all_done 0 commands w (acts later)
-    (acts_send_none later)
-acts_send_none (Judges_by judged by ∷ later) w = λ answer.
-    all_done 0 answer.commands w (λ world. acts later (by answer.granted world))
-    (λ world. acts_send_none later (by answer.granted world))
-acts_send_none (Listens_by address port by ∷ later) w = λ answer.
-    all_done 0 answer.commands w (λ world. acts later (by answer.granted answer.port world))
-    (λ world. acts_send_none later (by answer.granted answer.port world))
-acts_send_none (Adjusts_by channel current by ∷ later) w = λ window. acts_send_none later
-    (by window w)
-acts_send_none (Exchanges asked ∷ later) w = λ answer.
-    given_unsent (payloads_given asked answer) (acts later (moved asked answer w))
-    (acts_send_none later (moved asked answer w))
-acts_send_none (Turns by ∷ later) w = acts_send_none later (by w)
-acts_send_none (Is_over ∷ later) w = tt
-acts_send_none (Stops why ∷ later) w = tt
-
--- ---- verdicts
-
-proof_silent : (auth : AuthRequest) (user : List ℕ) (key : PublicKeyOrCertificate)
-    (algorithm : Algorithm) →
-    SendsNone (proof auth user key algorithm)
-proof_silent auth user (Plain key hash) algorithm = λ answer. tt
-proof_silent auth user (Certificate certificate) algorithm = λ answer. tt
-
-signed_silent : (auth : AuthRequest) (user : List ℕ) (offer : Offer) (accepted : Option Bool) →
-    SendsNone (signed auth user offer accepted)
-signed_silent auth user offer None = tt
-signed_silent auth user offer (Some false) = tt
-signed_silent auth user offer (Some true) = proof_silent auth user offer.key offer.algorithm
-
-permitted_silent : (auth : AuthRequest) (answer : Auth) (next : Plan AuthOutcome) → SendsNone next →
-    SendsNone (permitted auth answer next)
-permitted_silent auth Accept next h = h
-permitted_silent auth _ next h = tt
-
-asked_silent : (auth : AuthRequest) (user : List ℕ) (offer : Offer) (accepted : Option Bool)
-    (is_asked : Bool) →
-    SendsNone (if is_asked then signed auth user offer accepted
-    else Ask (Admits (by.PublickeyOffered user (offered_key offer.key) offer.algorithm))
-    (λ answer. permitted auth answer (signed auth user offer accepted)))
-asked_silent auth user offer accepted true = signed_silent auth user offer accepted
-asked_silent auth user offer accepted false =
-    λ answer. permitted_silent auth answer (signed auth user offer accepted)
-    (signed_silent auth user offer accepted)
-
-method_silent : (auth : AuthRequest) (user : List ℕ) (method : Method)
-    → SendsNone (method_verdict auth user method)
-method_silent auth user None_method = λ answer. tt
-method_silent auth user (Password_method password) = λ answer. tt
-method_silent auth user (Change_method password new_password) = tt
-method_silent auth user Unusable_method = tt
-method_silent auth user Misnamed_method = tt
-method_silent auth user Broken_method = tt
-method_silent auth user (Probe_method offer) = λ answer. tt
-method_silent auth user (Signed_method offer accepted) =
-    asked_silent auth user offer accepted (is_probed auth.current offer.name offer.blob)
-method_silent auth user (Interactive_method submethods) = λ answer. tt
-method_silent auth user Other_method = tt
-method_silent auth user (Unfit_method why) = tt
-
-verdict_silent : (auth : AuthRequest) (asked : Asked) → SendsNone (verdict_on auth asked)
-verdict_silent auth (asks.Request user method) =
-    method_silent (begun auth user (codes "ssh-connection")) user method
-verdict_silent auth asks.Other_service = tt
-verdict_silent auth (asks.Unfit why) = tt
-verdict_silent auth asks.Unread = tt
-
-responded_silent : (auth : AuthRequest) (prompt : Option (List ℕ × List ℕ)) (said : Responded)
-    → SendsNone (responded auth prompt said)
-responded_silent auth None said = tt
-responded_silent auth (Some prompt) (Responses responses) = λ answer. tt
-responded_silent auth (Some prompt) (Unfit_responses why) = tt
-responded_silent auth (Some prompt) Unread_responses = tt
+acts_send_none now w = sends_none [] (acts now w) (acts_given now w [])
 
 -- ---- rows
 
-silent_then : {A : Type 0} (plan : Plan A) (later : A → Plan Outcome) → SendsNone plan
-    → ((outcome : A) → SendsNone (later outcome)) →
-    SendsNone (after plan later)
-silent_then (Finish outcome) later h k = k outcome
-silent_then (Ask question next) later h k = λ answer. silent_then (next answer) later (h answer) k
-silent_then (Tell entry next) later h k = (h.0, silent_then next later h.1 k)
+-- a verdict tells nothing
+verdict_given : (plan : Plan AuthOutcome) (later : AuthOutcome → Plan Outcome)
+    → EndsSo IsBeside plan → ((outcome : AuthOutcome) → SendsGiven (later outcome))
+    → SendsGiven (after plan later)
+verdict_given (Finish outcome) later e h = h outcome
+verdict_given (Ask question next) later e h = λ given answer.
+    verdict_given (next answer) later (e.1 answer) h (given ++ given_at question answer)
+verdict_given (Tell entry next) later e h = absurd e
 
-concluded_silent : (w : World) (moment : ℕ) (requested : Bool) (outcome : AuthOutcome)
-    → SendsNone (concluded w moment requested outcome)
-concluded_silent w moment requested (verdicts.Replies reply v state) =
-    acts_send_none (replied w moment requested reply v) (waits_for (WaitingAuthRequest state) w)
-concluded_silent w moment requested (verdicts.Fails fault) = tt
+concluded_given : (w : World) (moment : ℕ) (requested : Bool) (outcome : AuthOutcome)
+    → SendsGiven (concluded w moment requested outcome)
+concluded_given w moment requested (verdicts.Replies reply v state) =
+    let u = waits_for (WaitingAuthRequest state) w in
+    acts_given (replied u moment requested reply v) u
+concluded_given w moment requested (verdicts.Fails fault) = λ given. tt
 
-state_silent : (state : EncryptedState) (next : AuthRequest → Plan AuthOutcome) (w : World)
-    (moment : ℕ) (requested : Bool) →
-    ((auth : AuthRequest) → SendsNone (next auth)) →
-    SendsNone (asked_of state (λ auth. after (next auth) (concluded w moment requested))
+state_given : (state : EncryptedState) (next : AuthRequest → Plan AuthOutcome) (w : World)
+    (moment : ℕ) (requested : Bool) → ((auth : AuthRequest) → EndsSo IsBeside (next auth)) →
+    SendsGiven (asked_of state (λ auth. after (next auth) (concluded w moment requested))
     (acts [] w))
-state_silent (WaitingAuthRequest auth) next w moment requested h =
-    silent_then (next auth) (concluded w moment requested) (h auth)
-    (concluded_silent w moment requested)
-state_silent _ next w moment requested h = tt
+state_given (WaitingAuthRequest auth) next w moment requested e =
+    verdict_given (next auth) (concluded w moment requested) (e auth)
+    (concluded_given w moment requested)
+state_given _ next w moment requested e = λ given. tt
 
-service_silent : (w : World) (b : Bool)
-    → SendsNone (if b then Ask Banner (λ message. acts (greets message) w) else acts [] w)
-service_silent w true = λ message. acts_send_none (greets message) w
-service_silent w false = tt
+service_given : (w : World) (b : Bool)
+    → SendsGiven (if b then Ask ask.Banner (λ message. acts (greets message) w) else acts [] w)
+service_given w true = λ given message. acts_given (greets message) w (given ++ [])
+service_given w false = λ given. tt
 
-row_silent : (w : World) (moment : ℕ) (said : Said) → SendsNone (row w moment said)
-row_silent w moment (Service name) = service_silent w (bytes_eq name (codes "ssh-userauth"))
-row_silent w moment (Request asked) =
-    state_silent w.user.state (λ auth. verdict_on auth asked) w moment true
-    (λ auth. verdict_silent auth asked)
-row_silent w moment (Response said) =
-    state_silent w.user.state (λ auth. response_verdict auth said) w moment w.user.requested
-    (λ auth. responded_silent (record auth { partial_success = false }) (prompt_of auth) said)
-row_silent w moment said = acts_send_none (owed w said) w
+row_given : (w : World) (moment : ℕ) (said : Said) → SendsGiven (row w moment said)
+row_given w moment (Service name) = service_given w (bytes_eq name (codes "ssh-userauth"))
+row_given w moment (Request asked) =
+    state_given w.user.state (λ auth. verdict_on auth asked) w moment true (verdict_beside asked)
+row_given w moment (Response said) =
+    state_given w.user.state (λ auth. response_verdict auth said) w moment w.user.requested
+    (response_beside said)
+row_given w moment said = acts_given (owed w said) w
 
-command_silent : (w : World) (ticket : ℕ) (commanded : Command)
-    → SendsNone (command_row w ticket commanded)
-command_silent w ticket commanded = one_done (effect w commanded) _ (λ outcome world. (tt, tt))
+command_given : (w : World) (ticket : ℕ) (commanded : Command)
+    → SendsGiven (command_row w ticket commanded)
+command_given w ticket commanded =
+    one_done (effect w commanded) _ (λ outcome world given. (tt, tt))
+
+pub kind_given : (accepts : Acceptance) (w : World) (moment : ℕ) (kind : InputKind)
+    (plan : Plan Outcome) → OwesKind accepts w moment kind plan → SendsGiven plan
+kind_given accepts w moment input.End plan o = rw o (λ given. tt)
+kind_given accepts w moment (input.Payload payload) plan o =
+    let v = hears payload w in
+    payload_so accepts v moment payload plan SendsGiven o (λ said says. row_given v moment said)
+    (λ passage. acts_given (exchange_acts payload passage) v)
+kind_given accepts w moment (input.Command ticket commanded) plan o =
+    rw o (command_given w ticket commanded)
+kind_given accepts w moment (input.OpenReply ticket answer) plan o =
+    rw o (command_given w ticket (command.Answer answer))
+kind_given accepts w moment input.KeepaliveTick plan o =
+    rw o (acts_given (keepalive_acts w) w)
+kind_given accepts w moment input.InactivityTick plan o = rw o (λ given. tt)
+kind_given accepts w moment input.RekeyTick plan o = rw o (λ given. tt)
 
 pub kind_silent : (accepts : Acceptance) (w : World) (moment : ℕ) (kind : InputKind)
-    (plan : Plan Outcome) →
-    OwesKind accepts w moment kind plan → SendsNone plan
-kind_silent accepts w moment input.End plan o = rw o tt
-kind_silent accepts w moment (input.Payload payload) plan o =
-    let v = hears payload w in
-    payload_so accepts v moment payload plan SendsNone o (λ said says. row_silent v moment said)
-    (λ passage. acts_send_none (exchange_acts payload passage) v)
-kind_silent accepts w moment (input.Command ticket commanded) plan o =
-    rw o (command_silent w ticket commanded)
-kind_silent accepts w moment (input.OpenReply ticket answer) plan o =
-    rw o (command_silent w ticket (command.Answer answer))
-kind_silent accepts w moment input.KeepaliveTick plan o =
-    rw o (acts_send_none (keepalive_acts w) w)
-kind_silent accepts w moment input.InactivityTick plan o = rw o tt
-kind_silent accepts w moment input.RekeyTick plan o = rw o tt
+    (plan : Plan Outcome) → OwesKind accepts w moment kind plan → SendsNone plan
+kind_silent accepts w moment kind plan o =
+    sends_none [] plan (kind_given accepts w moment kind plan o [])

@@ -20,7 +20,7 @@ use Rattle.ssh_session.specs.GlobalReplied.{GlobalReplied}
 use Rattle.ssh_session.specs.InOrder.{InOrder, IsNextInOrder}
 use Rattle.ssh_session.specs.Ledger.{Ledgered_after}
 use Rattle.ssh_session.specs.Outcome.{Outcome, Goes, Ends}
-use Rattle.ssh_session.specs.Parting.{IsParted, IsUnparted}
+use Rattle.ssh_session.specs.Parting.{IsParted, IsUnparted, IsLastWord}
 use Rattle.ssh_session.specs.Replied.{Replied}
 use Rattle.ssh_session.specs.Run.{Owes, Turn, Run, IsTaken, calls_of, steps_of, entries}
 use Rattle.ssh_session.specs.Serve.{Refines, cause_of, IsCaused, may_stop}
@@ -125,6 +125,9 @@ pub record Lawful {E F : Type 0} {accepts : Acceptance} {settings : Settings}
   pub unparted : (earlier later : List (Turn E F)) → account.turns ≡ earlier ++ later
       → IsUnparted accepts settings earlier
   pub parted : IfSome account.last (IsParted accepts account.world)
+  -- a DISCONNECT of this side, whoever asked for it, is the last that happens in the run, unless the
+  -- exchange of keys gave it
+  pub last_word : IsLastWord (account.turns ++ option_to_list account.last)
   -- an open of the peer's gets at most one answer, and none before its callback returned
   pub answered : Answered (account.turns ++ option_to_list account.last)
   -- the peer gets no more replies to its requests on a channel than it wanted
