@@ -42,20 +42,6 @@ pub rest_exchanged : (both : Bool) (call : PlainCall) (calls : List PlainCall)
 rest_exchanged both call calls h =
     let e : answered_as both call ∷ as_answered (after both call) calls ≡ call ∷ calls = h in cc
 
-first_kept : (both : Bool) (call : PlainCall) (xs ys : List PlainCall)
-    → IsExchanged both (call ∷ ys) → IsExchanged (after both call) xs
-    → IsExchanged both (call ∷ xs)
-first_kept both call xs ys h k =
-    ap (λ c. c ∷ as_answered (after both call) xs) (first_exchanged both call ys h)
-    ∙ ap (λ l. call ∷ l) k
-
-pub exchanged_both : (both : Bool) (xs ys : List PlainCall) → IsExchanged both (xs ++ ys)
-    → IsExchanged both xs × IsExchanged (left_after both xs) ys
-exchanged_both both [] ys h = (refl, h)
-exchanged_both both (call ∷ xs) ys h =
-    let t = exchanged_both (after both call) xs ys (rest_exchanged both call (xs ++ ys) h) in
-    (first_kept both call xs (xs ++ ys) h t.0, t.1)
-
 -- the answer depends on what was asked
 same_answer : (both : Bool) (x y : PlainCall) → asked_in_step x ≡ asked_in_step y
     → answered_as both x ≡ answered_as both y

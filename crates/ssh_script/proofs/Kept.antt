@@ -1,7 +1,6 @@
 -- What was kept in a run is what is owed.
-use Rattle.std.proofs.Common.{◌≡◌, ◌<◌, ◌⊎◌, ℕ, List, [], ◌∷◌, ◌++◌, length, Option, Some, None}
-use Rattle.std.proofs.Common.{Result, Ok, Err, Bool, true, false, arith, refl, sym, ◌∙◌, ap, subst}
-use Rattle.std.proofs.Common.{inl, inr}
+use Rattle.std.proofs.Common.{◌≡◌, ◌<◌, ◌⊎◌, ℕ, List, [], ◌∷◌, ◌++◌, length, Some, Result, Ok}
+use Rattle.std.proofs.Common.{Bool, true, false, arith, refl, sym, ◌∙◌, ap, subst, inl, inr}
 use Rattle.std.specs.Prelude.{flat_map, option_to_list}
 use Rattle.std.proofs.lemmas.List.{append-nil}
 use Rattle.std.proofs.lemmas.List.Concat.{flat_map-append}
@@ -19,26 +18,11 @@ use Rattle.ssh_auth.specs.declared.question.Question.TheVariants as ask
 use Rattle.ssh_auth.specs.Calls.{admission_call, lent_call, judged_call}
 use Rattle.ssh_auth.specs.Was.{question_of, asked_of}
 use Rattle.ssh_auth.proofs.Back.{admitted_back, lent_back, judged_back}
-use Rattle.ssh_auth.specs.Plan.{Plan, Event}
-use Rattle.ssh_auth.specs.Publickey.{Acceptance}
 use Rattle.ssh_session.specs.declared.error.RunError.{RunError}
-use Rattle.ssh_session.specs.declared.error.RunError.TheVariants as error
-use Rattle.ssh_session.specs.World.{settings_of, World}
-use Rattle.ssh_session.specs.Outcome.{Outcome}
-use Rattle.ssh_session.specs.Serve.{
-  Cause,
-  Wants_memory,
-  Link_failed,
-  Limit_reached,
-  Faulty,
-  Refused_by,
-  Broken_by,
-  cause_of,
-  IsCaused,
-  may_stop,
-}
-use Rattle.ssh_session.specs.Run.{Turn, calls_of, steps_of, entries}
-use Rattle.ssh_session.specs.Account.{Told, Concludes, Closes, Ran}
+use Rattle.ssh_session.specs.World.{settings_of}
+use Rattle.ssh_session.specs.Serve.{may_stop}
+use Rattle.ssh_session.specs.Run.{calls_of, steps_of, entries}
+use Rattle.ssh_session.specs.Account.{Told, Ran}
 use Rattle.ssh_script.specs.Scene.{Scene}
 use Rattle.ssh_script.specs.Played.{Failure, Queues, banner_answer, interactive_answer, verdict_on}
 use Rattle.ssh_script.specs.Played.{records, grants, listened, answered, after, played, IsAnswered}
@@ -49,6 +33,7 @@ use Rattle.ssh_script.specs.Given.{heading as input_heading}
 use Rattle.ssh_script.specs.CallLines.{question_line, call_line}
 use Rattle.ssh_script.specs.Print.{entry_lines, last_line}
 use Rattle.ssh_script.specs.Transcript.{status_of, scene_settings, scene_accepts, IsRun}
+use Rattle.ssh_script.proofs.Faultless.{closes_by}
 use Rattle.ssh_script.proofs.Heads.{heads, input_heads}
 
 abbrev done : Unit {0}
@@ -195,34 +180,7 @@ given_same inputs inputs' moment moment' all entries e f g h =
     subst (λ s. IsGiven s entries) supply (subst (IsGiven (left_until moment' inputs')) (h ∙ g)
     (is_given (left_until moment' inputs') all))
 
--- where no fault rose, a run ends as one of a link without faults
-uncaused : {E F : Type 0} (cause : Cause E F) (plan : Plan Outcome) (rose : Type 0)
-    (events : List (Event E F)) → (rose → ⊥) → IsCaused cause plan rose events
-    → IsCaused cause plan ⊥ events
-uncaused Wants_memory plan rose events n c = c
-uncaused Link_failed plan rose events n c = absurd (n c.0)
-uncaused Limit_reached plan rose events n c = c
-uncaused (Faulty fault) plan rose events n c = c
-uncaused (Refused_by e) plan rose events n c = c
-uncaused (Broken_by e) plan rose events n c = c
-
-concludes : {E F : Type 0} (plan : Plan Outcome) (rose : Type 0) (events : List (Event E F))
-    (result : Result (Unit {0}) (RunError E F)) → (rose → ⊥) → Concludes plan events rose result
-    → Concludes plan events ⊥ result
-concludes plan rose events (Ok _) n c = c
-concludes plan rose events (Err e) n c = uncaused (cause_of e) plan rose events n c
-
-without_faults : {E F : Type 0} (accepts : Acceptance) (w : World) (count max : ℕ)
-    (last : Option (Turn E F)) (rose : Type 0) (result : Result (Unit {0}) (RunError E F))
-    → (rose → ⊥) → Closes accepts w count max last rose result
-    → Closes accepts w count max last ⊥ result
-without_faults accepts w count max (Some turn) rose result n c =
-    (c.0, c.1, (c.2.0, c.2.1, concludes c.2.0 rose turn.events result n c.2.2))
-without_faults accepts w count max None rose (Err error.InputLimit) n c = c
-without_faults accepts w count max None rose (Err error.LinkFault) n c = absurd (n c.0)
-without_faults accepts w count max None rose (Err error.NoMemory) n c = c
-without_faults accepts w count max None rose _ n c = absurd c
-
+-- no fault of a script's link rises
 not_below : 0 < 0 → ⊥
 not_below h = absurd (omega (arith, h))
 
@@ -242,9 +200,9 @@ pub kept : (scene : Scene) (status : ℕ)
     (lost lost' : Bool) (queues queues' : Queues) (old all : List Question)
     (steps steps' : List (KexCall PlainKexError)) (inputs inputs' : List Input)
     (moment moment' : ℕ) (trace trace' : List TraceEntry) (id : List ℕ) (repeatable : Bool)
-    (text : List ℕ) → repeatable ≡ true → lost ≡ false → lost' ≡ false → queues ≡ scene.queues → old ≡ [] →
-    steps ≡ [] → IsExchanged false steps' → inputs ≡ scene.inputs → moment ≡ scene.moment →
-    trace ≡ [] →
+    (text : List ℕ) → repeatable ≡ true → lost ≡ false → lost' ≡ false → queues ≡ scene.queues →
+    old ≡ [] → steps ≡ [] → IsExchanged false steps' → inputs ≡ scene.inputs →
+    moment ≡ scene.moment → trace ≡ [] →
     as_given (left_until moment' inputs') trace' ≡ trace' → status_of result ≡ Some status →
     id ≡ scene.session_id →
     Ran (scene_accepts scene) (settings_of scene.config id [] repeatable)
@@ -253,7 +211,8 @@ pub kept : (scene : Scene) (status : ℕ)
     text ≡ flat_map question_line all ++ entry_lines 0 trace' ++ last_line result →
     IsRun scene status text
 kept scene status result lost lost' queues queues' old all steps steps' inputs inputs' moment
-    moment' trace trace' id repeatable text repeats l m qe oe se exchanged ie me te given h de given_ran texts =
+    moment' trace trace' id repeatable text repeats l m qe oe se exchanged ie me te given h de
+    given_ran texts =
     let before : Told Failure PlainKexError = told lost queues old steps inputs moment trace in
     let after : Told Failure PlainKexError = told lost' queues' all steps' inputs' moment' trace' in
     let ran : Ran (scene_accepts scene) (scene_settings scene) before after scene.max_inputs
@@ -277,8 +236,8 @@ kept scene status result lost lost' queues queues' old all steps steps' inputs i
       run = ran.run;
       last = ran.last;
       result = result;
-      closes = without_faults (scene_accepts scene) ran.world (length ran.turns)
-          scene.max_inputs ran.last (0 < 0) result not_below ran.closes;
+      closes = closes_by (scene_accepts scene) ran.world (length ran.turns) scene.max_inputs
+          ran.last (0 < 0) ⊥ result not_below ran.closes;
       answered = subst (IsAnswered scene.queues) c (is_answered scene.queues all);
       exchanged = subst (IsExchanged false) (stepped_is steps steps' asked se ran.stepped)
           exchanged;

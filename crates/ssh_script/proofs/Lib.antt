@@ -12,8 +12,8 @@ pub mod LinesOnce
 pub mod Signatures
 pub mod Texts
 pub mod Heads
+pub mod Faultless
 pub mod Kept
 pub mod Endings
-pub mod PlansOnce
 pub mod RunsOnce
 pub mod TranscriptsOnce

@@ -1,58 +1,17 @@
 -- Words and a script owe one status and one text.
-use Rattle.std.proofs.Common.{◌≡◌, ◌≢◌, ◌<◌, ◌+◌, ◌⊎◌, ℕ, List, [], ◌∷◌, ◌++◌, length, Some, None}
-use Rattle.std.proofs.Common.{Result, Ok, Err, false, arith, sym, ◌∙◌, ap, subst, inl, inr}
-use Rattle.std.specs.Prelude.{flat_map, option_to_list, ◌↔◌}
+use Rattle.std.proofs.Common.{◌≡◌, ◌≢◌, ◌<◌, ◌⊎◌, ℕ, List, [], ◌∷◌, length, Some, None, Result, Ok}
+use Rattle.std.proofs.Common.{Err, arith, sym, ◌∙◌, ap, subst, inl, inr}
+use Rattle.std.specs.Prelude.{◌↔◌}
+use Rattle.ssh_link.specs.declared.plain_kex.PlainKexError.{PlainKexError}
 use Rattle.ssh_handler.specs.declared.recorded.RecordError.TheVariants as record_error
+use Rattle.ssh_session.specs.declared.error.RunError.{RunError}
 use Rattle.ssh_session.specs.declared.error.RunError.TheVariants as error
-use Rattle.ssh_session.specs.World.{opening_world}
-use Rattle.ssh_session.specs.Run.{calls_of, entries}
-use Rattle.ssh_session.specs.Account.{Closes}
 use Rattle.ssh_script.specs.Scene.{Scene, opening_scene, lines_of, Gives}
-use Rattle.ssh_script.specs.Print.{printed}
-use Rattle.ssh_script.specs.Transcript.{status_of, scene_settings, scene_accepts, scene_supply}
-use Rattle.ssh_script.specs.Transcript.{IsRun, Shows, Scripted, Transcript, IsBadScript, IsUnknown}
-use Rattle.ssh_script.specs.Transcript.{run_words, help_words, version_words}
+use Rattle.ssh_script.specs.Played.{Failure}
+use Rattle.ssh_script.specs.Transcript.{status_of, Shows, Scripted, Transcript, IsBadScript}
+use Rattle.ssh_script.specs.Transcript.{IsUnknown, run_words, help_words, version_words}
 use Rattle.ssh_script.proofs.LinesOnce.{gives_once}
-use Rattle.ssh_script.proofs.RunsOnce.{ScriptTurn, RunEnd, Remaining, Tail, once}
-
-some_once : (m n : ℕ) → Some m ≡ Some n → m ≡ n
-some_once m n e = cc
-
--- a script before its run
-abbrev remaining : Scene → Remaining
-remaining scene = record {
-  queues = scene.queues;
-  both = false;
-  supply = scene_supply scene;
-}
-
-tail_of : (scene : Scene) (status : ℕ) (text : List ℕ) → (h : IsRun scene status text) →
-    Tail (scene_accepts scene) (opening_world (scene_settings scene)) (remaining scene) 0
-    scene.max_inputs h.turns h.last h.result
-tail_of scene status text h =
-    let counted : length h.turns ≡ 0 + length h.turns = omega arith in
-    record {
-      world = h.world;
-      run = h.run;
-      closes = subst (λ n. Closes (scene_accepts scene) h.world n scene.max_inputs h.last ⊥
-          h.result) counted h.closes;
-      status = status;
-      status_is = h.status_is;
-      plays = record { answered = h.answered; exchanged = h.exchanged; given = h.given };
-    }
-
-run_once : (scene : Scene) (m n : ℕ) (s t : List ℕ) → IsRun scene m s → IsRun scene n t → (m ≡ n)
-    × (s ≡ t)
-run_once scene m n s t h k =
-    let o = once (scene_accepts scene) (opening_world (scene_settings scene)) (remaining scene) 0
-    scene.max_inputs h.turns k.turns h.last k.last h.result k.result (tail_of scene m s h)
-    (tail_of scene n t k) in
-    let P = λ (l : List ScriptTurn) (r : RunEnd).
-    printed (flat_map calls_of l) (flat_map entries l) r in (
-      some_once m n (sym h.status_is ∙ (ap status_of o.1 ∙ k.status_is)),
-      h.text_is ∙ (ap (λ l. P l h.result) o.0
-          ∙ (ap (λ r. P (k.turns ++ option_to_list k.last) r) o.1 ∙ sym k.text_is)),
-    )
+use Rattle.ssh_script.proofs.RunsOnce.{run_once}
 
 shows_once : (read : Result Scene ℕ) (m n : ℕ) (s t : List ℕ) → Shows read m s → Shows read n t
     → (m ≡ n) × (s ≡ t)
@@ -116,7 +75,8 @@ not_two n l e = let z : n ≡ 2 = cc in absurd (omega arith)
 none_is_some : (n : ℕ) → None ≡ Some n → ⊥
 none_is_some n e = cc
 
-run_not_two : (result : RunEnd) → status_of result ≡ Some 2 → ⊥
+run_not_two : (result : Result (Unit {0}) (RunError Failure PlainKexError))
+    → status_of result ≡ Some 2 → ⊥
 run_not_two (Ok done) h = not_two 0 (omega arith) h
 run_not_two (Err error.NoMemory) h = absurd (none_is_some 2 h)
 run_not_two (Err error.LinkFault) h = not_two 1 (omega arith) h
