@@ -222,7 +222,7 @@ read_fair : {S : Type 0} (says : S → Said) (read : Result S WireError)
 read_fair says (Ok value) h = h value
 read_fair says (Err why) h = tt
 
-fair_at : (given : Circumstances) (w : World) (at : Gate) (fields : List ℕ) (said : Said)
+pub fair_at : (given : Circumstances) (w : World) (at : Gate) (fields : List ℕ) (said : Said)
     → Says given w at fields said →
     IsFairSaid said
 fair_at given w gate.Nothing fields said h = rw h tt
@@ -239,7 +239,7 @@ fair_at given w (gate.Connection message) fields said h =
 -- ---- inputs and runs
 
 -- the bytes that come in an exchange are counted, and it goes on
-early_runs : (payload : List ℕ) (exchange : ExchangeState) →
+pub early_runs : (payload : List ℕ) (exchange : ExchangeState) →
     is_running (early_with payload exchange) ≡ false → is_running exchange ≡ false
 early_runs payload Idle h = refl
 early_runs payload (Own early) h = h

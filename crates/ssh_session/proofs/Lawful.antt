@@ -18,6 +18,7 @@ use Rattle.ssh_session.proofs.GlobalReplied.{globally_replied}
 use Rattle.ssh_session.proofs.InOrder.{in_order, last_in_order}
 use Rattle.ssh_session.proofs.LastWord.{last_word}
 use Rattle.ssh_session.proofs.Parted.{parted}
+use Rattle.ssh_session.proofs.Received.{received}
 use Rattle.ssh_session.proofs.Replied.{replied}
 use Rattle.ssh_session.proofs.Sums.{ledgered}
 
@@ -63,6 +64,8 @@ lawful {E} {F} accepts settings before after max result account =
       exchanged = exchanged accepts settings account.turns account.world account.run;
       last_exchanged = last_exchanged accepts settings account.turns account.world count max
           account.last rose result account.run account.closes;
+      received = received accepts settings account.turns account.world count max account.last rose
+          result account.run account.closes;
       complete = λ same valid. complete accepts account.world count max account.last before.faults
           after.faults result account.closes same valid;
       link_fault = λ is. link_fault {E = E} {F = F} accepts account.world count max account.last

@@ -289,7 +289,7 @@ spoken_on past w (spoken.Settles told) k =
     settles_comes (law past) (wanting_on past) (settles_on past) (first_on past) w told k
 spoken_on past w spoken.Inconsistent k = tt
 
-owed_on : (past : List TraceEntry) (w : World) (said : Said) → IsFairSaid said → Kept past w
+pub owed_on : (past : List TraceEntry) (w : World) (said : Said) → IsFairSaid said → Kept past w
     → ActsCome (law past) (owed w said) w
 owed_on past w (Open message) fair k =
     open_on past (next_number w.channels.lines) message (handling message.typ) w refl fair k

@@ -87,3 +87,11 @@ pub mod Untouched
 pub mod Running
 pub mod Alone
 pub mod Exchanged
+pub mod Granting
+pub mod Filling
+pub mod Roomed
+pub mod Fitting
+pub mod Carried
+pub mod BareRows
+pub mod FittingRows
+pub mod Received

@@ -111,8 +111,8 @@ silent_none : (such : Frame → Bool) (frames : List Frame) → AreSilent such f
 silent_none such [] h = refl
 silent_none such (frame ∷ frames) h = rw h.0 (silent_none such frames h.1)
 
-pub silent_both : (such : Frame → Bool) (xs ys : List Frame) → AreSilent such xs → AreSilent such ys →
-    AreSilent such (xs ++ ys)
+pub silent_both : (such : Frame → Bool) (xs ys : List Frame) → AreSilent such xs →
+    AreSilent such ys → AreSilent such (xs ++ ys)
 silent_both such [] ys h k = k
 silent_both such (x ∷ xs) ys h k = (h.0, silent_both such xs ys h.1 k)
 

@@ -21,6 +21,7 @@ use Rattle.ssh_session.specs.InOrder.{InOrder, IsNextInOrder}
 use Rattle.ssh_session.specs.Ledger.{Ledgered_after}
 use Rattle.ssh_session.specs.Outcome.{Outcome, Goes, Ends}
 use Rattle.ssh_session.specs.Parting.{IsParted, IsUnparted, IsLastWord}
+use Rattle.ssh_session.specs.Received.{Received}
 use Rattle.ssh_session.specs.Replied.{Replied}
 use Rattle.ssh_session.specs.Run.{Owes, Turn, Run, IsTaken, calls_of, steps_of, entries}
 use Rattle.ssh_session.specs.Serve.{Refines, cause_of, IsCaused, may_stop}
@@ -125,8 +126,8 @@ pub record Lawful {E F : Type 0} {accepts : Acceptance} {settings : Settings}
   pub unparted : (earlier later : List (Turn E F)) → account.turns ≡ earlier ++ later
       → IsUnparted accepts settings earlier
   pub parted : IfSome account.last (IsParted accepts account.world)
-  -- a DISCONNECT of this side, whoever asked for it, is the last that happens in the run, unless the
-  -- exchange of keys gave it
+  -- a DISCONNECT of this side, whoever asked for it, is the last that happens in the run, unless
+  -- the exchange of keys gave it
   pub last_word : IsLastWord (account.turns ++ option_to_list account.last)
   -- an open of the peer's gets at most one answer, and none before its callback returned
   pub answered : Answered (account.turns ++ option_to_list account.last)
@@ -142,6 +143,8 @@ pub record Lawful {E F : Type 0} {accepts : Acceptance} {settings : Settings}
   -- command ended the connection in it
   pub exchanged : Exchanged account.turns
   pub last_exchanged : IfSome account.last (IsNextExchanged account.turns)
+  -- on a channel no more bytes of data are passed to the handler than this side granted there
+  pub received : Received accepts settings (account.turns ++ option_to_list account.last)
   -- where no fault of the link rose and the last input was valid, it ends well, or memory or the
   -- limit of inputs ends it
   pub complete : after.faults ≡ before.faults → IfSome account.last (IsValid accepts account.world)

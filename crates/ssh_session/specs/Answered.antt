@@ -1,7 +1,8 @@
 -- A CHANNEL_OPEN of the peer's gets at most one answer, and none before its callback returned (RFC
 -- 4254 section 5.1).
 use Rattle.std.specs.Prelude.{◌≡◌, ◌≤◌, ◌+◌, ◌==◌, ◌&&◌, ◌||◌, ℕ, List, [], ◌∷◌, ◌++◌, flat_map}
-use Rattle.std.specs.Prelude.{Bool, true, false, not, cond, if◌then◌else◌, Option, Some, None, is_some}
+use Rattle.std.specs.Prelude.{Bool, true, false, not, cond, if◌then◌else◌, Option, Some, None}
+use Rattle.std.specs.Prelude.{is_some}
 use Rattle.ssh_wire.specs.Messages.{channel_open, channel_open_confirmation, channel_open_failure}
 use Rattle.ssh_wire.specs.declared.channel_id.ChannelId.{ChannelId}
 use Rattle.ssh_link.specs.Frames.{Frame}
@@ -92,9 +93,9 @@ pub record Answered {E F : Type 0} (turns : List (Turn E F)) : Type 0 where
   -- input
   pub at_once : (before after : List (Turn E F)) (turn : Turn E F) → turns ≡ before ++ turn ∷ after
       → is_uncalled_outside turn ≡ true → how_many (sends is_answer) turn.events ≤ 1
-  -- in the other inputs, at every moment and on each number, no more answers were sent than callbacks
-  -- of opens have returned, and one for each open in an exchange of keys whose type has no callback,
-  -- which is held
+  -- in the other inputs, at every moment and on each number, no more answers were sent than
+  -- callbacks of opens have returned, and one for each open in an exchange of keys whose type has no
+  -- callback, which is held
   pub after_call : (before after : List (Turn E F)) (turn : Turn E F) (past more : List (Event E F))
       → turns ≡ before ++ turn ∷ after → shown turn ≡ past ++ more → (number : ℕ)
       → how_many (sends (is_answer_on number)) (called_events before ++ past)

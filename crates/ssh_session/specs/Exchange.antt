@@ -9,7 +9,8 @@ use Rattle.ssh_session.specs.declared.exchange.ExchangeState.{ExchangeState}
 use Rattle.ssh_session.specs.declared.exchange.ExchangeState.TheVariants.{Idle, Own, Both}
 use Rattle.ssh_session.specs.declared.exchange.Keys.{Keys}
 use Rattle.ssh_session.specs.declared.exchange.Passage.{Passage}
-use Rattle.ssh_session.specs.declared.exchange.Passage.TheVariants.{Begins, Steps, Barred, Late, Passes}
+use Rattle.ssh_session.specs.declared.exchange.Passage.TheVariants.{Begins, Steps, Barred, Late}
+use Rattle.ssh_session.specs.declared.exchange.Passage.TheVariants.{Passes}
 
 -- ---- numbers (RFC 4250 section 4.1.2)
 

@@ -1,5 +1,5 @@
--- The error of a run that a field's error is, or that of a message, of a request of authentication, of
--- an exchange of keys, or of a link; and what an error of a run is where no input was taken.
+-- The error of a run that a field's error is, or that of a message, of a request of authentication,
+-- of an exchange of keys, or of a link; and what an error of a run is where no input was taken.
 use Rattle.ssh_wire.specs.declared.error.WireError.{WireError}
 use Rattle.ssh_wire.specs.declared.error.WireError.TheVariants as wire
 use Rattle.ssh_wire.specs.declared.error.LayoutError.{LayoutError}

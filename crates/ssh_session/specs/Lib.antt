@@ -33,6 +33,7 @@ pub mod Parting
 pub mod Valid
 pub mod InOrder
 pub mod Exchanged
+pub mod Received
 pub mod Account
 pub mod Once
 pub mod Between

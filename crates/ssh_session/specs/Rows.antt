@@ -60,7 +60,7 @@ use Rattle.ssh_session.specs.Outcome.{Channels_full, Pending, Outcome}
 use Rattle.ssh_session.specs.Reading.{Said, Disconnect, Over_cap, Service, Request, Response, Open}
 use Rattle.ssh_session.specs.Reading.{Agreed, Connection, Unread, Unfit, Without_packets}
 use Rattle.ssh_session.specs.World.{World, waits_for, lined, writes, replies, wants_global}
-use Rattle.ssh_session.specs.World.{settles_global, settled_first, unless_ended}
+use Rattle.ssh_session.specs.World.{settles_global, settled_first, unless_ended, as_uint32}
 use Rattle.ssh_session.specs.Acts.{Act, Notes, Calls, Judges_by, Listens_by, Adjusts_by, Turns}
 use Rattle.ssh_session.specs.Acts.{Exchanges, Beginning, Stepping, Is_over, Stops, acts}
 use Rattle.ssh_session.specs.declared.exchange.Passage.{Passage}
@@ -211,7 +211,7 @@ data_happening (Extended code) bytes = what.ExtendedData code bytes
 abbrev pub aims : (window : ℕ) → World → World
 aims window w = record w {
   channels = record w.channels {
-    target = if window == 0 then w.channels.target else window;
+    target = if window == 0 then w.channels.target else as_uint32 window;
   };
 }
 

@@ -132,8 +132,8 @@ AreValidFields given w gate.OpenConfirmation fields = (message : ChannelOpenConf
 AreValidFields given w (gate.Connection message) fields =
     FitsLayout w (message_layout w message) fields
 
--- no message of a service comes behind the peer's KEXINIT, nor too many bytes of them before it (RFC
--- 4253 section 7.1); what is not the exchange's fits
+-- no message of a service comes behind the peer's KEXINIT, nor too many bytes of them before it
+-- (RFC 4253 section 7.1); what is not the exchange's fits
 abbrev pub IsValidPassed : Circumstances → World → Passage → (payload : List ℕ) → Type 0
 IsValidPassed given w passage.Passes payload =
     AreValidFields given w (gate_of w payload) (drop 1 payload)

@@ -1,7 +1,7 @@
 -- The state of a session in the standard's terms. It is a record of the definitions alone: the code
 -- has what it needs of it, and the relation `Refines` ties the two.
 use Rattle.std.specs.Prelude.{◌&&◌, ◌||◌, ◌++◌, ◌∷◌, ℕ, Bool, List, [], true, false, not, cond}
-use Rattle.std.specs.Prelude.{drop}
+use Rattle.std.specs.Prelude.{◌-◌, ◌^◌, min, drop}
 use Rattle.std.specs.Prelude.{Option, option_to_list}
 use Rattle.ssh_link.specs.Frames.{Frame}
 use Rattle.ssh_handler.specs.declared.config.Config.{Config}
@@ -75,12 +75,20 @@ pub record World : Type 0 where
   -- the exchange of keys, and how much passed under the keys in use (RFC 4253 sections 7 and 9)
   pub keys : Keys
 
+-- a window is told by a number of four bytes (RFC 4251 section 5, RFC 4254 section 5.2)
+abbrev pub as_uint32 : ℕ → ℕ
+as_uint32 window = min window (2 ^ 32 - 1)
+
 -- before the first input
 abbrev pub opening_world : Settings → World
 opening_world settings = record {
   settings = settings;
   user = record { state = WaitingAuthServiceRequest false false; requested = false; name = [] };
-  channels = record { lines = no_lines; opens = []; target = settings.config.window_size };
+  channels = record {
+    lines = no_lines;
+    opens = [];
+    target = as_uint32 settings.config.window_size;
+  };
   globals = record { wanted = false; outstanding = [] };
   keepalives = 0;
   disconnected = false;

@@ -27,9 +27,10 @@ fn add(notices: &mut VecDeque<Notice>, notice: Option<Notice>)
 
 impl Session {
     /// Does one command between two inputs, or refuses it, and answers what came of it. Its frames
-    /// are handed on with the next input or by `flush`, and a notice that it gives is told first with
-    /// that one. Where it ends the connection, the next input is not looked at any more. `NoMemory`
-    /// is the only error, and leaves the session as it was. The session must not be spent.
+    /// are handed on with the next input or by `flush`, and a notice that it gives is told first
+    /// with that one. Where it ends the connection, the next input is not looked at any more.
+    /// `NoMemory` is the only error, and leaves the session as it was. The session must not be
+    /// spent.
     pub fn apply(&mut self, command: Command) -> Result<CommandOutcome, WireError>
         requires live { is_spent self.old ≡ false }
         ensures applied { Applies command self.old self.new result }

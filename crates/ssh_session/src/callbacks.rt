@@ -8,7 +8,8 @@ ghost use Rattle.ssh_session.specs.Outcome.{Outcome};
 ghost use Rattle.ssh_session.specs.Acts.{Calls, Adjusts_by, done_all};
 ghost use Rattle.ssh_session.specs.Rows.{told, aims};
 ghost use Rattle.ssh_session.specs.Heard.{AreSame};
-ghost use Rattle.ssh_session.specs.Serve.{Refines, Does, Serves, Puts, IsSuited, IsSameSession, lends};
+ghost use Rattle.ssh_session.specs.Serve.{Refines, Does, Serves, Puts, IsSuited, IsSameSession};
+ghost use Rattle.ssh_session.specs.Serve.{lends};
 
 use crate::outside::{Outside, Transport};
 use crate::{RunError, Session};

@@ -32,8 +32,8 @@ struct Asking {
     wanted: bool,
 }
 
-/// What the user of the channel and the handler are told of a request. A notice says that a reply is
-/// wanted, whether one is or not.
+/// What the user of the channel and the handler are told of a request. A notice says that a reply
+/// is wanted, whether one is or not.
 type Told = (ChannelMsg, Happening);
 
 /// The request says what is told of it, where there was memory for that.

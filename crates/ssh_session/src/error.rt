@@ -35,9 +35,9 @@ pub enum RunError<HE, KE> {
     Encoding(WireError),
     /// A request of authentication names another service than `ssh-connection`, an open or a
     /// confirmation has a packet size of 0, a confirmation is for no open of this side that waits,
-    /// a refusal is for an open that was agreed to; a message of authentication or of the connection
-    /// comes between the peer's KEXINIT and the end of the exchange of keys (RFC 4253 section 7.1);
-    /// or the session is spent.
+    /// a refusal is for an open that was agreed to; a message of authentication or of the
+    /// connection comes between the peer's KEXINIT and the end of the exchange of keys (RFC 4253
+    /// section 7.1); or the session is spent.
     Inconsistent,
     /// Between this side's KEXINIT and the peer's more bytes of messages of authentication and of
     /// the connection came than twice `Config::window_size`.

@@ -102,8 +102,8 @@ impl Session {
         }
     }
 
-    /// The run is over where the connection was ended (RFC 4253 section 11.1); elsewhere it goes on,
-    /// and keys are exchanged where that is due.
+    /// The run is over where the connection was ended (RFC 4253 section 11.1); elsewhere it goes
+    /// on, and keys are exchanged where that is due.
     fn go_on<O: Transport>(
         &mut self,
         outside: &mut O,

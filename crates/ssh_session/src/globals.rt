@@ -12,8 +12,8 @@ ghost use Rattle.ssh_session.specs.World.{settled_first};
 ghost use Rattle.ssh_session.specs.Effect.{accepts};
 ghost use Rattle.ssh_session.specs.Rows.{spoken_acts, bound_to, global_reply};
 ghost use Rattle.ssh_session.specs.Heard.{AreSame};
-ghost use Rattle.ssh_session.specs.Serve.{Refines, Does, Turned, HasEffect, IsSameSession, IsSuited};
-ghost use Rattle.ssh_session.specs.Serve.{IsUnchanged};
+ghost use Rattle.ssh_session.specs.Serve.{Refines, Does, Turned, HasEffect, IsSameSession};
+ghost use Rattle.ssh_session.specs.Serve.{IsSuited, IsUnchanged};
 
 use crate::apply::Done;
 use crate::outside::Outside;

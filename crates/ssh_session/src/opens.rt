@@ -10,7 +10,8 @@ ghost use Rattle.ssh_session.specs.Types.{handling, opening_by, type_refusal};
 ghost use Rattle.ssh_session.specs.Reading.{Said, SaysOpen, Open};
 ghost use Rattle.ssh_session.specs.Rows.{row, owed, waits, asks_first, turns_first};
 ghost use Rattle.ssh_session.specs.Heard.{AreSame};
-ghost use Rattle.ssh_session.specs.Serve.{Refines, Does, Completes, Turned, IsSuited, IsSameSession};
+ghost use Rattle.ssh_session.specs.Serve.{Refines, Does, Completes, Turned, IsSuited};
+ghost use Rattle.ssh_session.specs.Serve.{IsSameSession};
 
 use crate::channel_frames::type_refusal_frame;
 use crate::outside::Outside;

@@ -62,6 +62,7 @@ impl Session {
         ensures told { IfOk result (λ session. untold session ≡ []) }
         ensures memory { IfErr result (λ e. e ≡ NoMemory) }
     {
+        let target = config.window_size;
         Ok(Session {
             alloc,
             common: CommonSession {
@@ -79,7 +80,7 @@ impl Session {
             requested: false,
             table: Encrypted::new(alloc),
             opens: BTreeMap::new(alloc),
-            target: config.window_size,
+            target,
             outstanding: VecDeque::new(alloc),
             keepalives: 0,
             untold: VecDeque::new(alloc),

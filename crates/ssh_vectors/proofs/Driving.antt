@@ -37,6 +37,8 @@ use Rattle.ssh_session.proofs.Ended.{IsLive, run_live}
 use Rattle.ssh_session.proofs.Exchanged.{exchanged, last_exchanged}
 use Rattle.ssh_session.proofs.GlobalReplied.{globally_replied}
 use Rattle.ssh_session.proofs.InOrder.{in_order}
+use Rattle.ssh_session.proofs.LastWord.{last_word}
+use Rattle.ssh_session.proofs.Received.{received}
 use Rattle.ssh_session.proofs.Replied.{replied}
 use Rattle.ssh_session.proofs.Serving.{told_then, told_none, caused_rose}
 use Rattle.ssh_session.proofs.Settled.{stays_set}
@@ -245,6 +247,8 @@ served accepts settings all a d result turns w last left max rose end run closes
       in_order = λ earlier more is. in_order accepts settings turns w run earlier more is;
       exchanged = exchanged accepts settings turns w run;
       last_exchanged = last_exchanged accepts settings turns w count max last rose end run closes;
+      received = received accepts settings turns w count max last rose end run closes;
+      last_word = last_word accepts settings turns w count max last rose end run closes;
     }
 
 -- the last that was looked at

@@ -21,6 +21,8 @@ use Rattle.ssh_session.specs.GlobalReplied.{GlobalReplied}
 use Rattle.ssh_session.specs.InOrder.{InOrder}
 use Rattle.ssh_session.specs.Ledger.{Ledgered_after}
 use Rattle.ssh_session.specs.Outcome.{Outcome, Ends}
+use Rattle.ssh_session.specs.Parting.{IsLastWord}
+use Rattle.ssh_session.specs.Received.{Received}
 use Rattle.ssh_session.specs.Replied.{Replied}
 use Rattle.ssh_session.specs.Run.{Owes, Turn, Run, calls_of, steps_of}
 use Rattle.ssh_session.specs.Serve.{IsCaused, cause_of, may_stop}
@@ -86,3 +88,7 @@ pub record Served {E F : Type 0} (accepts : Acceptance) (settings : Settings)
   -- command ended the connection in it
   pub exchanged : Exchanged turns
   pub last_exchanged : IfSome last (IsNextExchanged turns)
+  -- on a channel no more bytes of data are passed to the handler than this side granted there
+  pub received : Received accepts settings (turns ++ option_to_list last)
+  -- and a DISCONNECT of this side is the last that happens
+  pub last_word : IsLastWord (turns ++ option_to_list last)
