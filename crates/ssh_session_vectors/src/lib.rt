@@ -4,6 +4,7 @@
 
 #[cfg(test)]
 mod callbacks;
+pub mod client;
 #[cfg(test)]
 mod deciding;
 #[cfg(test)]
