@@ -14,6 +14,8 @@ mod handlers;
 #[cfg(test)]
 mod runs;
 #[cfg(test)]
+mod sending;
+#[cfg(test)]
 mod sessions;
 #[cfg(test)]
 mod taking;
