@@ -4,6 +4,7 @@
 
 #[cfg(test)]
 mod callbacks;
+pub mod client;
 #[cfg(test)]
 mod deciding;
 #[cfg(test)]
@@ -12,6 +13,8 @@ mod globals;
 mod handlers;
 #[cfg(test)]
 mod runs;
+#[cfg(test)]
+mod sending;
 #[cfg(test)]
 mod sessions;
 #[cfg(test)]
