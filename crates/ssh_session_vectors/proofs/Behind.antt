@@ -46,8 +46,9 @@ pub owes_live : {E F : Type 0} (ended : Bool) (accepts : Acceptance) (w : World)
 owes_live false accepts w input plan events world o h = o
 owes_live true accepts w input plan events world o h =
     let over = subst (λ p. Follows p events (Goes world)) o h in
-    let rest = told_first (map Sent (going_out w)) (is_over (handed_on w)) events (Goes world) over in
-    absurd (over_not (handed_on w) world rest.0 rest.2)
+    let v = handed_on w in
+    let rest = told_first (map Sent (going_out w)) (is_over v) events (Goes world) over in
+    absurd (over_not v world rest.0 rest.2)
 
 -- ---- the end of an input without one
 

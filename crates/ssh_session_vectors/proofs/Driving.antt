@@ -8,68 +8,27 @@ use Rattle.std.proofs.lemmas.List.Concat.{flat_map-append}
 use Rattle.ssh_link.specs.Faults.{Rose}
 use Rattle.ssh_link.specs.Told.{Adds, ToldBy}
 use Rattle.ssh_link.proofs.Tellings.{adds_nil}
-use Rattle.ssh_link.specs.declared.command.Command.{Command}
-use Rattle.ssh_link.specs.declared.link.TraceEntry.TheVariants.{Noticed}
-use Rattle.ssh_auth.specs.Plan.{Follows}
 use Rattle.ssh_auth.specs.Publickey.{Acceptance}
 use Rattle.ssh_handler.specs.declared.config.Config.{Config}
 use Rattle.ssh_session.specs.declared.error.Flow.{Flow}
 use Rattle.ssh_session.specs.declared.error.Flow.TheVariants.{Continue, Ended}
 use Rattle.ssh_session.specs.declared.session.Session.{Session}
 use Rattle.ssh_session.specs.Account.{Told}
-use Rattle.ssh_session.specs.Between.{untold, flushed}
-use Rattle.ssh_session.specs.Effect.{effect, refused_for, done_by}
-use Rattle.ssh_session.specs.Outcome.{Goes}
-use Rattle.ssh_session.specs.Run.{hand_on}
+use Rattle.ssh_session.specs.Between.{untold}
 use Rattle.ssh_session.specs.Serve.{Refines, IsSuited, cause_of, is_spent}
 use Rattle.ssh_session.specs.World.{Settings, World, opening_world}
-use Rattle.ssh_session.proofs.Acting.{EffectComes}
-use Rattle.ssh_session.proofs.Apart.{refused_comes, apart_comes}
-use Rattle.ssh_session.proofs.Beside.{done_beside, settles_beside, opens_or_not_beside}
 use Rattle.ssh_session.proofs.Serving.{told_then, told_none, caused_rose}
-use Rattle.ssh_session.proofs.Settled.{IsSet, stays_set}
 use Rattle.ssh_session_vectors.specs.declared.client.Move.{Move}
 use Rattle.ssh_session_vectors.specs.declared.client.MoveError.{MoveError}
 use Rattle.ssh_session_vectors.specs.declared.client.MoveError.TheVariants as error
 use Rattle.ssh_session_vectors.specs.Client.{Driven, Makes, ComesTo}
-use Rattle.ssh_session_vectors.specs.Moves.{Place, Made, Served, Said, Handed_on, Leads, Drives}
-use Rattle.ssh_session_vectors.specs.Moves.{opening_place, placed, coming, move_of, calls_of}
+use Rattle.ssh_session_vectors.specs.Moves.{Place, Made, Served, Handed_on, Leads, Drives}
+use Rattle.ssh_session_vectors.specs.Moves.{opening_place, placed, move_of, calls_of}
 use Rattle.ssh_session_vectors.specs.Moves.{steps_of, told_of, EndsSo, flush_cause}
 use Rattle.ssh_session_vectors.specs.Moves.{may_stop_telling}
 use Rattle.ssh_session_vectors.proofs.Accounting.{accounted}
-use Rattle.ssh_session_vectors.proofs.Behind.{told_first, owes_live, flush_set}
-
--- ---- what is fixed stays so
-
-same_set : (settings : Settings) (w v : World) → v.settings ≡ w.settings
-    → v.disconnected ≡ w.disconnected → v.keys ≡ w.keys → IsSet settings w → IsSet settings v
-same_set settings w v is ended keys h = is ∙ h
-
-effect_set : (settings : Settings) (w : World) (command : Command) → IsSet settings w
-    → EffectComes (IsSet settings) (effect w command)
-effect_set settings w command h =
-    let holds = IsSet settings in
-    refused_comes holds (refused_for w.disconnected w command) w (done_by w command) h
-    (done_beside holds (same_set settings) w command h
-    (apart_comes holds (λ message v k. k) (settles_beside holds (same_set settings))
-    (opens_or_not_beside holds (same_set settings)) w command h))
-
-lead_set : {E F : Type 0} (accepts : Acceptance) (settings : Settings) (moment : ℕ)
-    (before : Place) (made : Made E F) (to : Place) → Leads accepts moment before made to
-    → before.world.settings ≡ settings → to.world.settings ≡ settings
-lead_set accepts settings moment before (Served payload events) to (plan, owes, follows, none) set =
-    let w = before.world in
-    let told = told_first (map Noticed before.untold) owes.0 events (Goes to.world)
-    (subst (λ p. Follows p events (Goes to.world)) owes.2 follows) in
-    stays_set accepts settings w (coming moment payload) owes.0 told.0 to.world
-    (owes_live w.disconnected accepts w (coming moment payload) owes.0 told.0 to.world owes.1
-    told.2) told.2 set
-lead_set accepts settings moment before (Said command outcome) to leads set =
-    subst (EffectComes (IsSet settings)) leads.1 (effect_set settings before.world command set)
-lead_set accepts settings moment before (Handed_on events) to (plan, owes, follows, none) set =
-    let told = told_first (map Noticed before.untold) (hand_on before.world flushed) events
-    (Goes to.world) (subst (λ p. Follows p events (Goes to.world)) owes follows) in
-    flush_set settings before.world told.0 to.world told.2 set
+use Rattle.ssh_session_vectors.proofs.Authorising.{authorised}
+use Rattle.ssh_session_vectors.proofs.Staying.{lead_set}
 
 -- ---- lists
 
@@ -204,7 +163,8 @@ more_made accepts settings moment moves move a c d before session going (Some on
     stepped told (to, leads, refines, kept) = record {
       made = going.made ++ one ∷ [];
       place = to;
-      run = drive_more accepts moment (opening_place settings) going.made going.place one to going.run
+      run = drive_more accepts moment (opening_place settings) going.made going.place one to
+          going.run
           leads;
       given = given_more going.made one moves move going.given is;
       called = told_both false calls_of going.made (one ∷ []) a.calls c.calls d.calls going.called
@@ -269,7 +229,9 @@ all_made {E} {F} accepts settings moment moves rest all a c session going is non
           (adds_nil c.steps);
       told = told_both false told_of going.made [] a.trace c.trace c.trace going.told
           (adds_nil c.trace);
-      ledger = λ earlier later at splits drives. accounted accepts settings moment earlier at drives;
+      authorised = authorised accepts settings moment going.made going.place nothing ⊥ (Ok Continue)
+          going.run tt;
+      ledger = λ earlier later at splits. accounted accepts settings moment earlier at;
     }
 
 -- one was the last
@@ -301,7 +263,9 @@ last_made accepts settings moment moves rest all move a c d before session resul
           d.steps going.stepped one.stepped;
       told = told_both false told_of going.made (option_to_list one.made) a.trace c.trace d.trace
           going.told one.told;
-      ledger = λ earlier later at splits drives. accounted accepts settings moment earlier at drives;
+      authorised = authorised accepts settings moment going.made going.place one.made
+          (Rose c.faults d.faults) result going.run ends;
+      ledger = λ earlier later at splits. accounted accepts settings moment earlier at;
     }
 
 ended_so : {E F : Type 0} (accepts : Acceptance) (moment : ℕ) (place : Place)
@@ -363,5 +327,7 @@ not_begun E F accepts settings moment moves a =
       called = told_none false a.calls;
       stepped = adds_nil a.steps;
       told = adds_nil a.trace;
-      ledger = λ earlier later at splits drives. accounted accepts settings moment earlier at drives;
+      authorised = authorised accepts settings moment [] (opening_place settings) nothing ⊥
+          (Err error.NoMemory) refl tt;
+      ledger = λ earlier later at splits. accounted accepts settings moment earlier at;
     }

@@ -17,6 +17,7 @@ use Rattle.ssh_session.specs.Serve.{Refines}
 use Rattle.ssh_session.specs.World.{Settings, in_exchange}
 use Rattle.ssh_session_vectors.specs.declared.client.Move.{Move}
 use Rattle.ssh_session_vectors.specs.declared.client.MoveError.{MoveError}
+use Rattle.ssh_session_vectors.specs.Authorised.{AreAuthorised}
 use Rattle.ssh_session_vectors.specs.Moves.{Place, Made, Served, Said, Leads, Drives}
 use Rattle.ssh_session_vectors.specs.Moves.{opening_place, move_of, calls_of, steps_of, told_of}
 use Rattle.ssh_session_vectors.specs.Moves.{EndsSo, may_stop_telling}
@@ -51,8 +52,8 @@ pub record Accounted {E F : Type 0} (accepts : Acceptance) (settings : Settings)
   pub due : in_exchange place.world ≡ false → Each IsDue place.world.channels.lines
   -- what that says of the frames that were sent: among other things, no more than was granted
   pub sent : SentSo (flat_map told_of made) place.world.channels.lines
-  -- and where the last one hands on, and no exchange of keys holds its frames, each channel has sent
-  -- exactly the first min(accepted, granted) bytes
+  -- and where the last one hands on, and no exchange of keys holds its frames, each channel has
+  -- sent exactly the first min(accepted, granted) bytes
   pub sent_all : (earlier : List (Made E F)) → (last : Made E F) → (before : Place)
       → made ≡ earlier ++ last ∷ []
       → Drives accepts moment (opening_place settings) earlier before
@@ -64,31 +65,33 @@ pub record Accounted {E F : Type 0} (accepts : Acceptance) (settings : Settings)
 
 -- moves were made one after another
 pub record Driven {E F : Type 0} (accepts : Acceptance) (settings : Settings) (moment : ℕ)
-    (moves : List Move) (before after : Told E F) (result : Result Flow (MoveError E F)) : Type 0
-  where
-    -- those that were finished: they lead here from the opening world
-    pub made : List (Made E F)
-    pub place : Place
-    pub run : Drives accepts moment (opening_place settings) made place
-    -- one more, which ended the connection or was not finished
-    pub last : Option (Made E F)
-    -- and those that it did not come to, with a command for which memory was wanting: none where all
-    -- went well
-    pub left : List Move
-    pub given : map move_of (made ++ option_to_list last) ++ left ≡ moves
-    pub all : result ≡ Ok Continue → left ≡ []
-    -- each end has its cause
-    pub ends : EndsSo accepts moment place last (Rose before.faults after.faults) result
-    pub later : before.faults ≤ after.faults
-    -- the handler was called, the exchange asked and the link told for these, and nothing else
-    pub called : ToldBy (may_stop_telling result) before.calls after.calls
-        (flat_map calls_of (made ++ option_to_list last))
-    pub stepped : Adds before.steps after.steps (flat_map steps_of (made ++ option_to_list last))
-    pub told : Adds before.trace after.trace (flat_map told_of (made ++ option_to_list last))
-    -- after each that was finished, wherever those up to it lead
-    pub ledger : (earlier later : List (Made E F)) → (at : Place) → made ≡ earlier ++ later
-        → Drives accepts moment (opening_place settings) earlier at
-        → Accounted accepts settings moment earlier at
+    (moves : List Move) (before after : Told E F) (result : Result Flow (MoveError E F)) :
+    Type 0 where
+  -- those that were finished: they lead here from the opening world
+  pub made : List (Made E F)
+  pub place : Place
+  pub run : Drives accepts moment (opening_place settings) made place
+  -- one more, which ended the connection or was not finished
+  pub last : Option (Made E F)
+  -- and those that it did not come to, with a command for which memory was wanting: none where all
+  -- went well
+  pub left : List Move
+  pub given : map move_of (made ++ option_to_list last) ++ left ≡ moves
+  pub all : result ≡ Ok Continue → left ≡ []
+  -- each end has its cause
+  pub ends : EndsSo accepts moment place last (Rose before.faults after.faults) result
+  pub later : before.faults ≤ after.faults
+  -- the handler was called, the exchange asked and the link told for these, and nothing else
+  pub called : ToldBy (may_stop_telling result) before.calls after.calls
+      (flat_map calls_of (made ++ option_to_list last))
+  pub stepped : Adds before.steps after.steps (flat_map steps_of (made ++ option_to_list last))
+  pub told : Adds before.trace after.trace (flat_map told_of (made ++ option_to_list last))
+  -- nothing of the connection is served before an accepted authentication
+  pub authorised : AreAuthorised accepts settings moment (made ++ option_to_list last)
+  -- after each that was finished, wherever those up to it lead
+  pub ledger : (earlier later : List (Made E F)) → (at : Place) → made ≡ earlier ++ later
+      → Drives accepts moment (opening_place settings) earlier at
+      → Accounted accepts settings moment earlier at
 
 -- ---- one move
 
@@ -104,13 +107,13 @@ ComesTo accepts moment place made rose session result =
 
 -- one move was made in this place: none is told of where memory was wanting for a command
 pub record Makes {E F : Type 0} (accepts : Acceptance) (moment : ℕ) (place : Place) (move : Move)
-    (before after : Told E F) (session : Session) (result : Result Flow (MoveError E F)) : Type 0
-  where
-    pub made : Option (Made E F)
-    pub given : IfSome made (λ one. move_of one ≡ move)
-    pub later : before.faults ≤ after.faults
-    pub called : ToldBy (may_stop_telling result) before.calls after.calls
-        (flat_map calls_of (option_to_list made))
-    pub stepped : Adds before.steps after.steps (flat_map steps_of (option_to_list made))
-    pub told : Adds before.trace after.trace (flat_map told_of (option_to_list made))
-    pub comes : ComesTo accepts moment place made (Rose before.faults after.faults) session result
+    (before after : Told E F) (session : Session) (result : Result Flow (MoveError E F)) :
+    Type 0 where
+  pub made : Option (Made E F)
+  pub given : IfSome made (λ one. move_of one ≡ move)
+  pub later : before.faults ≤ after.faults
+  pub called : ToldBy (may_stop_telling result) before.calls after.calls
+      (flat_map calls_of (option_to_list made))
+  pub stepped : Adds before.steps after.steps (flat_map steps_of (option_to_list made))
+  pub told : Adds before.trace after.trace (flat_map told_of (option_to_list made))
+  pub comes : ComesTo accepts moment place made (Rose before.faults after.faults) session result

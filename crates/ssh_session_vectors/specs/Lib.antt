@@ -1,2 +1,3 @@
+pub mod Authorised
 pub mod Client
 pub mod Moves

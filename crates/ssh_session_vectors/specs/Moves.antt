@@ -27,8 +27,8 @@ use Rattle.ssh_session_vectors.specs.declared.client.Move.TheVariants.{Payload, 
 use Rattle.ssh_session_vectors.specs.declared.client.MoveError.{MoveError}
 use Rattle.ssh_session_vectors.specs.declared.client.MoveError.TheVariants as error
 
--- between two moves: how far the session has come, and the notices that commands gave and nobody was
--- told yet
+-- between two moves: how far the session has come, and the notices that commands gave and nobody
+-- was told yet
 pub record Place : Type 0 where
   pub world : World
   pub untold : List Notice
@@ -71,9 +71,9 @@ told_of (Handed_on events) = told_in events
 abbrev pub coming : (moment : ℕ) → (payload : List ℕ) → Input
 coming moment payload = record { moment = moment; kind = input.Payload payload }
 
--- the move was finished, and leads from one place to another: a payload owes the notices, its row and
--- the frames, a command has its effect and gives notices, and handing on owes the notices and the
--- frames
+-- the move was finished, and leads from one place to another: a payload owes the notices, its row
+-- and the frames, a command has its effect and gives notices, and handing on owes the notices and
+-- the frames
 abbrev pub Leads : {E F : Type 0} → Acceptance → (moment : ℕ) → Place → Made E F → Place → Type 0
 Leads accepts moment before (Served payload events) after = (plan : Plan Outcome)
     × OwesBehind before.untold accepts before.world (coming moment payload) plan

@@ -1,5 +1,6 @@
 //! Worked examples of sessions, as tests: sessions that are driven input by input and by commands
-//! between inputs, runs over links and handlers that fail, and what a callback is lent.
+//! between inputs, runs over links and handlers that fail, and what a callback is lent; and a small
+//! client that serves payloads, gives commands between them and hands on what these wrote.
 #![tactic(auto)]
 
 #[cfg(test)]

@@ -33,7 +33,8 @@ loop-next-preserved g c = record {
   items = append_assoc c.loop-next.yielded (c.in-Some.next ∷ []) c.next.new.self.rest.items
       ∙ (ap (λ l. c.loop-next.yielded ++ l) (sym c.in-Some.ensures.steps.0)
       ∙ c.loop-next.invariant.items);
-  going = λ settings r repeats. goes_on (g.V.Verifier.accepts c.args.verifier.now) settings c.args.moment
+  going = λ settings r repeats.
+      goes_on (g.V.Verifier.accepts c.args.verifier.now) settings c.args.moment
       c.loop-next.yielded c.in-Some.next _ _ _ c.loop-next.session c.make.new.session
       (c.loop-next.invariant.going settings r repeats)
       (λ w k set. rw c.in-Ok-Continue.field-0-is at (c.in-Ok-Continue.ensures.made w k
@@ -43,7 +44,8 @@ loop-next-preserved g c = record {
 
 pub returns-in-Ok-Ended : goal.returns-in-Ok-Ended
 returns-in-Ok-Ended g c = record {
-  driven = λ settings r repeats. ended (g.V.Verifier.accepts c.args.verifier.now) settings c.args.moment
+  driven = λ settings r repeats.
+      ended (g.V.Verifier.accepts c.args.verifier.now) settings c.args.moment
       c.loop-next.yielded c.next.new.self.rest.items c.args.moves.items c.in-Some.next _ _ _
       c.loop-next.session c.make.new.session (c.loop-next.invariant.going settings r repeats)
       (λ w k set. rw c.in-Ok-Ended.field-0-is at (c.in-Ok-Ended.ensures.made w k
@@ -55,7 +57,8 @@ returns-in-Ok-Ended g c = record {
 
 pub returns-in-Err : goal.returns-in-Err
 returns-in-Err g c = record {
-  driven = λ settings r repeats. stopped (g.V.Verifier.accepts c.args.verifier.now) settings c.args.moment
+  driven = λ settings r repeats.
+      stopped (g.V.Verifier.accepts c.args.verifier.now) settings c.args.moment
       c.loop-next.yielded c.next.new.self.rest.items c.args.moves.items c.in-Some.next _ _ _
       c.loop-next.session c.make.new.session c.in-Err.e
       (c.loop-next.invariant.going settings r repeats) (λ w k set. c.in-Err.ensures.made w k

@@ -11,8 +11,8 @@ returns-in_err-step-in-Payload-clause-made g c w refines repeats =
     let e = c.in_err-step-in-Payload.field-0.0 in
     let is : c.from_residual.result ≡ Err (error.Payload e) = p.1 ∙ ap Err p.2 in
     rw (is, c.in-Payload.is)
-    (payload_made (g.V.Verifier.accepts c.args.verifier.now) c.args.moment w (untold c.args.session.now)
-    c.in-Payload.payload
+    (payload_made (g.V.Verifier.accepts c.args.verifier.now) c.args.moment w
+    (untold c.args.session.now) c.in-Payload.payload
     _ _ c.step.new.self (Err e) (c.in_err-step-in-Payload.ensures.taken w refines repeats) tt)
 
 pub returns-in_err-flush-in-HandOn-clause-made : goal.returns-in_err-flush-in-HandOn-clause-made
@@ -23,15 +23,16 @@ returns-in_err-flush-in-HandOn-clause-made g c w refines repeats =
     let is : c.from_residual-in_err-flush-in-HandOn.result ≡ Err (error.HandOn e) =
     p.1 ∙ ap Err p.2 in
     rw (is, c.in-HandOn.is)
-    (flush_made (g.V.Verifier.accepts c.args.verifier.now) c.args.moment w (untold c.args.session.now)
-    (g.H.AuthHandler.told c.args.handler.now) _ _ c.flush.new.self (Err e)
+    (flush_made (g.V.Verifier.accepts c.args.verifier.now) c.args.moment w
+    (untold c.args.session.now) (g.H.AuthHandler.told c.args.handler.now) _ _ c.flush.new.self
+    (Err e)
     (c.in_err-flush-in-HandOn.ensures.flushed w refines repeats) tt)
 
 pub returns-in_ok-step-in-Payload-clause-made : goal.returns-in_ok-step-in-Payload-clause-made
 returns-in_ok-step-in-Payload-clause-made g c w refines repeats =
     rw c.in-Payload.is
-    (payload_made (g.V.Verifier.accepts c.args.verifier.now) c.args.moment w (untold c.args.session.now)
-    c.in-Payload.payload
+    (payload_made (g.V.Verifier.accepts c.args.verifier.now) c.args.moment w
+    (untold c.args.session.now) c.in-Payload.payload
     _ _ c.step.new.self (Ok c.in_ok-step-in-Payload.field-0)
     (c.in_ok-step-in-Payload.ensures.taken w refines repeats)
     c.in_ok-step-in-Payload.ensures.told)
@@ -47,7 +48,8 @@ returns-in_ok-apply-in-Say-clause-made g c w refines repeats =
 pub returns-in_ok-flush-in-HandOn-clause-made : goal.returns-in_ok-flush-in-HandOn-clause-made
 returns-in_ok-flush-in-HandOn-clause-made g c w refines repeats =
     rw c.in-HandOn.is
-    (flush_made (g.V.Verifier.accepts c.args.verifier.now) c.args.moment w (untold c.args.session.now)
-    (g.H.AuthHandler.told c.args.handler.now) _ _ c.flush.new.self (Ok tt)
+    (flush_made (g.V.Verifier.accepts c.args.verifier.now) c.args.moment w
+    (untold c.args.session.now) (g.H.AuthHandler.told c.args.handler.now) _ _ c.flush.new.self
+    (Ok tt)
     (c.in_ok-flush-in-HandOn.ensures.flushed w refines repeats)
     c.in_ok-flush-in-HandOn.ensures.told)
