@@ -132,6 +132,20 @@ told_all frames to next a b w session result is r h =
 
 -- ---- behind the frames of an input
 
+-- no exchange of keys is due
+pub none_begins : {E F : Type 0} (due : Bool) (w : World) (a : Heard E F) (session : Session) →
+    due ≡ false → Refines session w → Does (begins due) w a a session (Ok tt)
+none_begins true w a session none r = absurd (cc)
+none_begins false w a session none r = λ later.
+    serves_nothing tt (λ (_ : Unit {0}). acts later) a w session r
+
+-- one is
+pub one_begins : {E F : Type 0} (due : Bool) (w : World) (a b : Heard E F) (session : Session)
+    (result : Result (Unit {0}) (RunError E F)) → due ≡ true →
+    Does (Exchanges Beginning ∷ []) w a b session result → Does (begins due) w a b session result
+one_begins true w a b session result is h = h
+one_begins false w a b session result is h = absurd (cc)
+
 ends_step : {E F : Type 0} (ended due : Bool) (w : World) (a : Heard E F) (session : Session) →
     ended ≡ true → Refines session w →
     Completes (cond ended (Finish (Ends w)) (acts (begins due) w)) a a session (Ok Ended)
@@ -139,21 +153,12 @@ ends_step true due w a session is r =
     serves_nothing Ended (λ flow world. Finish (comes flow world)) a w session r
 ends_step false due w a session is r = absurd (cc)
 
-none_step : {E F : Type 0} (ended due : Bool) (w : World) (a : Heard E F) (session : Session) →
-    ended ≡ false → due ≡ false → Refines session w →
-    Completes (cond ended (Finish (Ends w)) (acts (begins due) w)) a a session (Ok Continue)
-none_step true due w a session stands none r = absurd (cc)
-none_step false true w a session stands none r = absurd (cc)
-none_step false false w a session stands none r =
-    serves_nothing Continue (λ flow world. Finish (comes flow world)) a w session r
-
-one_step : {E F : Type 0} (ended due : Bool) (w : World) (a b : Heard E F) (session : Session)
-    (result : Result Flow (RunError E F)) → ended ≡ false → due ≡ true →
-    Completes (acts (begins true) w) a b session result →
+stands_step : {E F : Type 0} (ended due : Bool) (w : World) (a b : Heard E F) (session : Session)
+    (result : Result Flow (RunError E F)) → ended ≡ false →
+    Completes (acts (begins due) w) a b session result →
     Completes (cond ended (Finish (Ends w)) (acts (begins due) w)) a b session result
-one_step true due w a b session result stands is h = absurd (cc)
-one_step false true w a b session result stands is h = h
-one_step false false w a b session result stands is h = absurd (cc)
+stands_step true due w a b session result stands h = absurd (cc)
+stands_step false due w a b session result stands h = h
 
 -- the connection was ended
 pub is_ended : {E F : Type 0} (ticked : Bool) (w : World) (a : Heard E F) (session : Session) →
@@ -161,27 +166,21 @@ pub is_ended : {E F : Type 0} (ticked : Bool) (w : World) (a : Heard E F) (sessi
     Completes (goes_unless_ended ticked w) a a session (Ok Ended)
 is_ended ticked w a session is r = ends_step w.disconnected (is_due ticked w) w a session is r
 
--- it goes on, and no exchange of keys is due
-pub none_due : {E F : Type 0} (ticked : Bool) (w : World) (a : Heard E F) (session : Session) →
-    w.disconnected ≡ false → is_due ticked w ≡ false → Refines session w →
-    Completes (goes_unless_ended ticked w) a a session (Ok Continue)
-none_due ticked w a session stands none r =
-    none_step w.disconnected (is_due ticked w) w a session stands none r
-
--- one is, and is begun
-pub one_due : {E F : Type 0} (ticked : Bool) (w : World) (a b : Heard E F) (session : Session) →
-    w.disconnected ≡ false → is_due ticked w ≡ true →
-    Does (Exchanges Beginning ∷ []) w a b session (Ok tt) →
+-- it was not: it goes on, and an exchange of keys began where one is due
+pub begun_due : {E F : Type 0} (ticked : Bool) (w : World) (a b : Heard E F) (session : Session) →
+    w.disconnected ≡ false → Does (begins (is_due ticked w)) w a b session (Ok tt) →
     Completes (goes_unless_ended ticked w) a b session (Ok Continue)
-one_due ticked w a b session stands due h =
-    one_step w.disconnected (is_due ticked w) w a b session (Ok Continue) stands due
-    (goes_on (Exchanges Beginning ∷ []) w a b session h)
+begun_due ticked w a b session stands h =
+    let due = is_due ticked w in
+    stands_step w.disconnected due w a b session (Ok Continue) stands
+    (goes_on (begins due) w a b session h)
 
--- .. or is not begun
-pub not_due : {E F : Type 0} (ticked : Bool) (w : World) (a b : Heard E F) (session : Session)
-    (e : RunError E F) → w.disconnected ≡ false → is_due ticked w ≡ true →
-    Does (Exchanges Beginning ∷ []) w a b session (Err e) →
+-- .. or did not begin
+pub not_begun_due : {E F : Type 0} (ticked : Bool) (w : World) (a b : Heard E F)
+    (session : Session) (e : RunError E F) → w.disconnected ≡ false →
+    Does (begins (is_due ticked w)) w a b session (Err e) →
     Completes (goes_unless_ended ticked w) a b session (Err e)
-not_due ticked w a b session e stands due h =
-    one_step w.disconnected (is_due ticked w) w a b session (Err e) stands due
-    (stops_short (Exchanges Beginning ∷ []) w a b session session e h)
+not_begun_due ticked w a b session e stands h =
+    let due = is_due ticked w in
+    stands_step w.disconnected due w a b session (Err e) stands
+    (stops_short (begins due) w a b session session e h)

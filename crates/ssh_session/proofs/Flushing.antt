@@ -13,7 +13,7 @@ use Rattle.ssh_auth.proofs.Plans.{calls_in_both}
 use Rattle.ssh_session.specs.declared.error.RunError.{RunError}
 use Rattle.ssh_session.specs.declared.error.RunError.TheVariants as error
 use Rattle.ssh_session.specs.declared.session.Session.{Session}
-use Rattle.ssh_session.specs.Acts.{Beginning, Exchanges, acts, frames_given, moved, tell_all}
+use Rattle.ssh_session.specs.Acts.{Beginning, acts, frames_given, moved, tell_all}
 use Rattle.ssh_session.specs.Between.{ComesFlushed, Flushes, flushed}
 use Rattle.ssh_session.specs.Failure.{flush_error_of}
 use Rattle.ssh_session.specs.Heard.{Heard}
@@ -36,23 +36,13 @@ ended_step true due w a session is r =
     serves_nothing tt (λ (_ : Unit {0}) world. Finish (Goes world)) a w session r
 ended_step false due w a session is r = absurd (cc)
 
-none_step : {E F : Type 0} (ended due : Bool) (w : World) (a : Heard E F) (session : Session) →
-    ended ≡ false → due ≡ false → Refines session w →
-    Serves (cond ended (Finish (Goes w)) (acts (begins due) w))
-    (λ (_ : Unit {0}) world. Finish (Goes world)) a a session (Ok tt)
-none_step true due w a session stands none r = absurd (cc)
-none_step false true w a session stands none r = absurd (cc)
-none_step false false w a session stands none r =
-    serves_nothing tt (λ (_ : Unit {0}) world. Finish (Goes world)) a w session r
-
-one_step : {E F : Type 0} (ended due : Bool) (w : World) (a b : Heard E F) (session : Session)
-    (result : Result (Unit {0}) (RunError E F)) → ended ≡ false → due ≡ true →
-    Serves (acts (begins true) w) (λ (_ : Unit {0}) world. Finish (Goes world)) a b session result →
+stands_step : {E F : Type 0} (ended due : Bool) (w : World) (a b : Heard E F) (session : Session)
+    (result : Result (Unit {0}) (RunError E F)) → ended ≡ false →
+    Serves (acts (begins due) w) (λ (_ : Unit {0}) world. Finish (Goes world)) a b session result →
     Serves (cond ended (Finish (Goes w)) (acts (begins due) w))
     (λ (_ : Unit {0}) world. Finish (Goes world)) a b session result
-one_step true due w a b session result stands is h = absurd (cc)
-one_step false true w a b session result stands is h = h
-one_step false false w a b session result stands is h = absurd (cc)
+stands_step true due w a b session result stands h = absurd (cc)
+stands_step false due w a b session result stands h = h
 
 -- the connection was ended
 pub flush_ended : {E F : Type 0} (w : World) (a : Heard E F) (session : Session) →
@@ -60,21 +50,15 @@ pub flush_ended : {E F : Type 0} (w : World) (a : Heard E F) (session : Session)
     Serves (flushed w) (λ (_ : Unit {0}) world. Finish (Goes world)) a a session (Ok tt)
 flush_ended w a session is r = ended_step w.disconnected (is_due false w) w a session is r
 
--- it was not, and no exchange of keys is due
-pub flush_none : {E F : Type 0} (w : World) (a : Heard E F) (session : Session) →
-    w.disconnected ≡ false → is_due false w ≡ false → Refines session w →
-    Serves (flushed w) (λ (_ : Unit {0}) world. Finish (Goes world)) a a session (Ok tt)
-flush_none w a session stands none r =
-    none_step w.disconnected (is_due false w) w a session stands none r
-
--- one is, and is begun, or is not
-pub flush_one : {E F : Type 0} (w : World) (a b : Heard E F) (session : Session)
+-- it was not: an exchange of keys began where one is due, or did not begin
+pub flush_due : {E F : Type 0} (w : World) (a b : Heard E F) (session : Session)
     (result : Result (Unit {0}) (RunError E F)) → w.disconnected ≡ false →
-    is_due false w ≡ true → Does (Exchanges Beginning ∷ []) w a b session result →
+    Does (begins (is_due false w)) w a b session result →
     Serves (flushed w) (λ (_ : Unit {0}) world. Finish (Goes world)) a b session result
-flush_one w a b session result stands due h =
-    one_step w.disconnected (is_due false w) w a b session result stands due
-    (completes (Exchanges Beginning ∷ []) w a b session result h)
+flush_due w a b session result stands h =
+    let due = is_due false w in
+    stands_step w.disconnected due w a b session result stands
+    (completes (begins due) w a b session result h)
 
 -- ---- no other errors
 

@@ -17,6 +17,7 @@ pub mod Asking
 pub mod Signals
 pub mod Terminals
 pub mod Stepping
+pub mod Stopping
 pub mod Guards
 pub mod Gates
 pub mod FairVerdicts

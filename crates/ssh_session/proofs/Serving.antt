@@ -33,8 +33,7 @@ use Rattle.ssh_session.specs.declared.session.Session.{Session}
 use Rattle.ssh_session.specs.World.{World}
 use Rattle.ssh_session.specs.Failure.{run_error_of, error_of_exchange, error_of_link}
 use Rattle.ssh_session.specs.Heard.{Heard, AreSame, AsksExchangeAlone, Exchanges, Gives}
-use Rattle.ssh_session.specs.Outcome.{Outcome, Goes, Fails, Encoding, Inconsistent, Pending}
-use Rattle.ssh_session.specs.Outcome.{Inactivity_timeout}
+use Rattle.ssh_session.specs.Outcome.{Outcome, Goes, Fails, Encoding}
 use Rattle.ssh_session.specs.Acts.{Act, acts}
 use Rattle.ssh_session.specs.Serve.{Refines, Cause, Wants_memory, Link_failed, Limit_reached}
 use Rattle.ssh_session.specs.Serve.{Faulty, Refused_by, Broken_by, cause_of}
@@ -459,25 +458,6 @@ starved {T} plan next a session e result h is =
     let p = err_from_is_err_and result h in
     subst (λ r. Serves {T = T} plan next a a session r) (sym (p.1 ∙ ap Err (p.2 ∙ is)))
     (starves plan next a session)
-
--- what does not come in an exchange of keys
-pub barred_input : {T E F : Type 0} (next : T → World → Plan Outcome) (a : Heard E F)
-    (session : Session) →
-    Serves {T = T} {E = E} {F = F} (Finish (Fails Inconsistent)) next a a session
-    (Err error.Inconsistent)
-barred_input next a session = ([], hears_nothing false a, refl)
-
-pub late_input : {T E F : Type 0} (next : T → World → Plan Outcome) (a : Heard E F)
-    (session : Session) →
-    Serves {T = T} {E = E} {F = F} (Finish (Fails Pending)) next a a session (Err error.Pending)
-late_input next a session = ([], hears_nothing false a, refl)
-
--- nothing came from the peer for too long
-pub inactive_input : {T E F : Type 0} (next : T → World → Plan Outcome) (a : Heard E F)
-    (session : Session) →
-    Serves {T = T} {E = E} {F = F} (Finish (Fails Inactivity_timeout)) next a a session
-    (Err error.InactivityTimeout)
-inactive_input next a session = ([], hears_nothing false a, refl)
 
 -- the world turned, or memory was wanting, and nobody was told or asked anything
 pub turned_quietly : {E F : Type 0} (later : World → Plan Outcome) (world : World)

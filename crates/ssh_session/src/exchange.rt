@@ -12,7 +12,7 @@ ghost use Rattle.ssh_session.specs.Exchange.{is_running, bytes_of, early_with, h
 ghost use Rattle.ssh_session.specs.Exchange.{is_worn, joined, renewed};
 ghost use Rattle.ssh_session.specs.Heard.{AreSame};
 ghost use Rattle.ssh_session.specs.Outcome.{Outcome};
-ghost use Rattle.ssh_session.specs.Run.{passage, is_due, is_let_in};
+ghost use Rattle.ssh_session.specs.Run.{passage, begins, is_due, is_let_in};
 ghost use Rattle.ssh_session.specs.Serve.{Refines, Serves, Does, IsSameSession, is_exchanging};
 ghost use Rattle.ssh_session.specs.World.{World, in_exchange, is_held};
 
@@ -249,7 +249,7 @@ impl Session {
 
     /// Whether this side begins an exchange at the end of an input, where it can begin one by
     /// itself or not.
-    pub(crate) fn is_due(&self, ticked: bool, repeatable: bool) -> bool
+    fn is_due(&self, ticked: bool, repeatable: bool) -> bool
         ensures { (w : World) → Refines self.now w → repeatable ≡ w.settings.repeatable →
             result ≡ is_due ticked w }
     {
@@ -257,6 +257,25 @@ impl Session {
             && is_let_in(&self.state)
             && repeatable
             && (ticked || self.keys.is_worn(&self.common.config.limits))
+    }
+
+    /// At the end of an input, which may be the tick that asks for it, an exchange begins where one
+    /// is due.
+    pub(crate) fn begin_where_due<O: Transport>(
+        &mut self,
+        outside: &mut O,
+        ticked: bool,
+    ) -> Result<(), RunError<O::Error, O::KexError>>
+        ensures does { (w : World) → Refines self.old w → w.settings.repeatable
+            ≡ (O.heard outside.old).repeats → Does (begins (is_due ticked w)) w
+            (O.heard outside.old) (O.heard outside.new) self.new result }
+        ensures session { IsSameSession self.old self.new }
+        ensures same { AreSame (O.heard outside.old) (O.heard outside.new) }
+    {
+        if !self.is_due(ticked, outside.repeatable()) {
+            return Ok(());
+        }
+        self.begin_exchange(outside)
     }
 
     /// Begins an exchange: this side's KEXINIT is handed on at once.

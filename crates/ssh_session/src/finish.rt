@@ -117,10 +117,7 @@ impl Session {
         if self.common.disconnected {
             return Ok(Flow::Ended);
         }
-        if !self.is_due(ticked, outside.repeatable()) {
-            return Ok(Flow::Continue);
-        }
-        self.begin_exchange(outside)?;
+        self.begin_where_due(outside, ticked)?;
         Ok(Flow::Continue)
     }
 }

@@ -117,9 +117,6 @@ impl Session {
         if self.common.disconnected {
             return Ok(());
         }
-        if !self.is_due(false, outside.repeatable()) {
-            return Ok(());
-        }
-        self.begin_exchange(outside)
+        self.begin_where_due(outside, false)
     }
 }

@@ -9,7 +9,8 @@ use Rattle.ssh_session.specs.Run.{command_row}
 use Rattle.ssh_session.specs.Serve.{comes}
 use Rattle.ssh_session.specs.Ticks.{keepalive_acts, inactivity_acts}
 use Rattle.ssh_session.specs.World.{hears}
-use Rattle.ssh_session.proofs.Serving.{serves_nothing, inactive_input, completes}
+use Rattle.ssh_session.proofs.Serving.{serves_nothing, completes}
+use Rattle.ssh_session.proofs.Stopping.{inactive_input}
 use Rattle.ssh_session.proofs.Serving.{goes_on, turned, passed}
 use Rattle.ssh_session.proofs.session.Session.serve.Goals as goal
 

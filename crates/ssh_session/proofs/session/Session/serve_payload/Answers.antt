@@ -8,7 +8,8 @@ use Rattle.ssh_session.specs.Outcome.{Goes}
 use Rattle.ssh_session.specs.Rows.{exchange_acts, row}
 use Rattle.ssh_session.specs.Run.{OwesPassed}
 use Rattle.ssh_session.specs.Serve.{comes}
-use Rattle.ssh_session.proofs.Serving.{barred_input, completes, goes_on, late_input, passed}
+use Rattle.ssh_session.proofs.Serving.{completes, goes_on, passed}
+use Rattle.ssh_session.proofs.Stopping.{barred_input, late_input}
 use Rattle.ssh_session.proofs.Serving.{served_both}
 use Rattle.ssh_session.proofs.session.Session.serve_payload.Goals as goal
 
