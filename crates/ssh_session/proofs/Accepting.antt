@@ -37,7 +37,7 @@ AllWalk accepts w (turn ∷ turns) = (plan : Plan Outcome) × Owes accepts w tur
     × ((turns ≡ []) ⊎ ((mid : World) × Follows plan turn.events (Goes mid)
     × AllWalk accepts mid turns)) × IsTaken w turn
 
-caused_walks : {E F : Type 0} (cause : Cause E F) (plan : Plan Outcome) (rose : Type 0)
+pub caused_walks : {E F : Type 0} (cause : Cause E F) (plan : Plan Outcome) (rose : Type 0)
     (events : List (Event E F)) →
     IsCaused cause plan rose events → Walks plan events
 caused_walks Wants_memory plan rose events h = begins_walks plan events h
@@ -94,7 +94,7 @@ named_more before turn user (inr h) =
       none_more l.1 turn l.5 h.0,
     )
 
-before_weak : (named other : List ℕ → Type 0) (state : EncryptedState)
+pub before_weak : (named other : List ℕ → Type 0) (state : EncryptedState)
     → ((user : List ℕ) → named user → other user) →
     IsBefore named state → IsBefore other state
 before_weak named other (WaitingAuthServiceRequest sent accepted) f h = tt
@@ -102,7 +102,7 @@ before_weak named other (WaitingAuthRequest auth) f h = λ principal is.
     f principal.user (h principal is)
 before_weak named other _ f h = absurd h
 
-clear_more : {E F : Type 0} (before : List (Turn E F)) (turn : Turn E F) (w : World) →
+pub clear_more : {E F : Type 0} (before : List (Turn E F)) (turn : Turn E F) (w : World) →
     IsClear (NamesLast (LastNamed before) turn.input.kind) w
     → IsClear (LastNamed (before ++ turn ∷ [])) w
 clear_more before turn w h = (
@@ -116,7 +116,7 @@ clear_more before turn w h = (
 
 -- ---- who is in
 
-someone_earlier : {E F : Type 0} (accepts : Acceptance) (settings : Settings)
+pub someone_earlier : {E F : Type 0} (accepts : Acceptance) (settings : Settings)
     (before more : List (Turn E F)) →
     SomeoneIsIn accepts settings before → SomeoneIsIn accepts settings (before ++ more)
 someone_earlier accepts settings before more h =
@@ -133,7 +133,7 @@ someone_earlier accepts settings before more h =
     )
 
 -- the calls around one that accepts
-some_split : {E F : Type 0} (given : Circumstances) (named : List ℕ → Type 0) (kind : InputKind)
+pub some_split : {E F : Type 0} (given : Circumstances) (named : List ℕ → Type 0) (kind : InputKind)
     (events : List (Event E F)) →
     SomeAccepts given named kind events →
     (earlier later : List (Call E)) × (call : Call E) × (calls_in events ≡ earlier ++ call ∷ later)

@@ -202,8 +202,9 @@ effect_step : (named : List ℕ → Type 0) (w : World) (one : Commanded) (ended
 effect_step named w one true h = h
 effect_step named w one false h = done_clear named w one h
 
-noted_guarded : (given : Circumstances) (named : List ℕ → Type 0) (a : Type 0) (kind : InputKind)
-    (notices : List Notice) (next : Plan Outcome) → Guarded given named a kind next
+pub noted_guarded : (given : Circumstances) (named : List ℕ → Type 0) (a : Type 0)
+    (kind : InputKind) (notices : List Notice) (next : Plan Outcome)
+    → Guarded given named a kind next
     → Guarded given named a kind (tell_all (map traced.Noticed notices) next)
 noted_guarded given named a kind [] next h = h
 noted_guarded given named a kind (notice ∷ notices) next h =

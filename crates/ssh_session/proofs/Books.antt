@@ -96,12 +96,12 @@ given_step : (b : Bool) (payload : List ℕ) (payloads : List (List ℕ)) →
 given_step true payload payloads h = (refl, h)
 given_step false payload payloads h = h
 
-given_quiet : (payloads : List (List ℕ)) → IsQuiet (map Sent (frames_given payloads))
+pub given_quiet : (payloads : List (List ℕ)) → IsQuiet (map Sent (frames_given payloads))
 given_quiet [] = tt
 given_quiet (payload ∷ payloads) =
     given_step (is_of_transport payload) payload payloads (given_quiet payloads)
 
-all_quiet : (past more : List TraceEntry) (w : World) → IsQuiet more → Kept past w
+pub all_quiet : (past more : List TraceEntry) (w : World) → IsQuiet more → Kept past w
     → Kept (past ++ more) w
 all_quiet past more w q k = record {
   ledger = quiet_kept w.channels.lines past more q k.ledger;
@@ -136,7 +136,7 @@ handed_waiting : (held : Bool) (l : Lines) (opens : List (ℕ × Opening))
 handed_waiting true l opens h = h
 handed_waiting false l opens h = h
 
-handed_kept : (past : List TraceEntry) (w : World) → Kept past w
+pub handed_kept : (past : List TraceEntry) (w : World) → Kept past w
     → Kept (past ++ map Sent (going_out w)) (handed_on w)
 handed_kept past w k = record {
   ledger = hands_on_kept (is_held w) w.channels.lines past k.ledger;

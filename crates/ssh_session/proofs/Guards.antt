@@ -137,7 +137,7 @@ plan_accepted given named a kind (Tell entry next) x =
 
 -- ---- frames are handed on
 
-low_told : (given : Circumstances) (named : List ℕ → Type 0) (a : Type 0) (kind : InputKind)
+pub low_told : (given : Circumstances) (named : List ℕ → Type 0) (a : Type 0) (kind : InputKind)
     (frames : List Frame)
     (next : Plan Outcome) → AreLow frames → Guarded given named a kind next →
     Guarded given named a kind (tell_all (map Sent frames) next)
@@ -216,7 +216,7 @@ exchange_guarded given named a kind asked later w clear k = (
 
 -- ---- the end of an input
 
-handed_low : (held : Bool) (l : Lines) → AreLow l.written → AreLow (handed held l)
+pub handed_low : (held : Bool) (l : Lines) → AreLow l.written → AreLow (handed held l)
 handed_low true l low = tt
 handed_low false l low = low
 
@@ -228,7 +228,7 @@ hands_low : (held : Bool) (l : Lines) → AreLow l.written → AreLow (hands_on 
 hands_low true l low = low
 hands_low false l low = tt
 
-handed_clear : (named : List ℕ → Type 0) (w : World) → IsClear named w →
+pub handed_clear : (named : List ℕ → Type 0) (w : World) → IsClear named w →
     IsClear named (handed_on w)
 handed_clear named w clear = (
   clear.0,
@@ -237,8 +237,8 @@ handed_clear named w clear = (
   hands_low (is_held w) w.channels.lines clear.3,
 )
 
-begins_guarded : (given : Circumstances) (named : List ℕ → Type 0) (a : Type 0) (kind : InputKind)
-    (w : World) (due : Bool) → IsClear (NamesLast named kind) w →
+pub begins_guarded : (given : Circumstances) (named : List ℕ → Type 0) (a : Type 0)
+    (kind : InputKind) (w : World) (due : Bool) → IsClear (NamesLast named kind) w →
     Guarded given named a kind (acts (begins due) w)
 begins_guarded given named a kind w true clear =
     exchange_guarded given named a kind Beginning [] w clear (λ b v c. inr c)

@@ -39,10 +39,10 @@ use Rattle.ssh_session.proofs.Settled.{Anything, Any_command, any_built}
 
 -- ---- rows
 
-abbrev IsIdle : World → Type 0
+abbrev pub IsIdle : World → Type 0
 IsIdle w = in_exchange w ≡ false
 
-abbrev ComesIdle : Outcome → Type 0
+abbrev pub ComesIdle : Outcome → Type 0
 ComesIdle (Goes w) = IsIdle w
 ComesIdle _ = Unit {0}
 
@@ -70,7 +70,7 @@ law = record {
   keeps = λ w commanded h b. effect_idle w commanded h;
 }
 
-row_idle : (w : World) (moment : ℕ) (said : Said) → IsIdle w
+pub row_idle : (w : World) (moment : ℕ) (said : Said) → IsIdle w
     → PlanComes Anything ComesIdle (row w moment said)
 row_idle w moment Disconnect h = tt
 row_idle w moment Over_cap h = tt
@@ -90,14 +90,14 @@ passes_in Idle window number idle other = rw other refl
 passes_in (Own early) window number idle other = absurd (cc)
 passes_in Both window number idle other = absurd (cc)
 
-passes_of : (exchange : ExchangeState) (window : ℕ) (payload : List ℕ)
+pub passes_of : (exchange : ExchangeState) (window : ℕ) (payload : List ℕ)
     → is_running exchange ≡ false → (message_of payload == 20) ≡ false
     → passage_of exchange window payload ≡ Passes
 passes_of exchange window [] idle other = refl
 passes_of exchange window (number ∷ fields) idle other =
     passes_in exchange window number idle other
 
-still_idle : (payload : List ℕ) (exchange : ExchangeState) → is_running exchange ≡ false
+pub still_idle : (payload : List ℕ) (exchange : ExchangeState) → is_running exchange ≡ false
     → is_running (early_with payload exchange) ≡ false
 still_idle payload Idle h = refl
 still_idle payload (Own early) h = absurd (cc)
@@ -129,7 +129,7 @@ kind_idle accepts w moment input.RekeyTick plan o other h = rw o h
 abbrev pub IsSettled : World → Type 0
 IsSettled w = (w.channels.lines.written ≡ []) × Each IsDue w.channels.lines
 
-abbrev ComesSettled : Outcome → Type 0
+abbrev pub ComesSettled : Outcome → Type 0
 ComesSettled (Goes w) = IsSettled w
 ComesSettled _ = Unit {0}
 
@@ -140,12 +140,12 @@ begun_settled true w h = λ answer s.
     (Finish (Goes (moved Beginning answer w))) h
 begun_settled false w h = h
 
-ended_settled : (ended due : Bool) (w : World) → IsSettled w
+pub ended_settled : (ended due : Bool) (w : World) → IsSettled w
     → PlanComes Anything ComesSettled (cond ended (Finish (Ends w)) (acts (begins due) w))
 ended_settled true due w h = tt
 ended_settled false due w h = begun_settled due w h
 
-handed_settled : (past : List TraceEntry) (w : World) → IsIdle w → Kept past w
+pub handed_settled : (past : List TraceEntry) (w : World) → IsIdle w → Kept past w
     → IsSettled (handed_on w)
 handed_settled past w h k = (
   unheld (in_exchange w) w.disconnected w.channels.lines h,

@@ -52,7 +52,7 @@ same_set : (settings : Settings) (w v : World) → v.settings ≡ w.settings
     → v.disconnected ≡ w.disconnected → v.keys ≡ w.keys → IsSet settings w → IsSet settings v
 same_set settings w v is ended keys h = is ∙ h
 
-effect_set : (settings : Settings) (w : World) (commanded : Command) → IsSet settings w →
+pub effect_set : (settings : Settings) (w : World) (commanded : Command) → IsSet settings w →
     EffectComes (IsSet settings) (effect w commanded)
 effect_set settings w commanded h =
     let holds = IsSet settings in

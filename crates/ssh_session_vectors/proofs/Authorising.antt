@@ -14,6 +14,8 @@ use Rattle.ssh_session.specs.Outcome.{Outcome, Goes, Ends}
 use Rattle.ssh_session.specs.Run.{Turn}
 use Rattle.ssh_session.specs.Serve.{cause_of}
 use Rattle.ssh_session.specs.World.{Settings, World, circumstances}
+use Rattle.ssh_session.proofs.Accepting.{caused_walks, clear_more}
+use Rattle.ssh_session.proofs.Emptied.{nothing_left}
 use Rattle.ssh_session.proofs.Guards.{IsClear, Guarded, Walks, either}
 use Rattle.ssh_session.proofs.Guards.{walks_guarded, follows_guarded, follows_walks}
 use Rattle.ssh_session_vectors.specs.declared.client.MoveError.{MoveError}
@@ -24,8 +26,7 @@ use Rattle.ssh_session_vectors.specs.Moves.{Place, Made, Served, Said, Handed_on
 use Rattle.ssh_session_vectors.specs.Moves.{OwesOrStops, EndsSo, flush_cause, opening_place}
 use Rattle.ssh_session_vectors.specs.Moves.{coming}
 use Rattle.ssh_session_vectors.proofs.Staying.{lead_set}
-use Rattle.ssh_session_vectors.proofs.Entering.{caused_walks, clear_more, clear_stays}
-use Rattle.ssh_session_vectors.proofs.Entering.{someone_now}
+use Rattle.ssh_session_vectors.proofs.Entering.{clear_stays, someone_now}
 use Rattle.ssh_session_vectors.proofs.Guarding.{behind_guarded, command_stays, flush_guarded}
 use Rattle.ssh_session_vectors.proofs.Guarding.{none_accepts, notices_need_none}
 
@@ -214,10 +215,6 @@ one_guarded accepts settings moment before place (Handed_on events) to set h
     (flush_guarded given named a place.world place.untold h)) follows))
 
 -- ---- all moves
-
-nothing_left : {A : Type 0} (xs : List A) (y : A) (ys : List A) → xs ++ y ∷ ys ≡ [] → ⊥
-nothing_left [] y ys h = cc
-nothing_left (x ∷ xs) y ys h = cc
 
 moves_authorised : {E F : Type 0} (accepts : Acceptance) (settings : Settings) (moment : ℕ)
     (before made : List (Made E F)) (place : Place) → place.world.settings ≡ settings

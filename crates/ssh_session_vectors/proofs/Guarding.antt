@@ -1,7 +1,6 @@
 -- Moves are plans in which nothing of the connection comes before an answer that accepts a user.
 use Rattle.std.proofs.Common.{◌≡◌, ◌⊎◌, ℕ, List, [], ◌∷◌, ◌++◌, map, Bool, true, false, cond}
 use Rattle.std.proofs.Common.{Some, None, Ok, refl, sym, subst, inl, inr}
-use Rattle.ssh_link.specs.Frames.{Frame}
 use Rattle.ssh_link.specs.declared.command.Command.{Command}
 use Rattle.ssh_link.specs.declared.frame.InputKind.{InputKind}
 use Rattle.ssh_link.specs.declared.frame.InputKind.TheVariants as input
@@ -14,29 +13,22 @@ use Rattle.ssh_auth.specs.declared.question.Admission.TheVariants as by
 use Rattle.ssh_auth.specs.Plan.{Plan, Finish, Tell, Event, Called, Stepped, Told}
 use Rattle.ssh_auth.specs.Publickey.{Acceptance, Circumstances}
 use Rattle.ssh_auth.specs.Was.{Was, Admitted_so, was}
-use Rattle.ssh_channels.specs.Lines.{Lines, handed, hands_on as handed_over}
-use Rattle.ssh_session.specs.Acts.{Beginning, acts, done, tell_all}
+use Rattle.ssh_session.specs.Acts.{acts, done, tell_all}
 use Rattle.ssh_session.specs.Authorised.{IsAdmitted, IsAcceptingSo, NeedsUser}
 use Rattle.ssh_session.specs.Between.{OwesBehind, OwesUnlessEnded, flushed}
 use Rattle.ssh_session.specs.Effect.{Does, effect}
 use Rattle.ssh_session.specs.Outcome.{Outcome, Goes, Ends}
 use Rattle.ssh_session.specs.Run.{begins, command_row, going_out, hand_on, handed_on, is_due}
 use Rattle.ssh_session.specs.World.{World, circumstances, is_held}
-use Rattle.ssh_session.proofs.Admitted.{owed_guarded}
+use Rattle.ssh_session.proofs.Admitted.{noted_guarded, owed_guarded}
 use Rattle.ssh_session.proofs.Admitting.{unnamed}
-use Rattle.ssh_session.proofs.Guards.{AreLow, IsClear, NamesLast, Guarded, SomeAccepts, Walks}
-use Rattle.ssh_session.proofs.Guards.{plan_accepted, exchange_guarded, input_guarded}
+use Rattle.ssh_session.proofs.Guards.{IsClear, NamesLast, Guarded, SomeAccepts, Walks}
+use Rattle.ssh_session.proofs.Guards.{plan_accepted, low_told, handed_low, handed_clear}
+use Rattle.ssh_session.proofs.Guards.{begins_guarded, input_guarded}
 use Rattle.ssh_session_vectors.specs.Moves.{coming}
 use Rattle.ssh_session_vectors.proofs.Entering.{clear_stays}
 
 -- ---- notices
-
-noted_guarded : (given : Circumstances) (named : List ℕ → Type 0) (a : Type 0) (kind : InputKind)
-    (notices : List Notice) (next : Plan Outcome) → Guarded given named a kind next
-    → Guarded given named a kind (tell_all (map traced.Noticed notices) next)
-noted_guarded given named a kind [] next h = h
-noted_guarded given named a kind (notice ∷ notices) next h =
-    (λ n. absurd n, noted_guarded given named a kind notices next h)
 
 noted_back : (given : Circumstances) (named : List ℕ → Type 0) (a : Type 0) (kind : InputKind)
     (notices : List Notice) (next : Plan Outcome)
@@ -118,44 +110,6 @@ command_stays accepts named a w command notices outcome world is (inr clear) =
     ]
 
 -- ---- what is handed on
-
-low_told : (given : Circumstances) (named : List ℕ → Type 0) (a : Type 0) (kind : InputKind)
-    (frames : List Frame) (next : Plan Outcome) → AreLow frames
-    → Guarded given named a kind next
-    → Guarded given named a kind (tell_all (map traced.Sent frames) next)
-low_told given named a kind [] next low h = h
-low_told given named a kind (frame ∷ frames) next low h = (
-  λ n. absurd (low.0 n),
-  low_told given named a kind frames next low.1 h,
-)
-
-handed_low : (held : Bool) (l : Lines) → AreLow l.written → AreLow (handed held l)
-handed_low true l low = tt
-handed_low false l low = low
-
-hands_none : (held : Bool) (l : Lines) → l.entries ≡ [] → (handed_over held l).entries ≡ []
-hands_none true l none = none
-hands_none false l none = none
-
-hands_low : (held : Bool) (l : Lines) → AreLow l.written → AreLow (handed_over held l).written
-hands_low true l low = low
-hands_low false l low = tt
-
-handed_clear : (named : List ℕ → Type 0) (w : World) → IsClear named w
-    → IsClear named (handed_on w)
-handed_clear named w clear = (
-  clear.0,
-  hands_none (is_held w) w.channels.lines clear.1,
-  clear.2,
-  hands_low (is_held w) w.channels.lines clear.3,
-)
-
-begins_guarded : (given : Circumstances) (named : List ℕ → Type 0) (a : Type 0) (kind : InputKind)
-    (w : World) (due : Bool) → IsClear (NamesLast named kind) w
-    → Guarded given named a kind (acts (begins due) w)
-begins_guarded given named a kind w true clear =
-    exchange_guarded given named a kind Beginning [] w clear (λ b v c. inr c)
-begins_guarded given named a kind w false clear = inr clear
 
 flushed_guarded : (given : Circumstances) (named : List ℕ → Type 0) (a : Type 0)
     (kind : InputKind) (w : World) (ended due : Bool) → IsClear (NamesLast named kind) w

@@ -1,7 +1,7 @@
 -- What was sent on the channels stays what has to be sent, by each move (RFC 4254 section 5).
 use Rattle.std.proofs.Common.{◌≡◌, ℕ, List, [], ◌∷◌, ◌++◌, map, Bool, true, false, cond}
-use Rattle.std.proofs.Common.{refl, sym, ◌∙◌, ap, subst, append_assoc}
-use Rattle.std.specs.Prelude.{flat_map, filter}
+use Rattle.std.proofs.Common.{sym, ◌∙◌, ap, subst, append_assoc}
+use Rattle.std.specs.Prelude.{flat_map}
 use Rattle.std.proofs.lemmas.List.{append-nil}
 use Rattle.ssh_link.specs.declared.command.Command.{Command}
 use Rattle.ssh_link.specs.declared.frame.Input.{Input}
@@ -11,38 +11,24 @@ use Rattle.ssh_link.specs.declared.notice.Notice.{Notice}
 use Rattle.ssh_link.specs.declared.outcome.CommandOutcome.{CommandOutcome}
 use Rattle.ssh_auth.specs.Plan.{Plan, Finish, Event, Follows, told_in}
 use Rattle.ssh_auth.specs.Publickey.{Acceptance}
-use Rattle.ssh_channels.specs.Lines.{Lines, find, hands_on as handed_over, last_left}
+use Rattle.ssh_channels.specs.Lines.{find, last_left}
 use Rattle.ssh_channels.specs.Sent.{IsKept, IsQuiet, since}
-use Rattle.ssh_channels.proofs.Booked.{hands_on_kept, quiet_kept}
 use Rattle.ssh_channels.proofs.Traces.{since_both}
 use Rattle.ssh_session.specs.Acts.{Beginning, acts, exchanged, frames_given, moved, tell_all}
 use Rattle.ssh_session.specs.Between.{OwesBehind, flushed}
 use Rattle.ssh_session.specs.Effect.{Does, effect}
-use Rattle.ssh_session.specs.Exchange.{is_of_transport}
-use Rattle.ssh_session.specs.Layout.{at_once}
-use Rattle.ssh_session.specs.Opening.{Opening}
 use Rattle.ssh_session.specs.Outcome.{Outcome, Goes}
 use Rattle.ssh_session.specs.Run.{Turn, Owes, begins, going_out, hand_on, handed_on, is_due}
-use Rattle.ssh_session.specs.World.{World, is_held}
+use Rattle.ssh_session.specs.World.{World}
 use Rattle.ssh_session.proofs.Acting.{EffectComes}
-use Rattle.ssh_session.proofs.Books.{handed_due, owed_kept}
+use Rattle.ssh_session.proofs.Books.{given_quiet, all_quiet, handed_kept, owed_kept}
 use Rattle.ssh_session.proofs.Keeping.{Kept, effect_on, keyed_on, renewed_on}
 use Rattle.ssh_session.proofs.Passing.{moved_on}
-use Rattle.ssh_session.proofs.Pending.{IsReserved}
-use Rattle.ssh_session.proofs.Waiting.{AllWaiting}
 use Rattle.ssh_session_vectors.specs.Moves.{Place, Made, Served, Said, Handed_on, Leads, Drives}
 use Rattle.ssh_session_vectors.specs.Moves.{coming, told_of}
 use Rattle.ssh_session_vectors.proofs.Behind.{told_first, owes_live}
 
 -- ---- what is on no channel
-
-quiet_more : (past more : List TraceEntry) (w : World) → IsQuiet more → Kept past w
-    → Kept (past ++ more) w
-quiet_more past more w quiet k = record {
-  ledger = quiet_kept w.channels.lines past more quiet k.ledger;
-  due = k.due;
-  waiting = k.waiting;
-}
 
 notices_quiet : (notices : List Notice) → IsQuiet (map Noticed notices)
 notices_quiet [] = tt
@@ -51,20 +37,7 @@ notices_quiet (notice ∷ notices) = notices_quiet notices
 noticed_kept : (past : List TraceEntry) (notices : List Notice) (w : World) → Kept past w
     → Kept (past ++ map Noticed notices) w
 noticed_kept past notices w k =
-    quiet_more past (map Noticed notices) w (notices_quiet notices) k
-
--- what an exchange of keys gives
-given_step : (b : Bool) (payload : List ℕ) (payloads : List (List ℕ))
-    → IsQuiet (map Sent (frames_given payloads))
-    → IsQuiet (map Sent (map at_once (cond b (payload ∷ filter is_of_transport payloads)
-    (filter is_of_transport payloads))))
-given_step true payload payloads h = (refl, h)
-given_step false payload payloads h = h
-
-given_quiet : (payloads : List (List ℕ)) → IsQuiet (map Sent (frames_given payloads))
-given_quiet [] = tt
-given_quiet (payload ∷ payloads) =
-    given_step (is_of_transport payload) payload payloads (given_quiet payloads)
+    all_quiet past (map Noticed notices) w (notices_quiet notices) k
 
 -- ---- a payload
 
@@ -132,19 +105,6 @@ said_kept past w command notices outcome world is k =
 
 -- ---- what is handed on
 
-handed_waiting : (held : Bool) (l : Lines) (opens : List (ℕ × Opening))
-    → AllWaiting 0 (IsReserved l) opens → AllWaiting 0 (IsReserved (handed_over held l)) opens
-handed_waiting true l opens h = h
-handed_waiting false l opens h = h
-
-handed_kept : (past : List TraceEntry) (w : World) → Kept past w
-    → Kept (past ++ map Sent (going_out w)) (handed_on w)
-handed_kept past w k = record {
-  ledger = hands_on_kept (is_held w) w.channels.lines past k.ledger;
-  due = λ out. handed_due (is_held w) w.channels.lines (k.due out);
-  waiting = handed_waiting (is_held w) w.channels.lines w.channels.opens k.waiting;
-}
-
 -- nothing follows
 finished_kept : {E F : Type 0} (past : List TraceEntry) (w : World) (events : List (Event E F))
     (world : World) → Follows (Finish (Goes w)) events (Goes world) → Kept past w
@@ -167,7 +127,7 @@ exchanged_kept past w payload events world h k =
     (λ keys later. keyed_on past w keys later k) (λ keys. renewed_on past w keys k) in
     joined past frames (told_in told.0) (told_in events) world told.1
     (finished_kept (past ++ frames) v told.0 world told.2
-    (quiet_more past frames v (given_quiet (payload ∷ [])) turned))
+    (all_quiet past frames v (given_quiet (payload ∷ [])) turned))
 
 begun_kept : {E F : Type 0} (due : Bool) (past : List TraceEntry) (w : World)
     (events : List (Event E F)) (world : World)

@@ -1,85 +1,31 @@
 -- A move that hands on, and whose frames no exchange of keys holds, leaves nothing that is due.
-use Rattle.std.proofs.Common.{◌≡◌, ℕ, List, [], ◌∷◌, map, Bool, true, false, cond}
-use Rattle.std.proofs.Common.{refl, sym, subst}
-use Rattle.std.specs.Prelude.{◌==◌}
-use Rattle.std.proofs.Common.{inl, inr}
+use Rattle.std.proofs.Common.{◌≡◌, ℕ, List, [], map, true, false}
+use Rattle.std.proofs.Common.{sym, subst, inl, inr}
 use Rattle.ssh_link.specs.declared.frame.InputKind.TheVariants as input
 use Rattle.ssh_link.specs.declared.link.TraceEntry.{TraceEntry}
 use Rattle.ssh_link.specs.declared.link.TraceEntry.TheVariants.{Sent, Noticed}
 use Rattle.ssh_auth.specs.Plan.{Plan, Finish, Ask, Tell, Event, Follows, after}
 use Rattle.ssh_auth.specs.Publickey.{Acceptance}
-use Rattle.ssh_channels.specs.Sent.{message_of}
-use Rattle.ssh_session.specs.declared.exchange.ExchangeState.{ExchangeState}
-use Rattle.ssh_session.specs.declared.exchange.ExchangeState.TheVariants.{Idle, Own, Both}
-use Rattle.ssh_session.specs.Acts.{Beginning, acts, payloads_given, frames_given, moved}
+use Rattle.ssh_session.specs.declared.exchange.ExchangeState.TheVariants.{Idle}
 use Rattle.ssh_session.specs.Between.{flushed}
-use Rattle.ssh_session.specs.Exchange.{early_with, is_running, passage_in, passage_of}
+use Rattle.ssh_session.specs.Exchange.{passage_of}
 use Rattle.ssh_session.specs.Ledger.{is_kexinit}
 use Rattle.ssh_session.specs.Outcome.{Outcome, Goes, Ends, Fails}
-use Rattle.ssh_session.specs.Reading.{Said as Read, Disconnect, Over_cap}
-use Rattle.ssh_session.specs.Rows.{row}
-use Rattle.ssh_session.specs.Run.{Turn, Owes, OwesKind, OwesPassed, passage, begins, finish_input}
+use Rattle.ssh_session.specs.Run.{Turn, Owes, OwesKind, OwesPassed, passage, finish_input}
 use Rattle.ssh_session.specs.Run.{going_out, goes_unless_ended, hand_on, handed_on, is_due, is_over}
-use Rattle.ssh_session.specs.World.{World, hears, in_exchange, is_held}
-use Rattle.ssh_session.proofs.Acting.{PlanComes, Law}
-use Rattle.ssh_session.proofs.Beside.{row_beside}
-use Rattle.ssh_session.proofs.Books.{kind_kept, handed_due}
+use Rattle.ssh_session.specs.World.{World, hears, in_exchange}
+use Rattle.ssh_session.proofs.Acting.{PlanComes}
+use Rattle.ssh_session.proofs.Books.{kind_kept}
 use Rattle.ssh_session.proofs.Emptied.{IsUnheld, told_comes, comes_of, owed_emptied, unheld}
-use Rattle.ssh_session.proofs.Idling.{IsSettled}
+use Rattle.ssh_session.proofs.Idling.{ComesIdle, ComesSettled, IsSettled, row_idle, passes_of}
+use Rattle.ssh_session.proofs.Idling.{still_idle, ended_settled, handed_settled}
 use Rattle.ssh_session.proofs.Keeping.{Kept, ComesKept}
-use Rattle.ssh_session.proofs.Settled.{Anything, Any_command, any_built}
-use Rattle.ssh_session.proofs.Untouched.{IsRunning, same_runs, effect_runs}
+use Rattle.ssh_session.proofs.Settled.{Anything}
 use Rattle.ssh_session_vectors.specs.Client.{IsOutside, hands_on}
 use Rattle.ssh_session_vectors.specs.Moves.{Place, Made, Served, Said, Handed_on, Leads, coming}
 use Rattle.ssh_session_vectors.proofs.Behind.{told_first, owes_live, flush_comes}
 
--- ---- rows
-
-abbrev ComesIdle : Outcome → Type 0
-ComesIdle (Goes w) = in_exchange w ≡ false
-ComesIdle _ = Unit {0}
-
-abbrev law : Law
-law = record {
-  such = Anything;
-  comes = ComesIdle;
-  holds = IsRunning false;
-  built = Any_command;
-  goes = λ w h. h;
-  lends = λ lent commands s. any_built commands;
-  judges = λ judged answer s. any_built answer.commands;
-  listens = λ address port answer s. any_built answer.commands;
-  keeps = λ w command h b. effect_runs false w command h;
-}
-
-row_idle : (w : World) (moment : ℕ) (said : Read) → in_exchange w ≡ false
-    → PlanComes Anything ComesIdle (row w moment said)
-row_idle w moment Disconnect h = tt
-row_idle w moment Over_cap h = tt
-row_idle w moment said h =
-    row_beside law (λ u v set ended keys k. same_runs false u v keys k) (λ why. tt) w moment said tt
-    h
-
 -- ---- where no exchange runs, all but a KEXINIT is read, as a payload is that has no number
-
-passes_in : (exchange : ExchangeState) (window number : ℕ) → is_running exchange ≡ false
-    → (number == 20) ≡ false → passage_in exchange window number ≡ passage_of Idle 0 []
-passes_in Idle window number idle other = rw other refl
-passes_in (Own early) window number idle other = absurd (cc)
-passes_in Both window number idle other = absurd (cc)
-
-passes_of : (exchange : ExchangeState) (window : ℕ) (payload : List ℕ)
-    → is_running exchange ≡ false → (message_of payload == 20) ≡ false
-    → passage_of exchange window payload ≡ passage_of Idle 0 []
-passes_of exchange window [] idle other = refl
-passes_of exchange window (number ∷ fields) idle other =
-    passes_in exchange window number idle other
-
-still_idle : (payload : List ℕ) (exchange : ExchangeState) → is_running exchange ≡ false
-    → is_running (early_with payload exchange) ≡ false
-still_idle payload Idle h = refl
-still_idle payload (Own early) h = absurd (cc)
-still_idle payload Both h = absurd (cc)
 
 payload_idle : (accepts : Acceptance) (w : World) (moment : ℕ) (payload : List ℕ)
     (plan : Plan Outcome) → OwesKind accepts w moment (input.Payload payload) plan
@@ -94,29 +40,6 @@ payload_idle accepts w moment payload plan o other h =
     rw read.2 (row_idle v moment read.0 still)
 
 -- ---- the end of a move
-
-abbrev ComesSettled : Outcome → Type 0
-ComesSettled (Goes w) = IsSettled w
-ComesSettled _ = Unit {0}
-
-begun_settled : (due : Bool) (w : World) → IsSettled w
-    → PlanComes Anything ComesSettled (acts (begins due) w)
-begun_settled true w h = λ answer s.
-    told_comes ComesSettled (map Sent (frames_given (payloads_given Beginning answer)))
-    (Finish (Goes (moved Beginning answer w))) h
-begun_settled false w h = h
-
-ended_settled : (ended due : Bool) (w : World) → IsSettled w
-    → PlanComes Anything ComesSettled (cond ended (Finish (Ends w)) (acts (begins due) w))
-ended_settled true due w h = tt
-ended_settled false due w h = begun_settled due w h
-
-handed_settled : (past : List TraceEntry) (w : World) → in_exchange w ≡ false → Kept past w
-    → IsSettled (handed_on w)
-handed_settled past w h k = (
-  unheld (in_exchange w) w.disconnected w.channels.lines h,
-  handed_due (is_held w) w.channels.lines (k.due h),
-)
 
 settled : (past : List TraceEntry) (plan : Plan Outcome) → PlanComes Anything ComesIdle plan
     → PlanComes Anything (ComesKept past) plan

@@ -1,33 +1,16 @@
 -- What is fixed in a run stays so, move by move.
-use Rattle.std.proofs.Common.{◌≡◌, ◌∙◌, ℕ, map, subst}
-use Rattle.ssh_link.specs.declared.command.Command.{Command}
+use Rattle.std.proofs.Common.{◌≡◌, ℕ, map, subst}
 use Rattle.ssh_link.specs.declared.link.TraceEntry.TheVariants.{Noticed}
 use Rattle.ssh_auth.specs.Plan.{Follows}
 use Rattle.ssh_auth.specs.Publickey.{Acceptance}
 use Rattle.ssh_session.specs.Between.{flushed}
-use Rattle.ssh_session.specs.Effect.{effect, refused_for, done_by}
 use Rattle.ssh_session.specs.Outcome.{Goes}
 use Rattle.ssh_session.specs.Run.{hand_on}
-use Rattle.ssh_session.specs.World.{Settings, World}
+use Rattle.ssh_session.specs.World.{Settings}
 use Rattle.ssh_session.proofs.Acting.{EffectComes}
-use Rattle.ssh_session.proofs.Apart.{refused_comes, apart_comes}
-use Rattle.ssh_session.proofs.Beside.{done_beside, settles_beside, opens_or_not_beside}
-use Rattle.ssh_session.proofs.Settled.{IsSet, stays_set}
+use Rattle.ssh_session.proofs.Settled.{IsSet, effect_set, stays_set}
 use Rattle.ssh_session_vectors.specs.Moves.{Place, Made, Served, Said, Handed_on, Leads, coming}
 use Rattle.ssh_session_vectors.proofs.Behind.{told_first, owes_live, flush_set}
-
-same_set : (settings : Settings) (w v : World) → v.settings ≡ w.settings
-    → v.disconnected ≡ w.disconnected → v.keys ≡ w.keys → IsSet settings w → IsSet settings v
-same_set settings w v is ended keys h = is ∙ h
-
-effect_set : (settings : Settings) (w : World) (command : Command) → IsSet settings w
-    → EffectComes (IsSet settings) (effect w command)
-effect_set settings w command h =
-    let holds = IsSet settings in
-    refused_comes holds (refused_for w.disconnected w command) w (done_by w command) h
-    (done_beside holds (same_set settings) w command h
-    (apart_comes holds (λ message v k. k) (settles_beside holds (same_set settings))
-    (opens_or_not_beside holds (same_set settings)) w command h))
 
 pub lead_set : {E F : Type 0} (accepts : Acceptance) (settings : Settings) (moment : ℕ)
     (before : Place) (made : Made E F) (to : Place) → Leads accepts moment before made to
