@@ -27,6 +27,8 @@ use std::alloc::{AllocError, Global};
 
 /// The status where nothing went wrong.
 const DONE: u8 = 0;
+/// The status where a run ended by an error.
+const ENDED_BY_ERROR: u8 = 1;
 /// The status where words ask for nothing, or a script is not run.
 const REFUSED: u8 = 2;
 /// The status where the source failed.
@@ -94,10 +96,10 @@ fn status_of(run: &Result<(), RunError<RecordError<ScriptError>, PlainKexError>>
     ensures { result ≡ status_of run.now }
 {
     match run {
-        Ok(()) => Some(0),
+        Ok(()) => Some(DONE),
         Err(RunError::NoMemory) => None,
         Err(RunError::Handler(RecordError::NoMemory)) => None,
-        Err(_) => Some(1),
+        Err(_) => Some(ENDED_BY_ERROR),
     }
 }
 

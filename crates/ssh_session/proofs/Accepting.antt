@@ -21,6 +21,7 @@ use Rattle.ssh_session.specs.Serve.{Cause, Wants_memory, Link_failed, Limit_reac
 use Rattle.ssh_session.specs.Serve.{Refused_by, Broken_by, cause_of, IsCaused}
 use Rattle.ssh_session.specs.World.{Settings, World, circumstances, opening_world}
 use Rattle.ssh_session.proofs.Admitted.{owed_guarded}
+use Rattle.ssh_session.proofs.Emptied.{nothing_left}
 use Rattle.ssh_session.proofs.Guards.{Guarded, IsBefore, IsClear, NamesLast, SomeAccepts, Walks}
 use Rattle.ssh_session.proofs.Guards.{input_guarded}
 use Rattle.ssh_session.proofs.Guards.{walks_guarded, follows_guarded, begins_walks, follows_walks}
@@ -73,6 +74,27 @@ run_walks accepts w (turn ∷ turns) world last run h =
       inr (run.0, t.2, run_walks accepts run.0 turns world last run.2 h),
       t.3,
     )
+
+-- the world behind the first of these inputs, in which the others were taken
+pub record Behind {E F : Type 0} (accepts : Acceptance) (w : World)
+    (before rest : List (Turn E F)) : Type 0 where
+  pub world : World
+  pub run : Run accepts w before world
+  pub walks : AllWalk accepts world rest
+
+pub behind : {E F : Type 0} (accepts : Acceptance) (w : World) (before : List (Turn E F))
+    (turn : Turn E F) (rest : List (Turn E F)) → AllWalk accepts w (before ++ turn ∷ rest)
+    → Behind accepts w before (turn ∷ rest)
+behind accepts w [] turn rest all = record { world = w; run = refl; walks = all }
+behind accepts w (t ∷ before) turn rest (plan, owes, walks, inl last, taken) =
+    absurd (nothing_left before turn rest last)
+behind accepts w (t ∷ before) turn rest (plan, owes, walks, inr next, taken) =
+    let at = behind accepts next.0 before turn rest next.2 in
+    record {
+      world = at.world;
+      run = (next.0, (plan, owes, next.1, taken), at.run);
+      walks = at.walks;
+    }
 
 -- ---- who was named last
 
@@ -196,10 +218,6 @@ goes_on : {E F : Type 0} (accepts : Acceptance) (settings : Settings) (before : 
 goes_on accepts settings before turn mid (inl h) =
     inl (someone_now accepts settings before turn turn.events h)
 goes_on accepts settings before turn mid (inr h) = inr (clear_more before turn mid h)
-
-nothing_left : {A : Type 0} (xs : List A) (y : A) (ys : List A) → xs ++ y ∷ ys ≡ [] → ⊥
-nothing_left [] y ys h = cc
-nothing_left (x ∷ xs) y ys h = cc
 
 turns_authorised : {E F : Type 0} (accepts : Acceptance) (settings : Settings)
     (before turns : List (Turn E F)) (w : World) →

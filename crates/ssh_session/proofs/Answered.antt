@@ -1,10 +1,10 @@
 -- An open of the peer's gets at most one answer, by induction over a run (RFC 4254 section 5.1).
-use Rattle.std.proofs.Common.{◌≡◌, ◌⊎◌, ◌≤◌, ◌+◌, ◌&&◌, ℕ, List, [], ◌∷◌, ◌++◌, Bool}
+use Rattle.std.proofs.Common.{◌≡◌, ◌⊎◌, ◌≤◌, ◌+◌, ◌==◌, ◌&&◌, ◌||◌, ℕ, List, [], ◌∷◌, ◌++◌, Bool}
 use Rattle.std.proofs.Common.{true, false, not, cond, Option, Result}
 use Rattle.std.proofs.Common.{refl, sym, ◌∙◌, subst, inl, inr, arith, append_assoc}
+use Rattle.std.specs.List.{list_any}
 use Rattle.std.specs.Prelude.{option_to_list}
 use Rattle.ssh_link.specs.declared.kex.KexCall.TheVariants as kex
-use Rattle.ssh_link.specs.declared.link.TraceEntry.{TraceEntry}
 use Rattle.ssh_auth.specs.Plan.{Plan, Finish, Ask, Tell, Event, Called, Stepped, Told}
 use Rattle.ssh_auth.specs.Plan.{Follows, after, calls_in}
 use Rattle.ssh_auth.specs.Publickey.{Acceptance}
@@ -13,24 +13,24 @@ use Rattle.ssh_session.specs.Account.{Closes}
 use Rattle.ssh_session.specs.Answered.{how_many, is_answer, is_answer_on, sends}
 use Rattle.ssh_session.specs.Answered.{open_returned_on, is_open, is_none, is_uncalled}
 use Rattle.ssh_session.specs.Answered.{is_uncalled_outside, is_uncalled_inside, shown}
-use Rattle.ssh_session.specs.Answered.{called_events, Answered}
+use Rattle.ssh_session.specs.Answered.{answers_left, called_events, Answered}
+use Rattle.ssh_session.specs.Opening.{Opening}
 use Rattle.ssh_session.specs.Outcome.{Outcome, Goes}
-use Rattle.ssh_session.specs.Run.{Turn, Run, Owes, IsTaken, StartsOutside, calls_of, finish_input}
-use Rattle.ssh_session.specs.Run.{asks_for_keys, entries}
+use Rattle.ssh_session.specs.Run.{Turn, Run, Owes, IsTaken, calls_of, finish_input}
+use Rattle.ssh_session.specs.Run.{asks_for_keys}
 use Rattle.ssh_session.specs.World.{Settings, World, in_exchange, opening_world}
-use Rattle.ssh_session.proofs.Accepting.{AllWalk, run_walks, last_walks}
+use Rattle.ssh_session.proofs.Accepting.{AllWalk, run_walks, last_walks, behind}
 use Rattle.ssh_session.proofs.Answering.{CoveredOnce, kind_covered, covered_more, once_more}
 use Rattle.ssh_session.proofs.Answers.{answers_on, asks_open, waiting_once}
-use Rattle.ssh_session.proofs.Books.{owed_kept, nothing_kept}
+use Rattle.ssh_session.proofs.Books.{run_kept, nothing_kept}
 use Rattle.ssh_session.proofs.Called.{turn_called}
 use Rattle.ssh_session.proofs.Counting.{Covered, Allowed, input_allowed, returned, left_through}
 use Rattle.ssh_session.proofs.Counting.{Within, within_first, within_few, walks_within}
 use Rattle.ssh_session.proofs.Counting.{follows_covered}
 use Rattle.ssh_session.proofs.Emptied.{IsUnheld, owed_emptied, nothing_left}
 use Rattle.ssh_session.proofs.Guards.{Walks}
-use Rattle.ssh_session.proofs.Keeping.{Kept}
 use Rattle.ssh_session.proofs.Measures.{one_if, how_many_same, how_many_both}
-use Rattle.ssh_session.proofs.Measuring.{OwesUpTo}
+use Rattle.ssh_session.proofs.Measuring.{OwesUpTo, owing}
 use Rattle.ssh_session.proofs.Pending.{IsReserved}
 use Rattle.ssh_session.proofs.Telling.{kind_silent}
 use Rattle.ssh_session.proofs.Uncalled.{IsUncalled, kind_uncalled, uncalled_few, uncalled_same}
@@ -259,34 +259,40 @@ few_in accepts number left w (t ∷ before) turn after past more (plan, owes, wa
     (sum_few number left later inside (is_uncalled_inside t) (shown t)
     (called_events before ++ past) few rest)
 
--- the world before an input: nothing is held outside an exchange, and opens wait on different
--- numbers
-record Stands {E F : Type 0} (accepts : Acceptance) (turns : List (Turn E F)) : Type 0 where
-  pub world : World
-  pub walks : AllWalk accepts world turns
-  pub none : IsUnheld world
-  pub waiting : AllWaiting 0 (IsReserved world.channels.lines) world.channels.opens
+-- where at most one is such, it is one where any is
+any_step : (b any : Bool) (n : ℕ) → cond b (n + 1) n ≤ 1 → n ≤ cond any 1 0 →
+    cond b (n + 1) n ≤ cond (b || any) 1 0
+any_step true any n h k = h
+any_step false any n h k = k
 
-stands : {E F : Type 0} (accepts : Acceptance) (past : List TraceEntry) (w : World)
-    (before : List (Turn E F)) (turn : Turn E F) (after : List (Turn E F)) →
-    AllWalk accepts w (before ++ turn ∷ after) → Kept past w → IsUnheld w →
-    Stands accepts (turn ∷ after)
-stands accepts past w [] turn after all k none =
-    record { world = w; walks = all; none = none; waiting = k.waiting }
-stands accepts past w (t ∷ before) turn after (plan, owes, walks, inl last, taken) k none =
-    absurd (nothing_left before turn after last)
-stands accepts past w (t ∷ before) turn after (plan, owes, walks, inr next, taken) k none =
-    stands accepts (past ++ entries t) next.0 before turn after next.2
-    (owed_kept accepts past w t plan next.0 owes next.1 k)
-    (owed_emptied accepts w t plan next.0 owes next.1)
+less_step : (b : Bool) (n : ℕ) → cond b (n + 1) n ≤ 1 → n ≤ 1
+less_step true n h = omega (arith, h)
+less_step false n h = h
 
--- at most one answer of a number is left where nothing is held
-one_waits : (number : ℕ) (w : World) → w.channels.lines.written ≡ [] →
+any_many : {X : Type 0} (such : X → Bool) (xs : List X) → how_many such xs ≤ 1 →
+    how_many such xs ≤ cond (list_any such xs) 1 0
+any_many such [] h = omega arith
+any_many such (x ∷ xs) h =
+    any_step (such x) (list_any such xs) (how_many such xs) h
+    (any_many such xs (less_step (such x) (how_many such xs) h))
+
+-- so many answers are owed in a world where opens wait on different numbers
+waiting_left : (number : ℕ) (w : World) →
     AllWaiting 0 (IsReserved w.channels.lines) w.channels.opens →
-    OwesUpTo (answers_on number) 1 w
-one_waits number w none h =
+    owing (answers_on number) w ≤ answers_left number w
+waiting_left number w h =
     let once = waiting_once 0 number (IsReserved w.channels.lines) w.channels.opens h in
-    rw none (omega (arith, once))
+    let one = any_many (λ (open : ℕ × Opening). number == open.0) w.channels.opens once in
+    omega (arith, one)
+
+-- nothing is held outside an exchange in the world that a run leads to
+run_unheld : {E F : Type 0} (accepts : Acceptance) (w : World) (turns : List (Turn E F))
+    (world : World) → Run accepts w turns world → IsUnheld w → IsUnheld world
+run_unheld accepts w [] world run h = subst IsUnheld run h
+run_unheld accepts w (turn ∷ turns) world run h =
+    let t = run.1 in
+    run_unheld accepts run.0 turns world run.2
+    (owed_emptied accepts w turn t.0 run.0 t.1 t.2)
 
 empty_first : {A : Type 0} (xs ys : List A) → xs ++ ys ≡ [] → xs ≡ []
 empty_first [] ys h = refl
@@ -318,48 +324,40 @@ span_few accepts number left w (t ∷ span) more (plan, owes, walks, inr next, t
     (turn_covered (is_uncalled_outside t) accepts number left w t plan next.0 refl owes taken none h
     walks next.1))
 
--- so at most one answer is sent, from an input on that comes outside an exchange
-span_one : {E F : Type 0} (accepts : Acceptance) (number : ℕ) (settings : Settings)
-    (past span more : List (Turn E F)) →
-    AllWalk accepts (opening_world settings) (past ++ (span ++ more)) → StartsOutside span →
-    back number (called_events span) ≡ 0 → how_many is_uncalled_inside span ≡ 0 →
-    sent number (called_events span) ≤ 1
-span_one accepts number settings past [] more all starts none inside = omega arith
-span_one accepts number settings past (turn ∷ span) more all starts none inside =
-    let here = stands accepts [] (opening_world settings) past turn (span ++ more) all
-    (nothing_kept settings) (λ idle. refl) in
-    let w = here.world in
-    let idle = taken_outside w turn here.walks.4 starts in
-    let few = span_few accepts number 1 w (turn ∷ span) more here.walks here.none
-    (one_waits number w (here.none idle) here.waiting) in
-    omega (arith, few, none, inside)
-
 -- a run answers each open once at most
 pub answered : {E F : Type 0} (accepts : Acceptance) (settings : Settings) (turns : List (Turn E F))
     (world : World) (count max : ℕ) (last : Option (Turn E F)) (rose : Type 0)
     (result : Result (Unit {0}) (RunError E F)) →
     Run accepts (opening_world settings) turns world →
     Closes accepts world count max last rose result →
-    Answered (turns ++ option_to_list last)
+    Answered accepts settings (turns ++ option_to_list last)
 answered accepts settings turns world count max last rose result run closes =
     let w = opening_world settings in
     let all = run_walks accepts w turns world (option_to_list last) run
     (last_walks accepts world count max last rose result closes) in
     record {
       called_once = λ before after turn is.
-          let here = stands accepts [] w before turn after (subst (AllWalk accepts w) is all)
-          (nothing_kept settings) (λ idle. refl) in
-          turn_called accepts here.world turn here.walks.0 here.walks.1 here.walks.2;
+          let at = behind accepts w before turn after (subst (AllWalk accepts w) is all) in
+          turn_called accepts at.world turn at.walks.0 at.walks.1 at.walks.2;
       at_once = λ before after turn is uncalled.
-          let here = stands accepts [] w before turn after (subst (AllWalk accepts w) is all)
-          (nothing_kept settings) (λ idle. refl) in
-          turn_few accepts here.world turn here.walks.0 here.walks.1 here.walks.4 here.none
-          here.walks.2 uncalled;
+          let at = behind accepts w before turn after (subst (AllWalk accepts w) is all) in
+          turn_few accepts at.world turn at.walks.0 at.walks.1 at.walks.4
+          (run_unheld accepts w before at.world at.run (λ idle. refl)) at.walks.2 uncalled;
       after_call = λ before after turn past more is shows number.
           let few = few_in accepts number 0 w before turn after past more
           (subst (AllWalk accepts w) is all) (λ idle. refl) (omega arith) shows in
           omega (arith, few);
-      one_each = λ past span more is number starts none inside.
-          span_one accepts number settings past span more (subst (AllWalk accepts w) is all) starts
-          none inside;
+      since = λ before span more turn is.
+          let at = behind accepts w before turn (span ++ more) (subst (AllWalk accepts w) is all) in
+          let none = run_unheld accepts w before at.world at.run (λ idle. refl) in
+          let kept = run_kept accepts [] w before at.world at.run (nothing_kept settings) in
+          record {
+            world = at.world;
+            run = at.run;
+            within = λ number.
+                let left = waiting_left number at.world kept.waiting in
+                let few = span_few accepts number (answers_left number at.world) at.world
+                (turn ∷ span) more at.walks none left in
+                omega (arith, few);
+          };
     }

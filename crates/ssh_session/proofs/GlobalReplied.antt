@@ -1,7 +1,7 @@
 -- The peer gets no more replies than its global requests want, by induction over a run (RFC 4254
 -- section 4).
 use Rattle.std.proofs.Common.{◌≡◌, ◌≤◌, ◌+◌, ◌==◌, ◌&&◌, ◌||◌, ℕ, List, [], ◌∷◌, ◌++◌}
-use Rattle.std.proofs.Common.{Bool, true, false, cond, nat_lt, Option, Result, refl, ap, subst}
+use Rattle.std.proofs.Common.{Bool, true, false, cond, nat_lt, Option, Result, refl, subst}
 use Rattle.std.proofs.Common.{arith}
 use Rattle.std.specs.Prelude.{option_to_list}
 use Rattle.ssh_link.specs.declared.frame.InputKind.TheVariants as input
@@ -20,13 +20,13 @@ use Rattle.ssh_session.specs.Opens.{failure_frame}
 use Rattle.ssh_session.specs.Reading.{Said}
 use Rattle.ssh_session.specs.Run.{Turn, Run}
 use Rattle.ssh_session.specs.World.{Settings, World, wants_global, opening_world}
-use Rattle.ssh_session.proofs.Accepting.{run_walks, last_walks}
+use Rattle.ssh_session.proofs.Accepting.{AllWalk, run_walks, last_walks, behind}
 use Rattle.ssh_session.proofs.Counting.{still_low}
 use Rattle.ssh_session.proofs.Measures.{Measure, LinesOwe, one_if, no_more, lines_owe, found}
 use Rattle.ssh_session.proofs.Measures.{silent_more}
 use Rattle.ssh_session.proofs.Measuring.{owing, OwesUpTo, RequestOwes, lined_upto, same_lines}
 use Rattle.ssh_session.proofs.Measured.{OfRead, read_weaker}
-use Rattle.ssh_session.proofs.Repaying.{left_with, Repays, past_few, span_few}
+use Rattle.ssh_session.proofs.Repaying.{left_with, Repays, past_few}
 use Rattle.ssh_session.proofs.Wanting.{BytesSay}
 
 -- ---- the measure
@@ -107,21 +107,12 @@ request_reads left w payload said q h =
     (still_low b (owing global_replies w) left h))
     (λ wanted is. wanted_step b wanted left w is h) (λ told is. tt) q
 
--- where nothing is written, the reply that the last request wants is all that may come
-request_most : (w : World) → w.channels.lines.written ≡ [] → OwesUpTo global_replies 1 w
-request_most w empty =
-    let most = one_most w.globals.wanted in
-    let none : how_many is_global_reply w.channels.lines.written ≡ 0 =
-    ap (how_many is_global_reply) empty in
-    omega (arith, most, none)
-
 replies_repay : Repays global_replies wants_global_reply
 replies_repay = record {
   never = λ question. refl;
   none_wait = λ opens. refl;
   apart = λ m payload unlike. unlike.1;
   reads = λ left w payload said q h. request_reads left w payload said q h;
-  most = λ w empty. request_most w empty;
 }
 
 -- a run sends no more replies than its global requests want
@@ -130,7 +121,7 @@ pub globally_replied : {E F : Type 0} (accepts : Acceptance) (settings : Setting
     (rose : Type 0) (result : Result (Unit {0}) (RunError E F)) →
     Run accepts (opening_world settings) turns world →
     Closes accepts world count max last rose result →
-    GlobalReplied (turns ++ option_to_list last)
+    GlobalReplied accepts settings (turns ++ option_to_list last)
 globally_replied accepts settings turns world count max last rose result run closes =
     let all = run_walks accepts (opening_world settings) turns world (option_to_list last) run
     (last_walks accepts world count max last rose result closes) in
@@ -140,8 +131,11 @@ globally_replied accepts settings turns world count max last rose result run clo
           let few = past_few global_replies wants_global_reply replies_repay accepts 0
           (turns ++ option_to_list last) (opening_world settings) all first past more is in
           omega (arith, few);
-      one_each = λ past span more is outside none.
-          span_few global_replies wants_global_reply replies_repay accepts
-          (turns ++ option_to_list last) (opening_world settings) all (λ idle. refl) past span
-          more is outside none;
+      since = λ before span more turn is.
+          let at = behind accepts (opening_world settings) before turn (span ++ more)
+          (subst (AllWalk accepts (opening_world settings)) is all) in
+          let few = past_few global_replies wants_global_reply replies_repay accepts
+          (owing global_replies at.world) (turn ∷ (span ++ more)) at.world at.walks (omega arith)
+          (turn ∷ span) more refl in
+          record { world = at.world; run = at.run; within = omega (arith, few) };
     }

@@ -1,7 +1,7 @@
 -- No more replies are sent than inputs want, of a measure of replies and by induction over a run
 -- (RFC 4254 sections 4 and 5.4).
 use Rattle.std.proofs.Common.{◌≡◌, ◌≤◌, ◌+◌, ℕ, List, [], ◌∷◌, ◌++◌, Bool, true, false}
-use Rattle.std.proofs.Common.{not, cond, Option, Some, None, refl, sym, ◌∙◌, ap, subst, inl, inr}
+use Rattle.std.proofs.Common.{cond, Option, Some, None, refl, sym, ◌∙◌, ap, subst, inl, inr}
 use Rattle.std.proofs.Common.{arith}
 use Rattle.std.specs.Prelude.{drop}
 use Rattle.ssh_wire.specs.declared.open.OpenChannelMessage.{OpenChannelMessage}
@@ -24,16 +24,16 @@ use Rattle.ssh_session.specs.Outcome.{Outcome, Goes}
 use Rattle.ssh_session.specs.Reading.{Said, Open, Says}
 use Rattle.ssh_session.specs.Replied.{events_of}
 use Rattle.ssh_session.specs.Rows.{row, exchange_acts, open_acts, waits}
-use Rattle.ssh_session.specs.Run.{Turn, StartsOutside, Owes, OwesKind, asks_for_keys, command_row}
+use Rattle.ssh_session.specs.Run.{Turn, Owes, OwesKind, asks_for_keys, command_row}
 use Rattle.ssh_session.specs.Ticks.{keepalive_acts}
 use Rattle.ssh_session.specs.Types.{handling, opening_by, unsupported, unknown}
-use Rattle.ssh_session.specs.World.{World, circumstances, hears, in_exchange, lined}
+use Rattle.ssh_session.specs.World.{World, circumstances, hears, lined}
 use Rattle.ssh_session.proofs.Accepting.{AllWalk}
 use Rattle.ssh_session.proofs.Acting.{PlanComes, ActsCome, acts_come, exchange_comes}
 use Rattle.ssh_session.proofs.Counting.{Covered, covered, Allowed, input_allowed, still_low}
 use Rattle.ssh_session.proofs.Counting.{asks_in, returned, left_through, Within}
 use Rattle.ssh_session.proofs.Counting.{within_few, walks_within, follows_covered}
-use Rattle.ssh_session.proofs.Emptied.{IsUnheld, owed_emptied, nothing_left}
+use Rattle.ssh_session.proofs.Emptied.{nothing_left}
 use Rattle.ssh_session.proofs.Guards.{Walks}
 use Rattle.ssh_session.proofs.Measured.{OfRead, row_upto, command_upto, tick_upto}
 use Rattle.ssh_session.proofs.Measures.{Measure, IsNoReply, how_many_both, how_many_same}
@@ -48,8 +48,8 @@ use Rattle.ssh_session.proofs.Wanting.{BytesSay, payload_says}
 abbrev pub left_with : (wants : InputKind → Bool) → (left : ℕ) → InputKind → ℕ
 left_with wants left kind = cond (wants kind) (left + 1) left
 
--- a measure of replies: no question and no open makes one, an answer to an open is none, a request
--- makes one more where its input wants one, and where nothing is written at most one may come
+-- a measure of replies: no question and no open makes one, an answer to an open is none, and a
+-- request makes one more where its input wants one
 pub record Repays (of : Measure) (wants : InputKind → Bool) : Type 0 where
   pub never : (question : Question) → of.asks question ≡ false
   pub none_wait : (opens : List (ℕ × Opening)) → of.waiting opens ≡ 0
@@ -58,7 +58,6 @@ pub record Repays (of : Measure) (wants : InputKind → Bool) : Type 0 where
   pub reads : (left : ℕ) (w : World) (payload : List ℕ) (said : Said)
       → OfRead (BytesSay w payload) said → OwesUpTo of left w
       → OfRead (RequestOwes of (left_with wants left (input.Payload payload)) w) said
-  pub most : (w : World) → w.channels.lines.written ≡ [] → OwesUpTo of 1 w
 
 asks_never : (of : Measure) (never : (question : Question) → of.asks question ≡ false)
     (question : Option Question) → asks_in of.asks question ≡ false
@@ -73,10 +72,6 @@ more_step : (b : Bool) (left n m rest c : ℕ) → n + rest ≤ cond b (left + 1
     n + m ≤ left + cond b (c + 1) c
 more_step true left n m rest c h k = omega (arith, h, k)
 more_step false left n m rest c h k = omega (arith, h, k)
-
-not_true : (b : Bool) → not b ≡ true → b ≡ false
-not_true true is = absurd (cc)
-not_true false is = refl
 
 -- where nothing comes, nothing is sent
 none_few : {E F : Type 0} (of : Measure) (k : ℕ) (past span more : List (Turn E F)) →
@@ -262,38 +257,3 @@ module _ (of : Measure) (wants : InputKind → Bool) (pays : Repays of wants) wh
       (turns_few accepts left w t past plan owes h walks
       (past_few accepts (left_through of (left_with wants left t.input.kind) t.events) turns
       next.0 next.2 (turn_owed accepts left w t plan next.0 owes h next.1) past more rest))
-
-  -- from a world on in which nothing is written, and while no request wants one, at most one is
-  -- sent
-  free_few : {E F : Type 0} (accepts : Acceptance) (turns : List (Turn E F)) (w : World)
-      → AllWalk accepts w turns → w.channels.lines.written ≡ [] → (span more : List (Turn E F))
-      → turns ≡ span ++ more → how_many (λ t. wants t.input.kind) span ≡ 0
-      → how_many (sends of.such) (events_of span) ≤ 1
-  free_few accepts turns w all empty span more is none =
-      let few = past_few accepts 1 turns w all (pays.most w empty) span more is in
-      omega (arith, few, none)
-
-  -- the same from an input on that comes outside an exchange of keys
-  pub span_few : {E F : Type 0} (accepts : Acceptance) (turns : List (Turn E F))
-      (w : World) → AllWalk accepts w turns → IsUnheld w
-      → (past span more : List (Turn E F)) → turns ≡ past ++ (span ++ more)
-      → StartsOutside span → how_many (λ t. wants t.input.kind) span ≡ 0
-      → how_many (sends of.such) (events_of span) ≤ 1
-  span_few accepts [] w all h past span more is outside none =
-      none_few of 1 past span more (sym is)
-  span_few accepts (t ∷ turns) w all h [] [] more is outside none = omega arith
-  span_few accepts (t ∷ turns) w (plan, owes, walks, next, taken) h [] (s ∷ span) more is outside
-      none =
-      let same : t ≡ s = cc in
-      let replies : t.replies ≡ true = ap (λ u. u.replies) same ∙ outside in
-      free_few accepts (t ∷ turns) w (plan, owes, walks, next, taken)
-      (h (not_true (in_exchange w) (sym taken.1 ∙ replies))) (s ∷ span) more is none
-  span_few accepts (t ∷ turns) w (plan, owes, walks, inl last, taken) h (p ∷ past) span more is
-      outside none =
-      let rest : turns ≡ past ++ (span ++ more) = cc in
-      none_few of 1 past span more (sym rest ∙ last)
-  span_few accepts (t ∷ turns) w (plan, owes, walks, inr next, taken) h (p ∷ past) span more is
-      outside none =
-      let rest : turns ≡ past ++ (span ++ more) = cc in
-      span_few accepts turns next.0 next.2
-      (owed_emptied accepts w t plan next.0 owes next.1) past span more rest outside none

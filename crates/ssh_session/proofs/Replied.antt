@@ -1,7 +1,7 @@
 -- The peer gets no more replies than its requests on a channel want, by induction over a run (RFC
 -- 4254 section 5.4).
-use Rattle.std.proofs.Common.{◌≡◌, ◌==◌, ◌&&◌, ◌+◌, ℕ, List, [], ◌++◌, Bool, true, false, cond}
-use Rattle.std.proofs.Common.{Option, Result, refl, sym, ap, arith}
+use Rattle.std.proofs.Common.{◌≡◌, ◌==◌, ◌&&◌, ◌+◌, ℕ, List, ◌∷◌, ◌++◌, Bool, true, false, cond}
+use Rattle.std.proofs.Common.{Option, Result, refl, sym, subst, arith}
 use Rattle.std.specs.Prelude.{option_to_list}
 use Rattle.ssh_wire.specs.declared.channel_id.ChannelId.{ChannelId}
 use Rattle.ssh_link.specs.declared.frame.InputKind.TheVariants as input
@@ -15,13 +15,13 @@ use Rattle.ssh_session.specs.Reading.{Said}
 use Rattle.ssh_session.specs.Replied.{is_reply, is_reply_on, wants_reply_on, Replied}
 use Rattle.ssh_session.specs.Run.{Turn, Run}
 use Rattle.ssh_session.specs.World.{Settings, World, lined, opening_world}
-use Rattle.ssh_session.proofs.Accepting.{run_walks, last_walks}
+use Rattle.ssh_session.proofs.Accepting.{AllWalk, run_walks, last_walks, behind}
 use Rattle.ssh_session.proofs.Counting.{still_low}
 use Rattle.ssh_session.proofs.Measures.{untold, lines_owe}
 use Rattle.ssh_session.proofs.Measuring.{owing, OwesUpTo, RequestOwes, lined_upto, same_lines}
 use Rattle.ssh_session.proofs.Measured.{OfRead, read_weaker}
-use Rattle.ssh_session.proofs.Owing.{replies_on, due_most, unwanted_owe, request_owe}
-use Rattle.ssh_session.proofs.Repaying.{left_with, Repays, past_few, span_few}
+use Rattle.ssh_session.proofs.Owing.{replies_on, unwanted_owe, request_owe}
+use Rattle.ssh_session.proofs.Repaying.{left_with, Repays, past_few}
 use Rattle.ssh_session.proofs.Wanting.{BytesSay}
 
 -- a request makes one more where it wants one
@@ -48,22 +48,12 @@ request_reads number left w payload said q h =
     (λ wanted is. still_low b (owing (replies_on number) w) left h)
     (λ told is. tt) q
 
--- where nothing is written, the reply that the channel's last request wants is all that may come
-request_most : (number : ℕ) (w : World) → w.channels.lines.written ≡ [] →
-    OwesUpTo (replies_on number) 1 w
-request_most number w empty =
-    let most = due_most number w.channels.lines.entries in
-    let none : how_many (is_reply_on number) w.channels.lines.written ≡ 0 =
-    ap (how_many (is_reply_on number)) empty in
-    omega (arith, most, none)
-
 replies_repay : (number : ℕ) → Repays (replies_on number) (wants_reply_on number)
 replies_repay number = record {
   never = λ question. refl;
   none_wait = λ opens. refl;
   apart = λ m payload unlike. untold (number == m) (is_reply (failure_frame m payload)) unlike.0;
   reads = λ left w payload said q h. request_reads number left w payload said q h;
-  most = λ w empty. request_most number w empty;
 }
 
 -- a run sends no more replies than its requests want
@@ -72,7 +62,7 @@ pub replied : {E F : Type 0} (accepts : Acceptance) (settings : Settings) (turns
     (result : Result (Unit {0}) (RunError E F)) →
     Run accepts (opening_world settings) turns world →
     Closes accepts world count max last rose result →
-    Replied (turns ++ option_to_list last)
+    Replied accepts settings (turns ++ option_to_list last)
 replied accepts settings turns world count max last rose result run closes =
     let all = run_walks accepts (opening_world settings) turns world (option_to_list last) run
     (last_walks accepts world count max last rose result closes) in
@@ -84,8 +74,16 @@ replied accepts settings turns world count max last rose result run closes =
           accepts 0 (turns ++ option_to_list last) (opening_world settings) all (first number) past
           more is in
           omega (arith, few);
-      one_each = λ past span more is number outside none.
-          span_few (replies_on number) (wants_reply_on number) (replies_repay number) accepts
-          (turns ++ option_to_list last) (opening_world settings) all (λ idle. refl) past span
-          more is outside none;
+      since = λ before span more turn is.
+          let at = behind accepts (opening_world settings) before turn (span ++ more)
+          (subst (AllWalk accepts (opening_world settings)) is all) in
+          record {
+            world = at.world;
+            run = at.run;
+            within = λ number.
+                let few = past_few (replies_on number) (wants_reply_on number)
+                (replies_repay number) accepts (owing (replies_on number) at.world)
+                (turn ∷ (span ++ more)) at.world at.walks (omega arith) (turn ∷ span) more refl in
+                omega (arith, few);
+          };
     }

@@ -130,11 +130,12 @@ pub record Lawful {E F : Type 0} {accepts : Acceptance} {settings : Settings}
   -- the exchange of keys gave it
   pub last_word : IsLastWord (account.turns ++ option_to_list account.last)
   -- an open of the peer's gets at most one answer, and none before its callback returned
-  pub answered : Answered (account.turns ++ option_to_list account.last)
+  pub answered : Answered accepts settings (account.turns ++ option_to_list account.last)
   -- the peer gets no more replies to its requests on a channel than it wanted
-  pub replied : Replied (account.turns ++ option_to_list account.last)
+  pub replied : Replied accepts settings (account.turns ++ option_to_list account.last)
   -- and no more replies to its global requests
-  pub globally_replied : GlobalReplied (account.turns ++ option_to_list account.last)
+  pub globally_replied : GlobalReplied accepts settings
+      (account.turns ++ option_to_list account.last)
   -- the replies to this side's global requests are taken in the order of the requests
   pub in_order : (earlier later : List (Turn E F)) → account.turns ≡ earlier ++ later
       → InOrder accepts settings earlier

@@ -3,6 +3,7 @@
 use Rattle.std.specs.Prelude.{◌≡◌, ◌≤◌, ◌+◌, ◌==◌, ◌&&◌, ◌||◌, ℕ, List, [], ◌∷◌, ◌++◌, flat_map}
 use Rattle.std.specs.Prelude.{Bool, true, false, not, cond, if◌then◌else◌, Option, Some, None}
 use Rattle.std.specs.Prelude.{is_some}
+use Rattle.std.specs.List.{list_any}
 use Rattle.ssh_wire.specs.Messages.{channel_open, channel_open_confirmation, channel_open_failure}
 use Rattle.ssh_wire.specs.declared.channel_id.ChannelId.{ChannelId}
 use Rattle.ssh_link.specs.Frames.{Frame}
@@ -13,9 +14,11 @@ use Rattle.ssh_auth.specs.declared.question.Lent.TheVariants.{Opens}
 use Rattle.ssh_auth.specs.declared.question.Question.{Question}
 use Rattle.ssh_auth.specs.declared.question.Question.TheVariants.{Lends}
 use Rattle.ssh_auth.specs.Plan.{Event, Called, Told}
+use Rattle.ssh_auth.specs.Publickey.{Acceptance}
 use Rattle.ssh_auth.specs.Was.{asked_of}
 use Rattle.ssh_channels.specs.Sent.{is_tagged, message_of}
-use Rattle.ssh_session.specs.Run.{Turn, StartsOutside, calls_of}
+use Rattle.ssh_session.specs.Run.{Turn, Run, calls_of}
+use Rattle.ssh_session.specs.World.{Settings, World, opening_world}
 
 -- how many of these are such
 abbrev pub how_many : {X : Type 0} → (such : X → Bool) → List X → ℕ
@@ -84,7 +87,26 @@ shown turn = cond (is_uncalled_outside turn) [] turn.events
 abbrev pub called_events : {E F : Type 0} → List (Turn E F) → List (Event E F)
 called_events turns = flat_map shown turns
 
-pub record Answered {E F : Type 0} (turns : List (Turn E F)) : Type 0 where
+-- how many answers may go out on this side's number though no further open comes: those that are held
+-- in an exchange of keys, and one where an open of that number waits
+abbrev pub answers_left : (number : ℕ) → World → ℕ
+answers_left number w = how_many (is_answer_on number) w.channels.lines.written
+    + cond (list_any (λ open. number == open.0) w.channels.opens) 1 0
+
+-- in these inputs, taken one after another behind those before, no more answers are sent on a number
+-- than were left there, and than callbacks of opens of it have returned in them, and one for each
+-- open without a callback that came in an exchange of keys
+pub record IsAnswered {E F : Type 0} (accepts : Acceptance) (settings : Settings)
+    (before span : List (Turn E F)) : Type 0 where
+  pub world : World
+  pub run : Run accepts (opening_world settings) before world
+  pub within : (number : ℕ)
+      → how_many (sends (is_answer_on number)) (called_events span)
+      ≤ answers_left number world + how_many (open_returned_on number) (called_events span)
+      + how_many is_uncalled_inside span
+
+pub record Answered {E F : Type 0} (accepts : Acceptance) (settings : Settings)
+    (turns : List (Turn E F)) : Type 0 where
   -- a CHANNEL_OPEN makes the callback of an open at most once, and no other input does
   pub called_once : (before after : List (Turn E F)) (turn : Turn E F)
       → turns ≡ before ++ turn ∷ after
@@ -101,10 +123,6 @@ pub record Answered {E F : Type 0} (turns : List (Turn E F)) : Type 0 where
       → how_many (sends (is_answer_on number)) (called_events before ++ past)
       ≤ how_many (open_returned_on number) (called_events before ++ past)
       + how_many is_uncalled_inside (before ++ turn ∷ [])
-  -- and while no further one comes, at most one answer is sent, from an input on that comes outside
-  -- an exchange of keys
-  pub one_each : (past span more : List (Turn E F)) → turns ≡ past ++ (span ++ more)
-      → (number : ℕ) → StartsOutside span
-      → how_many (open_returned_on number) (called_events span) ≡ 0
-      → how_many is_uncalled_inside span ≡ 0
-      → how_many (sends (is_answer_on number)) (called_events span) ≤ 1
+  -- and from each of them on no more than were left before it, and than have come since
+  pub since : (before span more : List (Turn E F)) (turn : Turn E F)
+      → turns ≡ before ++ turn ∷ (span ++ more) → IsAnswered accepts settings before (turn ∷ span)

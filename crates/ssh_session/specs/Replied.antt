@@ -1,15 +1,18 @@
 -- The peer gets no more replies to its requests on a channel than it wanted (RFC 4254 section 5.4).
-use Rattle.std.specs.Prelude.{◌≡◌, ◌≤◌, ◌==◌, ◌&&◌, ◌||◌, ℕ, List, ◌++◌, flat_map, Bool, false, not}
-use Rattle.std.specs.Prelude.{take, drop, get_or}
+use Rattle.std.specs.Prelude.{◌≡◌, ◌≤◌, ◌+◌, ◌==◌, ◌&&◌, ◌||◌, ℕ, List, ◌∷◌, ◌++◌, flat_map, cond}
+use Rattle.std.specs.Prelude.{Bool, false, not, take, drop, get_or}
 use Rattle.std.specs.Int.{w32, from_be_bytes}
 use Rattle.ssh_wire.specs.Messages.{channel_request, channel_success, channel_failure}
 use Rattle.ssh_link.specs.Frames.{Frame}
 use Rattle.ssh_link.specs.declared.frame.InputKind.{InputKind}
 use Rattle.ssh_link.specs.declared.frame.InputKind.TheVariants.{Payload}
 use Rattle.ssh_auth.specs.Plan.{Event}
+use Rattle.ssh_auth.specs.Publickey.{Acceptance}
+use Rattle.ssh_channels.specs.Does.{has}
 use Rattle.ssh_channels.specs.Sent.{is_tagged, message_of}
 use Rattle.ssh_session.specs.Answered.{how_many, sends}
-use Rattle.ssh_session.specs.Run.{Turn, StartsOutside}
+use Rattle.ssh_session.specs.Run.{Turn, Run}
+use Rattle.ssh_session.specs.World.{Settings, World, opening_world}
 
 -- a frame that replies to a request: CHANNEL_SUCCESS is 99, CHANNEL_FAILURE 100 (section 5.4)
 abbrev pub is_reply : Frame → Bool
@@ -47,13 +50,27 @@ wants_on number turn = wants_reply_on number turn.input.kind
 abbrev pub events_of : {E F : Type 0} → List (Turn E F) → List (Event E F)
 events_of turns = flat_map (λ turn. turn.events) turns
 
-pub record Replied {E F : Type 0} (turns : List (Turn E F)) : Type 0 where
+-- how many replies may go out on this side's number though no further request comes: those that are
+-- held in an exchange of keys, and one where the channel's last request wants one
+abbrev pub replies_left : (number : ℕ) → World → ℕ
+replies_left number w = how_many (is_reply_on number) w.channels.lines.written
+    + cond (has (λ e. e.wants_reply) number w.channels.lines) 1 0
+
+-- in these inputs, taken one after another behind those before, no more replies are sent on a number
+-- than were left there, and than requests on it have come in them that want one
+pub record IsRepaid {E F : Type 0} (accepts : Acceptance) (settings : Settings)
+    (before span : List (Turn E F)) : Type 0 where
+  pub world : World
+  pub run : Run accepts (opening_world settings) before world
+  pub within : (number : ℕ) → how_many (sends (is_reply_on number)) (events_of span)
+      ≤ replies_left number world + how_many (wants_on number) span
+
+pub record Replied {E F : Type 0} (accepts : Acceptance) (settings : Settings)
+    (turns : List (Turn E F)) : Type 0 where
   -- after each input, and so at every moment, no more replies were sent on a number than requests
   -- on it have come that want one
   pub never_more : (past more : List (Turn E F)) → turns ≡ past ++ more → (number : ℕ)
       → how_many (sends (is_reply_on number)) (events_of past) ≤ how_many (wants_on number) past
-  -- and while no further one comes, at most one reply is sent, from an input on that comes outside
-  -- an exchange of keys: in one replies are held, and go out at its end
-  pub one_each : (past span more : List (Turn E F)) → turns ≡ past ++ (span ++ more) → (number : ℕ)
-      → StartsOutside span → how_many (wants_on number) span ≡ 0
-      → how_many (sends (is_reply_on number)) (events_of span) ≤ 1
+  -- and from each input on no more than were left before it, and than have come since
+  pub since : (before span more : List (Turn E F)) (turn : Turn E F)
+      → turns ≡ before ++ turn ∷ (span ++ more) → IsRepaid accepts settings before (turn ∷ span)

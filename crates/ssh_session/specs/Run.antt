@@ -136,11 +136,6 @@ pub record Turn (E F : Type 0) : Type 0 where
   pub replies : Bool
   pub events : List (Event E F)
 
--- no exchange of keys ran when the first of these inputs was taken: replies were asked for with it
-abbrev pub StartsOutside : {E F : Type 0} → List (Turn E F) → Type 0
-StartsOutside [] = Unit {0}
-StartsOutside (turn ∷ turns) = turn.replies ≡ true
-
 -- on no channel data wait
 abbrev pub nothing_waits : World → Bool
 nothing_waits w = list_all all_framed w.channels.lines.entries

@@ -12,6 +12,9 @@ use std::test::Fail;
 // SERVICE_REQUEST for the service ssh-userauth.
 const SERVICE: &[u8] = b"\x05\0\0\0\x0cssh-userauth";
 
+// SERVICE_ACCEPT of that service.
+const ACCEPT: &[u8] = b"\x06\0\0\0\x0cssh-userauth";
+
 // USERAUTH_REQUEST of alice by method none.
 const NONE: &[u8] = b"\x32\0\0\0\x05alice\0\0\0\x0essh-connection\0\0\0\x04none";
 
@@ -59,19 +62,21 @@ fn link(alloc: Global, payloads: &[&[u8]], fails: &[u64]) -> Result<MemoryLink, 
     Ok(MemoryLink::new(alloc, inputs, calls)?)
 }
 
-// Whether the messages that went out have these numbers, none for a message without bytes.
-fn are_sent(link: &MemoryLink, wanted: &[Option<u8>]) -> bool {
-    let mut count: usize = 0;
+// Whether these messages went out, and no others.
+fn are_sent(link: &MemoryLink, wanted: &[&[u8]]) -> bool {
+    let mut left = wanted.iter();
     for entry in link.trace() {
         if let TraceEntry::Sent(frame) = entry {
             let (head, body) = frame.parts();
-            if wanted.get(count).copied() != Some(head.first().or(body.first()).copied()) {
+            let is_next = left
+                .next()
+                .is_some_and(|payload| payload.strip_prefix(head) == Some(body));
+            if !is_next {
                 return false;
             }
-            count = count.saturating_add(1);
         }
     }
-    count == wanted.len()
+    left.next().is_none()
 }
 
 // A run over the link, and how it ends.
@@ -90,23 +95,25 @@ fn run(alloc: Global, handler: &mut Recorded<Taking>, link: &mut MemoryLink) -> 
     end
 }
 
-// Whether a run whose link fails at this call ends so, and this goes out.
-fn fails_at(alloc: Global, call: u64, wanted: &[Option<u8>]) -> Result<bool, Fail> {
+// Whether a run whose link fails at this call ends so after as many callbacks, and this goes out.
+fn fails_at(alloc: Global, call: u64, callbacks: usize, wanted: &[&[u8]]) -> Result<bool, Fail> {
     let mut link = link(alloc, &[SERVICE], &[call])?;
     let before = link.faults();
     let mut handler = Recorded::new(alloc, Taking::new(alloc, Habit::Quiet));
     let end = run(alloc, &mut handler, &mut link);
+    let calls = handler.calls().len();
     drop(handler);
-    Ok(before == 0 && end == End::LinkFault && link.faults() == 1 && are_sent(&link, wanted))
+    let faulty = before == 0 && end == End::LinkFault && link.faults() == 1;
+    Ok(faulty && calls == callbacks && are_sent(&link, wanted))
 }
 
 // Call 1 takes the input, call 2 hands the frame on, call 3 takes the end.
-static FAILING: [(u64, &[Option<u8>]); 3] = [(1, &[]), (2, &[]), (3, &[Some(6)])];
+static FAILING: [(u64, usize, &[&[u8]]); 3] = [(1, 0, &[]), (2, 1, &[]), (3, 1, &[ACCEPT])];
 
 #[test]
 fn a_link_that_fails(rt: HostRuntime) -> Result<(), Fail> {
-    for (call, wanted) in &FAILING {
-        assert!(rt; fails_at(rt.alloc(), *call, *wanted)?, "{call}");
+    for (call, callbacks, wanted) in &FAILING {
+        assert!(rt; fails_at(rt.alloc(), *call, *callbacks, *wanted)?, "{call}");
     }
     Ok(())
 }
@@ -180,7 +187,7 @@ fn is_spent(side: &mut Side, alloc: Global) -> Result<bool, Fail> {
             && ends(side, alloc, b"\x01", End::Well)?
             && ends(side, alloc, SERVICE, End::Inconsistent)?
             && side.handler.calls().len() == 1
-            && are_sent(&side.link, &[Some(6)]),
+            && are_sent(&side.link, &[ACCEPT]),
     )
 }
 
@@ -193,13 +200,13 @@ fn a_session_that_is_spent(rt: HostRuntime) -> Result<(), Fail> {
     Ok(())
 }
 
-// Whether such a run goes well, to a peer that says what its software is, and this goes out for the
-// service request and this request.
+// Whether such a run goes well, to a peer that says what its software is, and this goes out for
+// this request, behind the answer to the service request.
 fn answers(
     alloc: Global,
     handler: &mut Naming,
     request: &[u8],
-    wanted: &[Option<u8>],
+    wanted: &[u8],
 ) -> Result<bool, Fail> {
     let mut link = link(alloc, &[SERVICE, request], &[])?;
     let config = Config::standard();
@@ -211,14 +218,17 @@ fn answers(
     );
     let ended = answer.is_ok();
     drop(answer);
-    Ok(ended && are_sent(&link, wanted))
+    Ok(ended && are_sent(&link, &[ACCEPT, wanted]))
 }
 
-// SERVICE_ACCEPT, no banner, and FAILURE.
+// USERAUTH_FAILURE, with the methods that the config has but for the one that was refused.
+const FAILURE: &[u8] = b"\x33\0\0\0\x31password,publickey,hostbased,keyboard-interactive\0";
+
+// No banner, and FAILURE.
 #[test]
 fn callbacks_that_are_not_written_let_nobody_in(rt: HostRuntime) -> Result<(), Fail> {
     let mut handler = Naming::new(rt.alloc());
-    assert!(rt; answers(rt.alloc(), &mut handler, NONE, &[Some(6), Some(51)])?);
+    assert!(rt; answers(rt.alloc(), &mut handler, NONE, FAILURE)?);
     assert!(rt; handler.software().is_empty());
     Ok(())
 }
@@ -248,7 +258,7 @@ fn goes_on(alloc: Global, handler: &mut Naming) -> Result<bool, Fail> {
 #[test]
 fn a_handler_counts_on_the_line_of_its_peer(rt: HostRuntime) -> Result<(), Fail> {
     let mut handler = Naming::new(rt.alloc());
-    assert!(rt; answers(rt.alloc(), &mut handler, PASSWORD, &[Some(6), Some(52)])?);
+    assert!(rt; answers(rt.alloc(), &mut handler, PASSWORD, b"\x34")?);
     assert!(rt; handler.software() == b"PuTTY".as_slice());
     assert!(rt; goes_on(rt.alloc(), &mut handler)?);
     Ok(())

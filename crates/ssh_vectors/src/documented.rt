@@ -1,9 +1,9 @@
-// The examples of docs/SCRIPT.md, as they stand there.
+// The examples of README.md and of docs/SCRIPT.md, as they stand there.
 use crate::scripts::{Case, run};
 use std::alloc::Global;
 use std::test::Fail;
 
-static EXAMPLES: [Case; 11] = [
+static EXAMPLES: [Case; 14] = [
     Case {
         shows: "a request for the service of authentication",
         script: b"recv 050000000c7373682d7573657261757468\n",
@@ -12,6 +12,82 @@ static EXAMPLES: [Case; 11] = [
           input 1\n\
           send - 060000000c7373682d7573657261757468\n\
           input 2\n\
+          ok\n",
+    },
+    Case {
+        shows: "a user who is let in",
+        script: b"answer none accept\n\
+          recv 050000000c7373682d7573657261757468\n\
+          recv 3200000005616c6963650000000e7373682d636f6e6e656374696f6e000000046e6f6e65\n",
+        status: 0,
+        written: b"call authentication_banner\n\
+          call auth_none 616c696365\n\
+          call auth_succeeded\n\
+          input 1\n\
+          send - 060000000c7373682d7573657261757468\n\
+          input 2\n\
+          send - 34\n\
+          input 3\n\
+          ok\n",
+    },
+    Case {
+        shows: "a channel, and data on it from outside",
+        script: b"answer none accept\n\
+          recv 050000000c7373682d7573657261757468\n\
+          recv 3200000005616c6963650000000e7373682d636f6e6e656374696f6e000000046e6f6e65\n\
+          recv 5a0000000773657373696f6e000000070010000000008000\n\
+          data 2 68656c6c6f\n",
+        status: 0,
+        written: b"call authentication_banner\n\
+          call auth_none 616c696365\n\
+          call auth_succeeded\n\
+          call channel_open_session 2\n\
+          input 1\n\
+          send - 060000000c7373682d7573657261757468\n\
+          input 2\n\
+          send - 34\n\
+          input 3\n\
+          notice 2 Ready 1048576 32768\n\
+          send 2 5b00000007000000020020000000008000\n\
+          input 4\n\
+          done 1 accepted\n\
+          send 2 5e000000070000000568656c6c6f\n\
+          input 5\n\
+          ok\n",
+    },
+    Case {
+        shows: "an exchange of keys, with data that are held in it",
+        script: b"answer none accept\n\
+          answer data echo\n\
+          recv 050000000c7373682d7573657261757468\n\
+          recv 3200000005616c6963650000000e7373682d636f6e6e656374696f6e000000046e6f6e65\n\
+          recv 5a0000000773657373696f6e000000070010000000008000\n\
+          tick rekey\n\
+          recv 5e000000020000000161\n\
+          recv 14\n\
+          recv 15\n",
+        status: 0,
+        written: b"call authentication_banner\n\
+          call auth_none 616c696365\n\
+          call auth_succeeded\n\
+          call channel_open_session 2\n\
+          call data 2 61\n\
+          input 1\n\
+          send - 060000000c7373682d7573657261757468\n\
+          input 2\n\
+          send - 34\n\
+          input 3\n\
+          notice 2 Ready 1048576 32768\n\
+          send 2 5b00000007000000020020000000008000\n\
+          input 4\n\
+          send - 14\n\
+          input 5\n\
+          notice 2 Data 61\n\
+          input 6\n\
+          input 7\n\
+          send - 15\n\
+          send 2 5e000000070000000161\n\
+          input 8\n\
           ok\n",
     },
     Case {
