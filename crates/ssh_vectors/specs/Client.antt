@@ -77,10 +77,10 @@ pub record Served {E F : Type 0} (accepts : Acceptance) (settings : Settings)
   pub ledger : (earlier later : List (Turn E F)) → turns ≡ earlier ++ later
       → Ledgered_after accepts settings earlier
   -- an open of the peer's gets at most one answer, and none before its callback returned
-  pub answered : Answered (turns ++ option_to_list last)
+  pub answered : Answered accepts settings (turns ++ option_to_list last)
   -- the peer gets no more replies to its requests than it wanted, on a channel and to global ones
-  pub replied : Replied (turns ++ option_to_list last)
-  pub globally_replied : GlobalReplied (turns ++ option_to_list last)
+  pub replied : Replied accepts settings (turns ++ option_to_list last)
+  pub globally_replied : GlobalReplied accepts settings (turns ++ option_to_list last)
   -- the replies to this side's global requests are taken in the order of the requests
   pub in_order : (earlier later : List (Turn E F)) → turns ≡ earlier ++ later
       → InOrder accepts settings earlier
