@@ -282,7 +282,7 @@ waiting_left : (number : ℕ) (w : World) →
     owing (answers_on number) w ≤ answers_left number w
 waiting_left number w h =
     let once = waiting_once 0 number (IsReserved w.channels.lines) w.channels.opens h in
-    let one = any_many (λ (open : ℕ × Opening). number == open.0) w.channels.opens once in
+    let one = any_many (λ (one : ℕ × Opening). number == one.0) w.channels.opens once in
     omega (arith, one)
 
 -- nothing is held outside an exchange in the world that a run leads to

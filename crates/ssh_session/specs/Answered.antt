@@ -91,7 +91,7 @@ called_events turns = flat_map shown turns
 -- in an exchange of keys, and one where an open of that number waits
 abbrev pub answers_left : (number : ℕ) → World → ℕ
 answers_left number w = how_many (is_answer_on number) w.channels.lines.written
-    + cond (list_any (λ open. number == open.0) w.channels.opens) 1 0
+    + cond (list_any (λ one. number == one.0) w.channels.opens) 1 0
 
 -- in these inputs, taken one after another behind those before, no more answers are sent on a number
 -- than were left there, and than callbacks of opens of it have returned in them, and one for each
