@@ -87,15 +87,15 @@ shown turn = cond (is_uncalled_outside turn) [] turn.events
 abbrev pub called_events : {E F : Type 0} → List (Turn E F) → List (Event E F)
 called_events turns = flat_map shown turns
 
--- how many answers may go out on this side's number though no further open comes: those that are held
--- in an exchange of keys, and one where an open of that number waits
+-- how many answers may go out on this side's number though no further open comes: those that are
+-- held in an exchange of keys, and one where an open of that number waits
 abbrev pub answers_left : (number : ℕ) → World → ℕ
 answers_left number w = how_many (is_answer_on number) w.channels.lines.written
     + cond (list_any (λ one. number == one.0) w.channels.opens) 1 0
 
--- in these inputs, taken one after another behind those before, no more answers are sent on a number
--- than were left there, and than callbacks of opens of it have returned in them, and one for each
--- open without a callback that came in an exchange of keys
+-- in these inputs, taken one after another behind those before, no more answers are sent on a
+-- number than were left there, and than callbacks of opens of it have returned in them, and one for
+-- each open without a callback that came in an exchange of keys
 pub record IsAnswered {E F : Type 0} (accepts : Acceptance) (settings : Settings)
     (before span : List (Turn E F)) : Type 0 where
   pub world : World
@@ -116,8 +116,8 @@ pub record Answered {E F : Type 0} (accepts : Acceptance) (settings : Settings)
   pub at_once : (before after : List (Turn E F)) (turn : Turn E F) → turns ≡ before ++ turn ∷ after
       → is_uncalled_outside turn ≡ true → how_many (sends is_answer) turn.events ≤ 1
   -- in the other inputs, at every moment and on each number, no more answers were sent than
-  -- callbacks of opens have returned, and one for each open in an exchange of keys whose type has no
-  -- callback, which is held
+  -- callbacks of opens have returned, and one for each open in an exchange of keys whose type has
+  -- no callback, which is held
   pub after_call : (before after : List (Turn E F)) (turn : Turn E F) (past more : List (Event E F))
       → turns ≡ before ++ turn ∷ after → shown turn ≡ past ++ more → (number : ℕ)
       → how_many (sends (is_answer_on number)) (called_events before ++ past)

@@ -38,8 +38,8 @@ wants_global_reply _ = false
 abbrev pub wants_globally : {E F : Type 0} → Turn E F → Bool
 wants_globally turn = wants_global_reply turn.input.kind
 
--- how many of them may go out though no further request comes: those that are held in an exchange of
--- keys, and one where the peer's last request wants one
+-- how many of them may go out though no further request comes: those that are held in an exchange
+-- of keys, and one where the peer's last request wants one
 abbrev pub global_replies_left : World → ℕ
 global_replies_left w =
     how_many is_global_reply w.channels.lines.written + cond w.globals.wanted 1 0

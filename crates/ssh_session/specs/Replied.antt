@@ -56,8 +56,8 @@ abbrev pub replies_left : (number : ℕ) → World → ℕ
 replies_left number w = how_many (is_reply_on number) w.channels.lines.written
     + cond (has (λ e. e.wants_reply) number w.channels.lines) 1 0
 
--- in these inputs, taken one after another behind those before, no more replies are sent on a number
--- than were left there, and than requests on it have come in them that want one
+-- in these inputs, taken one after another behind those before, no more replies are sent on a
+-- number than were left there, and than requests on it have come in them that want one
 pub record IsRepaid {E F : Type 0} (accepts : Acceptance) (settings : Settings)
     (before span : List (Turn E F)) : Type 0 where
   pub world : World

@@ -34,7 +34,7 @@ fn exchanges_before_a_login(rt: HostRuntime) -> Result<(), Fail> {
 
 static BEHIND_LOGIN: [Row; 5] = [
     Row {
-        shows: "an exchange is due once a user is let in and so many bytes were sent, and not again",
+        shows: "an exchange is due once a user is let in and so much was sent, and not again",
         settings: b"config rekey-write 17\n",
         inputs: b"recv 14\nrecv 15\n",
         status: 0,
