@@ -288,7 +288,7 @@ waiting_left number w h =
 -- nothing is held outside an exchange in the world that a run leads to
 run_unheld : {E F : Type 0} (accepts : Acceptance) (w : World) (turns : List (Turn E F))
     (world : World) → Run accepts w turns world → IsUnheld w → IsUnheld world
-run_unheld accepts w [] world run h = subst IsUnheld run h
+run_unheld accepts w [] world run h = subst IsUnheld (sym run) h
 run_unheld accepts w (turn ∷ turns) world run h =
     let t = run.1 in
     run_unheld accepts run.0 turns world run.2
