@@ -38,6 +38,7 @@ use Rattle.ssh_session.specs.Outcome.{Outcome, Goes, Ends, Fails}
 use Rattle.ssh_session.specs.Run.{handed_on, finish_input, goes_unless_ended, going_out, begins}
 use Rattle.ssh_session.specs.Run.{is_due}
 use Rattle.ssh_session.specs.World.{World, keyed, lined, is_held}
+use Rattle.ssh_session.proofs.Emptied.{nothing_left}
 use Rattle.ssh_session.proofs.Passing.{moved_so}
 
 -- ---- worlds before a user is accepted
@@ -380,10 +381,6 @@ told_user : (E F : Type 0) (entry : TraceEntry) → NeedsUser {E = E} {F = F} (T
 told_user E F (Sent frame) needs = needs
 told_user E F _ needs = absurd needs
 
-never_none : {A : Type 0} (xs : List A) (y : A) (ys : List A) → xs ++ y ∷ ys ≡ [] → ⊥
-never_none [] y ys h = cc
-never_none (x ∷ xs) y ys h = cc
-
 asked_event : {E F : Type 0} (question : Question) (next : Answer question → Plan Outcome)
     (event : Event E F)
     (events : List (Event E F)) → Walks (Ask question next) (event ∷ events) → asked_in event
@@ -409,7 +406,7 @@ walks_guarded given named a kind (Ask question next) (x ∷ past) event more g (
     (walks_guarded given named (a ⊎ Accepts given named kind question w.0) kind (next w.0) past
     event more (g.1 w.0) w.2 needs)
 walks_guarded given named a kind (Ask question next) (x ∷ past) event more g (inr w) needs =
-    absurd (never_none past event more w.2)
+    absurd (nothing_left past event more w.2)
 walks_guarded given named a kind (Tell entry next) (x ∷ past) event more g w needs =
     either (λ y. inl y) (λ y. inr (accepts_later given named kind x past y))
     (walks_guarded given named a kind next past event more g.1 w.1 needs)
