@@ -1,7 +1,7 @@
 -- Data that come in take from the room of their channel, and what fills it up is granted (RFC 4254
 -- section 5.2).
 use Rattle.std.proofs.Common.{◌≡◌, ◌≤◌, ◌<◌, ◌+◌, ◌-◌, ◌/◌, ◌^◌, ◌==◌, ◌&&◌, ℕ, [], ◌∷◌, Bool, true}
-use Rattle.std.proofs.Common.{false, cond, Some, refl, ◌∙◌, ap, arith}
+use Rattle.std.proofs.Common.{false, suc, cond, Some, refl, ◌∙◌, ap, arith}
 use Rattle.std.proofs.lemmas.Bool.{leb-true, ltb-true}
 use Rattle.std.proofs.lemmas.Nat.{from_be_bytes-to_be_bytes_4}
 use Rattle.ssh_channels.specs.declared.adjusted.Adjusted.TheVariants.{Dropped, Kept, Granted}
@@ -11,8 +11,8 @@ use Rattle.ssh_channels.specs.Lines.{Lines, find, turns}
 use Rattle.ssh_channels.specs.Room.{coming}
 use Rattle.ssh_channels.proofs.Listed.{one_number}
 use Rattle.ssh_session.specs.Received.{added_by}
-use Rattle.ssh_session.proofs.Granting.{Roomy, room_of, grown, grown_by, grown_both, put_here}
-use Rattle.ssh_session.proofs.Granting.{put_there}
+use Rattle.ssh_session.proofs.Granting.{Roomy, room_of, lifted, lifted_so, grown, grown_by}
+use Rattle.ssh_session.proofs.Granting.{grown_both, put_here, put_there}
 
 -- ---- what data come to
 
@@ -64,14 +64,17 @@ pub kept_room : (b : Bool) (n passed window grew count : ℕ) (e : Entry) (l : L
 kept_room true n passed window grew count e l t at low h =
     let same = one_number n e.number t in
     let here = put_here n (record e { room = e.room - count }) e l.entries same at in
-    let was : room_of (find n l.entries) ≡ e.room =
+    let was : room_of (find n l.entries) ≡ suc e.room =
     ap (λ m. room_of (find m l.entries)) same ∙ ap room_of at in
-    let none = grown_both n grew l.written [] in
-    omega (arith, here, was, none, low, h)
+    let none = grown_both n window grew l.written [] in
+    let first = h.0 in
+    (omega (arith, here, was, none, low, first), omega (arith, was, none, low, first))
 kept_room false n passed window grew count e l t at low h =
     let there = put_there n (record e { room = e.room - count }) l.entries t in
-    let none = grown_both n grew l.written [] in
-    omega (arith, there, none, h)
+    let none = grown_both n window grew l.written [] in
+    let first = h.0 in
+    let second = h.1 in
+    (omega (arith, there, none, first), omega (arith, none, second))
 
 pub granted_room : (b : Bool) (n passed window grew count target amount : ℕ) (e : Entry)
     (l : Lines) → (n == e.number) ≡ b → find e.number l.entries ≡ Some e → count ≤ e.room →
@@ -81,33 +84,40 @@ pub granted_room : (b : Bool) (n passed window grew count target amount : ℕ) (
     (turns (record e { room = target }) (adjust_frame e.number e.peer amount ∷ []) l)
 granted_room true n passed window grew count target amount e l t at low fill is small h =
     let frame = adjust_frame e.number e.peer amount in
-    let g = grown_by n grew l.written in
+    let g = grown_by n window grew l.written in
     let same = one_number n e.number t in
     let here = put_here n (record e { room = target }) e l.entries same at in
-    let was : room_of (find n l.entries) ≡ e.room =
+    let was : room_of (find n l.entries) ≡ suc e.room =
     ap (λ m. room_of (find m l.entries)) same ∙ ap room_of at in
-    let both = grown_both n grew l.written (frame ∷ []) in
+    let first = h.0 in
+    let opened : 0 < g = omega (arith, was, first) in
+    let both = grown_both n window grew l.written (frame ∷ []) in
     let few : amount < 2 ^ 32 = omega (arith, is, small) in
-    let more : grown n (grown_by n grew l.written) frame ≡ grown_by n grew l.written + amount =
-    ap (λ c. cond c (g + added_by frame) g) t
-    ∙ ap (λ a. g + a) (adds_so e.number e.peer amount few) in
-    omega (arith, here, was, both, more, low, fill, is, h)
+    let more : grown n window g frame ≡ g + amount =
+    ap (λ c. cond c (lifted g (added_by frame)) g) t
+    ∙ (ap (lifted g) (adds_so e.number e.peer amount few) ∙ lifted_so g amount opened) in (
+      omega (arith, here, was, both, more, low, fill, is, first),
+      omega (arith, was, both, more, low, first),
+    )
 granted_room false n passed window grew count target amount e l t at low fill is small h =
     let frame = adjust_frame e.number e.peer amount in
-    let g = grown_by n grew l.written in
+    let g = grown_by n window grew l.written in
     let there = put_there n (record e { room = target }) l.entries t in
-    let both = grown_both n grew l.written (frame ∷ []) in
-    let more : grown n (grown_by n grew l.written) frame ≡ grown_by n grew l.written =
-    ap (λ c. cond c (g + added_by frame) g) t in
-    omega (arith, there, both, more, h)
+    let both = grown_both n window grew l.written (frame ∷ []) in
+    let more : grown n window g frame ≡ g =
+    ap (λ c. cond c (lifted g (added_by frame)) g) t in
+    let first = h.0 in
+    let second = h.1 in
+    (omega (arith, there, both, more, first), omega (arith, both, more, second))
 
 -- what is passed then is no more than was granted before
 pub passed_low : (b : Bool) (n passed window grew count : ℕ) (e : Entry) (l : Lines) →
     (n == e.number) ≡ b → find e.number l.entries ≡ Some e → count ≤ e.room →
     Roomy n passed window grew l →
-    cond b (passed + count) passed ≤ window + grown_by n grew l.written
+    cond b (passed + count) passed ≤ grown_by n window grew l.written - 1
 passed_low true n passed window grew count e l t at low h =
-    let was : room_of (find n l.entries) ≡ e.room =
+    let was : room_of (find n l.entries) ≡ suc e.room =
     ap (λ m. room_of (find m l.entries)) (one_number n e.number t) ∙ ap room_of at in
-    omega (arith, was, low, h)
-passed_low false n passed window grew count e l t at low h = omega (arith, h)
+    let first = h.0 in
+    omega (arith, was, low, first)
+passed_low false n passed window grew count e l t at low h = h.1

@@ -45,7 +45,8 @@ Fits number window top passed grew (Ask question next) =
     × ((answer : Answer question)
     → Fits number window top (passed_asked number passed question) grew (next answer))
 Fits number window top passed grew (Tell entry next) =
-    Fits number window top (passed_told number passed entry) (grown_told number grew entry) next
+    Fits number window top (passed_told number passed entry)
+    (grown_told number window grew entry) next
 
 -- a callback that no data come with
 abbrev pub IsBare : Lent → Type 0
@@ -85,10 +86,10 @@ bare_same n passed (Opens channel type) h = refl
 bare_same n passed (Happened channel happening) h =
     bare_step (n == channel.0) passed (bytes_of happening) h
 
-given_same : (n grew : ℕ) (payloads : List (List ℕ)) →
-    grown_by n grew (map at_once payloads) ≡ grew
-given_same n grew [] = refl
-given_same n grew (payload ∷ payloads) = given_same n grew payloads
+given_same : (n window grew : ℕ) (payloads : List (List ℕ)) →
+    grown_by n window grew (map at_once payloads) ≡ grew
+given_same n window grew [] = refl
+given_same n window grew (payload ∷ payloads) = given_same n window grew payloads
 
 module _ (n window top : ℕ)
   where
@@ -102,11 +103,11 @@ module _ (n window top : ℕ)
         notices_fit (passed_noticed n passed notice) grew notices next h
 
     pub frames_fit : (passed grew : ℕ) (frames : List Frame) (next : Plan Outcome)
-        → Fits n window top passed (grown_by n grew frames) next
+        → Fits n window top passed (grown_by n window grew frames) next
         → Fits n window top passed grew (tell_all (map Sent frames) next)
     frames_fit passed grew [] next h = h
     frames_fit passed grew (frame ∷ frames) next h =
-        frames_fit passed (grown_told n grew (Sent frame)) frames next h
+        frames_fit passed (grown_told n window grew (Sent frame)) frames next h
 
     told_fits : (passed grew place : ℕ) (outcome : CommandOutcome) (next : Plan Outcome)
         → passed ≤ top → Fits n window top (passed_done n passed outcome) grew next
@@ -157,7 +158,7 @@ module _ (n window top : ℕ)
     given_fits passed grew payloads next h =
         frames_fit passed grew (frames_given payloads) next
         (subst (λ g. Fits n window top passed g next)
-        (sym (given_same n grew (filter is_of_transport payloads))) h)
+        (sym (given_same n window grew (filter is_of_transport payloads))) h)
 
     moved_room : (passed grew : ℕ) (asked : Exchanging) (answer : Answer (exchange_question asked))
         (w : World) → InRoom n window passed grew w
@@ -241,7 +242,7 @@ module _ (n window top : ℕ)
     -- ---- the end of an input
 
     handed_room : (held : Bool) (passed grew : ℕ) (l : Lines) → Roomy n passed window grew l
-        → Roomy n passed window (grown_by n grew (handed held l)) (hands_on held l)
+        → Roomy n passed window (grown_by n window grew (handed held l)) (hands_on held l)
     handed_room true passed grew l h = h
     handed_room false passed grew l h = h
 
@@ -264,8 +265,8 @@ module _ (n window top : ℕ)
     finished_fits passed grew ticked (Goes w) low h =
         let v = handed_on w in
         frames_fit passed grew (going_out w) (goes_unless_ended ticked v)
-        (ended_fits passed (grown_by n grew (going_out w)) v.disconnected (is_due ticked v) v low
-        (h.0, h.1, handed_room (is_held w) passed grew w.channels.lines h.2))
+        (ended_fits passed (grown_by n window grew (going_out w)) v.disconnected (is_due ticked v) v
+        low (h.0, h.1, handed_room (is_held w) passed grew w.channels.lines h.2))
     finished_fits passed grew ticked (Ends w) low h =
         frames_fit passed grew (going_out w) (is_over (handed_on w)) tt
     finished_fits passed grew ticked (Fails why) low h = tt
@@ -287,5 +288,5 @@ module _ (n window top : ℕ)
     )
     input_fits passed grew ticked (Tell entry next) low h =
         let less = told_low passed entry in
-        input_fits (passed_told n passed entry) (grown_told n grew entry) ticked next
+        input_fits (passed_told n passed entry) (grown_told n window grew entry) ticked next
         (omega (arith, low, less)) h

@@ -1,5 +1,5 @@
 -- Data are passed where the room has them, and no other row passes any (RFC 4254 section 5.2).
-use Rattle.std.proofs.Common.{◌≡◌, ◌==◌, ◌≤◌, ◌+◌, ℕ, List, [], ◌∷◌, Bool, true, false, cond}
+use Rattle.std.proofs.Common.{◌≡◌, ◌==◌, ◌≤◌, ◌+◌, ◌-◌, ℕ, List, [], ◌∷◌, Bool, true, false, cond}
 use Rattle.std.proofs.Common.{Option, Some, None, refl, sym, ◌∙◌, ap, subst, arith}
 use Rattle.std.specs.Prelude.{length, bytes_eq, codes, if◌then◌else◌}
 use Rattle.ssh_wire.specs.declared.channel_id.ChannelId.{ChannelId}
@@ -78,7 +78,7 @@ module _ (n window top : ℕ) (past : List TraceEntry)
     came_fits : (came : Adjusted) (passed grew : ℕ) (channel : ChannelId) (piece : Chunk)
         (e : Entry) (w : World) → find channel.0 w.channels.lines.entries ≡ Some e
         → coming (length piece.bytes) w.channels.target e ≡ came
-        → passed ≤ top → window + grown_by n grew w.channels.lines.written ≤ top
+        → passed ≤ top → grown_by n window grew w.channels.lines.written - 1 ≤ top
         → InRoom n window passed grew w
         → Kept past (lined (takes_in channel.0 (length piece.bytes) w.channels.target) w)
         → Fits n window top passed grew
@@ -143,7 +143,7 @@ module _ (n window top : ℕ) (past : List TraceEntry)
 
     data_fits : (o : Option Entry) (passed grew : ℕ) (channel : ChannelId) (piece : Chunk)
         (w : World) → find channel.0 w.channels.lines.entries ≡ o
-        → passed ≤ top → window + grown_by n grew w.channels.lines.written ≤ top
+        → passed ≤ top → grown_by n window grew w.channels.lines.written - 1 ≤ top
         → InRoom n window passed grew w
         → Kept past (lined (takes_in channel.0 (length piece.bytes) w.channels.target) w)
         → Fits n window top passed grew
@@ -172,7 +172,7 @@ module _ (n window top : ℕ) (past : List TraceEntry)
         kept (owed_on past w said fair kept)
 
     spoken_fits : (passed grew : ℕ) (w : World) (said : Spoken) → IsBareSpoken said
-        → passed ≤ top → window + grown_by n grew w.channels.lines.written ≤ top
+        → passed ≤ top → grown_by n window grew w.channels.lines.written - 1 ≤ top
         → InRoom n window passed grew w → Kept past w
         → Fits n window top passed grew (acts (spoken_acts w said) w)
     spoken_fits passed grew w (spoken.Data channel piece) bare low high h kept =
@@ -267,7 +267,7 @@ module _ (n window top : ℕ) (past : List TraceEntry)
     -- ---- rows
 
     pub row_fits : (passed grew : ℕ) (w : World) (moment : ℕ) (said : Said) → IsFairSaid said
-        → IsBareSaid said → passed ≤ top → window + grown_by n grew w.channels.lines.written ≤ top
+        → IsBareSaid said → passed ≤ top → grown_by n window grew w.channels.lines.written - 1 ≤ top
         → InRoom n window passed grew w → Kept past w
         → Fits n window top passed grew (row w moment said)
     row_fits passed grew w moment (Service name) fair bare low high h kept =

@@ -1,8 +1,8 @@
 -- What this side granted on a number, frame by frame, and the room that its channel has (RFC 4254
 -- section 5.2). No call of the table but one makes more room.
-use Rattle.std.proofs.Common.{◌≡◌, ◌≤◌, ◌+◌, ◌-◌, ◌==◌, ◌&&◌, ◌||◌, ℕ, List, [], ◌∷◌, ◌++◌, map}
-use Rattle.std.proofs.Common.{Bool, true, false, not, cond, Option, Some, None, refl, sym, ◌∙◌, ap}
-use Rattle.std.proofs.Common.{arith}
+use Rattle.std.proofs.Common.{◌≡◌, ◌≤◌, ◌<◌, ◌+◌, ◌-◌, ◌==◌, ◌&&◌, ◌||◌, ℕ, zero, suc, List, []}
+use Rattle.std.proofs.Common.{◌∷◌, ◌++◌, map, Bool, true, false, not, cond, Option, Some, None}
+use Rattle.std.proofs.Common.{refl, sym, ◌∙◌, ap, arith}
 use Rattle.ssh_link.specs.Frames.{Frame}
 use Rattle.ssh_link.specs.declared.link.TraceEntry.{TraceEntry}
 use Rattle.ssh_link.specs.declared.link.TraceEntry.TheVariants.{Sent}
@@ -18,11 +18,11 @@ use Rattle.ssh_channels.specs.Lines.{Lines, find, put, without, write, turns, cl
 use Rattle.ssh_channels.specs.Lines.{where_found, takes_data, takes_eof, takes_close, peer_closes}
 use Rattle.ssh_channels.specs.Lines.{takes_grant, says, wants, confirms, fails, numbers, goes_on}
 use Rattle.ssh_channels.specs.Lines.{each_goes_on, all_go_on}
-use Rattle.ssh_channels.specs.Sent.{is_tagged, is_opening, after_entry, since_from}
+use Rattle.ssh_channels.specs.Sent.{is_tagged, is_opening, after_frame, since_from, since}
 use Rattle.ssh_channels.proofs.Listed.{one_number, found_put, find_other, find_again, find_without}
 use Rattle.ssh_channels.proofs.Listed.{without_other}
-use Rattle.ssh_session.specs.Received.{added_by, added_by_all}
-use Rattle.ssh_session.specs.World.{wants_reply, replies}
+use Rattle.ssh_session.specs.Received.{added_by, added_by_all, was_opened, granted_on}
+use Rattle.ssh_session.specs.World.{Settings, wants_reply, replies}
 use Rattle.ssh_session.proofs.Measures.{AreSilent, silent_both, untold}
 
 -- ---- frame by frame
@@ -31,78 +31,128 @@ use Rattle.ssh_session.proofs.Measures.{AreSilent, silent_both, untold}
 abbrev pub opens_on : (number : ℕ) → Frame → Bool
 opens_on number frame = is_tagged number frame.channel && is_opening frame.payload
 
--- so many bytes were added to the first window, and then this frame went out
-abbrev pub grown : (number grew : ℕ) → Frame → ℕ
-grown number grew frame = cond (is_tagged number frame.channel)
-    (cond (is_opening frame.payload) 0 (grew + added_by frame)) grew
+-- What was granted on a number is counted so: 0 where no channel was opened there, and else the
+-- bytes that were granted and one more.
 
-abbrev pub grown_by : (number grew : ℕ) → List Frame → ℕ
-grown_by number grew [] = grew
-grown_by number grew (frame ∷ frames) = grown_by number (grown number grew frame) frames
+-- so many bytes more, where a channel was opened
+abbrev pub lifted : (grew more : ℕ) → ℕ
+lifted zero more = 0
+lifted (suc grew) more = suc grew + more
 
-abbrev pub grown_told : (number grew : ℕ) → TraceEntry → ℕ
-grown_told number grew (Sent frame) = grown number grew frame
-grown_told number grew _ = grew
+-- this was granted, and then this frame went out; a channel begins with this window
+abbrev pub grown : (number window grew : ℕ) → Frame → ℕ
+grown number window grew frame = cond (is_tagged number frame.channel)
+    (cond (is_opening frame.payload) (suc window) (lifted grew (added_by frame))) grew
 
-abbrev pub grown_in : (number grew : ℕ) → List TraceEntry → ℕ
-grown_in number grew [] = grew
-grown_in number grew (entry ∷ entries) = grown_in number (grown_told number grew entry) entries
+abbrev pub grown_by : (number window grew : ℕ) → List Frame → ℕ
+grown_by number window grew [] = grew
+grown_by number window grew (frame ∷ frames) =
+    grown_by number window (grown number window grew frame) frames
+
+abbrev pub grown_told : (number window grew : ℕ) → TraceEntry → ℕ
+grown_told number window grew (Sent frame) = grown number window grew frame
+grown_told number window grew _ = grew
+
+abbrev pub grown_in : (number window grew : ℕ) → List TraceEntry → ℕ
+grown_in number window grew [] = grew
+grown_in number window grew (entry ∷ entries) =
+    grown_in number window (grown_told number window grew entry) entries
+
+-- nothing is taken from it
+lifted_more : (grew more : ℕ) → grew ≤ lifted grew more
+lifted_more zero more = omega arith
+lifted_more (suc grew) more = omega arith
+
+pub lifted_so : (grew more : ℕ) → 0 < grew → lifted grew more ≡ grew + more
+lifted_so zero more h = absurd (omega (arith, h))
+lifted_so (suc grew) more h = refl
+
+-- the count after these frames, where a channel was opened before them, or none
+abbrev counted : (opened : Bool) → (window : ℕ) → List Frame → ℕ
+counted opened window frames = cond opened (suc (window + added_by_all frames)) 0
 
 added_both : (xs ys : List Frame) → added_by_all (xs ++ ys) ≡ added_by_all xs + added_by_all ys
 added_both [] ys = omega arith
 added_both (x ∷ xs) ys = let both = added_both xs ys in omega (arith, both)
 
-frame_step : (tagged opens : Bool) (frames : List Frame) (frame : Frame) →
-    added_by_all (cond tagged (cond opens [] (frames ++ frame ∷ [])) frames)
-    ≡ cond tagged (cond opens 0 (added_by_all frames + added_by frame)) (added_by_all frames)
-frame_step true true frames frame = refl
-frame_step true false frames frame =
+frame_step : (opened tagged opens : Bool) (window : ℕ) (frames : List Frame) (frame : Frame) →
+    cond tagged (cond opens (suc window) (lifted (counted opened window frames) (added_by frame)))
+    (counted opened window frames)
+    ≡ counted (opened || (tagged && opens)) window
+    (cond tagged (cond opens [] (frames ++ frame ∷ [])) frames)
+frame_step true true true window frames frame = omega arith
+frame_step false true true window frames frame = omega arith
+frame_step true true false window frames frame =
     let both = added_both frames (frame ∷ []) in omega (arith, both)
-frame_step false opens frames frame = refl
+frame_step false true false window frames frame = refl
+frame_step true false opens window frames frame = refl
+frame_step false false opens window frames frame = refl
 
-entry_grown : (n : ℕ) (frames : List Frame) (entry : TraceEntry) →
-    added_by_all (after_entry n frames entry) ≡ grown_told n (added_by_all frames) entry
-entry_grown n frames (Sent frame) =
-    frame_step (is_tagged n frame.channel) (is_opening frame.payload) frames frame
-entry_grown n frames _ = refl
+or_none : (b : Bool) → b ≡ (b || false)
+or_none true = refl
+or_none false = refl
 
--- what the frames of a number added is what was added frame by frame
-pub since_grown : (n : ℕ) (frames : List Frame) (trace : List TraceEntry) →
-    added_by_all (since_from n frames trace) ≡ grown_in n (added_by_all frames) trace
-since_grown n frames [] = refl
-since_grown n frames (entry ∷ trace) =
-    since_grown n (after_entry n frames entry) trace
-    ∙ ap (λ g. grown_in n g trace) (entry_grown n frames entry)
+or_both : (a b c : Bool) → ((a || b) || c) ≡ (a || (b || c))
+or_both true b c = refl
+or_both false b c = refl
 
-pub sent_grown : (n grew : ℕ) (frames : List Frame) →
-    grown_in n grew (map Sent frames) ≡ grown_by n grew frames
-sent_grown n grew [] = refl
-sent_grown n grew (frame ∷ frames) = sent_grown n (grown n grew frame) frames
+-- frame by frame it is what the frames since a channel was opened come to
+pub since_grown : (n window : ℕ) (opened : Bool) (frames : List Frame)
+    (trace : List TraceEntry) → grown_in n window (counted opened window frames) trace
+    ≡ counted (opened || was_opened n trace) window (since_from n frames trace)
+since_grown n window opened frames [] = ap (λ b. counted b window frames) (or_none opened)
+since_grown n window opened frames (Sent frame ∷ trace) =
+    let later = after_frame n frames frame in
+    ap (λ g. grown_in n window g trace)
+    (frame_step opened (is_tagged n frame.channel) (is_opening frame.payload) window frames frame)
+    ∙ (since_grown n window (opened || opens_on n frame) later trace
+    ∙ ap (λ b. counted b window (since_from n later trace))
+    (or_both opened (opens_on n frame) (was_opened n trace)))
+since_grown n window opened frames (_ ∷ trace) = since_grown n window opened frames trace
 
-pub grown_in_both : (n grew : ℕ) (xs ys : List TraceEntry) →
-    grown_in n grew (xs ++ ys) ≡ grown_in n (grown_in n grew xs) ys
-grown_in_both n grew [] ys = refl
-grown_in_both n grew (x ∷ xs) ys = grown_in_both n (grown_told n grew x) xs ys
+granted_step : (opened : Bool) (window : ℕ) (frames : List Frame) →
+    counted opened window frames - 1 ≡ cond opened (window + added_by_all frames) 0
+granted_step true window frames = omega arith
+granted_step false window frames = omega arith
 
-pub grown_both : (n grew : ℕ) (xs ys : List Frame) →
-    grown_by n grew (xs ++ ys) ≡ grown_by n (grown_by n grew xs) ys
-grown_both n grew [] ys = refl
-grown_both n grew (x ∷ xs) ys = grown_both n (grown n grew x) xs ys
+-- what was granted on a number, counted frame by frame
+pub granted_grown : (settings : Settings) (n : ℕ) (told : List TraceEntry) →
+    grown_in n settings.config.window_size 0 told - 1 ≡ granted_on settings n told
+granted_grown settings n told =
+    let window = settings.config.window_size in
+    ap (λ g. g - 1) (since_grown n window false [] told)
+    ∙ granted_step (was_opened n told) window (since n told)
 
-grown_step : (tagged opens : Bool) (grew more : ℕ) → (tagged && opens) ≡ false →
-    grew ≤ cond tagged (cond opens 0 (grew + more)) grew
-grown_step true true grew more h = absurd (cc)
-grown_step true false grew more h = omega arith
-grown_step false opens grew more h = omega arith
+pub sent_grown : (n window grew : ℕ) (frames : List Frame) →
+    grown_in n window grew (map Sent frames) ≡ grown_by n window grew frames
+sent_grown n window grew [] = refl
+sent_grown n window grew (frame ∷ frames) = sent_grown n window (grown n window grew frame) frames
+
+pub grown_in_both : (n window grew : ℕ) (xs ys : List TraceEntry) →
+    grown_in n window grew (xs ++ ys) ≡ grown_in n window (grown_in n window grew xs) ys
+grown_in_both n window grew [] ys = refl
+grown_in_both n window grew (x ∷ xs) ys =
+    grown_in_both n window (grown_told n window grew x) xs ys
+
+pub grown_both : (n window grew : ℕ) (xs ys : List Frame) →
+    grown_by n window grew (xs ++ ys) ≡ grown_by n window (grown_by n window grew xs) ys
+grown_both n window grew [] ys = refl
+grown_both n window grew (x ∷ xs) ys = grown_both n window (grown n window grew x) xs ys
+
+grown_step : (tagged opens : Bool) (window grew more : ℕ) → (tagged && opens) ≡ false →
+    grew ≤ cond tagged (cond opens (suc window) (lifted grew more)) grew
+grown_step true true window grew more h = absurd (cc)
+grown_step true false window grew more h = lifted_more grew more
+grown_step false opens window grew more h = omega arith
 
 -- frames that open no channel on it take nothing from it
-grown_more : (n grew : ℕ) (frames : List Frame) → AreSilent (opens_on n) frames →
-    grew ≤ grown_by n grew frames
-grown_more n grew [] h = omega arith
-grown_more n grew (frame ∷ frames) h =
-    let first = grown_step (is_tagged n frame.channel) (is_opening frame.payload) grew
+grown_more : (n window grew : ℕ) (frames : List Frame) → AreSilent (opens_on n) frames →
+    grew ≤ grown_by n window grew frames
+grown_more n window grew [] h = omega arith
+grown_more n window grew (frame ∷ frames) h =
+    let first = grown_step (is_tagged n frame.channel) (is_opening frame.payload) window grew
     (added_by frame) h.0 in
-    let later = grown_more n (grown n grew frame) frames h.1 in
+    let later = grown_more n window (grown n window grew frame) frames h.1 in
     omega (arith, first, later)
 
 pub unopened : (n : ℕ) (frame : Frame) → is_opening frame.payload ≡ false →
@@ -111,18 +161,30 @@ unopened n frame is = untold (is_tagged n frame.channel) (is_opening frame.paylo
 
 -- ---- the room
 
--- how many bytes the peer may still send on a number
+-- how many bytes the peer may still send on a number, counted in the same way: 0 where no channel
+-- is, and else one more
 abbrev pub room_of : Option Entry → ℕ
 room_of None = 0
-room_of (Some e) = e.room
+room_of (Some e) = suc e.room
 
--- with those that were passed they are no more than were granted
+-- with those that were passed they are no more than were granted, and so are those that were passed
+abbrev pub AreGranted : (passed room grew : ℕ) → Type 0
+AreGranted passed room grew = (passed + room ≤ grew) × (passed ≤ grew - 1)
+
 abbrev pub Roomy : (number passed window grew : ℕ) → Lines → Type 0
 Roomy number passed window grew l =
-    passed + room_of (find number l.entries) ≤ window + grown_by number grew l.written
+    AreGranted passed (room_of (find number l.entries)) (grown_by number window grew l.written)
+
+-- where fewer were passed
+pub fewer_granted : (passed fewer room grew : ℕ) → fewer ≤ passed → AreGranted passed room grew →
+    AreGranted fewer room grew
+fewer_granted passed fewer room grew few h =
+    let first = h.0 in
+    let second = h.1 in
+    (omega (arith, few, first), omega (arith, few, second))
 
 pub put_here : (n : ℕ) (e f : Entry) (entries : List Entry) → n ≡ e.number →
-    find e.number entries ≡ Some f → room_of (find n (put e entries)) ≡ e.room
+    find e.number entries ≡ Some f → room_of (find n (put e entries)) ≡ suc e.room
 put_here n e f entries same at =
     ap (λ m. room_of (find m (put e entries))) same ∙ ap room_of (found_put e entries f at)
 
@@ -135,7 +197,7 @@ put_room : (b : Bool) (n : ℕ) (e f : Entry) (entries : List Entry) → (n == e
     room_of (find n (put e entries)) ≡ room_of (find n entries)
 put_room true n e f entries t at same =
     let is = one_number n e.number t in
-    put_here n e f entries is at ∙ same
+    put_here n e f entries is at ∙ ap suc same
     ∙ sym (ap (λ m. room_of (find m entries)) is ∙ ap room_of at)
 put_room false n e f entries t at same = put_there n e entries t
 
@@ -180,11 +242,13 @@ module _ (n passed window grew : ℕ)
     silent_more : (frames : List Frame) (l : Lines) (later : List Entry)
         → AreSilent (opens_on n) frames
         → room_of (find n later) ≤ room_of (find n l.entries) → Roomy n passed window grew l
-        → passed + room_of (find n later) ≤ window + grown_by n grew (l.written ++ frames)
+        → AreGranted passed (room_of (find n later)) (grown_by n window grew (l.written ++ frames))
     silent_more frames l later s d h =
-        let both = grown_both n grew l.written frames in
-        let more = grown_more n (grown_by n grew l.written) frames s in
-        omega (arith, both, more, d, h)
+        let both = grown_both n window grew l.written frames in
+        let more = grown_more n window (grown_by n window grew l.written) frames s in
+        let first = h.0 in
+        let second = h.1 in
+        (omega (arith, both, more, d, first), omega (arith, both, more, second))
 
     pub written_room : (frames : List Frame) (l : Lines) → AreSilent (opens_on n) frames
         → Roomy n passed window grew l → Roomy n passed window grew (write frames l)
@@ -199,8 +263,8 @@ module _ (n passed window grew : ℕ)
 
     gone : (m : ℕ) (frames : List Frame) (l : Lines) → AreSilent (opens_on n) frames
         → Roomy n passed window grew l
-        → passed + room_of (find n (without m l.entries))
-        ≤ window + grown_by n grew (l.written ++ frames)
+        → AreGranted passed (room_of (find n (without m l.entries)))
+        (grown_by n window grew (l.written ++ frames))
     gone m frames l s h =
         silent_more frames l (without m l.entries) s
         (without_room (n == m) n m l.entries refl) h

@@ -1,6 +1,6 @@
 -- The bytes of data that are passed to the handler on a channel never exceed what this side granted
 -- there: input by input, and by induction over a run (RFC 4254 section 5.2).
-use Rattle.std.proofs.Common.{◌≡◌, ◌≤◌, ◌+◌, ◌^◌, ℕ, List, [], ◌∷◌, ◌++◌, map, drop, Option}
+use Rattle.std.proofs.Common.{◌≡◌, ◌≤◌, ◌^◌, ℕ, List, [], ◌∷◌, ◌++◌, map, drop, Option}
 use Rattle.std.proofs.Common.{Some, Bool, true, false, Result, refl, sym, ◌∙◌, ap, subst, inl, inr}
 use Rattle.std.proofs.Common.{◌-◌, arith}
 use Rattle.std.proofs.Math.Nat.{min-le_right}
@@ -20,7 +20,6 @@ use Rattle.ssh_auth.specs.Was.{asked_of}
 use Rattle.ssh_link.specs.declared.frame.Input.{Input}
 use Rattle.ssh_auth.specs.Publickey.{Acceptance}
 use Rattle.ssh_auth.proofs.Back.{asked_so, refused_so}
-use Rattle.ssh_channels.specs.Sent.{since}
 use Rattle.ssh_session.specs.declared.error.RunError.{RunError}
 use Rattle.ssh_session.specs.Account.{Closes}
 use Rattle.ssh_session.specs.Acts.{Stops, Turns as Turning, acts}
@@ -30,7 +29,7 @@ use Rattle.ssh_session.specs.Ledger.{outgoing}
 use Rattle.ssh_session.specs.Outcome.{Outcome, Goes, Keepalive_timeout}
 use Rattle.ssh_session.specs.OwnMessages.{keepalive}
 use Rattle.ssh_session.specs.Received.{passed_asked, passed_told, passed_after, passed_from}
-use Rattle.ssh_session.specs.Received.{passed_on, added_by_all, IsReceived, Received}
+use Rattle.ssh_session.specs.Received.{passed_on, granted_on, IsReceived, Received}
 use Rattle.ssh_session.specs.Replied.{events_of}
 use Rattle.ssh_session.specs.Rows.{exchange_acts}
 use Rattle.ssh_session.specs.Run.{Turn, Turns, Run, Owes, OwesKind, command_row, entries}
@@ -46,8 +45,8 @@ use Rattle.ssh_session.proofs.Carried.{says_bare}
 use Rattle.ssh_session.proofs.Emptied.{nothing_left}
 use Rattle.ssh_session.proofs.Fitting.{Fits, acts_fit, one_fits, input_fits, told_low}
 use Rattle.ssh_session.proofs.FittingRows.{row_fits}
-use Rattle.ssh_session.proofs.Granting.{grown_by, grown_told, grown_in, grown_in_both, since_grown}
-use Rattle.ssh_session.proofs.Granting.{sent_grown}
+use Rattle.ssh_session.proofs.Granting.{grown_by, grown_told, grown_in, grown_in_both, sent_grown}
+use Rattle.ssh_session.proofs.Granting.{granted_grown}
 use Rattle.ssh_session.proofs.Guards.{Walks}
 use Rattle.ssh_session.proofs.Keeping.{Kept, beside_on, effect_on}
 use Rattle.ssh_session.proofs.Ledger.{exchanged_on}
@@ -90,7 +89,7 @@ module _ (n window top : ℕ) (past : List TraceEntry) (passed grew : ℕ)
 
     kind_fits : (accepts : Acceptance) (w : World) (moment : ℕ) (kind : InputKind)
         (plan : Plan Outcome) → OwesKind accepts w moment kind plan → passed ≤ top
-        → window + grown_by n grew w.channels.lines.written ≤ top
+        → grown_by n window grew w.channels.lines.written - 1 ≤ top
         → InRoom n window passed grew w → Kept past w → Fits n window top passed grew plan
     kind_fits accepts w moment input.End plan o low high h kept = rw o tt
     kind_fits accepts w moment (input.Payload payload) plan o low high h kept =
@@ -115,12 +114,12 @@ module _ (n window top : ℕ) (past : List TraceEntry) (passed grew : ℕ)
 
 -- what was granted before an input
 abbrev top_of : (number window grew : ℕ) → World → ℕ
-top_of number window grew w = window + grown_by number grew w.channels.lines.written
+top_of number window grew w = grown_by number window grew w.channels.lines.written - 1
 
 -- no more was passed than that
 room_low : (n window passed grew : ℕ) (w : World) → InRoom n window passed grew w →
     passed ≤ top_of n window grew w
-room_low n window passed grew w h = let room = h.2 in omega (arith, room)
+room_low n window passed grew w h = h.2.1
 
 owed_fits : (accepts : Acceptance) (n window passed grew : ℕ) (past : List TraceEntry) (w : World)
     (taken : Input) (plan : Plan Outcome) → Owes accepts w taken plan →
@@ -183,8 +182,8 @@ walks_low {E} {F} n window top passed grew (Tell entry next) (event ∷ events) 
     let less = told_low n window top passed entry in
     subst (λ y. passed_from n (passed_after {E = E} {F = F} n passed y) past ≤ top)
     (sym w.0 ∙ same)
-    (walks_low n window top (passed_told n passed entry) (grown_told n grew entry) next events past
-    more (omega (arith, low, less)) h w.1 rest)
+    (walks_low n window top (passed_told n passed entry) (grown_told n window grew entry) next
+    events past more (omega (arith, low, less)) h w.1 rest)
 
 -- an answered question is no notice
 never_told : {E F : Type 0} (question : Question) (answer : Answer question) (entry : TraceEntry) →
@@ -195,21 +194,21 @@ never_told question answer entry h = let e = asked_so question answer (Told entr
 follows_room : {E F : Type 0} (n window top passed grew : ℕ) (plan : Plan Outcome)
     (events : List (Event E F)) (w : World) → Fits n window top passed grew plan →
     Follows plan events (Goes w) →
-    InRoom n window (passed_from n passed events) (grown_in n grew (told_in events)) w
+    InRoom n window (passed_from n passed events) (grown_in n window grew (told_in events)) w
 follows_room n window top passed grew plan [] w h f = subst (Fits n window top passed grew) f h
 follows_room n window top passed grew (Finish other) (event ∷ events) w h f = absurd f
 follows_room {E} {F} n window top passed grew (Ask question next) (Called call ∷ events) w h f =
     let asked = asked_passed {F = F} n passed (Called call) question
     (asked_so question f.0 (Called call) f.1) in
-    subst (λ p. InRoom n window (passed_from n p events) (grown_in n grew (told_in events)) w)
-    (sym asked)
+    subst (λ p. InRoom n window (passed_from n p events)
+    (grown_in n window grew (told_in events)) w) (sym asked)
     (follows_room n window top (passed_asked n passed question) grew (next f.0) events w (h.1 f.0)
     f.2)
 follows_room {E} {F} n window top passed grew (Ask question next) (Stepped step ∷ events) w h f =
     let asked = asked_passed {E = E} n passed (Stepped step) question
     (asked_so question f.0 (Stepped step) f.1) in
-    subst (λ p. InRoom n window (passed_from n p events) (grown_in n grew (told_in events)) w)
-    (sym asked)
+    subst (λ p. InRoom n window (passed_from n p events)
+    (grown_in n window grew (told_in events)) w) (sym asked)
     (follows_room n window top (passed_asked n passed question) grew (next f.0) events w (h.1 f.0)
     f.2)
 follows_room {E} {F} n window top passed grew (Ask question next) (Told entry ∷ events) w h f =
@@ -221,9 +220,9 @@ follows_room n window top passed grew (Tell entry next) (Stepped step ∷ events
 follows_room {E} {F} n window top passed grew (Tell entry next) (Told told ∷ events) w h f =
     let same : entry ≡ told = let e = f.0 in cc in
     subst (λ x. InRoom n window (passed_from n (passed_told n passed x) events)
-    (grown_in n (grown_told n grew x) (told_in events)) w) same
-    (follows_room n window top (passed_told n passed entry) (grown_told n grew entry) next events w
-    h f.1)
+    (grown_in n window (grown_told n window grew x) (told_in events)) w) same
+    (follows_room n window top (passed_told n passed entry) (grown_told n window grew entry) next
+    events w h f.1)
 
 -- ---- a run
 
@@ -235,7 +234,7 @@ from_both n passed (x ∷ xs) ys = from_both n (passed_after n passed x) xs ys
 turn_room : {E F : Type 0} (accepts : Acceptance) (n window passed grew : ℕ)
     (past : List TraceEntry) (w : World) (turn : Turn E F) (mid : World) →
     Turns accepts w turn mid → InRoom n window passed grew w → Kept past w →
-    InRoom n window (passed_from n passed turn.events) (grown_in n grew (entries turn)) mid
+    InRoom n window (passed_from n passed turn.events) (grown_in n window grew (entries turn)) mid
 turn_room accepts n window passed grew past w turn mid t h kept =
     follows_room n window (top_of n window grew w) passed grew t.0 turn.events mid
     (owed_fits accepts n window passed grew past w turn.input t.0 t.1 h kept) t.2
@@ -244,24 +243,20 @@ run_room : {E F : Type 0} (accepts : Acceptance) (n window passed grew : ℕ)
     (past : List TraceEntry) (w : World) (turns : List (Turn E F)) (world : World) →
     Run accepts w turns world → InRoom n window passed grew w → Kept past w →
     InRoom n window (passed_from n passed (events_of turns))
-    (grown_in n grew (flat_map entries turns)) world
+    (grown_in n window grew (flat_map entries turns)) world
 run_room accepts n window passed grew past w [] world run h kept =
     subst (InRoom n window passed grew) (sym run) h
 run_room accepts n window passed grew past w (turn ∷ turns) world run h kept =
     let t = run.1 in
     let mid = turn_room accepts n window passed grew past w turn run.0 t h kept in
     let later = run_room accepts n window (passed_from n passed turn.events)
-    (grown_in n grew (entries turn)) (past ++ entries turn) run.0 turns world run.2 mid
+    (grown_in n window grew (entries turn)) (past ++ entries turn) run.0 turns world run.2 mid
     (owed_kept accepts past w turn t.0 run.0 t.1 t.2 kept) in
     subst (λ g. InRoom n window (passed_from n passed (events_of (turn ∷ turns))) g world)
-    (sym (grown_in_both n grew (entries turn) (flat_map entries turns)))
+    (sym (grown_in_both n window grew (entries turn) (flat_map entries turns)))
     (subst (λ p. InRoom n window p
-    (grown_in n (grown_in n grew (entries turn)) (flat_map entries turns)) world)
+    (grown_in n window (grown_in n window grew (entries turn)) (flat_map entries turns)) world)
     (sym (from_both n passed turn.events (events_of turns))) later)
-
--- what the frames since a channel was opened added
-since_added : (n : ℕ) (past : List TraceEntry) → added_by_all (since n past) ≡ grown_in n 0 past
-since_added n past = since_grown n [] past
 
 -- the input after some of these, and the world that it was taken in
 record Taken {E F : Type 0} (accepts : Acceptance) (w : World) (before : List (Turn E F))
@@ -310,20 +305,21 @@ taken_received accepts settings before turn at =
       run = at.run;
       within = λ seen more is n.
           let passed = passed_on n (events_of before) in
-          let grew = grown_in n 0 past in
+          let grew = grown_in n window 0 past in
           let room = run_room accepts n window 0 0 [] (opening_world settings) before at.world
-          at.run (refl, omega (arith, fits), omega arith) (nothing_kept settings) in
+          at.run (refl, omega (arith, fits), (omega arith, omega arith))
+          (nothing_kept settings) in
           let low = walks_low n window (top_of n window grew at.world) passed grew at.plan
           turn.events seen more (room_low n window passed grew at.world room)
           (owed_fits accepts n window passed grew past at.world turn.input at.plan at.owes room
           kept) at.walks is in
-          let added : added_by_all (since n (outgoing past at.world.channels.lines))
-          ≡ grown_by n grew at.world.channels.lines.written =
-          since_added n (outgoing past at.world.channels.lines)
-          ∙ grown_in_both n 0 past (map Sent at.world.channels.lines.written)
-          ∙ sent_grown n grew at.world.channels.lines.written in
+          let written = at.world.channels.lines.written in
+          let told = outgoing past at.world.channels.lines in
+          let granted : top_of n window grew at.world ≡ granted_on settings n told =
+          ap (λ g. g - 1) (sym (grown_in_both n window 0 past (map Sent written)
+          ∙ sent_grown n window grew written)) ∙ granted_grown settings n told in
           let both = from_both n 0 (events_of before) seen in
-          omega (arith, low, added, both);
+          omega (arith, low, granted, both);
     }
 
 -- in each input of a run, and in its last one as far as it came

@@ -1,6 +1,6 @@
 -- What was passed on a number, and the room there, are no more than was granted in a world; a
 -- command keeps that, with what is told of it (RFC 4254 section 5.2).
-use Rattle.std.proofs.Common.{◌≡◌, ◌≤◌, ◌<◌, ◌+◌, ◌^◌, ◌==◌, ℕ, List, [], ◌∷◌, ◌++◌, Bool, true}
+use Rattle.std.proofs.Common.{◌≡◌, ◌≤◌, ◌<◌, ◌^◌, ◌==◌, ℕ, suc, List, [], ◌∷◌, ◌++◌, Bool, true}
 use Rattle.std.proofs.Common.{false, cond, Option, Some, None, is_some, refl, sym, ◌∙◌, ap, subst}
 use Rattle.std.proofs.Common.{arith}
 use Rattle.std.specs.Prelude.{if◌then◌else◌}
@@ -43,7 +43,8 @@ use Rattle.ssh_session.specs.Received.{passed_done, passed_noticed, added_by}
 use Rattle.ssh_session.specs.World.{World, in_exchange, lined, writes, wants_global, settles_global}
 use Rattle.ssh_session.proofs.Acting.{EffectComes}
 use Rattle.ssh_session.proofs.Apart.{either, sent_comes}
-use Rattle.ssh_session.proofs.Granting.{Roomy, room_of, grown, grown_by, grown_both, unopened}
+use Rattle.ssh_session.proofs.Granting.{Roomy, AreGranted, fewer_granted, room_of, lifted, grown}
+use Rattle.ssh_session.proofs.Granting.{grown_by, grown_both, unopened}
 use Rattle.ssh_session.proofs.Granting.{written_room, data_room, eof_room, close_room, replies_room}
 use Rattle.ssh_session.proofs.Keeping.{Kept}
 use Rattle.ssh_session.proofs.Pending.{IsReserved}
@@ -61,7 +62,12 @@ InRoom number window passed grew w =
 pub less_room : (n window passed less grew : ℕ) (w : World) → less ≤ passed →
     InRoom n window passed grew w → InRoom n window less grew w
 less_room n window passed less grew w low h =
-    (h.0, h.1, let room = h.2 in omega (arith, low, room))
+    let lines = w.channels.lines in (
+      h.0,
+      h.1,
+      fewer_granted passed less (room_of (find n lines.entries))
+          (grown_by n window grew lines.written) low h.2,
+    )
 
 -- ---- what is told
 
@@ -110,21 +116,31 @@ of_world n window passed grew (Does notices outcome world) h =
 -- it has the room of the first window, and nothing was passed on it
 begun_room : (b : Bool) (n window passed grew : ℕ) (e : Entry) (frame : Frame) (l : Lines) →
     (n == e.number) ≡ b → find e.number l.entries ≡ None → e.room ≡ window →
-    is_tagged n frame.channel ≡ b → Roomy n passed window grew l →
-    cond b 0 passed + room_of (find n (added e l.entries))
-    ≤ window + grown_by n grew (l.written ++ frame ∷ [])
-begun_room true n window passed grew e frame l t free room tagged h =
-    let here : room_of (find n (added e l.entries)) ≡ e.room =
+    is_tagged n frame.channel ≡ b → is_opening frame.payload ≡ true →
+    Roomy n passed window grew l →
+    AreGranted (cond b 0 passed) (room_of (find n (added e l.entries)))
+    (grown_by n window grew (l.written ++ frame ∷ []))
+begun_room true n window passed grew e frame l t free room tagged opens h =
+    let here : room_of (find n (added e l.entries)) ≡ suc e.room =
     ap (λ m. room_of (find m (added e l.entries))) (one_number n e.number t)
     ∙ ap room_of (find_new e l.entries free) in
-    omega (arith, here, room)
-begun_room false n window passed grew e frame l t free room tagged h =
+    let g = grown_by n window grew l.written in
+    let both = grown_both n window grew l.written (frame ∷ []) in
+    let begun : grown n window g frame ≡ suc window =
+    ap (λ c. cond c (cond (is_opening frame.payload) (suc window)
+    (lifted g (added_by frame))) g) tagged
+    ∙ ap (λ o. cond o (suc window) (lifted g (added_by frame))) opens in
+    (omega (arith, here, both, begun, room), omega arith)
+begun_room false n window passed grew e frame l t free room tagged opens h =
     let there = ap room_of (find_beside n e l.entries t) in
-    let both = grown_both n grew l.written (frame ∷ []) in
-    let same : grown n (grown_by n grew l.written) frame ≡ grown_by n grew l.written =
-    ap (λ c. cond c (cond (is_opening frame.payload) 0
-    (grown_by n grew l.written + added_by frame)) (grown_by n grew l.written)) tagged in
-    omega (arith, there, both, same, h)
+    let g = grown_by n window grew l.written in
+    let both = grown_both n window grew l.written (frame ∷ []) in
+    let same : grown n window g frame ≡ g =
+    ap (λ c. cond c (cond (is_opening frame.payload) (suc window)
+    (lifted g (added_by frame))) g) tagged in
+    let first = h.0 in
+    let second = h.1 in
+    (omega (arith, there, both, same, first), omega (arith, both, same, second))
 
 -- an open of the peer's is accepted
 confirms_room : (n window passed grew number : ℕ) (opening : Opening) (w : World) →
@@ -142,7 +158,7 @@ confirms_room n window passed grew number opening w free h =
       h.1,
       subst (λ l. Roomy n (cond (n == number) 0 passed) window grew (write (frame ∷ []) l))
           (sym is) (begun_room (n == number) n window passed grew e frame lines refl free h.0 refl
-          h.2),
+          refl h.2),
     )
 
 -- this side's open draws a number
@@ -159,7 +175,7 @@ opened_room n window passed grew (Some number) own w is h =
       subst (λ o. Roomy n (cond (n == number) 0 passed) window grew
           (write (frame ∷ []) (asks room o lines))) (sym is)
           (begun_room (n == number) n window passed grew (asked number room) frame lines refl
-          (next_absent number lines is) h.0 refl h.2),
+          (next_absent number lines is) h.0 refl refl h.2),
     )
 
 -- ---- commands

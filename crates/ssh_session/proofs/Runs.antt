@@ -107,8 +107,8 @@ told_more a b c d turns turn h k l =
     subst (Adds a d) (sym e) (adds_both a b d (flat_map entries turns) (entries turn) h
     (adds_both b c d (Took turn.commands turn.replies turn.input ∷ []) (told_in turn.events) k l))
 
--- what is known of an input that was taken: the flags with which it was asked for, and what was told
--- then
+-- what is known of an input that was taken: the flags with which it was asked for, and what was
+-- told then
 pub record Taken {E F : Type 0} (session : Session) (before after : Told E F)
     (commands replies : Bool) (input : Input) : Type 0 where
   pub took : Adds before.trace after.trace (Took commands replies input ∷ [])
@@ -124,7 +124,8 @@ pub goes_on : {E F : Type 0} (accepts : Acceptance) (settings : Settings) (a b c
     (count : ℕ) (session session' : Session)
     (commands replies : Bool) (input : Input) → Going accepts settings a b count session
     → Taken session b c commands replies input →
-    ((w : World) → Refines session w → w.settings ≡ settings → Steps (Owes accepts w input) c d session' (Ok Continue)) →
+    ((w : World) → Refines session w → w.settings ≡ settings
+    → Steps (Owes accepts w input) c d session' (Ok Continue)) →
     Going accepts settings a d (count + 1) session'
 goes_on {E} {F} accepts settings a b c d count session session' commands replies input going taken
     step =
@@ -165,8 +166,8 @@ pub ends : {E F : Type 0} (accepts : Acceptance) (settings : Settings) (a b c d 
     (count max : ℕ) (session session' : Session)
     (commands replies : Bool) (input : Input) → Going accepts settings a b count session
     → Taken session b c commands replies input →
-    ((w : World) → Refines session w → w.settings ≡ settings → Steps (Owes accepts w input) c d session' (Ok Ended)) →
-    count < max
+    ((w : World) → Refines session w → w.settings ≡ settings
+    → Steps (Owes accepts w input) c d session' (Ok Ended)) → count < max
     → Ran accepts settings a d max (Ok tt)
 ends {E} {F} accepts settings a b c d count max session session' commands replies input going taken
     step
@@ -198,10 +199,10 @@ ends {E} {F} accepts settings a b c d count max session session' commands replie
 -- an input was not finished
 pub stopped : {E F : Type 0} (accepts : Acceptance) (settings : Settings) (a b c d : Told E F)
     (count max : ℕ) (session session' : Session)
-    (commands replies : Bool) (input : Input) (e : RunError E F) → Going accepts settings a b count session
-    → Taken session b c commands replies input →
-    ((w : World) → Refines session w → w.settings ≡ settings → Steps (Owes accepts w input) c d session' (Err e)) → count <
-    max →
+    (commands replies : Bool) (input : Input) (e : RunError E F)
+    → Going accepts settings a b count session → Taken session b c commands replies input →
+    ((w : World) → Refines session w → w.settings ≡ settings
+    → Steps (Owes accepts w input) c d session' (Err e)) → count < max →
     Ran accepts settings a d max (Err e)
 stopped {E} {F} accepts settings a b c d count max session session' commands replies input e going
     taken step room =
@@ -290,7 +291,7 @@ link_left accepts settings a b c count max session NoMemory going took uncalled 
     cause room =
     no_input accepts settings a b c count max session error.NoMemory going took uncalled unstepped
     later
-    (λ w. tt)
+    (λ w. omega (arith, room))
 
 -- as many inputs were finished as there may be
 pub limit_reached : {E F : Type 0} (accepts : Acceptance) (settings : Settings) (a b : Told E F)
@@ -310,7 +311,7 @@ not_begun E F accepts settings a max = record {
   world = opening_world settings;
   run = refl;
   last = None;
-  closes = tt;
+  closes = omega arith;
   called = adds_nil a.calls;
   stepped = adds_nil a.steps;
   told = adds_nil a.trace;

@@ -77,8 +77,8 @@ abbrev pub Concludes : {E F : Type 0} → Plan Outcome → List (Event E F) → 
 Concludes plan events rose (Ok done) = (world : World) × Follows plan events (Ends world)
 Concludes plan events rose (Err e) = IsCaused (cause_of e) plan rose events
 
--- how a run ends: with one more input that was not finished or ended it; or with none, at the limit
--- or as the link gave none
+-- how a run ends: with one more input that was not finished or ended it; or with none, at the
+-- limit, as the link gave none, or as memory was wanting
 abbrev pub Closes : {E F : Type 0} → Acceptance → World → (count max : ℕ) → Option (Turn E F)
     → (rose : Type 0) → Result (Unit {0}) (RunError E F) → Type 0
 Closes accepts w count max (Some turn) rose result = (count < max) × IsTaken w turn
@@ -86,7 +86,7 @@ Closes accepts w count max (Some turn) rose result = (count < max) × IsTaken w 
     result)
 Closes accepts w count max None rose (Err error.InputLimit) = count ≡ max
 Closes accepts w count max None rose (Err error.LinkFault) = rose × (count < max)
-Closes accepts w count max None rose (Err error.NoMemory) = Unit {0}
+Closes accepts w count max None rose (Err error.NoMemory) = count ≤ max
 Closes accepts w count max None rose _ = ⊥
 
 -- the whole run, as inputs one after another from the opening world, and one more
@@ -144,7 +144,8 @@ pub record Lawful {E F : Type 0} {accepts : Acceptance} {settings : Settings}
   -- command ended the connection in it
   pub exchanged : Exchanged account.turns
   pub last_exchanged : IfSome account.last (IsNextExchanged account.turns)
-  -- on a channel no more bytes of data are passed to the handler than this side granted there
+  -- on each number no more bytes of data are passed to the handler than this side granted there,
+  -- and none where no channel was opened
   pub received : Received accepts settings (account.turns ++ option_to_list account.last)
   -- where no fault of the link rose and the last input was valid, it ends well, or memory or the
   -- limit of inputs ends it
@@ -171,12 +172,6 @@ abbrev pub StepsBy : {E F H K L : Type 0} → (IsOwed : Plan Outcome → Type 0)
     → Result Flow (RunError E F) → Type 0
 StepsBy IsOwed told handler kex link handler_after kex_after link_after session result =
     Steps IsOwed (told handler kex link) (told handler_after kex_after link_after) session result
-
--- the three tell nothing more
-abbrev pub TellsNothing : {E F H K L : Type 0} → (told : H → K → L → Told E F) → (handler : H)
-    → (kex : K) → (link : L) → (handler_after : H) → (kex_after : K) → (link_after : L) → Type 0
-TellsNothing told handler kex link handler_after kex_after link_after =
-    told handler_after kex_after link_after ≡ told handler kex link
 
 -- a run of at most so many inputs kept its laws, with these three before it and after it
 abbrev pub KeepsLaws : {E F H K L : Type 0} → (told : H → K → L → Told E F) → (max : ℕ)

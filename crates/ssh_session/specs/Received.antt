@@ -1,12 +1,12 @@
 -- The bytes of data that are passed to the handler on a channel never exceed what this side granted
 -- there (RFC 4254 section 5.2).
-use Rattle.std.specs.Prelude.{◌≡◌, ◌≤◌, ◌+◌, ◌==◌, ℕ, List, [], ◌∷◌, ◌++◌, length, flat_map}
-use Rattle.std.specs.Prelude.{take, drop, if◌then◌else◌}
+use Rattle.std.specs.Prelude.{◌≡◌, ◌≤◌, ◌+◌, ◌==◌, ◌&&◌, ◌||◌, ℕ, Bool, false, cond, List, []}
+use Rattle.std.specs.Prelude.{◌∷◌, ◌++◌, length, flat_map, take, drop, if◌then◌else◌}
 use Rattle.std.specs.Int.{w32, from_be_bytes}
 use Rattle.ssh_wire.specs.Messages.{channel_window_adjust}
 use Rattle.ssh_link.specs.Frames.{Frame}
 use Rattle.ssh_link.specs.declared.link.TraceEntry.{TraceEntry}
-use Rattle.ssh_link.specs.declared.link.TraceEntry.TheVariants.{Noticed, Answered}
+use Rattle.ssh_link.specs.declared.link.TraceEntry.TheVariants.{Noticed, Sent, Answered}
 use Rattle.ssh_link.specs.declared.notice.Notice.{Notice}
 use Rattle.ssh_link.specs.declared.notice.Notice.TheVariants.{Ready}
 use Rattle.ssh_link.specs.declared.outcome.CommandOutcome.{CommandOutcome}
@@ -20,7 +20,7 @@ use Rattle.ssh_auth.specs.declared.question.Question.TheVariants.{Lends, Done}
 use Rattle.ssh_auth.specs.Plan.{Event, Called, Told}
 use Rattle.ssh_auth.specs.Publickey.{Acceptance}
 use Rattle.ssh_auth.specs.Was.{asked_of}
-use Rattle.ssh_channels.specs.Sent.{message_of, since}
+use Rattle.ssh_channels.specs.Sent.{is_tagged, is_opening, message_of, since}
 use Rattle.ssh_session.specs.Ledger.{outgoing}
 use Rattle.ssh_session.specs.Replied.{events_of}
 use Rattle.ssh_session.specs.Run.{Turn, Run, entries}
@@ -71,7 +71,7 @@ passed_from number passed [] = passed
 passed_from number passed (event ∷ events) =
     passed_from number (passed_after number passed event) events
 
--- the bytes of data that were passed on this number since a channel began there
+-- the bytes of data that were passed on this number since the last channel began there
 abbrev pub passed_on : {E F : Type 0} → (number : ℕ) → List (Event E F) → ℕ
 passed_on number events = passed_from number 0 events
 
@@ -87,23 +87,32 @@ abbrev pub added_by_all : List Frame → ℕ
 added_by_all [] = 0
 added_by_all (frame ∷ frames) = added_by frame + added_by_all frames
 
--- the window that this side named as the channel was opened, and what these frames added to it
-abbrev pub granted_by : Settings → List Frame → ℕ
-granted_by settings frames = settings.config.window_size + added_by_all frames
+-- in this part of a trace a channel was opened on this side's number: this side asked for it, or
+-- agreed to an open of the peer's (RFC 4254 section 5.1)
+abbrev pub was_opened : (number : ℕ) → List TraceEntry → Bool
+was_opened number [] = false
+was_opened number (Sent frame ∷ entries) =
+    (is_tagged number frame.channel && is_opening frame.payload) || was_opened number entries
+was_opened number (_ ∷ entries) = was_opened number entries
+
+-- what this side granted on its number by these: where no channel was opened there, nothing; else
+-- the window that it named as it opened the last one, and what its frames since then added
+abbrev pub granted_on : Settings → (number : ℕ) → List TraceEntry → ℕ
+granted_on settings number told = cond (was_opened number told)
+    (settings.config.window_size + added_by_all (since number told)) 0
 
 -- ---- the law
 
 -- after each event of an input no more was passed on any number than this side had granted there
--- before the input, by the frames since the channel was opened: those that were handed on, and
--- those that wait for the end of an exchange of keys
+-- before the input, by the frames that were handed on and those that wait for the end of an
+-- exchange of keys: on a number on which no channel ever was, nothing
 pub record IsReceived {E F : Type 0} (accepts : Acceptance) (settings : Settings)
     (before : List (Turn E F)) (turn : Turn E F) : Type 0 where
   pub world : World
   pub run : Run accepts (opening_world settings) before world
   pub within : (past more : List (Event E F)) → turn.events ≡ past ++ more → (number : ℕ)
       → passed_on number (events_of before ++ past)
-      ≤ granted_by settings
-      (since number (outgoing (flat_map entries before) world.channels.lines))
+      ≤ granted_on settings number (outgoing (flat_map entries before) world.channels.lines)
 
 abbrev pub Received : {E F : Type 0} → Acceptance → Settings → List (Turn E F) → Type 0
 Received {E} {F} accepts settings turns = (before after : List (Turn E F)) → (turn : Turn E F)

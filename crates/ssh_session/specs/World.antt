@@ -69,8 +69,8 @@ pub record World : Type 0 where
   pub globals : Globals
   -- how many keepalive ticks came since the peer was heard last
   pub keepalives : ℕ
-  -- a command ended the connection: a DISCONNECT was written, behind which nothing goes out (RFC
-  -- 4253 section 11.1)
+  -- a command ended the connection by a DISCONNECT, behind which nothing goes out (RFC 4253 section
+  -- 11.1)
   pub disconnected : Bool
   -- the exchange of keys, and how much passed under the keys in use (RFC 4253 sections 7 and 9)
   pub keys : Keys
@@ -180,7 +180,7 @@ keyed keys w = record w { keys = keys }
 abbrev pub in_exchange : World → Bool
 in_exchange w = is_running w.keys.exchange
 
--- what is written is held: an exchange runs, and no DISCONNECT was written (RFC 4253 sections 7.1
--- and 11.1)
+-- what is written is held: an exchange runs, and no command ended the connection (RFC 4253 sections
+-- 7.1 and 11.1)
 abbrev pub is_held : World → Bool
 is_held w = in_exchange w && not w.disconnected

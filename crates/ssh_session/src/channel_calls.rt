@@ -20,7 +20,8 @@ fn is_accepted(outcome: &CommandOutcome) -> bool
 /// go by this side's numbers. `NoMemory` is the only error, and leaves the session as it was. The
 /// session must not be spent.
 impl Session {
-    /// Sends these bytes on the channel (RFC 4254 section 5.2).
+    /// Sends these bytes on the channel (RFC 4254 section 5.2). Answers whether it was accepted;
+    /// `apply` says why it was not.
     pub fn data(&mut self, channel: ChannelId, bytes: Bytes) -> Result<bool, WireError>
         requires live { is_spent self.old ≡ false }
         ensures applied { AppliesData (command.Data channel bytes) self.old self.new result }
@@ -29,7 +30,7 @@ impl Session {
     }
 
     /// Sends these bytes on the channel as data of another type; `ext` 1 is standard error (RFC
-    /// 4254 section 5.2).
+    /// 4254 section 5.2). Answers whether it was accepted; `apply` says why it was not.
     pub fn extended_data(
         &mut self,
         channel: ChannelId,

@@ -21,7 +21,8 @@ pub enum Flow {
     Ended,
 }
 
-/// Why a session stopped. `HE` is the handler's error, `KE` that of the exchange of keys.
+/// Why a session stopped. No DISCONNECT is sent for it: whoever owns the transport may say why.
+/// `HE` is the handler's error, `KE` that of the exchange of keys.
 #[derive(Debug, Drop)]
 pub enum RunError<HE, KE> {
     /// There was no memory.

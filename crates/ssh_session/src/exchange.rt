@@ -243,7 +243,7 @@ impl Session {
         self.keys.exchange.is_running()
     }
 
-    /// Whether what is written is held: an exchange runs, and no DISCONNECT was written.
+    /// Whether what is written is held: an exchange runs, and no command ended the connection.
     pub(crate) fn is_held(&self) -> bool
         ensures { (w : World) → Refines self.now w → result ≡ is_held w }
     {

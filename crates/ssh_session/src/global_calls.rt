@@ -51,7 +51,8 @@ impl Session {
         })
     }
 
-    /// Asks the peer for a sign of life, whose answer is told to nobody.
+    /// Asks the peer for a sign of life, whose answer is told to nobody (RFC 4254 section 4,
+    /// `keepalive@openssh.com`).
     pub fn keepalive_request(&mut self) -> Result<CommandOutcome, WireError>
         requires live { is_spent self.old ≡ false }
         ensures applied { Applies command.Keepalive self.old self.new result }
@@ -59,7 +60,8 @@ impl Session {
         self.apply(Command::Keepalive)
     }
 
-    /// Asks the peer for a sign of life, whose answer is told under the slot.
+    /// Asks the peer for a sign of life, whose answer is told under the slot (RFC 4254 section 4,
+    /// `keepalive@openssh.com`).
     pub fn send_ping(&mut self, slot: u64) -> Result<CommandOutcome, WireError>
         requires live { is_spent self.old ≡ false }
         ensures applied { Applies (command.Ping slot) self.old self.new result }

@@ -12,10 +12,11 @@ ghost use Rattle.ssh_session.specs.declared.error.RunError.{RunError};
 
 use ssh_keys::Verifier;
 
-/// An input owes one plan in a world: of two plans that it owes, one is the other, but that it may
-/// want memory at places where the other goes on; and whatever comes of it otherwise, an error of
-/// the handler or of the exchange of keys too, comes of the other by the same events. So the calls,
-/// the notices and the frames of an input are those of its row, and no others.
+/// A law, without code. An input owes one plan in a world: of two plans that it owes, one is the
+/// other, but that it may want memory at places where the other goes on; and whatever comes of it
+/// otherwise, an error of the handler or of the exchange of keys too, comes of the other by the
+/// same events. So the calls, the notices and the frames of an input are those of its row, and no
+/// others.
 pub fn one_plan<V: Verifier, E, F>(verifier: &V)
     ensures one { (w : World) → (input : Input) → (plan other : Plan Outcome) →
         Owes (V.accepts verifier.now) w input plan → Owes (V.accepts verifier.now) w input other →
@@ -28,11 +29,12 @@ pub fn one_plan<V: Verifier, E, F>(verifier: &V)
         Breaks other events error }
 {}
 
-/// A run is one: its inputs, and the answers of the handler and of the exchange of keys, determine
-/// its calls, notices, answers and frames, and what it answers. So it is for inputs that were
-/// finished (`finished`) and for accounts of whole runs, unless want of memory or a fault of the
-/// link cut one of them off: where they took the same inputs, whatever their limits (`whole`), and
-/// under one limit where the link too gives the same as long as the same happened (`outside`).
+/// A law, without code. A run is one: its inputs, and the answers of the handler and of the
+/// exchange of keys, determine its calls, notices, answers and frames, and what it answers. So it
+/// is for inputs that were finished (`finished`) and for accounts of whole runs, unless want of
+/// memory or a fault of the link cut one of them off: where they took the same inputs, whatever
+/// their limits (`whole`), and under one limit where the link too gives the same as long as the
+/// same happened (`outside`).
 pub fn one_run<V: Verifier, E, F>(verifier: &V)
     ensures finished { (w world other : World) → (turns others : List (Turn E F)) →
         Run (V.accepts verifier.now) w turns world → Run (V.accepts verifier.now) w others other →

@@ -9,8 +9,9 @@ use ssh_link::{Command, CommandOutcome, OpenAnswer};
 use ssh_wire::{Text, WireError};
 
 /// Opens of this side, and answers to those of the peer, as commands between two inputs: each is
-/// `apply` of its command. Channels go by this side's numbers. `NoMemory` is the only error, and
-/// leaves the session as it was. The session must not be spent.
+/// `apply` of its command. Channels go by this side's numbers, and that of an open comes as
+/// `CommandOutcome::Opened`. `NoMemory` is the only error, and leaves the session as it was. The
+/// session must not be spent.
 impl Session {
     /// Opens a session (RFC 4254 section 6.1).
     pub fn channel_open_session(&mut self) -> Result<CommandOutcome, WireError>

@@ -32,7 +32,8 @@ fn within(payload: Vec<u8>) -> Result<Vec<u8>, WireError>
     Ok(payload)
 }
 
-/// The request for a sign of life, which wants a reply (OpenSSH).
+/// The request for a sign of life, which wants a reply (RFC 4254 section 4,
+/// `keepalive@openssh.com`).
 pub(crate) fn keepalive_payload(alloc: Global) -> Result<Vec<u8>, WireError>
     ensures ok { IfOk result (λ p. p.items ≡ own.keepalive.payload) }
     ensures memory { IfErr result (λ e. e ≡ NoMemory) }

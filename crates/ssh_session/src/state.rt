@@ -8,16 +8,17 @@ use ssh_wire::Text;
 pub enum EncryptedState {
     /// The request of the service `ssh-userauth` (RFC 4253 section 10).
     WaitingAuthServiceRequest {
-        /// A request of the service was sent; a server sends none.
+        /// A request of the service was sent: always false here, as a server sends none.
         sent: bool,
-        /// It was accepted; a server waits for requests from then on.
+        /// It was accepted: always false here, as a server then waits for requests.
         accepted: bool,
     },
     /// A request of authentication (RFC 4252 section 5), with what those so far left.
     WaitingAuthRequest(AuthRequest),
-    /// Messages of the connection: a request was accepted, and nothing came since.
+    /// A user was let in, and messages of the connection are served. A session stays here:
+    /// compression is the transport's.
     InitCompression,
-    /// Messages of the connection.
+    /// The same. No session comes here; it stands for those who know the crate.
     Authenticated,
 }
 
@@ -32,6 +33,7 @@ pub struct CommonSession<C> {
     pub config: C,
     /// Whether the last global request wants a reply (RFC 4254 section 4).
     pub wants_reply: bool,
-    /// Whether a DISCONNECT was written, after which nothing goes out (RFC 4253 section 11.1).
+    /// Whether a command ended the connection by a DISCONNECT, behind which nothing goes out (RFC
+    /// 4253 section 11.1).
     pub disconnected: bool,
 }

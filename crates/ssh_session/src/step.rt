@@ -9,7 +9,7 @@ ghost use Rattle.ssh_session.specs.Rows.{row};
 ghost use Rattle.ssh_session.specs.Run.{OwesKind, OwesPayload, Owes, asks_for_keys};
 ghost use Rattle.ssh_session.specs.Heard.{AreSame};
 ghost use Rattle.ssh_session.specs.Between.{StepsBehind, TakesBehind, OwesUnlessEnded, untold};
-ghost use Rattle.ssh_session.specs.Account.{told_by, Steps, StepsBy, TellsNothing};
+ghost use Rattle.ssh_session.specs.Account.{told_by, Steps, StepsBy};
 ghost use Rattle.ssh_session.specs.Serve.{Refines, Completes, is_spent, IsSuited, IsSameSession};
 
 use crate::exchange::Passage;
@@ -38,8 +38,8 @@ impl Session {
     /// of a direction are at their limit, or the input is a tick for new keys, it then begins an
     /// exchange (RFC 4253 section 9). Where such a command ended the connection, the input is not
     /// looked at: what was written is handed on, and the run is over. After an error or `Ended` the
-    /// session is spent, and each later call answers `Inconsistent`, calls nothing and hands
-    /// nothing on. The handler has to suit the config and the peer of the session
+    /// session is spent, and each later call answers `Inconsistent` and leaves handler, exchange
+    /// and link as they are. The handler has to suit the config and the peer of the session
     /// (`Handler::suits`).
     pub fn step<H: Handler, V: Verifier, K: Kex, L: Link>(
         &mut self,
@@ -60,9 +60,8 @@ impl Session {
             is_spent self.new ≡ true }
         ensures refused { is_spent self.old ≡ true → result ≡ Err RunError.Inconsistent }
         ensures unchanged { is_spent self.old ≡ true → self.new ≡ self.old }
-        ensures silent { is_spent self.old ≡ true →
-            TellsNothing (told_by H.AuthHandler.told K.steps L.trace L.faults) handler.old kex.old
-            link.old handler.new kex.new link.new }
+        ensures silent { is_spent self.old ≡ true → (handler.new ≡ handler.old)
+            × (kex.new ≡ kex.old) × (link.new ≡ link.old) }
     {
         if self.spent {
             return Err(RunError::Inconsistent);
