@@ -300,8 +300,8 @@ served_none {E} {F} accepts settings payloads rest all a c d session result goin
     later called stepped told =
     let none : Option (Turn E F) = None in
     let end : Result (Unit {0}) (RunError E F) = Err error.NoMemory in
-    served accepts settings all a d result going.turns going.world none (map Payload rest) 0 ⊥ end
-    going.run tt
+    served accepts settings all a d result going.turns going.world none (map Payload rest)
+    (length going.turns) ⊥ end going.run (omega arith)
     (subst (λ l. map kind_of l ++ map Payload rest ≡ map Payload all)
     (sym (append-nil going.turns)) (given_left going.turns payloads rest all going.given is))
     (λ goes. ap (map Payload) (whole goes)) ends
@@ -447,5 +447,5 @@ not_begun E F accepts settings payloads a =
     let none : Option (Turn E F) = None in
     let end : Result (Unit {0}) (RunError E F) = Err error.NoMemory in
     served accepts settings payloads a a (Err error.NoMemory) [] (opening_world settings) none
-    (map Payload payloads) 0 ⊥ end refl tt refl (λ h. absurd (cc)) tt (omega arith)
+    (map Payload payloads) 0 ⊥ end refl (omega arith) refl (λ h. absurd (cc)) tt (omega arith)
     (told_none false a.calls) (adds_nil a.steps) (adds_nil a.trace)
