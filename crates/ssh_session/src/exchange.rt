@@ -64,14 +64,14 @@ pub(crate) enum Passage {
     Passes,
 }
 
-/// Whether it is a message of an exchange (RFC 4250 section 4.1.2).
+/// Whether it is a message of an exchange (RFC 4250 section 4.1.1).
 fn is_exchanged(number: u8) -> bool
     ensures { result ≡ is_exchanged number }
 {
     20 <= number && number < 50
 }
 
-/// Whether it is a message of authentication or of the connection (RFC 4250 section 4.1.2).
+/// Whether it is a message of authentication or of the connection (RFC 4250 section 4.1.1).
 fn is_serving(number: u8) -> bool
     ensures { result ≡ is_serving number }
 {
