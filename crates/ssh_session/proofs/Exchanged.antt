@@ -1,9 +1,10 @@
--- In an exchange of keys only its own frames are handed on, by induction over a run (RFC 4253
--- section 7.1).
-use Rattle.std.proofs.Common.{◌≡◌, ℕ, List, [], ◌∷◌, ◌++◌, Option, Some, None, Result, Bool}
-use Rattle.std.proofs.Common.{false, not, refl, sym, ◌∙◌, ap, subst, inl, inr}
+-- In an exchange of keys only its own frames are handed on, each once and in order, by induction
+-- over a run (RFC 4253 section 7.1).
+use Rattle.std.proofs.Common.{◌≡◌, ◌&&◌, ℕ, List, [], ◌∷◌, ◌++◌, Option, Some, None, Result, Bool}
+use Rattle.std.proofs.Common.{true, false, not, refl, sym, ◌∙◌, ap, subst, inl, inr}
 use Rattle.std.specs.List.{list_any}
 use Rattle.std.specs.Prelude.{option_to_list, IfSome}
+use Rattle.ssh_link.specs.Frames.{Frame}
 use Rattle.ssh_link.specs.declared.command.Command.{Command}
 use Rattle.ssh_link.specs.declared.command.Command.TheVariants as command
 use Rattle.ssh_link.specs.declared.frame.InputKind.{InputKind}
@@ -14,10 +15,11 @@ use Rattle.ssh_auth.specs.Publickey.{Acceptance}
 use Rattle.ssh_auth.proofs.Back.{refused_so}
 use Rattle.ssh_session.specs.declared.error.RunError.{RunError}
 use Rattle.ssh_session.specs.Account.{Closes}
+use Rattle.ssh_session.specs.Acts.{frames_given}
 use Rattle.ssh_session.specs.Effect.{effect}
-use Rattle.ssh_session.specs.Exchanged.{runs_after, runs_through, runs_once}
-use Rattle.ssh_session.specs.Exchanged.{kind_disconnects, is_disconnected_in, Exchanged}
-use Rattle.ssh_session.specs.Exchanged.{IsNextExchanged}
+use Rattle.ssh_session.specs.Exchanged.{runs_after, runs_through, runs_once, unsent_after}
+use Rattle.ssh_session.specs.Exchanged.{unsent_through, unsent_once, IsInTurn, kind_disconnects}
+use Rattle.ssh_session.specs.Exchanged.{is_disconnected_in, Exchanged, IsNextExchanged}
 use Rattle.ssh_session.specs.Outcome.{Outcome, Goes, Ends, Fails}
 use Rattle.ssh_session.specs.Reading.{Said, Disconnect, Over_cap}
 use Rattle.ssh_session.specs.Replied.{events_of}
@@ -30,9 +32,9 @@ use Rattle.ssh_session.specs.Valid.{call_disconnects}
 use Rattle.ssh_session.specs.World.{Settings, World, hears, in_exchange, opening_world}
 use Rattle.ssh_session.proofs.Accepting.{AllWalk, last_walks}
 use Rattle.ssh_session.proofs.Acting.{PlanComes, Law, acts_come, one_comes, exchange_comes}
-use Rattle.ssh_session.proofs.Alone.{AllAlone, Keeps, alone_both, through_both, alone_at}
-use Rattle.ssh_session.proofs.Alone.{asked_alone, asked_sends, told_alone, walks_alone}
-use Rattle.ssh_session.proofs.Alone.{goes_alone, over_alone, input_keeps}
+use Rattle.ssh_session.proofs.Alone.{AllAlone, Keeps, alone_both, through_both, unsent_both}
+use Rattle.ssh_session.proofs.Alone.{alone_at, any_turn, asked_alone, asked_turn, told_alone}
+use Rattle.ssh_session.proofs.Alone.{walks_alone, goes_alone, over_alone, input_free, input_keeps}
 use Rattle.ssh_session.proofs.Apart.{tick_comes}
 use Rattle.ssh_session.proofs.Beside.{row_beside}
 use Rattle.ssh_session.proofs.Emptied.{nothing_left}
@@ -41,31 +43,35 @@ use Rattle.ssh_session.proofs.Ended.{effect_live, mild_answer, mild_step, run_li
 use Rattle.ssh_session.proofs.Guards.{Walks}
 use Rattle.ssh_session.proofs.Passing.{payload_so}
 use Rattle.ssh_session.proofs.Running.{Runs, runs_then, kind_runs}
-use Rattle.ssh_session.proofs.Telling.{SendsNone, kind_silent}
+use Rattle.ssh_session.proofs.Telling.{Sends, given_at, unsent_told, kind_given}
 use Rattle.ssh_session.proofs.Untouched.{IsRunning}
 
 -- ---- the finished inputs
 
 turn_keeps : {E F : Type 0} (accepts : Acceptance) (running : Bool) (w : World)
     (turn : Turn E F) (mid : World) → Turns accepts w turn mid → IsRunning running w →
-    Keeps running turn.events mid
+    Keeps running [] turn.events mid
 turn_keeps {E} {F} accepts running w turn mid t r =
     let first = t.1.0 in
-    input_keeps running (asks_for_keys turn.input.kind) first turn.events mid
+    input_keeps running [] (asks_for_keys turn.input.kind) first turn.events mid
     (kind_runs running accepts w turn.input.moment turn.input.kind first t.1.1 r)
-    (kind_silent accepts w turn.input.moment turn.input.kind first t.1.1)
+    (kind_given accepts w turn.input.moment turn.input.kind first t.1.1)
     (subst (λ p. Follows {E = E} {F = F} p turn.events (Goes mid)) t.1.2 t.2)
 
 pub run_keeps : {E F : Type 0} (accepts : Acceptance) (running : Bool) (w : World)
     (turns : List (Turn E F)) (world : World) → Run accepts w turns world →
-    IsRunning running w → Keeps running (events_of turns) world
+    IsRunning running w → Keeps running [] (events_of turns) world
 run_keeps accepts running w [] world run r =
-    record { alone = tt; runs = ap in_exchange run ∙ r }
+    record { alone = tt; sent = refl; runs = ap in_exchange run ∙ r }
 run_keeps accepts running w (turn ∷ turns) world run r =
     let k = turn_keeps accepts running w turn run.0 run.1 r in
-    let l = run_keeps accepts (runs_through running turn.events) run.0 turns world run.2 k.runs in
+    let mid = runs_through running turn.events in
+    let l = run_keeps accepts mid run.0 turns world run.2 k.runs in
     record {
-      alone = alone_both running turn.events (events_of turns) k.alone l.alone;
+      alone = alone_both true running [] turn.events (events_of turns) k.alone
+          (subst (λ unsent. AllAlone true mid unsent (events_of turns)) (sym k.sent) l.alone);
+      sent = unsent_both [] turn.events (events_of turns)
+          ∙ (ap (λ unsent. unsent_through unsent (events_of turns)) k.sent ∙ l.sent);
       runs = l.runs ∙ sym (through_both running turn.events (events_of turns));
     }
 
@@ -88,15 +94,34 @@ run_known accepts running w (t ∷ turns) world run r (p ∷ before) later turn 
     (run_known accepts (runs_through running t.events) run.0 turns world run.2 k.runs before later
     turn rest ∙ ap not (sym (through_both running t.events (events_of before))))
 
+-- and behind each of them all frames of the exchange were handed on
+run_sent : {E F : Type 0} (accepts : Acceptance) (running : Bool) (w : World)
+    (turns : List (Turn E F)) (world : World) → Run accepts w turns world →
+    IsRunning running w → (before later : List (Turn E F)) → turns ≡ before ++ later →
+    unsent_once (events_of before) ≡ []
+run_sent accepts running w turns world run r [] later is = refl
+run_sent accepts running w [] world run r (p ∷ before) later is = absurd (cc)
+run_sent accepts running w (t ∷ turns) world run r (p ∷ before) later is =
+    let same : t ≡ p = cc in
+    let rest : turns ≡ before ++ later = cc in
+    let k = turn_keeps accepts running w t run.0 run.1 r in
+    subst (λ u. unsent_once (events_of (u ∷ before)) ≡ []) same
+    (unsent_both [] t.events (events_of before)
+    ∙ (ap (λ unsent. unsent_through unsent (events_of before)) k.sent
+    ∙ run_sent accepts (runs_through running t.events) run.0 turns world run.2 k.runs before later
+    rest))
+
 pub exchanged : {E F : Type 0} (accepts : Acceptance) (settings : Settings)
     (turns : List (Turn E F)) (world : World) → Run accepts (opening_world settings) turns world →
     Exchanged turns
 exchanged accepts settings turns world run = record {
   known = λ before later turn is. run_known accepts false (opening_world settings) turns world run
       refl before later turn is;
-  alone = λ past more event is runs.
+  alone = λ past more event is.
       let k = run_keeps accepts false (opening_world settings) turns world run refl in
-      alone_at false past event more (subst (AllAlone false) is k.alone) runs;
+      alone_at true false [] past event more (subst (AllAlone true false []) is k.alone);
+  all_sent = λ before later is. run_sent accepts false (opening_world settings) turns world run
+      refl before later is;
 }
 
 -- ---- the last input
@@ -153,71 +178,94 @@ kind_live accepts w moment input.RekeyTick plan o mild h = rw o h
 
 finished_alone : {E F : Type 0} (running asks : Bool) (outcome : Outcome)
     (events : List (Event E F)) → Runs running (Finish outcome) → ComesLive outcome →
-    Walks (finish_input asks outcome) events → AllAlone running events
+    Walks (finish_input asks outcome) events → AllAlone true running [] events
 finished_alone running asks (Goes w) events r live walks =
-    subst (λ b. AllAlone b events) r
-    (walks_alone (in_exchange w) (finish_input asks (Goes w)) events (goes_alone asks w live)
-    walks)
+    subst (λ b. AllAlone true b [] events) r
+    (walks_alone true (in_exchange w) [] (finish_input asks (Goes w)) events
+    (goes_alone asks w live) walks)
 finished_alone running asks (Ends w) events r live walks =
-    subst (λ b. AllAlone b events) r
-    (walks_alone (in_exchange w) (finish_input asks (Ends w)) events (over_alone asks w live)
-    walks)
+    subst (λ b. AllAlone true b [] events) r
+    (walks_alone true (in_exchange w) [] (finish_input asks (Ends w)) events
+    (over_alone asks w live) walks)
 finished_alone running asks (Fails why) events r live walks =
-    walks_alone running (finish_input asks (Fails why)) events tt walks
+    walks_alone true running [] (finish_input asks (Fails why)) events refl walks
 
--- as far as it came, no frame but the exchange's was sent while it ran
-input_alone : {E F : Type 0} (running asks : Bool) (plan : Plan Outcome)
-    (events : List (Event E F)) → Runs running plan → SendsNone plan →
+-- as far as it came, the exchange's frames were sent in their turn, and no others while it ran
+input_alone : {E F : Type 0} (running asks : Bool) (unsent : List Frame) (plan : Plan Outcome)
+    (events : List (Event E F)) → Runs running plan → Sends unsent plan →
     PlanComes IsMildAnswer ComesLive plan → AreMild (calls_in events) →
-    Walks (after plan (finish_input asks)) events → AllAlone running events
-input_alone running asks (Finish outcome) events r s live mild walks =
-    finished_alone running asks outcome events r live walks
-input_alone running asks (Ask question next) [] r s live mild walks = tt
-input_alone {E} {F} running asks (Ask question next) (event ∷ events) r s live mild (inl walks) =
+    Walks (after plan (finish_input asks)) events → AllAlone true running unsent events
+input_alone running asks unsent (Finish outcome) events r s live mild walks =
+    subst (λ l. AllAlone true running l events) (sym s)
+    (finished_alone running asks outcome events r live walks)
+input_alone running asks unsent (Ask question next) [] r s live mild walks = tt
+input_alone {E} {F} running asks unsent (Ask question next) (event ∷ events) r s live mild
+    (inl walks) =
     let both = mild_answer question walks.0 events
     (subst (λ e. AreMild {E = E} (calls_in (e ∷ events))) walks.1 mild) in
-    asked_alone question walks.0 event events running walks.1
-    (input_alone (runs_then question walks.0 running) asks (next walks.0) events (r walks.0)
-    (s walks.0) (live walks.0 both.0) both.1 walks.2)
-input_alone running asks (Ask question next) (event ∷ events) r s live mild (inr walks) = (
-  λ runs. asked_sends question event (refused_so question walks.0 event walks.1),
-  subst (AllAlone (runs_after running event)) (sym walks.2) tt,
+    asked_alone question walks.0 event events true running unsent walks.1 s.0
+    (input_alone (runs_then question walks.0 running) asks
+    (frames_given (given_at question walks.0)) (next walks.0) events (r walks.0) (s.1 walks.0)
+    (live walks.0 both.0) both.1 walks.2)
+input_alone running asks unsent (Ask question next) (event ∷ events) r s live mild (inr walks) = (
+  asked_turn running unsent question event (refused_so question walks.0 event walks.1) s.0,
+  subst (AllAlone true (runs_after running event) (unsent_after unsent event)) (sym walks.2) tt,
 )
-input_alone running asks (Tell entry next) [] r s live mild walks = tt
-input_alone {E} {F} running asks (Tell entry next) (event ∷ events) r s live mild walks =
-    told_alone entry event events running walks.0 (λ runs. s.0)
-    (input_alone running asks next events r s.1 live
+input_alone running asks unsent (Tell entry next) [] r s live mild walks = tt
+input_alone {E} {F} running asks unsent (Tell entry next) (event ∷ events) r s live mild walks =
+    told_alone entry event events true running unsent walks.0 (any_turn running unsent entry s.0)
+    (input_alone running asks (unsent_told unsent entry) next events r s.1 live
     (subst (λ e. AreMild {E = E} (calls_in (e ∷ events))) walks.0 mild) walks.1)
 
+-- where a command ended the connection in it, other frames are handed on too
 last_alone : {E F : Type 0} (accepts : Acceptance) (running : Bool) (w : World)
-    (turn : Turn E F) (plan : Plan Outcome) → Owes accepts w turn.input plan →
-    IsRunning running w → IsLive w → is_disconnected_in turn ≡ false →
-    Walks plan turn.events → AllAlone running turn.events
-last_alone {E} {F} accepts running w turn plan o r live mild walks =
+    (turn : Turn E F) (plan : Plan Outcome) (ended : Bool) → Owes accepts w turn.input plan →
+    IsRunning running w → IsLive w → is_disconnected_in turn ≡ ended → Walks plan turn.events →
+    AllAlone (not ended) running [] turn.events
+last_alone {E} {F} accepts running w turn plan true o r live wild walks =
+    let kind = turn.input.kind in
+    walks_alone false running [] (after o.0 (finish_input (asks_for_keys kind))) turn.events
+    (input_free running (asks_for_keys kind) [] o.0
+    (kind_given accepts w turn.input.moment kind o.0 o.1))
+    (subst (λ p. Walks {E = E} {F = F} p turn.events) o.2 walks)
+last_alone {E} {F} accepts running w turn plan false o r live mild walks =
     let kind = turn.input.kind in
     let both = mild_step (kind_disconnects kind)
     (list_any (call_disconnects {E = E}) (calls_of turn)) mild in
-    input_alone running (asks_for_keys kind) o.0 turn.events
+    input_alone running (asks_for_keys kind) [] o.0 turn.events
     (kind_runs running accepts w turn.input.moment kind o.0 o.1 r)
-    (kind_silent accepts w turn.input.moment kind o.0 o.1)
+    (kind_given accepts w turn.input.moment kind o.0 o.1)
     (kind_live accepts w turn.input.moment kind o.0 o.1 both.0 live) both.1
     (subst (λ p. Walks {E = E} {F = F} p turn.events) o.2 walks)
 
+-- behind what happened before it
+behind : {E F : Type 0} (holds : Bool) (before past : List (Event E F)) (event : Event E F) →
+    unsent_once before ≡ [] →
+    IsInTurn (holds && runs_through (runs_once before) past) (unsent_once past) event →
+    IsInTurn (holds && runs_once (before ++ past)) (unsent_once (before ++ past)) event
+behind holds before past event sent h =
+    subst (λ b. IsInTurn (holds && b) (unsent_once (before ++ past)) event)
+    (sym (through_both false before past))
+    (subst (λ l. IsInTurn (holds && runs_through (runs_once before) past) l event)
+    (sym (unsent_both [] before past ∙ ap (λ l. unsent_through l past) sent)) h)
+
 walk_exchanged : {E F : Type 0} (accepts : Acceptance) (w : World) (turns : List (Turn E F))
-    (last : Option (Turn E F)) → in_exchange w ≡ runs_once (events_of turns) → IsLive w →
-    AllWalk accepts w (option_to_list last) → IfSome last (IsNextExchanged turns)
-walk_exchanged accepts w turns None r live all = tt
-walk_exchanged accepts w turns (Some turn) r live (plan, owes, walks, next, taken) = record {
+    (last : Option (Turn E F)) → in_exchange w ≡ runs_once (events_of turns) →
+    unsent_once (events_of turns) ≡ [] → IsLive w → AllWalk accepts w (option_to_list last) →
+    IfSome last (IsNextExchanged turns)
+walk_exchanged accepts w turns None r sent live all = tt
+walk_exchanged accepts w turns (Some turn) r sent live (plan, owes, walks, next, taken) = record {
   known = taken.1 ∙ ap not r;
-  alone = λ mild past more event is runs.
-      let alone = last_alone accepts (runs_once (events_of turns)) w turn plan owes r live mild
+  alone = λ past more event is.
+      let holds = not (is_disconnected_in turn) in
+      let running = runs_once (events_of turns) in
+      let alone = last_alone accepts running w turn plan (is_disconnected_in turn) owes r live refl
       walks in
-      alone_at (runs_once (events_of turns)) past event more
-      (subst (AllAlone (runs_once (events_of turns))) is alone)
-      (sym (through_both false (events_of turns) past) ∙ runs);
+      behind holds (events_of turns) past event sent
+      (alone_at holds running [] past event more (subst (AllAlone holds running []) is alone));
 }
 
--- and in the last input too, unless a command ended the connection in it
+-- and in the last input too
 pub last_exchanged : {E F : Type 0} (accepts : Acceptance) (settings : Settings)
     (turns : List (Turn E F)) (world : World) (count max : ℕ) (last : Option (Turn E F))
     (rose : Type 0) (result : Result (Unit {0}) (RunError E F)) →
@@ -225,6 +273,6 @@ pub last_exchanged : {E F : Type 0} (accepts : Acceptance) (settings : Settings)
     Closes accepts world count max last rose result → IfSome last (IsNextExchanged turns)
 last_exchanged accepts settings turns world count max last rose result run closes =
     let k = run_keeps accepts false (opening_world settings) turns world run refl in
-    walk_exchanged accepts world turns last k.runs
+    walk_exchanged accepts world turns last k.runs k.sent
     (run_live accepts (opening_world settings) turns world run refl)
     (last_walks accepts world count max last rose result closes)

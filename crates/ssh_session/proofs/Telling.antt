@@ -1,9 +1,8 @@
--- What a row tells is no frame, or one that the exchange of keys gave before it, which is handed on
--- at once: other frames are handed on at the end of an input.
-use Rattle.std.proofs.Common.{◌≡◌, ◌+◌, ℕ, List, [], ◌∷◌, ◌++◌, map, Bool, true, false, cond}
-use Rattle.std.proofs.Common.{None, refl, arith}
-use Rattle.std.specs.Prelude.{Contains, bytes_eq, codes, filter, if◌then◌else◌}
-use Rattle.std.proofs.lemmas.List.Elements.{Contains-append_right}
+-- What a row tells is no frame but those that the exchange of keys gives, each at once, once and in
+-- order: other frames are handed on at the end of an input.
+use Rattle.std.proofs.Common.{◌≡◌, ◌+◌, ℕ, List, [], ◌∷◌, map, Bool, true, false, cond, None, refl}
+use Rattle.std.proofs.Common.{sym, subst}
+use Rattle.std.specs.Prelude.{bytes_eq, codes, drop, filter, if◌then◌else◌}
 use Rattle.ssh_link.specs.Frames.{Frame}
 use Rattle.ssh_link.specs.declared.command.Command.{Command}
 use Rattle.ssh_link.specs.declared.command.Command.TheVariants as command
@@ -60,45 +59,83 @@ given_at ask.Begins payload = payload ∷ []
 given_at (ask.Steps payload) step = step.frames
 given_at _ answer = []
 
--- it is no frame but one of an exchange, which gave these
-abbrev pub IsGiven : (given : List (List ℕ)) → TraceEntry → Type 0
-IsGiven given (Sent frame) = IsExchanged frame × Contains given frame.payload
-IsGiven given _ = Unit {0}
+-- its frames that were not handed on yet, once this was told
+abbrev pub unsent_told : (unsent : List Frame) → TraceEntry → List Frame
+unsent_told unsent (Sent frame) = drop 1 unsent
+unsent_told unsent _ = unsent
 
--- where it gave these before, each frame that the link is told it gave before that
-abbrev pub Sends : (given : List (List ℕ)) → Plan Outcome → Type 0
-Sends given (Finish outcome) = Unit {0}
-Sends given (Ask question next) = (answer : Answer question)
-    → Sends (given ++ given_at question answer) (next answer)
-Sends given (Tell entry next) = IsGiven given entry × Sends given next
+-- this is told in its turn, where these were not handed on yet
+abbrev pub IsToldInTurn : (holding : Bool) → (unsent : List Frame) → TraceEntry → Type 0
+IsToldInTurn holding (first ∷ later) entry = entry ≡ Sent first
+IsToldInTurn holding [] (Sent frame) = holding ≡ false
+IsToldInTurn holding [] _ = Unit {0}
 
--- and so whatever it gave before
+-- whatever is answered, these frames and those that the exchange gives are told, each in its turn,
+-- and no other one
+abbrev pub Sends : (unsent : List Frame) → Plan Outcome → Type 0
+Sends unsent (Finish outcome) = unsent ≡ []
+Sends unsent (Ask question next) = (unsent ≡ [])
+    × ((answer : Answer question) → Sends (frames_given (given_at question answer)) (next answer))
+Sends unsent (Tell entry next) = IsToldInTurn true unsent entry
+    × Sends (unsent_told unsent entry) next
+
+-- and so where all were handed on
 abbrev pub SendsGiven : Plan Outcome → Type 0
-SendsGiven plan = (given : List (List ℕ)) → Sends given plan
+SendsGiven plan = Sends [] plan
 
-given_unsent : (given : List (List ℕ)) (entry : TraceEntry) → IsGiven given entry → IsUnsent entry
-given_unsent given (Sent frame) h = h.0
-given_unsent given _ h = tt
+-- ---- the frames of an exchange
 
-sends_none : (given : List (List ℕ)) (plan : Plan Outcome) → Sends given plan → SendsNone plan
-sends_none given (Finish outcome) h = tt
-sends_none given (Ask question next) h = λ answer.
-    sends_none (given ++ given_at question answer) (next answer) (h answer)
-sends_none given (Tell entry next) h =
-    (given_unsent given entry h.0, sends_none given next h.1)
+abbrev AreExchanged : List Frame → Type 0
+AreExchanged [] = Unit {0}
+AreExchanged (frame ∷ frames) = IsExchanged frame × AreExchanged frames
+
+given_step : (b : Bool) (payload : List ℕ) (payloads : List (List ℕ)) →
+    is_of_transport payload ≡ b → AreExchanged (frames_given payloads) →
+    AreExchanged (map at_once (cond b (payload ∷ filter is_of_transport payloads)
+    (filter is_of_transport payloads)))
+given_step true payload payloads is h = ((refl, is), h)
+given_step false payload payloads is h = h
+
+given_exchanged : (payloads : List (List ℕ)) → AreExchanged (frames_given payloads)
+given_exchanged [] = tt
+given_exchanged (payload ∷ payloads) =
+    given_step (is_of_transport payload) payload payloads refl (given_exchanged payloads)
+
+later_exchanged : (unsent : List Frame) (entry : TraceEntry) → AreExchanged unsent →
+    AreExchanged (unsent_told unsent entry)
+later_exchanged [] (Sent frame) a = tt
+later_exchanged (first ∷ later) (Sent frame) a = a.1
+later_exchanged unsent entry a = a
+
+told_exchanged : (unsent : List Frame) (entry : TraceEntry) → AreExchanged unsent →
+    IsToldInTurn true unsent entry → IsUnsent entry
+told_exchanged (first ∷ later) entry a h = subst IsUnsent (sym h) a.0
+told_exchanged [] (Sent frame) a h = absurd (let no : true ≡ false = h in cc)
+told_exchanged [] entry a h = tt
+
+sends_none : (unsent : List Frame) (plan : Plan Outcome) → AreExchanged unsent →
+    Sends unsent plan → SendsNone plan
+sends_none unsent (Finish outcome) a h = tt
+sends_none unsent (Ask question next) a h = λ answer.
+    sends_none (frames_given (given_at question answer)) (next answer)
+    (given_exchanged (given_at question answer)) (h.1 answer)
+sends_none unsent (Tell entry next) a h = (
+  told_exchanged unsent entry a h.0,
+  sends_none (unsent_told unsent entry) next (later_exchanged unsent entry a) h.1,
+)
 
 -- ---- acts
 
 noted : (notices : List Notice) (next : Plan Outcome) → SendsGiven next
     → SendsGiven (tell_all (map Noticed notices) next)
 noted [] next h = h
-noted (notice ∷ notices) next h = λ given. (tt, noted notices next h given)
+noted (notice ∷ notices) next h = (tt, noted notices next h)
 
 told_done : (place : ℕ) (outcome : CommandOutcome) (next : Plan Outcome) → SendsGiven next
     → SendsGiven (tell_done place outcome next)
 told_done place Accepted next h = h
-told_done place (Opened channel) next h = λ given answer. h (given ++ [])
-told_done place (Refused why) next h = λ given answer. h (given ++ [])
+told_done place (Opened channel) next h = (refl, λ answer. h)
+told_done place (Refused why) next h = (refl, λ answer. h)
 
 one_done : (does : Effect) (next : CommandOutcome → World → Plan Outcome) →
     ((outcome : CommandOutcome) (world : World) → SendsGiven (next outcome world))
@@ -115,62 +152,49 @@ all_done place (command ∷ commands) w next h =
     (all_done (place + 1) commands world next h))
 
 -- what an exchange gives
-first_in : (payload : List ℕ) (payloads : List (List ℕ)) → Contains (payload ∷ payloads) payload
-first_in payload payloads = (0, omega arith, refl)
-
-given_step : (b : Bool) (given : List (List ℕ)) (payload : List ℕ) (payloads : List (List ℕ))
-    (next : Plan Outcome) → is_of_transport payload ≡ b → Contains given payload →
-    Sends given (tell_all (map Sent (frames_given payloads)) next) →
-    Sends given (tell_all (map Sent (map at_once (cond b
-    (payload ∷ filter is_of_transport payloads) (filter is_of_transport payloads)))) next)
-given_step true given payload payloads next is c h = (((refl, is), c), h)
-given_step false given payload payloads next is c h = h
-
-frames_sent : (given payloads : List (List ℕ)) (next : Plan Outcome) →
-    ((payload : List ℕ) → Contains payloads payload → Contains given payload) → Sends given next →
-    Sends given (tell_all (map Sent (frames_given payloads)) next)
-frames_sent given [] next c h = h
-frames_sent given (payload ∷ payloads) next c h =
-    given_step (is_of_transport payload) given payload payloads next refl
-    (c payload (first_in payload payloads))
-    (frames_sent given payloads next
-    (λ other d. c other (Contains-append_right (payload ∷ []) payloads other d)) h)
+frames_sent : (frames : List Frame) (next : Plan Outcome) → SendsGiven next
+    → Sends frames (tell_all (map Sent frames) next)
+frames_sent [] next h = h
+frames_sent (frame ∷ frames) next h = (refl, frames_sent frames next h)
 
 step_sent : (asked : Exchanging) (answer : Answer (exchange_question asked))
-    (given : List (List ℕ)) (next : Plan Outcome) → SendsGiven next →
-    Sends (given ++ given_at (exchange_question asked) answer)
+    (next : Plan Outcome) → SendsGiven next →
+    Sends (frames_given (given_at (exchange_question asked) answer))
     (tell_all (map Sent (frames_given (payloads_given asked answer))) next)
-step_sent Beginning payload given next h =
-    let more = payload ∷ [] in
-    frames_sent (given ++ more) more next (λ other c. Contains-append_right given more other c)
-    (h (given ++ more))
-step_sent (Stepping payload) step given next h =
-    let more = step.frames in
-    frames_sent (given ++ more) more next (λ other c. Contains-append_right given more other c)
-    (h (given ++ more))
+step_sent Beginning payload next h = frames_sent (frames_given (payload ∷ [])) next h
+step_sent (Stepping payload) step next h = frames_sent (frames_given step.frames) next h
 
 pub acts_given : (now : List Act) (w : World) → SendsGiven (acts now w)
-acts_given [] w = λ given. tt
-acts_given (Notes notice ∷ later) w = λ given. (tt, acts_given later w given)
-acts_given (Calls lent ∷ later) w = λ given commands.
-    all_done 0 commands w (acts later) (λ world. acts_given later world) (given ++ [])
-acts_given (Judges_by judged by ∷ later) w = λ given answer.
-    all_done 0 answer.commands w (λ world. acts later (by answer.granted world))
-    (λ world. acts_given later (by answer.granted world)) (given ++ [])
-acts_given (Listens_by address port by ∷ later) w = λ given answer.
-    all_done 0 answer.commands w (λ world. acts later (by answer.granted answer.port world))
-    (λ world. acts_given later (by answer.granted answer.port world)) (given ++ [])
-acts_given (Adjusts_by channel current by ∷ later) w = λ given window.
-    acts_given later (by window w) (given ++ [])
-acts_given (Exchanges asked ∷ later) w = λ given answer.
-    step_sent asked answer given (acts later (moved asked answer w))
-    (acts_given later (moved asked answer w))
+acts_given [] w = refl
+acts_given (Notes notice ∷ later) w = (tt, acts_given later w)
+acts_given (Calls lent ∷ later) w = (
+  refl,
+  λ commands. all_done 0 commands w (acts later) (λ world. acts_given later world),
+)
+acts_given (Judges_by judged by ∷ later) w = (
+  refl,
+  λ answer. all_done 0 answer.commands w (λ world. acts later (by answer.granted world))
+      (λ world. acts_given later (by answer.granted world)),
+)
+acts_given (Listens_by address port by ∷ later) w = (
+  refl,
+  λ answer. all_done 0 answer.commands w
+      (λ world. acts later (by answer.granted answer.port world))
+      (λ world. acts_given later (by answer.granted answer.port world)),
+)
+acts_given (Adjusts_by channel current by ∷ later) w =
+    (refl, λ window. acts_given later (by window w))
+acts_given (Exchanges asked ∷ later) w = (
+  refl,
+  λ answer. step_sent asked answer (acts later (moved asked answer w))
+      (acts_given later (moved asked answer w)),
+)
 acts_given (Turns by ∷ later) w = acts_given later (by w)
-acts_given (Is_over ∷ later) w = λ given. tt
-acts_given (Stops why ∷ later) w = λ given. tt
+acts_given (Is_over ∷ later) w = refl
+acts_given (Stops why ∷ later) w = refl
 
 pub acts_send_none : (now : List Act) (w : World) → SendsNone (acts now w)
-acts_send_none now w = sends_none [] (acts now w) (acts_given now w [])
+acts_send_none now w = sends_none [] (acts now w) tt (acts_given now w)
 
 -- ---- rows
 
@@ -179,8 +203,9 @@ verdict_given : (plan : Plan AuthOutcome) (later : AuthOutcome → Plan Outcome)
     → EndsSo IsBeside plan → ((outcome : AuthOutcome) → SendsGiven (later outcome))
     → SendsGiven (after plan later)
 verdict_given (Finish outcome) later e h = h outcome
-verdict_given (Ask question next) later e h = λ given answer.
-    verdict_given (next answer) later (e.1 answer) h (given ++ given_at question answer)
+verdict_given (Ask (ask.Admits admission) next) later e h =
+    (refl, λ answer. verdict_given (next answer) later (e.1 answer) h)
+verdict_given (Ask other next) later e h = absurd e.0
 verdict_given (Tell entry next) later e h = absurd e
 
 concluded_given : (w : World) (moment : ℕ) (requested : Bool) (outcome : AuthOutcome)
@@ -188,7 +213,7 @@ concluded_given : (w : World) (moment : ℕ) (requested : Bool) (outcome : AuthO
 concluded_given w moment requested (verdicts.Replies reply v state) =
     let u = waits_for (WaitingAuthRequest state) w in
     acts_given (replied u moment requested reply v) u
-concluded_given w moment requested (verdicts.Fails fault) = λ given. tt
+concluded_given w moment requested (verdicts.Fails fault) = refl
 
 state_given : (state : EncryptedState) (next : AuthRequest → Plan AuthOutcome) (w : World)
     (moment : ℕ) (requested : Bool) → ((auth : AuthRequest) → EndsSo IsBeside (next auth)) →
@@ -197,12 +222,12 @@ state_given : (state : EncryptedState) (next : AuthRequest → Plan AuthOutcome)
 state_given (WaitingAuthRequest auth) next w moment requested e =
     verdict_given (next auth) (concluded w moment requested) (e auth)
     (concluded_given w moment requested)
-state_given _ next w moment requested e = λ given. tt
+state_given _ next w moment requested e = refl
 
 service_given : (w : World) (b : Bool)
     → SendsGiven (if b then Ask ask.Banner (λ message. acts (greets message) w) else acts [] w)
-service_given w true = λ given message. acts_given (greets message) w (given ++ [])
-service_given w false = λ given. tt
+service_given w true = (refl, λ message. acts_given (greets message) w)
+service_given w false = refl
 
 row_given : (w : World) (moment : ℕ) (said : Said) → SendsGiven (row w moment said)
 row_given w moment (Service name) = service_given w (bytes_eq name (codes "ssh-userauth"))
@@ -216,11 +241,11 @@ row_given w moment said = acts_given (owed w said) w
 command_given : (w : World) (ticket : ℕ) (commanded : Command)
     → SendsGiven (command_row w ticket commanded)
 command_given w ticket commanded =
-    one_done (effect w commanded) _ (λ outcome world given. (tt, tt))
+    one_done (effect w commanded) _ (λ outcome world. (tt, refl))
 
 pub kind_given : (accepts : Acceptance) (w : World) (moment : ℕ) (kind : InputKind)
     (plan : Plan Outcome) → OwesKind accepts w moment kind plan → SendsGiven plan
-kind_given accepts w moment input.End plan o = rw o (λ given. tt)
+kind_given accepts w moment input.End plan o = rw o refl
 kind_given accepts w moment (input.Payload payload) plan o =
     let v = hears payload w in
     payload_so accepts v moment payload plan SendsGiven o (λ said says. row_given v moment said)
@@ -231,10 +256,10 @@ kind_given accepts w moment (input.OpenReply ticket answer) plan o =
     rw o (command_given w ticket (command.Answer answer))
 kind_given accepts w moment input.KeepaliveTick plan o =
     rw o (acts_given (keepalive_acts w) w)
-kind_given accepts w moment input.InactivityTick plan o = rw o (λ given. tt)
-kind_given accepts w moment input.RekeyTick plan o = rw o (λ given. tt)
+kind_given accepts w moment input.InactivityTick plan o = rw o refl
+kind_given accepts w moment input.RekeyTick plan o = rw o refl
 
 pub kind_silent : (accepts : Acceptance) (w : World) (moment : ℕ) (kind : InputKind)
     (plan : Plan Outcome) → OwesKind accepts w moment kind plan → SendsNone plan
 kind_silent accepts w moment kind plan o =
-    sends_none [] plan (kind_given accepts w moment kind plan o [])
+    sends_none [] plan tt (kind_given accepts w moment kind plan o)

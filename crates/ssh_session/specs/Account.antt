@@ -126,8 +126,8 @@ pub record Lawful {E F : Type 0} {accepts : Acceptance} {settings : Settings}
   pub unparted : (earlier later : List (Turn E F)) → account.turns ≡ earlier ++ later
       → IsUnparted accepts settings earlier
   pub parted : IfSome account.last (IsParted accepts account.world)
-  -- a DISCONNECT of this side, whoever asked for it, is the last that happens in the run, unless
-  -- the exchange of keys gave it
+  -- a DISCONNECT of this side, whoever asked for it, is the last that happens in the run, but for
+  -- one that the exchange of keys gave
   pub last_word : IsLastWord (account.turns ++ option_to_list account.last)
   -- an open of the peer's gets at most one answer, and none before its callback returned
   pub answered : Answered accepts settings (account.turns ++ option_to_list account.last)
@@ -140,8 +140,8 @@ pub record Lawful {E F : Type 0} {accepts : Acceptance} {settings : Settings}
   pub in_order : (earlier later : List (Turn E F)) → account.turns ≡ earlier ++ later
       → InOrder accepts settings earlier
   pub last_in_order : IfSome account.last (IsNextInOrder account.world)
-  -- in an exchange of keys only its own frames are handed on, and in the last input too, unless a
-  -- command ended the connection in it
+  -- what an exchange of keys gives is handed on at once, each once and in order, and while it runs
+  -- no other frame; in the last input too, but where a command ended the connection in it
   pub exchanged : Exchanged account.turns
   pub last_exchanged : IfSome account.last (IsNextExchanged account.turns)
   -- on each number no more bytes of data are passed to the handler than this side granted there,

@@ -12,7 +12,7 @@ use Rattle.ssh_session.specs.declared.exchange.Passage.{Passage}
 use Rattle.ssh_session.specs.declared.exchange.Passage.TheVariants.{Begins, Steps, Barred, Late}
 use Rattle.ssh_session.specs.declared.exchange.Passage.TheVariants.{Passes}
 
--- ---- numbers (RFC 4250 section 4.1.2)
+-- ---- numbers (RFC 4250 section 4.1.1)
 
 -- a message of an exchange: 20 to 49
 abbrev pub is_exchanged : (number : ℕ) → Bool

@@ -1,16 +1,21 @@
--- In an exchange of keys only its own frames are handed on (RFC 4253 section 7.1).
-use Rattle.std.specs.Prelude.{◌≡◌, ◌&&◌, ◌||◌, List, [], ◌∷◌, ◌++◌, Bool, true, false, not}
-use Rattle.std.specs.Prelude.{None, Ok}
+-- In an exchange of keys only its own frames are handed on (RFC 4253 section 7.1): each that it
+-- gives, once, in order and before anything else.
+use Rattle.std.specs.Prelude.{◌≡◌, ◌&&◌, ◌||◌, ℕ, List, [], ◌∷◌, ◌++◌, Bool, true, false, not, drop}
+use Rattle.std.specs.Prelude.{Ok}
 use Rattle.std.specs.List.{list_any}
+use Rattle.ssh_link.specs.Frames.{Frame}
 use Rattle.ssh_link.specs.declared.frame.InputKind.{InputKind}
 use Rattle.ssh_link.specs.declared.frame.InputKind.TheVariants.{Command}
+use Rattle.ssh_link.specs.declared.kex.KexCall.{KexCall}
 use Rattle.ssh_link.specs.declared.kex.KexCall.TheVariants as kex
 use Rattle.ssh_link.specs.declared.link.TraceEntry.TheVariants.{Sent}
 use Rattle.ssh_auth.specs.Plan.{Event, Stepped, Told}
-use Rattle.ssh_session.specs.Exchange.{is_of_transport}
+use Rattle.ssh_session.specs.Acts.{frames_given}
 use Rattle.ssh_session.specs.Replied.{events_of}
 use Rattle.ssh_session.specs.Run.{Turn, calls_of}
 use Rattle.ssh_session.specs.Valid.{disconnects, call_disconnects}
+
+-- ---- whether one runs
 
 -- an exchange runs from this side's KEXINIT on, until a step answers that the new keys are in use
 abbrev pub runs_after : {E F : Type 0} → (running : Bool) → Event E F → Bool
@@ -26,12 +31,36 @@ runs_through running (event ∷ events) = runs_through (runs_after running event
 abbrev pub runs_once : {E F : Type 0} → List (Event E F) → Bool
 runs_once past = runs_through false past
 
--- a frame that is handed on is the exchange's: it is on no channel, and a message of the transport
--- layer, whose number is 1 to 49 (RFC 4250 section 4.1.2)
-abbrev pub SendsExchanged : {E F : Type 0} → Event E F → Type 0
-SendsExchanged (Told (Sent frame)) = (frame.channel ≡ None)
-    × (is_of_transport frame.payload ≡ true)
-SendsExchanged _ = Unit {0}
+-- ---- what it gave
+
+-- the payloads that the exchange of keys gives in a step of it
+abbrev pub given_by : {F : Type 0} → KexCall F → List (List ℕ)
+given_by (kex.Begun (Ok payload)) = payload ∷ []
+given_by (kex.Stepped payload (Ok step)) = step.frames
+given_by _ = []
+
+-- the frames that it gave and that were not handed on yet, in order, after this event
+abbrev pub unsent_after : {E F : Type 0} → (unsent : List Frame) → Event E F → List Frame
+unsent_after unsent (Stepped step) = unsent ++ frames_given (given_by step)
+unsent_after unsent (Told (Sent frame)) = drop 1 unsent
+unsent_after unsent _ = unsent
+
+abbrev pub unsent_through : {E F : Type 0} → (unsent : List Frame) → List (Event E F) → List Frame
+unsent_through unsent [] = unsent
+unsent_through unsent (event ∷ events) = unsent_through (unsent_after unsent event) events
+
+-- .. once this happened, from where there was none
+abbrev pub unsent_once : {E F : Type 0} → List (Event E F) → List Frame
+unsent_once past = unsent_through [] past
+
+-- this comes in its turn: where such frames are left, it hands on the first of them; where none is,
+-- it hands on another frame only if none is held
+abbrev pub IsInTurn : {E F : Type 0} → (holding : Bool) → (unsent : List Frame) → Event E F → Type 0
+IsInTurn holding (first ∷ later) event = event ≡ Told (Sent first)
+IsInTurn holding [] (Told (Sent frame)) = holding ≡ false
+IsInTurn holding [] _ = Unit {0}
+
+-- ---- inputs
 
 -- a command ended the connection: it came from outside, or a callback recorded it
 abbrev pub kind_disconnects : InputKind → Bool
@@ -47,15 +76,21 @@ pub record Exchanged {E F : Type 0} (turns : List (Turn E F)) : Type 0 where
   -- before it
   pub known : (before after : List (Turn E F)) (turn : Turn E F) → turns ≡ before ++ turn ∷ after
       → turn.replies ≡ not (runs_once (events_of before))
-  -- and while one runs, each frame that is handed on is its own
+  -- each frame that it gives is handed on at once and in order, and no other while it runs
   pub alone : (past more : List (Event E F)) (event : Event E F)
-      → events_of turns ≡ past ++ event ∷ more → runs_once past ≡ true → SendsExchanged event
+      → events_of turns ≡ past ++ event ∷ more
+      → IsInTurn (runs_once past) (unsent_once past) event
+  -- and before an input is finished all of them were
+  pub all_sent : (before after : List (Turn E F)) → turns ≡ before ++ after
+      → unsent_once (events_of before) ≡ []
 
--- so it is with one more input, unless a command ended the connection in it: behind its DISCONNECT
--- nothing follows, and what was held goes out before it (RFC 4253 section 11.1)
+-- so it is with one more input, but that other frames too are handed on where a command ended the
+-- connection in it: nothing follows its DISCONNECT, and what was held goes out before it (RFC 4253
+-- section 11.1)
 pub record IsNextExchanged {E F : Type 0} (turns : List (Turn E F)) (turn : Turn E F) : Type 0
   where
     pub known : turn.replies ≡ not (runs_once (events_of turns))
-    pub alone : is_disconnected_in turn ≡ false → (past more : List (Event E F)) (event : Event E F)
-        → turn.events ≡ past ++ event ∷ more → runs_once (events_of turns ++ past) ≡ true
-        → SendsExchanged event
+    pub alone : (past more : List (Event E F)) (event : Event E F)
+        → turn.events ≡ past ++ event ∷ more
+        → IsInTurn (not (is_disconnected_in turn) && runs_once (events_of turns ++ past))
+        (unsent_once (events_of turns ++ past)) event

@@ -1,16 +1,14 @@
 -- Nothing goes out behind the DISCONNECT of this side (RFC 4253 section 11.1).
-use Rattle.std.specs.Prelude.{◌≡◌, ◌==◌, ◌⊎◌, ℕ, Bool, List, [], ◌∷◌, ◌++◌, true, false, flat_map}
-use Rattle.std.specs.Prelude.{Contains, Ok}
+use Rattle.std.specs.Prelude.{◌≡◌, ◌==◌, ℕ, Bool, List, [], ◌∷◌, ◌++◌, true, false}
 use Rattle.ssh_wire.specs.Messages as message
 use Rattle.ssh_wire.specs.declared.disconnect.Disconnect.{Disconnect}
 use Rattle.ssh_link.specs.Frames.{Frame}
-use Rattle.ssh_link.specs.declared.kex.KexCall.{KexCall}
-use Rattle.ssh_link.specs.declared.kex.KexCall.TheVariants as kex
 use Rattle.ssh_link.specs.declared.link.TraceEntry.{TraceEntry}
 use Rattle.ssh_link.specs.declared.link.TraceEntry.TheVariants.{Sent}
 use Rattle.ssh_auth.specs.Publickey.{Acceptance}
-use Rattle.ssh_auth.specs.Plan.{Plan, Event, Told, Follows, steps_in}
+use Rattle.ssh_auth.specs.Plan.{Plan, Event, Told, Follows}
 use Rattle.ssh_channels.specs.Sent.{message_of}
+use Rattle.ssh_session.specs.Exchanged.{unsent_once}
 use Rattle.ssh_session.specs.Layout.{at_once}
 use Rattle.ssh_session.specs.Outcome.{Outcome, Ends}
 use Rattle.ssh_session.specs.OwnMessages.{disconnect}
@@ -45,20 +43,10 @@ IsUnparted accepts settings turns = (world : World)
 abbrev pub is_disconnect : Frame → Bool
 is_disconnect frame = message_of frame.payload == message.disconnect.number
 
--- the payloads that the exchange of keys gave in a step of it
-abbrev pub given_by : {F : Type 0} → KexCall F → List (List ℕ)
-given_by (kex.Begun (Ok payload)) = payload ∷ []
-given_by (kex.Stepped payload (Ok step)) = step.frames
-given_by _ = []
-
--- and in these events
-abbrev pub given_in : {E F : Type 0} → List (Event E F) → List (List ℕ)
-given_in events = flat_map given_by (steps_in events)
-
--- a DISCONNECT that is sent in these inputs is the last that happens in them: no event of its input
--- follows it, and no input, unless the exchange of keys gave it before it in that input
+-- a DISCONNECT that is sent and is not one that the exchange of keys gave is the last that happens
+-- in these inputs: no event of its input follows it, and no input
 abbrev pub IsLastWord : {E F : Type 0} → List (Turn E F) → Type 0
 IsLastWord {E} {F} turns = (before after : List (Turn E F)) (turn : Turn E F)
     (past more : List (Event E F)) (frame : Frame) → turns ≡ before ++ turn ∷ after
     → turn.events ≡ past ++ Told (Sent frame) ∷ more → is_disconnect frame ≡ true
-    → Contains (given_in past) frame.payload ⊎ ((more ≡ []) × (after ≡ []))
+    → unsent_once past ≡ [] → (more ≡ []) × (after ≡ [])
