@@ -49,19 +49,19 @@ use Rattle.ssh_session.proofs.Telling.{IsUnsent, SendsNone, kind_silent}
 
 -- with what is told meanwhile, the channels have sent what they have to
 abbrev pub Books : (past : List TraceEntry) → Plan Outcome → Type 0
-Books past (Finish (Goes w)) = Kept past w
-Books past (Finish _) = Unit {0}
+Books past (Finish outcome) = ComesKept past outcome
 Books past (Ask question next) = (answer : Answer question) → Books past (next answer)
 Books past (Tell entry next) = Books (past ++ entry ∷ []) next
 
-quiet_entry : (entry : TraceEntry) → IsUnsent entry → IsQuiet (entry ∷ [])
-quiet_entry (Sent frame) h = (h.0, tt)
-quiet_entry _ h = tt
+pub quiet_entry : (entry : TraceEntry) (more : List TraceEntry) → IsUnsent entry → IsQuiet more
+    → IsQuiet (entry ∷ more)
+quiet_entry (Sent frame) more h q = (h.0, q)
+quiet_entry _ more h q = q
 
 pub kept_quiet : (past : List TraceEntry) (entry : TraceEntry) (w : World) → IsUnsent entry
     → Kept past w → Kept (past ++ entry ∷ []) w
 kept_quiet past entry w q k = record {
-  ledger = quiet_kept w.channels.lines past (entry ∷ []) (quiet_entry entry q) k.ledger;
+  ledger = quiet_kept w.channels.lines past (entry ∷ []) (quiet_entry entry [] q tt) k.ledger;
   due = k.due;
   waiting = k.waiting;
 }
@@ -123,7 +123,7 @@ begun_books past w false k = k
 
 ended_books : (past : List TraceEntry) (w : World) (ended due : Bool) → Kept past w
     → Books past (cond ended (Finish (Ends w)) (acts (begins due) w))
-ended_books past w true due k = tt
+ended_books past w true due k = k
 ended_books past w false due k = begun_books past w due k
 
 -- frames that are held or handed on leave the channels as they are
@@ -153,7 +153,7 @@ finished_books past ticked (Goes w) k =
     books_told past sent (goes_unless_ended ticked v)
     (ended_books (past ++ sent) v v.disconnected (is_due ticked v) (handed_kept past w k))
 finished_books past ticked (Ends w) k = books_told past (map Sent (going_out w))
-    (Finish (Ends (handed_on w))) tt
+    (Finish (Ends (handed_on w))) (handed_kept past w k)
 finished_books past ticked (Fails fault) k = tt
 
 row_books : (past : List TraceEntry) (ticked : Bool) (plan : Plan Outcome) → SendsNone plan
@@ -166,29 +166,31 @@ row_books past ticked (Tell entry next) s k = row_books (past ++ entry ∷ []) t
     (plan_quiet past entry next s.0 k)
 
 -- an answered question is no notice
-never_told : {E F : Type 0} (question : Question) (answer : Answer question) (entry : TraceEntry) →
-    Answered {E = E} {F = F} question answer (Told entry) → ⊥
+pub never_told : {E F : Type 0} (question : Question) (answer : Answer question)
+    (entry : TraceEntry) → Answered {E = E} {F = F} question answer (Told entry) → ⊥
 never_told question answer entry h = let e = asked_so question answer (Told entry) h in cc
 
 follows_books : {E F : Type 0} (past : List TraceEntry) (plan : Plan Outcome)
-    (events : List (Event E F)) (w : World) →
-    Books past plan → Follows plan events (Goes w) → Kept (past ++ told_in events) w
-follows_books past plan [] w k h = subst (λ t. Kept t w) (sym (append-nil past))
+    (events : List (Event E F)) (outcome : Outcome) → Books past plan
+    → Follows plan events outcome → ComesKept (past ++ told_in events) outcome
+follows_books past plan [] outcome k h = subst (λ t. ComesKept t outcome) (sym (append-nil past))
     (subst (Books past) h k)
-follows_books past (Finish other) (event ∷ events) w k h = absurd h
-follows_books {E} {F} past (Ask question next) (Called call ∷ events) w k h = follows_books past
-    (next h.0) events w (k h.0) h.2
-follows_books {E} {F} past (Ask question next) (Stepped step ∷ events) w k h = follows_books past
-    (next h.0) events w (k h.0) h.2
-follows_books {E} {F} past (Ask question next) (Told entry ∷ events) w k h =
+follows_books past (Finish other) (event ∷ events) outcome k h = absurd h
+follows_books {E} {F} past (Ask question next) (Called call ∷ events) outcome k h =
+    follows_books past (next h.0) events outcome (k h.0) h.2
+follows_books {E} {F} past (Ask question next) (Stepped step ∷ events) outcome k h =
+    follows_books past (next h.0) events outcome (k h.0) h.2
+follows_books {E} {F} past (Ask question next) (Told entry ∷ events) outcome k h =
     absurd (never_told question h.0 entry h.1)
-follows_books past (Tell entry next) (Called call ∷ events) w k h = absurd (let e = h.0 in cc)
-follows_books past (Tell entry next) (Stepped step ∷ events) w k h = absurd (let e = h.0 in cc)
-follows_books {E} {F} past (Tell entry next) (Told told ∷ events) w k h =
+follows_books past (Tell entry next) (Called call ∷ events) outcome k h =
+    absurd (let e = h.0 in cc)
+follows_books past (Tell entry next) (Stepped step ∷ events) outcome k h =
+    absurd (let e = h.0 in cc)
+follows_books {E} {F} past (Tell entry next) (Told told ∷ events) outcome k h =
     let same : told ≡ entry = let e = h.0 in cc in
-    subst (λ t. Kept t w) (append_assoc past (told ∷ []) (told_in events))
-    (follows_books (past ++ told ∷ []) next events w (subst (λ t. Books (past ++ t ∷ []) next)
-    (sym same) k) h.1)
+    subst (λ t. ComesKept t outcome) (append_assoc past (told ∷ []) (told_in events))
+    (follows_books (past ++ told ∷ []) next events outcome
+    (subst (λ t. Books (past ++ t ∷ []) next) (sym same) k) h.1)
 
 -- ---- what was read
 
@@ -265,19 +267,26 @@ kind_kept accepts past w moment input.KeepaliveTick plan o k = rw o (tick_kept p
 kind_kept accepts past w moment input.InactivityTick plan o k = rw o tt
 kind_kept accepts past w moment input.RekeyTick plan o k = rw o k
 
-pub owed_kept : {E F : Type 0} (accepts : Acceptance) (past : List TraceEntry) (w : World)
-    (turn : Turn E F) (plan : Plan Outcome) (world : World) → Owes accepts w turn.input plan
-    → Follows plan turn.events (Goes world) → Kept past w → Kept (past ++ entries turn) world
-owed_kept accepts past w turn plan world owes follows k =
+-- however an input ends
+pub comes_kept : {E F : Type 0} (accepts : Acceptance) (past : List TraceEntry) (w : World)
+    (turn : Turn E F) (plan : Plan Outcome) (outcome : Outcome) → Owes accepts w turn.input plan
+    → Follows plan turn.events outcome → Kept past w → ComesKept (past ++ entries turn) outcome
+comes_kept accepts past w turn plan outcome owes follows k =
     let took = Took turn.commands turn.replies turn.input in
     let begun = kept_quiet past took w tt k in
     let books = row_books (past ++ took ∷ []) (asks_for_keys turn.input.kind) owes.0
     (kind_silent accepts w turn.input.moment turn.input.kind owes.0 owes.1)
     (kind_kept accepts (past ++ took ∷ []) w turn.input.moment turn.input.kind owes.0 owes.1
     begun) in
-    subst (λ l. Kept l world) (append_assoc past (took ∷ []) (told_in turn.events))
-    (follows_books (past ++ took ∷ []) plan turn.events world (subst (Books (past ++ took ∷ []))
+    subst (λ l. ComesKept l outcome) (append_assoc past (took ∷ []) (told_in turn.events))
+    (follows_books (past ++ took ∷ []) plan turn.events outcome (subst (Books (past ++ took ∷ []))
     (sym owes.2) books) follows)
+
+pub owed_kept : {E F : Type 0} (accepts : Acceptance) (past : List TraceEntry) (w : World)
+    (turn : Turn E F) (plan : Plan Outcome) (world : World) → Owes accepts w turn.input plan
+    → Follows plan turn.events (Goes world) → Kept past w → Kept (past ++ entries turn) world
+owed_kept accepts past w turn plan world owes follows k =
+    comes_kept accepts past w turn plan (Goes world) owes follows k
 
 turn_kept : {E F : Type 0} (accepts : Acceptance) (past : List TraceEntry) (w : World)
     (turn : Turn E F)

@@ -1,4 +1,5 @@
--- After an input outside an exchange of keys nothing is left to be handed on.
+-- After an input outside an exchange of keys nothing is left to be handed on, also where it ended
+-- the run.
 use Rattle.std.proofs.Common.{◌≡◌, ◌&&◌, List, [], ◌∷◌, ◌++◌, map, refl, sym, subst}
 use Rattle.std.proofs.Common.{Bool, true, false, not, cond}
 use Rattle.ssh_link.specs.declared.link.TraceEntry.{TraceEntry}
@@ -36,7 +37,8 @@ IsUnheld w = in_exchange w ≡ false → w.channels.lines.written ≡ []
 
 abbrev pub IsEmptied : Outcome → Type 0
 IsEmptied (Goes w) = IsUnheld w
-IsEmptied _ = Unit {0}
+IsEmptied (Ends w) = IsUnheld w
+IsEmptied (Fails fault) = Unit {0}
 
 pub unheld : (running ended : Bool) (l : Lines) → running ≡ false →
     (hands_on (running && not ended) l).written ≡ []
@@ -52,7 +54,7 @@ begun_emptied false w h = h
 
 ended_emptied : (ended due : Bool) (w : World) → IsUnheld w →
     PlanComes Anything IsEmptied (cond ended (Finish (Ends w)) (acts (begins due) w))
-ended_emptied true due w h = tt
+ended_emptied true due w h = h
 ended_emptied false due w h = begun_emptied due w h
 
 emptied : (ticked : Bool) (plan : Plan Outcome) →
@@ -63,18 +65,24 @@ emptied ticked (Finish (Goes w)) =
     (ended_emptied v.disconnected (is_due ticked v) v
     (λ idle. unheld (in_exchange w) w.disconnected w.channels.lines idle))
 emptied ticked (Finish (Ends w)) =
-    told_comes IsEmptied (map Sent (going_out w)) (is_over (handed_on w)) tt
+    told_comes IsEmptied (map Sent (going_out w)) (is_over (handed_on w))
+    (λ idle. unheld (in_exchange w) w.disconnected w.channels.lines idle)
 emptied ticked (Finish (Fails fault)) = tt
 emptied ticked (Ask question next) = λ answer s. emptied ticked (next answer)
 emptied ticked (Tell entry next) = emptied ticked next
 
+pub comes_emptied : {E F : Type 0} (accepts : Acceptance) (w : World) (turn : Turn E F)
+    (plan : Plan Outcome) (outcome : Outcome) → Owes accepts w turn.input plan →
+    Follows plan turn.events outcome → IsEmptied outcome
+comes_emptied {E} {F} accepts w turn plan outcome o f =
+    comes_of IsEmptied plan turn.events outcome
+    (subst (PlanComes Anything IsEmptied) (sym o.2)
+    (emptied (asks_for_keys turn.input.kind) o.0)) f
+
 pub owed_emptied : {E F : Type 0} (accepts : Acceptance) (w : World) (turn : Turn E F)
     (plan : Plan Outcome) (mid : World) → Owes accepts w turn.input plan →
     Follows plan turn.events (Goes mid) → IsUnheld mid
-owed_emptied {E} {F} accepts w turn plan mid o f =
-    comes_of IsEmptied plan turn.events (Goes mid)
-    (subst (PlanComes Anything IsEmptied) (sym o.2)
-    (emptied (asks_for_keys turn.input.kind) o.0)) f
+owed_emptied accepts w turn plan mid o f = comes_emptied accepts w turn plan (Goes mid) o f
 
 pub nothing_left : {A : Type 0} (xs : List A) (y : A) (ys : List A) → xs ++ y ∷ ys ≡ [] → ⊥
 nothing_left [] y ys h = cc

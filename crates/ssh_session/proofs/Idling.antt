@@ -1,15 +1,17 @@
--- An input that comes outside an exchange of keys and begins none stays outside up to its end,
--- where all that is due goes out before this side may begin one.
-use Rattle.std.proofs.Common.{◌≡◌, ℕ, List, [], ◌∷◌, ◌++◌, map, Bool, true, false, cond}
-use Rattle.std.proofs.Common.{refl, sym, subst}
+-- An input that comes outside an exchange of keys and begins none stays outside up to its end, and
+-- one that ends an exchange is outside then: all that is due goes out there before this side may
+-- begin one.
+use Rattle.std.proofs.Common.{◌≡◌, ◌⊎◌, ◌||◌, ℕ, List, [], ◌∷◌, ◌++◌, map, Bool, true, false, cond}
+use Rattle.std.proofs.Common.{refl, sym, ap, subst, inl, inr}
 use Rattle.std.specs.Prelude.{◌==◌, flat_map}
 use Rattle.ssh_link.specs.declared.command.Command.{Command}
 use Rattle.ssh_link.specs.declared.command.Command.TheVariants as command
+use Rattle.ssh_link.specs.declared.frame.Input.{Input}
 use Rattle.ssh_link.specs.declared.frame.InputKind.{InputKind}
 use Rattle.ssh_link.specs.declared.frame.InputKind.TheVariants as input
 use Rattle.ssh_link.specs.declared.link.TraceEntry.{TraceEntry}
 use Rattle.ssh_link.specs.declared.link.TraceEntry.TheVariants.{Took, Sent, Answered}
-use Rattle.ssh_auth.specs.Plan.{Plan, Finish, Ask, Tell, after}
+use Rattle.ssh_auth.specs.Plan.{Plan, Finish, Ask, Tell, Event, Follows, after}
 use Rattle.ssh_auth.specs.Publickey.{Acceptance}
 use Rattle.ssh_channels.specs.Entry.{IsDue}
 use Rattle.ssh_channels.specs.Sent.{Each, message_of}
@@ -19,12 +21,13 @@ use Rattle.ssh_session.specs.declared.exchange.Passage.TheVariants.{Passes}
 use Rattle.ssh_session.specs.Acts.{Beginning, acts, payloads_given, frames_given, moved}
 use Rattle.ssh_session.specs.Effect.{effect, refused_for, done_by}
 use Rattle.ssh_session.specs.Exchange.{early_with, is_running, passage_in, passage_of}
+use Rattle.ssh_session.specs.Exchanged.{ends_exchange}
 use Rattle.ssh_session.specs.Ledger.{EndsOutside, is_kexinit}
 use Rattle.ssh_session.specs.Outcome.{Outcome, Goes, Ends, Fails}
 use Rattle.ssh_session.specs.Reading.{Said, Disconnect, Over_cap}
 use Rattle.ssh_session.specs.Rows.{row}
-use Rattle.ssh_session.specs.Run.{Turn, Turns, Run, OwesKind, OwesPassed, command_row, passage}
-use Rattle.ssh_session.specs.Run.{asks_for_keys, begins, entries, finish_input, going_out}
+use Rattle.ssh_session.specs.Run.{Turn, Turns, Run, Owes, OwesKind, OwesPassed, command_row}
+use Rattle.ssh_session.specs.Run.{passage, asks_for_keys, begins, entries, finish_input, going_out}
 use Rattle.ssh_session.specs.Run.{goes_unless_ended, handed_on, is_due, is_over}
 use Rattle.ssh_session.specs.Ticks.{keepalive_acts}
 use Rattle.ssh_session.specs.World.{World, hears, in_exchange, is_held}
@@ -35,7 +38,10 @@ use Rattle.ssh_session.proofs.Beside.{done_beside, settles_beside, opens_or_not_
 use Rattle.ssh_session.proofs.Books.{kind_kept, kept_quiet, run_kept, handed_due}
 use Rattle.ssh_session.proofs.Emptied.{told_comes, comes_of, unheld}
 use Rattle.ssh_session.proofs.Keeping.{Kept, ComesKept}
+use Rattle.ssh_session.proofs.Renewing.{Renews, renews_by, tells_renew, kind_renews}
+use Rattle.ssh_session.proofs.Renewing.{follows_renew}
 use Rattle.ssh_session.proofs.Settled.{Anything, Any_command, any_built}
+use Rattle.ssh_session.proofs.Untouched.{IsRunning}
 
 -- ---- rows
 
@@ -181,6 +187,56 @@ turn_settled {E} {F} accepts past w turn mid t k replies other =
     (kind_kept accepts (past ++ took ∷ []) w turn.input.moment kind first t.1.1
     (kept_quiet past took w tt k)))) t.2
 
+-- ---- an input that ends an exchange
+
+begun_renewed : (ended due : Bool) (w : World) → (ended ≡ true → IsSettled w)
+    → Renews IsSettled ended (acts (begins due) w)
+begun_renewed ended true w h = λ answer.
+    tells_renew IsSettled ended (map Sent (frames_given (payloads_given Beginning answer)))
+    (Finish (Goes (moved Beginning answer w))) h
+begun_renewed ended false w h = h
+
+over_renewed : (ended over due : Bool) (w : World) → (ended ≡ true → IsSettled w)
+    → Renews IsSettled ended (cond over (Finish (Ends w)) (acts (begins due) w))
+over_renewed ended true due w h = tt
+over_renewed ended false due w h = begun_renewed ended due w h
+
+renewed : (past : List TraceEntry) (ticked ended : Bool) (plan : Plan Outcome)
+    → Renews (IsRunning false) ended plan → PlanComes Anything (ComesKept past) plan
+    → Renews IsSettled ended (after plan (finish_input ticked))
+renewed past ticked ended (Finish (Goes w)) h k =
+    let v = handed_on w in
+    tells_renew IsSettled ended (map Sent (going_out w)) (goes_unless_ended ticked v)
+    (over_renewed ended v.disconnected (is_due ticked v) v
+    (λ is. handed_settled past w (h is) k))
+renewed past ticked ended (Finish (Ends w)) h k =
+    tells_renew IsSettled ended (map Sent (going_out w)) (is_over (handed_on w)) tt
+renewed past ticked ended (Finish (Fails fault)) h k = tt
+renewed past ticked ended (Ask question next) h k = λ answer.
+    renewed past ticked (renews_by question answer || ended) (next answer) (h answer) (k answer tt)
+renewed past ticked ended (Tell entry next) h k = renewed past ticked ended next h k
+
+pub owed_renewed : {E F : Type 0} (accepts : Acceptance) (past : List TraceEntry) (w : World)
+    (came : Input) (plan : Plan Outcome) (events : List (Event E F)) (world : World)
+    → Owes accepts w came plan → Follows plan events (Goes world) → Kept past w
+    → ends_exchange events ≡ true → IsSettled world
+owed_renewed accepts past w came plan events world o f k ends =
+    follows_renew IsSettled false plan events world
+    (subst (Renews IsSettled false) (sym o.2)
+    (renewed past (asks_for_keys came.kind) false o.0
+    (kind_renews accepts w came.moment came.kind o.0 o.1)
+    (kind_kept accepts past w came.moment came.kind o.0 o.1 k))) f (ap (λ b. b || false) ends)
+
+-- either way
+ends_settled : {E F : Type 0} (accepts : Acceptance) (past : List TraceEntry) (w : World)
+    (turn : Turn E F) (mid : World) → Turns accepts w turn mid → Kept past w
+    → ((turn.replies ≡ true) × (is_kexinit turn.input.kind ≡ false))
+    ⊎ (ends_exchange turn.events ≡ true) → IsSettled mid
+ends_settled accepts past w turn mid t k (inl quiet) =
+    turn_settled accepts past w turn mid t k quiet.0 quiet.1
+ends_settled accepts past w turn mid t k (inr ends) =
+    owed_renewed accepts past w turn.input t.0 turn.events mid t.1 t.2 k ends
+
 -- ---- runs
 
 run_back : {E F : Type 0} (accepts : Acceptance) (w : World) (earlier later : List (Turn E F))
@@ -193,10 +249,10 @@ run_back accepts w (turn ∷ earlier) later world run =
 
 pub last_settled : {E F : Type 0} (accepts : Acceptance) (w : World) (turns : List (Turn E F))
     (world : World) → Run accepts w turns world → Kept [] w → EndsOutside turns → IsSettled world
-last_settled accepts w turns world run k (earlier, turn, is, replies, other) =
+last_settled accepts w turns world run k (earlier, turn, is, how) =
     let back = run_back accepts w earlier (turn ∷ []) world
     (subst (λ ts. Run accepts w ts world) is run) in
     let step = back.2 in
     let kept = run_kept accepts [] w earlier back.0 back.1 k in
     subst IsSettled (sym step.2)
-    (turn_settled accepts (flat_map entries earlier) back.0 turn step.0 step.1 kept replies other)
+    (ends_settled accepts (flat_map entries earlier) back.0 turn step.0 step.1 kept how)

@@ -16,6 +16,7 @@ use Rattle.ssh_session.proofs.Ended.{ended, IsLive, run_live}
 use Rattle.ssh_session.proofs.Exchanged.{exchanged, last_exchanged}
 use Rattle.ssh_session.proofs.GlobalReplied.{globally_replied}
 use Rattle.ssh_session.proofs.InOrder.{in_order, last_in_order}
+use Rattle.ssh_session.proofs.LastLedger.{last_ledgered}
 use Rattle.ssh_session.proofs.LastWord.{last_word}
 use Rattle.ssh_session.proofs.Parted.{parted}
 use Rattle.ssh_session.proofs.Received.{received}
@@ -45,6 +46,8 @@ lawful {E} {F} accepts settings before after max result account =
           rose result account.run account.closes;
       ledger = λ earlier later is. ledgered accepts settings account.turns account.world account.run
           earlier later is;
+      last_ledger = last_ledgered accepts settings account.turns account.world account.last
+          account.run;
       unparted = λ earlier later is world run.
           run_live accepts (opening_world settings) earlier world run refl;
       parted = parted accepts account.world account.last (run_live accepts

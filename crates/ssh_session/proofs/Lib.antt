@@ -67,8 +67,10 @@ pub mod QueuedRows
 pub mod Untold
 pub mod Settling
 pub mod InOrder
+pub mod Renewing
 pub mod Idling
 pub mod Sums
+pub mod LastLedger
 pub mod Parting
 pub mod Parted
 pub mod Undisconnected

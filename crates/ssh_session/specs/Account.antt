@@ -18,7 +18,7 @@ use Rattle.ssh_session.specs.Authorised.{Authorised}
 use Rattle.ssh_session.specs.Exchanged.{Exchanged, IsNextExchanged}
 use Rattle.ssh_session.specs.GlobalReplied.{GlobalReplied}
 use Rattle.ssh_session.specs.InOrder.{InOrder, IsNextInOrder}
-use Rattle.ssh_session.specs.Ledger.{Ledgered_after}
+use Rattle.ssh_session.specs.Ledger.{Ledgered_after, IsNextLedgered}
 use Rattle.ssh_session.specs.Outcome.{Outcome, Goes, Ends}
 use Rattle.ssh_session.specs.Parting.{IsParted, IsUnparted, IsLastWord}
 use Rattle.ssh_session.specs.Received.{Received}
@@ -121,6 +121,8 @@ pub record Lawful {E F : Type 0} {accepts : Acceptance} {settings : Settings}
   -- in order, and outside an exchange of keys exactly those
   pub ledger : (earlier later : List (Turn E F)) → account.turns ≡ earlier ++ later
       → Ledgered_after accepts settings earlier
+  -- so it is at every moment of the last input, and behind it where it ended the run
+  pub last_ledger : IfSome account.last (IsNextLedgered accepts account.world account.turns)
   -- no command ended the connection in a finished input, and where one ended it in the last one,
   -- nothing goes out behind its DISCONNECT
   pub unparted : (earlier later : List (Turn E F)) → account.turns ≡ earlier ++ later

@@ -31,6 +31,15 @@ runs_through running (event ∷ events) = runs_through (runs_after running event
 abbrev pub runs_once : {E F : Type 0} → List (Event E F) → Bool
 runs_once past = runs_through false past
 
+-- a step answered that the new keys are in use (RFC 4253 section 7.3)
+abbrev pub is_renewal : {E F : Type 0} → Event E F → Bool
+is_renewal (Stepped (kex.Stepped payload (Ok step))) = step.done
+is_renewal _ = false
+
+-- an exchange ended in these events
+abbrev pub ends_exchange : {E F : Type 0} → List (Event E F) → Bool
+ends_exchange events = list_any is_renewal events
+
 -- ---- what it gave
 
 -- the payloads that the exchange of keys gives in a step of it

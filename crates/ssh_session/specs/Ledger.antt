@@ -6,12 +6,17 @@ use Rattle.ssh_link.specs.declared.frame.InputKind.{InputKind}
 use Rattle.ssh_link.specs.declared.frame.InputKind.TheVariants.{Payload}
 use Rattle.ssh_link.specs.declared.link.TraceEntry.{TraceEntry}
 use Rattle.ssh_link.specs.declared.link.TraceEntry.TheVariants.{Sent}
+use Rattle.ssh_auth.specs.Plan.{Plan, Event, Begins, Follows}
 use Rattle.ssh_auth.specs.Publickey.{Acceptance}
 use Rattle.ssh_channels.specs.Entry.{Entry, IsDue, accepted, due}
 use Rattle.ssh_channels.specs.Lines.{Left, Lines, find, last_left}
 use Rattle.ssh_channels.specs.Sent.{Ledgered, Each, Sends, StartsWith, IsUnopened, AllRefuse}
 use Rattle.ssh_channels.specs.Sent.{is_close, message_of, since, farewell}
-use Rattle.ssh_session.specs.Run.{Turn, Run, entries}
+use Rattle.ssh_session.specs.declared.error.Flow.{Flow}
+use Rattle.ssh_session.specs.Exchanged.{ends_exchange}
+use Rattle.ssh_session.specs.Outcome.{Outcome, Ends}
+use Rattle.ssh_session.specs.Run.{Turn, Run, Owes, entries}
+use Rattle.ssh_session.specs.Serve.{comes}
 use Rattle.ssh_session.specs.World.{Settings, World, in_exchange, opening_world}
 
 -- what was sent, and behind it what was written and waits for the end of an exchange of keys
@@ -47,19 +52,20 @@ abbrev pub is_kexinit : InputKind → Bool
 is_kexinit (Payload payload) = message_of payload == 20
 is_kexinit _ = false
 
--- the last of these inputs came outside an exchange of keys, and began none: this side may have
--- begun one behind the frames of it
+-- the last of these inputs came outside an exchange of keys and began none, or it ended one: none
+-- ran as its frames were handed on, but this side may have begun one behind them
 abbrev pub EndsOutside : {E F : Type 0} → List (Turn E F) → Type 0
 EndsOutside {E} {F} turns = (earlier : List (Turn E F)) × (last : Turn E F)
-    × (turns ≡ earlier ++ last ∷ []) × (last.replies ≡ true)
-    × (is_kexinit last.input.kind ≡ false)
+    × (turns ≡ earlier ++ last ∷ [])
+    × (((last.replies ≡ true) × (is_kexinit last.input.kind ≡ false))
+    ⊎ (ends_exchange last.events ≡ true))
 
--- no exchange of keys holds frames of these inputs
+-- no exchange of keys ran as the frames of the last of these inputs were handed on
 abbrev pub IsOut : {E F : Type 0} → List (Turn E F) → World → Type 0
 IsOut turns world = (in_exchange world ≡ false) ⊎ EndsOutside turns
 
 -- in the world after these inputs, what was sent on each channel is what it has to be, and where no
--- exchange of keys holds frames all that is due is sent
+-- exchange of keys ran as the last frames were handed on, all that is due is sent
 pub record Ledgered_after {E F : Type 0} (accepts : Acceptance) (settings : Settings)
     (turns : List (Turn E F)) : Type 0 where
   pub world : World
@@ -69,3 +75,36 @@ pub record Ledgered_after {E F : Type 0} (accepts : Acceptance) (settings : Sett
   -- what that says of the frames that were sent
   pub sent : SentSo (flat_map entries turns) world.channels.lines
   pub sent_all : IsOut turns world → SentAll (flat_map entries turns) world.channels.lines
+
+-- ---- the last input
+
+-- when this was told the channels had sent what they have to, with the frames that were written
+-- counted as sent; and what that says of the frames that were sent
+abbrev pub IsLedgered : List TraceEntry → Lines → Type 0
+IsLedgered told l = Ledgered l told × SentSo told l
+
+-- what the link was told of these inputs, and of one more in which these events came
+abbrev pub told_with : {E F : Type 0} → List (Turn E F) → Turn E F → List (Event E F)
+    → List TraceEntry
+told_with turns turn events = flat_map entries turns ++ entries (record turn { events = events })
+
+-- of one more input, taken in this world behind these inputs, as far as it came
+pub record IsNextLedgered {E F : Type 0} (accepts : Acceptance) (w : World)
+    (turns : List (Turn E F)) (turn : Turn E F) : Type 0 where
+  -- at each moment of it the channels, as they were before it, have sent what they have to; or it
+  -- can come to its end from there
+  pub underway : (plan : Plan Outcome) (past rest : List (Event E F))
+      → Owes accepts w turn.input plan → turn.events ≡ past ++ rest → Begins plan past
+      → IsLedgered (told_with turns turn past) w.channels.lines
+      ⊎ ((more : List (Event E F)) × (flow : Flow) × (world : World)
+      × Follows plan (past ++ more) (comes flow world))
+  -- and however it comes there, whether the run then goes on or is over, the channels, as they are
+  -- there, have sent what they have to, at that moment too
+  pub sent : (plan : Plan Outcome) (past rest more : List (Event E F)) (flow : Flow)
+      (world : World) → Owes accepts w turn.input plan → turn.events ≡ past ++ rest
+      → Follows plan (past ++ more) (comes flow world)
+      → IsLedgered (told_with turns turn (past ++ more)) world.channels.lines
+  -- and where it ended the run outside an exchange of keys, all that is due is sent
+  pub sent_all : (plan : Plan Outcome) (world : World) → Owes accepts w turn.input plan
+      → Follows plan turn.events (Ends world) → in_exchange world ≡ false
+      → SentAll (told_with turns turn turn.events) world.channels.lines
