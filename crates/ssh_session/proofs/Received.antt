@@ -39,10 +39,9 @@ use Rattle.ssh_session.specs.World.{Settings, World, circumstances, hears, openi
 use Rattle.ssh_session.specs.declared.exchange.Passage.{Passage}
 use Rattle.ssh_session.specs.declared.exchange.Passage.TheVariants.{Begins, Steps, Barred, Late}
 use Rattle.ssh_session.specs.declared.exchange.Passage.TheVariants.{Passes}
-use Rattle.ssh_session.proofs.Accepting.{AllWalk, last_walks, run_walks}
+use Rattle.ssh_session.proofs.Accepting.{AllWalk, Behind, behind, last_walks, run_walks}
 use Rattle.ssh_session.proofs.Books.{owed_kept, run_kept, nothing_kept, fair_at, early_runs}
 use Rattle.ssh_session.proofs.Carried.{says_bare}
-use Rattle.ssh_session.proofs.Emptied.{nothing_left}
 use Rattle.ssh_session.proofs.Fitting.{Fits, acts_fit, one_fits, input_fits, told_low}
 use Rattle.ssh_session.proofs.FittingRows.{row_fits}
 use Rattle.ssh_session.proofs.Granting.{grown_by, grown_told, grown_in, grown_in_both, sent_grown}
@@ -258,43 +257,11 @@ run_room accepts n window passed grew past w (turn ∷ turns) world run h kept =
     (grown_in n window (grown_in n window grew (entries turn)) (flat_map entries turns)) world)
     (sym (from_both n passed turn.events (events_of turns))) later)
 
--- the input after some of these, and the world that it was taken in
-record Taken {E F : Type 0} (accepts : Acceptance) (w : World) (before : List (Turn E F))
-    (turn : Turn E F) : Type 0 where
-  pub world : World
-  pub run : Run accepts w before world
-  pub plan : Plan Outcome
-  pub owes : Owes accepts world turn.input plan
-  pub walks : Walks plan turn.events
-
-taken_at : {E F : Type 0} (accepts : Acceptance) (w : World) (turns before later : List (Turn E F))
-    (turn : Turn E F) → AllWalk accepts w turns → turns ≡ before ++ turn ∷ later →
-    Taken accepts w before turn
-taken_at accepts w [] before later turn all is = absurd (nothing_left before turn later (sym is))
-taken_at accepts w (t ∷ turns) [] later turn (plan, owes, walks, next, taken) is =
-    let same : t ≡ turn = cc in
-    subst (Taken accepts w []) same
-    (record { world = w; run = refl; plan = plan; owes = owes; walks = walks })
-taken_at accepts w (t ∷ turns) (p ∷ before) later turn (plan, owes, walks, inl none, taken) is =
-    let rest : turns ≡ before ++ turn ∷ later = cc in
-    absurd (nothing_left before turn later (sym rest ∙ none))
-taken_at accepts w (t ∷ turns) (p ∷ before) later turn (plan, owes, walks, inr next, taken) is =
-    let same : t ≡ p = cc in
-    let rest : turns ≡ before ++ turn ∷ later = cc in
-    let at = taken_at accepts next.0 turns before later turn next.2 rest in
-    subst (λ u. Taken accepts w (u ∷ before) turn) same
-    (record {
-      world = at.world;
-      run = (next.0, (plan, owes, next.1, taken), at.run);
-      plan = at.plan;
-      owes = at.owes;
-      walks = at.walks;
-    })
-
 taken_received : {E F : Type 0} (accepts : Acceptance) (settings : Settings)
-    (before : List (Turn E F)) (turn : Turn E F) →
-    Taken accepts (opening_world settings) before turn → IsReceived accepts settings before turn
-taken_received accepts settings before turn at =
+    (before after : List (Turn E F)) (turn : Turn E F) →
+    Behind accepts (opening_world settings) before (turn ∷ after) →
+    IsReceived accepts settings before turn
+taken_received accepts settings before after turn at =
     let past = flat_map entries before in
     let window = settings.config.window_size in
     let fits = min-le_right window (2 ^ 32 - 1) in
@@ -309,10 +276,10 @@ taken_received accepts settings before turn at =
           let room = run_room accepts n window 0 0 [] (opening_world settings) before at.world
           at.run (refl, omega (arith, fits), (omega arith, omega arith))
           (nothing_kept settings) in
-          let low = walks_low n window (top_of n window grew at.world) passed grew at.plan
+          let low = walks_low n window (top_of n window grew at.world) passed grew at.walks.0
           turn.events seen more (room_low n window passed grew at.world room)
-          (owed_fits accepts n window passed grew past at.world turn.input at.plan at.owes room
-          kept) at.walks is in
+          (owed_fits accepts n window passed grew past at.world turn.input at.walks.0 at.walks.1
+          room kept) at.walks.2 is in
           let written = at.world.channels.lines.written in
           let told = outgoing past at.world.channels.lines in
           let granted : top_of n window grew at.world ≡ granted_on settings n told =
@@ -331,7 +298,8 @@ pub received : {E F : Type 0} (accepts : Acceptance) (settings : Settings)
     Received accepts settings (turns ++ option_to_list last)
 received accepts settings turns world count max last rose result run closes =
     λ before after turn is.
-    taken_received accepts settings before turn
-    (taken_at accepts (opening_world settings) (turns ++ option_to_list last) before after turn
-    (run_walks accepts (opening_world settings) turns world (option_to_list last) run
-    (last_walks accepts world count max last rose result closes)) is)
+    let w = opening_world settings in
+    let all = run_walks accepts w turns world (option_to_list last) run
+    (last_walks accepts world count max last rose result closes) in
+    taken_received accepts settings before after turn
+    (behind accepts w before turn after (subst (AllWalk accepts w) is all))
