@@ -1,4 +1,5 @@
--- What was sent on the channels after each input of a run (RFC 4254 section 5).
+-- What was sent on the channels after each input of a run, and at each moment of the last one (RFC
+-- 4254 section 5).
 use Rattle.std.specs.Prelude.{◌≡◌, ◌≤◌, ℕ, List, ◌∷◌, ◌++◌, map, flat_map, take, Some, None}
 use Rattle.std.specs.Prelude.{◌==◌, ◌⊎◌, [], Bool, true, false}
 use Rattle.ssh_link.specs.Frames.{Frame}

@@ -1,5 +1,5 @@
 -- A move that hands on, and whose frames no exchange of keys holds, leaves nothing that is due.
-use Rattle.std.proofs.Common.{◌≡◌, ℕ, List, [], map, true, false}
+use Rattle.std.proofs.Common.{◌≡◌, ℕ, List, [], ◌∷◌, map, true, false}
 use Rattle.std.proofs.Common.{sym, subst, inl, inr}
 use Rattle.ssh_link.specs.declared.frame.InputKind.TheVariants as input
 use Rattle.ssh_link.specs.declared.link.TraceEntry.{TraceEntry}
@@ -7,8 +7,10 @@ use Rattle.ssh_link.specs.declared.link.TraceEntry.TheVariants.{Sent, Noticed}
 use Rattle.ssh_auth.specs.Plan.{Plan, Finish, Ask, Tell, Event, Follows, after}
 use Rattle.ssh_auth.specs.Publickey.{Acceptance}
 use Rattle.ssh_session.specs.declared.exchange.ExchangeState.TheVariants.{Idle}
+use Rattle.ssh_session.specs.Acts.{tell_all}
 use Rattle.ssh_session.specs.Between.{flushed}
 use Rattle.ssh_session.specs.Exchange.{passage_of}
+use Rattle.ssh_session.specs.Exchanged.{ends_exchange}
 use Rattle.ssh_session.specs.Ledger.{is_kexinit}
 use Rattle.ssh_session.specs.Outcome.{Outcome, Goes, Ends, Fails}
 use Rattle.ssh_session.specs.Run.{Turn, Owes, OwesKind, OwesPassed, passage, finish_input}
@@ -18,7 +20,7 @@ use Rattle.ssh_session.proofs.Acting.{PlanComes}
 use Rattle.ssh_session.proofs.Books.{kind_kept}
 use Rattle.ssh_session.proofs.Emptied.{IsUnheld, told_comes, comes_of, owed_emptied, unheld}
 use Rattle.ssh_session.proofs.Idling.{ComesIdle, ComesSettled, IsSettled, row_idle, passes_of}
-use Rattle.ssh_session.proofs.Idling.{still_idle, ended_settled, handed_settled}
+use Rattle.ssh_session.proofs.Idling.{still_idle, ended_settled, handed_settled, owed_renewed}
 use Rattle.ssh_session.proofs.Keeping.{Kept, ComesKept}
 use Rattle.ssh_session.proofs.Settled.{Anything}
 use Rattle.ssh_session_vectors.specs.Client.{IsOutside, hands_on}
@@ -69,6 +71,18 @@ served_settled accepts past w moment payload plan events world owes follows k id
     (settled past owes.0 (payload_idle accepts w moment payload owes.0 owes.1 other idle)
     (kind_kept accepts past w moment (input.Payload payload) owes.0 owes.1 k))) follows
 
+-- where an exchange ended in these events, it did so behind what was told first
+ends_behind : {E F : Type 0} (entries : List TraceEntry) (next : Plan Outcome)
+    (events : List (Event E F)) (outcome : Outcome) → Follows (tell_all entries next) events outcome
+    → ends_exchange events ≡ true
+    → (rest : List (Event E F)) × (ends_exchange rest ≡ true) × Follows next rest outcome
+ends_behind [] next events outcome h ends = (events, ends, h)
+ends_behind (entry ∷ entries) next [] outcome h ends =
+    absurd (let e : Tell entry (tell_all entries next) ≡ Finish outcome = h in cc)
+ends_behind {E} {F} (entry ∷ entries) next (event ∷ events) outcome h ends =
+    ends_behind entries next events outcome h.1
+    (subst (λ first. ends_exchange {E = E} {F = F} (first ∷ events) ≡ true) h.0 ends)
+
 -- nothing waits where no exchange runs behind a payload
 served_unheld : {E F : Type 0} (accepts : Acceptance) (w : World) (moment : ℕ)
     (payload : List ℕ) (plan : Plan Outcome) (events : List (Event E F)) (world : World)
@@ -110,8 +124,9 @@ lead_settled accepts moment past more before (Served payload events) to (plan, o
     k later hands out =
     let w = before.world in
     let behind = owes.0 in
-    let told = told_first (map Noticed before.untold) behind events (Goes to.world)
-    (subst (λ p. Follows p events (Goes to.world)) owes.2 follows) in
+    let first = map Noticed before.untold in
+    let whole = subst (λ p. Follows p events (Goes to.world)) owes.2 follows in
+    let told = told_first first behind events (Goes to.world) whole in
     let live = owes_live w.disconnected accepts w (coming moment payload) behind told.0 to.world
     owes.1 told.2 in
     elim out [
@@ -119,8 +134,14 @@ lead_settled accepts moment past more before (Served payload events) to (plan, o
         served_unheld accepts w moment payload behind told.0 to.world live told.2 idle,
         later.due idle,
       )
-      | inr quiet ↦ served_settled accepts past w moment payload behind told.0 to.world live told.2
-          k quiet.0 quiet.1
+      | inr none_ran ↦ elim none_ran [
+        | inl quiet ↦ served_settled accepts past w moment payload behind told.0 to.world live told.2
+            k quiet.0 quiet.1
+        | inr ends ↦
+            let rest = ends_behind first behind events (Goes to.world) whole ends in
+            owed_renewed accepts past w (coming moment payload) behind rest.0 to.world live rest.2 k
+            rest.1
+      ]
     ]
 lead_settled accepts moment past more before (Said command outcome) to leads k later hands out =
     absurd (let e : false ≡ true = hands in cc)
@@ -131,5 +152,8 @@ lead_settled accepts moment past more before (Handed_on events) to (plan, owes, 
     (subst (λ p. Follows p events (Goes to.world)) owes follows) in
     elim out [
       | inl idle ↦ (flush_unheld w told.0 to.world told.2 idle, later.due idle)
-      | inr quiet ↦ flush_settled past w told.0 to.world told.2 k quiet.0
+      | inr none_ran ↦ elim none_ran [
+        | inl quiet ↦ flush_settled past w told.0 to.world told.2 k quiet.0
+        | inr ends ↦ absurd (let e : false ≡ true = ends in cc)
+      ]
     ]

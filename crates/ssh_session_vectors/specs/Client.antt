@@ -12,6 +12,7 @@ use Rattle.ssh_session.specs.declared.error.Flow.TheVariants.{Continue}
 use Rattle.ssh_session.specs.declared.session.Session.{Session}
 use Rattle.ssh_session.specs.Account.{Told}
 use Rattle.ssh_session.specs.Between.{untold}
+use Rattle.ssh_session.specs.Exchanged.{ends_exchange}
 use Rattle.ssh_session.specs.Ledger.{SentSo, SentAll, is_kexinit}
 use Rattle.ssh_session.specs.Serve.{Refines}
 use Rattle.ssh_session.specs.World.{Settings, in_exchange}
@@ -34,11 +35,17 @@ abbrev pub begins_exchange : {E F : Type 0} → Made E F → Bool
 begins_exchange (Served payload events) = is_kexinit (input.Payload payload)
 begins_exchange _ = false
 
+-- a payload that was served ended an exchange of keys
+abbrev pub ends_one : {E F : Type 0} → Made E F → Bool
+ends_one (Served payload events) = ends_exchange events
+ends_one _ = false
+
 -- no exchange of keys holds the frames of this move: none runs behind it; or none ran before it and
--- the peer began none by it: this side may have begun one behind its frames
+-- the peer began none by it, or it ended one: this side may have begun one behind its frames
 abbrev pub IsOutside : {E F : Type 0} → Place → Made E F → Place → Type 0
 IsOutside before made after = (in_exchange after.world ≡ false)
-    ⊎ ((in_exchange before.world ≡ false) × (begins_exchange made ≡ false))
+    ⊎ (((in_exchange before.world ≡ false) × (begins_exchange made ≡ false))
+    ⊎ (ends_one made ≡ true))
 
 -- where these moves lead, what was sent and written on each channel is what it has to be (RFC 4254
 -- section 5)

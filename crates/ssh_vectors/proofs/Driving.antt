@@ -37,6 +37,7 @@ use Rattle.ssh_session.proofs.Ended.{IsLive, run_live}
 use Rattle.ssh_session.proofs.Exchanged.{exchanged, last_exchanged}
 use Rattle.ssh_session.proofs.GlobalReplied.{globally_replied}
 use Rattle.ssh_session.proofs.InOrder.{in_order}
+use Rattle.ssh_session.proofs.LastLedger.{last_ledgered}
 use Rattle.ssh_session.proofs.LastWord.{last_word}
 use Rattle.ssh_session.proofs.Received.{received}
 use Rattle.ssh_session.proofs.Replied.{replied}
@@ -240,6 +241,7 @@ served accepts settings all a d result turns w last left max rose end run closes
       told = told;
       authorised = authorised accepts settings turns w count max last rose end run closes;
       ledger = λ earlier more is. ledgered accepts settings turns w run earlier more is;
+      last_ledger = last_ledgered accepts settings turns w last run;
       answered = answered accepts settings turns w count max last rose end run closes;
       replied = replied accepts settings turns w count max last rose end run closes;
       globally_replied = globally_replied accepts settings turns w count max last rose end run

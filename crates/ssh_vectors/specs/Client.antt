@@ -19,7 +19,7 @@ use Rattle.ssh_session.specs.Authorised.{Authorised}
 use Rattle.ssh_session.specs.Exchanged.{Exchanged, IsNextExchanged}
 use Rattle.ssh_session.specs.GlobalReplied.{GlobalReplied}
 use Rattle.ssh_session.specs.InOrder.{InOrder}
-use Rattle.ssh_session.specs.Ledger.{Ledgered_after}
+use Rattle.ssh_session.specs.Ledger.{Ledgered_after, IsNextLedgered}
 use Rattle.ssh_session.specs.Outcome.{Outcome, Ends}
 use Rattle.ssh_session.specs.Parting.{IsLastWord}
 use Rattle.ssh_session.specs.Received.{Received}
@@ -76,6 +76,8 @@ pub record Served {E F : Type 0} (accepts : Acceptance) (settings : Settings)
   -- first min(accepted, granted) bytes, in order
   pub ledger : (earlier later : List (Turn E F)) → turns ≡ earlier ++ later
       → Ledgered_after accepts settings earlier
+  -- so it is at every moment of the last input, and behind it where it ended the connection
+  pub last_ledger : IfSome last (IsNextLedgered accepts world turns)
   -- an open of the peer's gets at most one answer, and none before its callback returned
   pub answered : Answered accepts settings (turns ++ option_to_list last)
   -- the peer gets no more replies to its requests than it wanted, on a channel and to global ones
