@@ -5,9 +5,6 @@ ghost use Rattle.ssh_auth.specs.Request.{server_request, client_request, princip
 ghost use Rattle.ssh_auth.specs.Request.{initial_of, is_bound, bound_to, is_probed, prompt_of};
 ghost use Rattle.ssh_auth.specs.Request.{count_after};
 
-#[cfg(test)]
-mod tests;
-
 use crate::Method;
 use bytes::Bytes;
 use ssh_wire::{MethodSet, Text, WireError};

@@ -2,9 +2,6 @@
 ghost use Rattle.std.specs.Prelude.{◌≡◌, ◌↔◌, IsTrue};
 ghost use Rattle.ssh_auth.specs.declared.auth_result.AuthResult.TheVariants.{Success};
 
-#[cfg(test)]
-mod tests;
-
 use ssh_wire::MethodSet;
 
 /// How a request of authentication ended (RFC 4252 section 5.1).

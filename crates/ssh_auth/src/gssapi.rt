@@ -1,7 +1,4 @@
 // What a server answers in the steps of GSS-API.
-#[cfg(test)]
-mod tests;
-
 use bytes::Bytes;
 use ssh_wire::Text;
 

@@ -89,7 +89,8 @@ pub trait AuthHandler {
         offer: PublicKeyOffer<'_>,
     ) -> Result<Auth, Self::Error>
         ensures { Tells (told self.old) (told self.new) result
-            (AuthPublickeyOffered user.now offer.entry.public_key.now offer.entry.algorithm result) }
+            (AuthPublickeyOffered user.now offer.entry.public_key.now offer.entry.algorithm
+            result) }
     {
         self.untold(Unwritten::new())?;
         Ok(Auth::Accept)

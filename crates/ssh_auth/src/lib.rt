@@ -3,8 +3,7 @@
 //!
 //! What the crates above rely on are the contracts of [`serve_request`] and [`serve_response`]: one
 //! payload comes to its calls, its reply, its verdict and the changed state of authentication, line
-//! by line as
-//! `specs/Verdict.antt` says.
+//! by line as `specs/Verdict.antt` says.
 #![tactic(auto)]
 
 mod auth;

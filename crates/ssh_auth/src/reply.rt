@@ -161,7 +161,8 @@ pub(crate) fn answer_offer(
     ensures ok { IfOk result (λ step. after_offer auth.old offer.now answer.now
         ≡ Replies step.reply step.verdict auth.new) }
     ensures refused { IfErr result (λ e. (e ≡ NoMemory)
-        ⊎ ((e ≡ TooLong) × (after_offer auth.old offer.now answer.now ≡ Fails (Encoding TooLong)))) }
+        ⊎ ((e ≡ TooLong) × (after_offer auth.old offer.now answer.now
+        ≡ Fails (Encoding TooLong)))) }
 {
     match answer {
         Auth::Accept => permit(alloc, auth, offer),
@@ -294,7 +295,8 @@ fn info_request_payload(
     ensures ok { IfOk result (λ payload. (payload ≡ info_request name.now instructions.now
         prompts.now) × (length payload < 2 ^ 32)) }
     ensures refused { IfErr result (λ e. (e ≡ NoMemory)
-        ⊎ ((e ≡ TooLong) × (2 ^ 32 ≤ length (info_request name.now instructions.now prompts.now)))) }
+        ⊎ ((e ≡ TooLong) × (2 ^ 32
+        ≤ length (info_request name.now instructions.now prompts.now)))) }
 {
     let mut payload = Vec::new(alloc);
     put_u8(&mut payload, USERAUTH_INFO_REQUEST)?;

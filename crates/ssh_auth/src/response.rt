@@ -3,9 +3,6 @@ ghost use Rattle.std.specs.Prelude.{◌≡◌, IfOk, IfErr, map};
 ghost use Rattle.std.specs.Iterator.{YieldsFirstRef, item_count};
 ghost use Rattle.ssh_wire.specs.declared.error.WireError.TheVariants.{NoMemory};
 
-#[cfg(test)]
-mod tests;
-
 use bytes::Bytes;
 use ssh_wire::{Blobs, WireError};
 use std::alloc::Global;

@@ -19,8 +19,6 @@ mod paths;
 mod sending;
 mod sink;
 mod table;
-#[cfg(test)]
-mod tests;
 mod waiting;
 mod windows;
 mod with_frames;

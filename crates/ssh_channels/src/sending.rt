@@ -27,6 +27,7 @@ impl Encrypted {
         ensures unchanged { OnErr result (self.new ≡ self.old) }
         ensures memory { IfErr result (λ e. e ≡ NoMemory) }
     {
+        // Bounds the count of channels on which data wait, for `recounted`.
         let _channels = self.lines.len();
         let Some(line) = self.lines.get_mut(&channel.0) else {
             return Ok(false);

@@ -23,6 +23,7 @@ impl Encrypted {
         ensures unchanged { OnErr result (self.new ≡ self.old) }
         ensures memory { IfErr result (λ e. e ≡ NoMemory) }
     {
+        // Bounds the count of channels on which data wait, for `recounted`.
         let _channels = self.lines.len();
         let Some(line) = self.lines.get_mut(&channel.0) else {
             return Ok(None);
@@ -41,9 +42,11 @@ impl Encrypted {
         Ok(Some(credit))
     }
 
-    /// These bytes of data came in on the channel, whose room is to be kept at `target`, in bytes.
-    /// Where fewer than half of `target`, rounded down, are left, WINDOW_ADJUST with the rest of it
-    /// is staged.
+    /// These bytes of data came in on the channel, whose room is to be kept at `target`, in bytes
+    /// (RFC 4254 section 5.2). `Dropped` where they are more than the room, or the channel is not
+    /// there or not established: then nothing is changed. Else they are taken, and where fewer than
+    /// half of `target`, rounded down, are left of the room, a WINDOW_ADJUST with the rest of it is
+    /// staged.
     pub fn adjust_window_size(
         &mut self,
         channel: ChannelId,

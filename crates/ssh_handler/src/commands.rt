@@ -217,16 +217,16 @@ impl<'a> Commands<'a> {
         self.recorded.try_push(Command::Close { channel })
     }
 
-    /// Answers the peer's request on the channel by success, where an answer is wanted (RFC 4254
-    /// section 5.4).
+    /// Answers the peer's last request on the channel by success, where that wants an answer and
+    /// has none yet (RFC 4254 section 5.4).
     pub fn channel_success(&mut self, channel: ChannelId) -> Result<(), Command>
         ensures { TakesDown self.old self.new result (command.ChannelSuccess channel) }
     {
         self.recorded.try_push(Command::ChannelSuccess { channel })
     }
 
-    /// Answers the peer's request on the channel by failure, where an answer is wanted (RFC 4254
-    /// section 5.4).
+    /// Answers the peer's last request on the channel by failure, where that wants an answer and
+    /// has none yet (RFC 4254 section 5.4).
     pub fn channel_failure(&mut self, channel: ChannelId) -> Result<(), Command>
         ensures { TakesDown self.old self.new result (command.ChannelFailure channel) }
     {
@@ -290,7 +290,7 @@ impl<'a> Commands<'a> {
         self.recorded.try_push(Command::OpenSession)
     }
 
-    /// Opens a channel to the agent of the client.
+    /// Opens a channel to the agent of the client (OpenSSH's `auth-agent@openssh.com`).
     pub fn channel_open_agent(&mut self) -> Result<(), Command>
         ensures { TakesDown self.old self.new result command.OpenAgent }
     {
@@ -405,30 +405,32 @@ impl<'a> Commands<'a> {
         })
     }
 
-    /// Asks the peer for a sign of life, whose answer is told to nobody.
+    /// Asks the peer for a sign of life, whose answer is told to nobody (RFC 4254 section 4,
+    /// `keepalive@openssh.com`).
     pub fn keepalive_request(&mut self) -> Result<(), Command>
         ensures { TakesDown self.old self.new result command.Keepalive }
     {
         self.recorded.try_push(Command::Keepalive)
     }
 
-    /// Asks the peer for a sign of life, whose answer is told under the slot.
+    /// Asks the peer for a sign of life, whose answer is told under the slot (RFC 4254 section 4,
+    /// `keepalive@openssh.com`).
     pub fn send_ping(&mut self, slot: u64) -> Result<(), Command>
         ensures { TakesDown self.old self.new result (command.Ping slot) }
     {
         self.recorded.try_push(Command::Ping { slot })
     }
 
-    /// Answers the peer's global request by success, where an answer is wanted (RFC 4254 section
-    /// 4).
+    /// Answers the peer's last global request by success, where that wants an answer and has none
+    /// yet (RFC 4254 section 4).
     pub fn request_success(&mut self) -> Result<(), Command>
         ensures { TakesDown self.old self.new result command.RequestSuccess }
     {
         self.recorded.try_push(Command::RequestSuccess)
     }
 
-    /// Answers the peer's global request by failure, where an answer is wanted (RFC 4254 section
-    /// 4).
+    /// Answers the peer's last global request by failure, where that wants an answer and has none
+    /// yet (RFC 4254 section 4).
     pub fn request_failure(&mut self) -> Result<(), Command>
         ensures { TakesDown self.old self.new result command.RequestFailure }
     {

@@ -17,9 +17,11 @@ pub struct Config {
     /// After how many bytes, or how long, keys are exchanged again; the time is told to whoever
     /// builds the link.
     pub limits: Limits,
-    /// The window that each channel grants its peer, in bytes.
+    /// The window that each channel grants its peer, in bytes (RFC 4254 section 5.1). Where more
+    /// than twice as many come between this side's KEXINIT and the peer's, the run ends.
     pub window_size: u32,
-    /// The largest packet that each channel takes from its peer, in bytes.
+    /// The most bytes of data in one message that the peer is told this side takes (RFC 4254
+    /// section 5.1). Of data that come in only the room counts.
     pub maximum_packet_size: u32,
     /// How many messages wait for the user of a channel. Nothing reads it yet.
     pub channel_buffer_size: usize,
@@ -28,13 +30,14 @@ pub struct Config {
     /// After how many rejections the next request or response is answered by a DISCONNECT; 0 sets
     /// no end.
     pub max_auth_attempts: usize,
-    /// After how long without an input the link ends the connection, in milliseconds; told to
-    /// whoever builds the link.
+    /// After how many milliseconds without an input the application is to give the inactivity tick,
+    /// which ends the run; None for never. Nothing here measures time.
     pub inactivity_timeout: Option<u64>,
-    /// How long the link waits between keepalive ticks, in milliseconds; told to whoever builds
-    /// the link.
+    /// How many milliseconds the application is to wait between keepalive ticks; None where it
+    /// gives none.
     pub keepalive_interval: Option<u64>,
-    /// How many keepalive requests may go unanswered; 0 sets no end.
+    /// How many keepalive ticks may come while the peer is not heard: one more ends the run. 0 sets
+    /// no end.
     pub keepalive_max: usize,
     /// Whether the socket sends small packets at once; told to whoever builds the link.
     pub nodelay: bool,

@@ -13,15 +13,19 @@ ghost use Rattle.ssh_auth.specs.declared.call.Call.TheVariants.{AuthKeyboardInte
 // Passes the answer on, and tells the call of this variant, all of whose fields are Copy; and with
 // a session, the commands that were recorded.
 macro_rules! pass {
-    ($told:expr, $answer:expr, $call:ident $(, $field:ident: $value:expr)*) => {{
-        let call = Call::$call { $($field: $value,)* answer: passed($answer) };
-        $told.pass($answer, Ok(call))
+    ($told:expr, $inner:expr, $call:ident $(, $field:ident: $value:expr)*) => {{
+        let given = $inner;
+        let answer = crate::recorded::passed(given);
+        let call = ssh_auth::Call::$call { $($field: $value,)* answer };
+        $told.pass(given, Ok(call))
     }};
-    ($told:expr, $session:expr, $answer:expr, $call:ident $(, $field:ident: $value:expr)*) => {{
-        let answer = passed($answer);
+    ($told:expr, $session:expr, $inner:expr, $call:ident $(, $field:ident: $value:expr)*) => {{
+        let given = $inner;
+        let answer = crate::recorded::passed(given);
         let copy = $session.copy_recorded();
-        let call = copy.map(|commands| Call::$call { $($field: $value,)* answer, commands });
-        $told.pass($answer, call)
+        let call =
+            copy.map(|commands| ssh_auth::Call::$call { $($field: $value,)* answer, commands });
+        $told.pass(given, call)
     }};
 }
 

@@ -67,7 +67,7 @@ use Rattle.ssh_hub.specs.Rule.{
   InStage,
   Fits,
   Kept,
-  Sat,
+  Seated,
   leaving,
   drawn_by,
   written,
@@ -85,12 +85,13 @@ use Rattle.ssh_hub.proofs.Histories.{
 use Rattle.ssh_hub.proofs.Views.{total_set, each_set, less, apart_set, at_within}
 use Rattle.ssh_hub.proofs.Stages.{ticket_in, turn_in, waits_on, spare_cases, new_number}
 
-abbrev St : Type 0
-St = State (Option World) View
+-- the lock's table: its words, its slot, and the views of its seats
+abbrev TableState : Type 0
+TableState = State (Option World) View
 
 module _ (k : Config2) where
   -- the entry is written
-  pub commits : (slots id t : ℕ) (me : Sat) (e : Entry) → 0 < me.0.number → me.0.stage ≡ Inside t
+  pub commits : (slots id t : ℕ) (me : Seated) (e : Entry) → 0 < me.0.number → me.0.stage ≡ Inside t
       → me.0.spare ≡ None → e.by ≡ me.0.number → e.reply
       ≡ (hub.hub_step (world me.0.config me.0.seen) e.by e.call).1
       → Allows (Kept k) slots id me 2 (λ n. (n + 1) % 18446744073709551616)
@@ -151,7 +152,7 @@ module _ (k : Config2) where
       (turn_in log r.drawn r.served u.seen u.stage (r.each j u x).stage turn).0 in
       subst (λ (z : View). (y : View) × (a : Act (Option World)) × Valid s.homes me.1 a
       × Kept k (stepped s 2 ((get_or s.words 2 0 + 1) % 18446744073709551616) id me.1 y a)
-      × ((get_or s.words 2 0 ≡ length v.seen) × (let p : Sat = (y, carried_after me.1 a) in
+      × ((get_or s.words 2 0 ≡ length v.seen) × (let p : Seated = (y, carried_after me.1 a) in
       p ≡ (z, me.1)) × ((n : ℕ) → drawn_by e.call e.reply v.spare ≡ Some n → (0 < n)
       × (calls_by n (v.seen ++ e ∷ []) ≡ [])))) w_is (
         w,
@@ -213,10 +214,10 @@ module _ (k : Config2) where
                     (r.each j u x) z (let p0 = p.0 in omega arith)) y,
               ))
               r.apart;
-          desk = ⊎_elim
+          holder = ⊎_elim
               (λ l. absurd (l.0 id v at (subst HasTurn (sym st) tt)))
               (λ q. inr (id, w, set_here s.views id w (at_within s.views id v at), tt, q.4))
-              r.desk;
+              r.holder;
         },
         (
           found ∙ ap length (sym whole),
@@ -231,7 +232,7 @@ module _ (k : Config2) where
       )
 
   -- the hub is given back, and the next ticket is served
-  pub passes : (slots id : ℕ) (me : Sat) → 0 < me.0.number → HasTurn me.0.stage → me.1
+  pub passes : (slots id : ℕ) (me : Seated) → 0 < me.0.number → HasTurn me.0.stage → me.1
       ≡ (0, Some (world me.0.config me.0.seen)) ∷ [] → Allows (Kept k) slots id me 1
       (λ n. (n + 1) % 18446744073709551616) (passed (step slots 1 1 0 none) me)
   passes slots id me real turn carried s r _ at _ =
@@ -258,7 +259,8 @@ module _ (k : Config2) where
       let not_turn : (j : ℕ) (u : View) → j ≢ id → get_elem? s.views j ≡ some u → HasTurn u.stage
       → ⊥ = λ j u ne x there. not_served j u ne x (turn_in log r.drawn r.served u.seen u.stage
       (r.each j u x).stage there).0 in
-      let out : s.homes ≡ none ∷ [] = ⊎_elim (λ l. absurd (l.0 id v at turn)) (λ q. q.4) r.desk in (
+      let out : s.homes ≡ none ∷ [] = ⊎_elim (λ l. absurd (l.0 id v at turn)) (λ q. q.4)
+      r.holder in (
         w,
         gives,
         tt,
@@ -305,7 +307,7 @@ module _ (k : Config2) where
                   });
               apart = apart_set s.views id w (λ j u ne x. less v w u (λ q y. absurd y) (λ n y. y)
                   (r.apart id j v u (λ y. ne (sym y)) at x)) r.apart;
-              desk = inl (
+              holder = inl (
                 each_set (λ u. HasTurn u.stage → ⊥) s.views id w (λ x. x)
                     (λ j u ne x. not_turn j u ne x),
                 ap (λ hs. set hs 0 (some home)) out
@@ -317,13 +319,13 @@ module _ (k : Config2) where
       )
 
 -- the same where the seat has just given the hub back
-pub passes_as : (k : Config2) (slots id : ℕ) (me : Sat) (v : View) (w : World)
+pub passes_as : (k : Config2) (slots id : ℕ) (me : Seated) (v : View) (w : World)
     (old : List (ℕ × Option World)) → me ≡ (v, (0, Some w) ∷ rest old) → old ≡ (0, None) ∷ []
     → 0 < v.number → HasTurn v.stage → w ≡ world v.config v.seen
     → Allows (Kept k) slots id me 1 (λ n. (n + 1) % 18446744073709551616)
     (passed (step slots 1 1 0 none) me)
 passes_as k slots id me v w old is was real turn hub_is =
-    subst (λ (m : Sat). Allows (Kept k) slots id m 1 (λ n. (n + 1) % 18446744073709551616)
+    subst (λ (m : Seated). Allows (Kept k) slots id m 1 (λ n. (n + 1) % 18446744073709551616)
     (passed (step slots 1 1 0 none) m)) (sym is)
     (passes k slots id (v, (0, Some w) ∷ rest old) real turn
     (ap₂ (λ (x : World) (c : List (ℕ × Option World)). (0, Some x) ∷ rest c) hub_is was))

@@ -29,7 +29,7 @@ use Rattle.ssh_hub.specs.World.{World}
 use Rattle.ssh_hub.specs.Step.{opening, act, counted}
 use Rattle.ssh_hub.specs.History.{IsLegal, calls_by, newest, Grows}
 use Rattle.ssh_hub.specs.Rule.{
-  Sat,
+  Seated,
   world,
   written,
   ended,
@@ -68,13 +68,13 @@ use Rattle.ssh_hub.proofs.Counts.{place_kept}
 use Rattle.ssh_hub.proofs.Stages.{met, met_same}
 
 -- the seat that has taken the hub out
-pub inside_after : (t : ℕ) (v : View) (carried : List (ℕ × Option World)) (m n : Sat)
+pub inside_after : (t : ℕ) (v : View) (carried : List (ℕ × Option World)) (m n : Seated)
     → Turned t (v, carried) m → n ≡ (m.0, (0, None) ∷ rest m.1) → AtRest (v, carried) → InsideAt n
 inside_after t v carried m n turned is at =
     let w : View = record v { stage = Inside t; seen = turned.0 } in
     let now : n ≡ (w, (0, None) ∷ []) = is
-    ∙ (ap (λ (x : Sat). let p : Sat = (x.0, (0, None) ∷ rest x.1) in p) turned.1
-    ∙ ap (λ (c : List (ℕ × Option World)). let p : Sat = (w, (0, None) ∷ c) in p) at.4) in
+    ∙ (ap (λ (x : Seated). let p : Seated = (x.0, (0, None) ∷ rest x.1) in p) turned.1
+    ∙ ap (λ (c : List (ℕ × Option World)). let p : Seated = (w, (0, None) ∷ c) in p) at.4) in
     subst InsideAt (sym now) (
       at.0,
       (t, refl),
@@ -84,11 +84,11 @@ inside_after t v carried m n turned is at =
       at.5 ∙ sym (mine_on v.number v.seen turned.0 turned.2),
     )
 
-pub newest_entered : (t : ℕ) (v : View) (carried : List (ℕ × Option World)) (m n : Sat)
+pub newest_entered : (t : ℕ) (v : View) (carried : List (ℕ × Option World)) (m n : Seated)
     → Turned t (v, carried) m → n ≡ (m.0, (0, None) ∷ rest m.1) → newest n.0.number n.0.seen
     ≡ newest v.number v.seen
-newest_entered t v carried m n turned is = ap (λ (x : Sat). newest x.0.number x.0.seen) is
-    ∙ (ap (λ (x : Sat). newest x.0.number x.0.seen) turned.1 ∙ newest_on v.number v.seen turned.0
+newest_entered t v carried m n turned is = ap (λ (x : Seated). newest x.0.number x.0.seen) is
+    ∙ (ap (λ (x : Seated). newest x.0.number x.0.seen) turned.1 ∙ newest_on v.number v.seen turned.0
     turned.2)
 
 -- the hub after an entry
@@ -102,11 +102,11 @@ pub place_before : (w : View) (e : Entry) (h : World) → act (world w.config w.
 place_before w e h is = sym (ap (λ p. p.0.place) is) ∙ place_kept (world w.config w.seen) e.by
     e.call
 
-pub ended_as : (m n o : Sat) (e : Entry) → n ≡ (written e m.0, m.1) → o
+pub ended_as : (m n o : Seated) (e : Entry) → n ≡ (written e m.0, m.1) → o
     ≡ (record n.0 { stage = Idle }, []) → m.0.spare ≡ None → o ≡ (ended e m.0, [])
 ended_as m n o e wrote left none =
-    left ∙ (ap (λ (x : Sat). let p : Sat = (record x.0 { stage = Idle }, []) in p) wrote
-    ∙ ap (λ (s : Option ℕ). let p : Sat = (
+    left ∙ (ap (λ (x : Seated). let p : Seated = (record x.0 { stage = Idle }, []) in p) wrote
+    ∙ ap (λ (s : Option ℕ). let p : Seated = (
       record m.0 {
         stage = Idle;
         spare = drawn_by e.call e.reply s;
@@ -116,11 +116,11 @@ ended_as m n o e wrote left none =
       [],
     ) in p) none)
 
-pub made : (m o : Sat) (e : Entry) (h : World) → IsLegal (opening m.0.config) m.0.seen → e.by
+pub made : (m o : Seated) (e : Entry) (h : World) → IsLegal (opening m.0.config) m.0.seen → e.by
     ≡ m.0.number → act (world m.0.config m.0.seen) e.by e.call ≡ (h, e.reply) → o
     ≡ (ended e m.0, []) → Makes m.0 e.call e.reply o.0
 made m o e h legal by answer is =
-    subst (λ (x : Sat). Makes m.0 e.call e.reply x.0) (sym is) record {
+    subst (λ (x : Seated). Makes m.0 e.call e.reply x.0) (sym is) record {
       same = (refl, refl);
       legal = legal_snoc (opening m.0.config) m.0.seen e legal (sym (ap (λ p. p.1) answer));
       before = m.0.seen;
@@ -154,9 +154,9 @@ learns_still v w x l m = record {
   grows = (l.grows.0, m.seen ∙ l.grows.1, l.grows.2);
 }
 
-pub rests_after : (m o : Sat) (e : Entry) → InsideAt m → e.by ≡ m.0.number → o ≡ (ended e m.0, [])
-    → AtRest (stays_seated o.0, o.1)
-rests_after m o e at by is = subst (λ (x : Sat). AtRest (stays_seated x.0, x.1)) (sym is) (
+pub rests_after : (m o : Seated) (e : Entry) → InsideAt m → e.by ≡ m.0.number
+    → o ≡ (ended e m.0, []) → AtRest (stays_seated o.0, o.1)
+rests_after m o e at by is = subst (λ (x : Seated). AtRest (stays_seated x.0, x.1)) (sym is) (
   at.0,
   refl,
   refl,
@@ -166,17 +166,18 @@ rests_after m o e at by is = subst (λ (x : Sat). AtRest (stays_seated x.0, x.1)
       ∙ sym (calls_by_mine m.0.number m.0.seen e by),
 )
 
-pub newest_after : (m o : Sat) (e : Entry) (at : ℕ) → e.by ≡ m.0.number → at ≡ length m.0.seen → o
-    ≡ (ended e m.0, []) → Some at ≡ newest o.0.number o.0.seen
+pub newest_after : (m o : Seated) (e : Entry) (at : ℕ) → e.by ≡ m.0.number → at ≡ length m.0.seen
+    → o ≡ (ended e m.0, []) → Some at ≡ newest o.0.number o.0.seen
 newest_after m o e at by here is = ap (λ (k : ℕ). Some k) here
-    ∙ sym (ap (λ (x : Sat). newest x.0.number x.0.seen) is ∙ newest_mine m.0.number m.0.seen e by)
+    ∙ sym (ap (λ (x : Seated). newest x.0.number x.0.seen) is
+    ∙ newest_mine m.0.number m.0.seen e by)
 
 -- the seat that has made no entry
-pub stayed : (m o : Sat) → InsideAt m → o ≡ (record m.0 { stage = Idle }, []) → AtRest o
+pub stayed : (m o : Seated) → InsideAt m → o ≡ (record m.0 { stage = Idle }, []) → AtRest o
 stayed m o at is = subst AtRest (sym is) (at.0, refl, at.2, at.3, refl, at.5)
 
-pub stays_on : (m o : Sat) → o ≡ (record m.0 { stage = Idle }, []) → Stays m.0 o.0
-stays_on m o is = subst (λ (x : Sat). Stays m.0 x.0) (sym is) record {
+pub stays_on : (m o : Seated) → o ≡ (record m.0 { stage = Idle }, []) → Stays m.0 o.0
+stays_on m o is = subst (λ (x : Seated). Stays m.0 x.0) (sym is) record {
   same = (refl, refl);
   seen = refl;
 }
@@ -207,14 +208,15 @@ grown false v x p mine own = record {
 }
 
 pub met_now : (st : Step (Option World)) (r : ℕ) (v x : View) (carried : List (ℕ × Option World))
-    (m n : Sat) → m ≡ (meets v x, carried) → compared st m r n → AtRest (v, carried) → Meets v x n.0
-met_now st r v x carried m n is c at = let d = subst (λ (y : Sat). compared st y r n) is c in
-    subst (λ (y : Sat). Meets v x y.0) (sym d.0) (grown (ltb (length v.seen) (length x.seen)) v x
+    (m n : Seated) → m ≡ (meets v x, carried) → compared st m r n → AtRest (v, carried)
+    → Meets v x n.0
+met_now st r v x carried m n is c at = let d = subst (λ (y : Seated). compared st y r n) is c in
+    subst (λ (y : Seated). Meets v x y.0) (sym d.0) (grown (ltb (length v.seen) (length x.seen)) v x
     d.1 d.2 at.5)
 
 pub met_rests : (st : Step (Option World)) (r : ℕ) (v x : View) (carried : List (ℕ × Option World))
-    (m n : Sat) → m ≡ (meets v x, carried) → compared st m r n → AtRest (v, carried) → AtRest n
-met_rests st r v x carried m n is c at = let d = subst (λ (y : Sat). compared st y r n) is c in
+    (m n : Seated) → m ≡ (meets v x, carried) → compared st m r n → AtRest (v, carried) → AtRest n
+met_rests st r v x carried m n is c at = let d = subst (λ (y : Seated). compared st y r n) is c in
     let e = met_same (ltb (length v.seen) (length x.seen)) v x in
     subst AtRest (sym d.0) (
       subst (λ (k : ℕ). 0 < k) (sym e.2) at.0,
@@ -231,14 +233,15 @@ newest_met v x w m = ap (λ (n : ℕ). newest n w.seen) m.same.0 ∙ newest_on v
 
 -- a new seat
 
-pub new_rests : (v : View) (n : ℕ) (m : Sat) → v.spare ≡ Some n → (0 < n) × (calls_by n v.seen ≡ [])
+pub new_rests : (v : View) (n : ℕ) (m : Seated) → v.spare ≡ Some n
+    → (0 < n) × (calls_by n v.seen ≡ [])
     → m ≡ (sits_down v, []) → (AtRest m × (n ≡ m.0.number) × (None ≡ newest m.0.number m.0.seen))
     × IsNew v m.0
 new_rests v n m has fresh is =
     let now : m ≡ (newcomer v.config n v.seen, []) = is
-    ∙ ap (λ (s : Option ℕ). let p : Sat =
+    ∙ ap (λ (s : Option ℕ). let p : Seated =
     (newcomer v.config (Rattle.ssh_hub.specs.Rule.number_in s) v.seen, []) in p) has in
-    subst (λ (x : Sat). (AtRest x × (n ≡ x.0.number) × (None ≡ newest x.0.number x.0.seen))
+    subst (λ (x : Seated). (AtRest x × (n ≡ x.0.number) × (None ≡ newest x.0.number x.0.seen))
     × IsNew v x.0) (sym now) (
       ((fresh.0, refl, refl, refl, refl, sym fresh.1), refl, sym (newest_none n v.seen fresh.1)),
       record { config = refl; seen = refl; none_made = fresh.1 },
@@ -256,11 +259,11 @@ split_made v x y n k m is same = subst (λ (z : View). Makes v SplitSeat (SeatIs
     })
 
 -- the number that an entry drew is new
-pub fresh_after : (st : Step (Option World)) (r : ℕ) (m o : Sat) (e : Entry) → m.0.spare ≡ None
+pub fresh_after : (st : Step (Option World)) (r : ℕ) (m o : Seated) (e : Entry) → m.0.spare ≡ None
     → committed e st m r o → (n : ℕ) → drawn_by e.call e.reply None ≡ Some n → (0 < n)
     × (calls_by n o.0.seen ≡ [])
 fresh_after st r m o e none c n x = let f = c.2 n (ap (λ (s : Option ℕ). drawn_by e.call e.reply s)
-    none ∙ x) in (f.0, subst (λ (y : Sat). calls_by n y.0.seen ≡ []) (sym c.1) f.1)
+    none ∙ x) in (f.0, subst (λ (y : Seated). calls_by n y.0.seen ≡ []) (sym c.1) f.1)
 
 met_legal_by : (b : Bool) (v x : View) → x.config ≡ v.config → IsLegal (opening v.config) v.seen
     → IsLegal (opening x.config) x.seen → IsLegal (opening (met b v x).config) (met b v x).seen
@@ -268,12 +271,12 @@ met_legal_by true v x same l r = subst (λ (c : Config2). IsLegal (opening c) x.
 met_legal_by false v x same l r = l
 
 pub met_legal : (st : Step (Option World)) (r : ℕ) (v x : View) (carried : List (ℕ × Option World))
-    (m n : Sat) → m ≡ (meets v x, carried) → compared st m r n → x.config ≡ v.config
+    (m n : Seated) → m ≡ (meets v x, carried) → compared st m r n → x.config ≡ v.config
     → IsLegal (opening v.config) v.seen → IsLegal (opening x.config) x.seen
     → IsLegal (opening n.0.config) n.0.seen
 met_legal st r v x carried m n is c same mine theirs = let d =
-    subst (λ (y : Sat). compared st y r n) is c in
-    subst (λ (y : Sat). IsLegal (opening y.0.config) y.0.seen) (sym d.0)
+    subst (λ (y : Seated). compared st y r n) is c in
+    subst (λ (y : Seated). IsLegal (opening y.0.config) y.0.seen) (sym d.0)
     (met_legal_by (ltb (length v.seen) (length x.seen)) v x same mine theirs)
 
 pub new_legal : (v w : View) → IsNew v w → IsLegal (opening v.config) v.seen

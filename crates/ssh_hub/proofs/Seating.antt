@@ -68,10 +68,11 @@ use Rattle.ssh_hub.proofs.Views.{
   apart_snoc,
   at_within,
 }
-use Rattle.ssh_hub.proofs.Stages.{desk_stays, met_same, met_fits, nobody_fits}
+use Rattle.ssh_hub.proofs.Stages.{holder_stays, met_same, met_fits, nobody_fits}
 
-abbrev St : Type 0
-St = State (Option World) View
+-- the lock's table: its words, its slot, and the views of its seats
+abbrev TableState : Type 0
+TableState = State (Option World) View
 
 module _ (k : Config2) where
   -- a new seat takes the number that was drawn
@@ -146,7 +147,7 @@ module _ (k : Config2) where
             (apart_set s.views id w (λ j u ne y. less v w u (λ t p. p) (λ m p.
             ⊎_elim (λ (a : (0 < m) × (v.number ≡ m)). inl a) (λ a. absurd (cc a)) p)
             (r.apart id j v u (λ e. ne (sym e)) at y)) r.apart);
-        desk = ⊎_elim
+        holder = ⊎_elim
             (λ l. inl (
               each_snoc (λ u. HasTurn u.stage → ⊥) vs x idle_x
                   (each_set (λ u. HasTurn u.stage → ⊥) s.views id w (l.0 id v at)
@@ -174,7 +175,7 @@ module _ (k : Config2) where
               q.3,
               q.4,
             )))
-            r.desk;
+            r.holder;
       }
 
   -- two seats meet
@@ -200,8 +201,8 @@ module _ (k : Config2) where
       let h = r.held in
       let b = r.seated in
       let w_idle : HasTurn w.stage → ⊥ = λ y. subst HasTurn (e.0 ∙ idle) y in
-      let d = desk_stays k log r.served s.views s.homes id v w at (λ y. subst HasTurn idle y) w_idle
-      r.desk in
+      let d = holder_stays k log r.served s.views s.homes id v w at (λ y. subst HasTurn idle y)
+      w_idle r.holder in
       record {
         log = log;
         drawn = r.drawn;
@@ -229,7 +230,7 @@ module _ (k : Config2) where
             (λ a. inr (sym e.1 ∙ a)) p)
             (r.apart id j v u (λ q. ne (sym q)) at y))
             r.apart);
-        desk = desk_stays k log r.served vs s.homes other x nobody there
+        holder = holder_stays k log r.served vs s.homes other x nobody there
             (λ y. subst HasTurn idle_x y) (λ y. y) d;
       }
 
@@ -248,7 +249,7 @@ module _ (k : Config2) where
     seated = refl;
     each = λ j v e. first_each j v e;
     apart = λ i j v w ne at_i at_j. absurd (ne (only i v at_i ∙ sym (only j w at_j)));
-    desk = inl ((λ j v e x. first_idle j v e x), refl, omega arith);
+    holder = inl ((λ j v e x. first_idle j v e x), refl, omega arith);
   }
     where
       only : (j : ℕ) (v : View) → get_elem? (newcomer k 1 [] ∷ []) j ≡ some v → j ≡ 0

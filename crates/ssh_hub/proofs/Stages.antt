@@ -52,7 +52,7 @@ use Rattle.ssh_hub.specs.Rule.{
   world,
   InStage,
   Fits,
-  Desk,
+  OneHolder,
   nobody,
   drawn_by,
   meets,
@@ -106,12 +106,13 @@ drawn_on log drawn drawn' served seen (Inside u) more f = let b = f.1 in
 drawn_on log drawn drawn' served seen (Leaving u) more f = let b = f.1 in
     (f.0, omega arith, f.2, f.3, f.4)
 
--- the desk, where one seat's view changes and neither before nor after has that seat the turn
-pub desk_stays : (k : Config2) (log : List Entry) (served : ℕ) (vs : List View)
+-- the hub still has one holder where the view of a seat changes that has not the turn before or
+-- after
+pub holder_stays : (k : Config2) (log : List Entry) (served : ℕ) (vs : List View)
     (homes : List (maybe.Option (Option World))) (id : ℕ) (v w : View) → get_elem? vs id ≡ some v
-    → (HasTurn v.stage → ⊥) → (HasTurn w.stage → ⊥) → Desk k log served vs homes
-    → Desk k log served (set vs id w) homes
-desk_stays k log served vs homes id v w at before after d =
+    → (HasTurn v.stage → ⊥) → (HasTurn w.stage → ⊥) → OneHolder k log served vs homes
+    → OneHolder k log served (set vs id w) homes
+holder_stays k log served vs homes id v w at before after d =
     ⊎_elim
     (λ l. inl (each_set (λ u. HasTurn u.stage → ⊥) vs id w after (λ j u _ e. l.0 j u e), l.1, l.2))
     (λ r. inr (

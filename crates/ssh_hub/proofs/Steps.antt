@@ -62,7 +62,7 @@ use Rattle.ssh_hub.specs.Rule.{
   InStage,
   Fits,
   Kept,
-  Sat,
+  Seated,
   drew,
   Turned,
   looked,
@@ -76,17 +76,19 @@ use Rattle.ssh_hub.proofs.Stages.{
   ticket_in,
   turn_in,
   drawn_on,
-  desk_stays,
+  holder_stays,
   met_same,
   told_is_shorter,
 }
 
-abbrev St : Type 0
-St = State (Option World) View
+-- the lock's table: its words, its slot, and the views of its seats
+abbrev TableState : Type 0
+TableState = State (Option World) View
 
 module _ (k : Config2) where
   -- no more tickets are out than the lock can tell apart
-  window : (s : St) (r : Kept k s) (t : ℕ) → t < r.drawn → t < r.served + 18446744073709551616
+  window : (s : TableState) (r : Kept k s) (t : ℕ) → t < r.drawn
+      → t < r.served + 18446744073709551616
   window s r t below =
       let h = r.held in
       let a = total_below s.views in
@@ -97,9 +99,9 @@ module _ (k : Config2) where
       (λ l. let d = l.2 in omega arith)
       (λ q. let u = turn_in r.log r.drawn r.served q.1.seen q.1.stage (r.each q.0 q.1 q.2).stage
       q.3 in let d = u.3 in let e = u.4 in omega arith)
-      r.desk
+      r.holder
 
-  pub draws : (slots id : ℕ) (me : Sat) → me.0.stage ≡ Idle → Allows (Kept k) slots id me 0
+  pub draws : (slots id : ℕ) (me : Seated) → me.0.stage ≡ Idle → Allows (Kept k) slots id me 0
       (λ n. (n + 1) % 18446744073709551616) (drew (step slots 0 1 0 none) me)
   draws slots id me idle s r _ at _ =
       let v = me.0 in
@@ -156,14 +158,15 @@ module _ (k : Config2) where
                 λ n x y. a.1 n x y,
               ))
               r.apart;
-          desk = desk_stays k r.log r.served s.views s.homes id v w at (λ x. subst HasTurn idle x)
-              (λ x. x) r.desk;
+          holder = holder_stays k r.log r.served s.views s.homes id v w at
+              (λ x. subst HasTurn idle x) (λ x. x) r.holder;
         },
         (t, found, refl),
       )
 
   -- a step that changes neither word nor view
-  unmoved : (s : St) → Kept k s → (i id : ℕ) (me : Sat) → get_elem? s.views id ≡ some me.0
+  unmoved : (s : TableState) → Kept k s → (i id : ℕ) (me : Seated)
+      → get_elem? s.views id ≡ some me.0
       → Kept k (stepped s i (get_or s.words i 0) id me.1 me.0 keeps)
   unmoved s r i id me at = subst (λ (p : List ℕ × List View). Kept k record {
     words = p.0;
@@ -173,7 +176,8 @@ module _ (k : Config2) where
       (λ j. (sym (set-get_or s.words i 0) j, sym (set_again s.views id me.0 at) j)) r
 
   -- whoever holds the ticket that is served, while another has the turn, is that other
-  one_turn_only : (s : St) (r : Kept k s) (id : ℕ) (v : View) → get_elem? s.views id ≡ some v
+  one_turn_only : (s : TableState) (r : Kept k s) (id : ℕ) (v : View)
+      → get_elem? s.views id ≡ some v
       → HasTicket v.stage r.served → (HasTurn v.stage → ⊥)
       → ((j : ℕ) (u : View) → get_elem? s.views j ≡ some u → HasTurn u.stage → ⊥)
       × (s.homes ≡ some (Some (world k r.log)) ∷ []) × (length r.log ≤ r.served)
@@ -185,9 +189,10 @@ module _ (k : Config2) where
       (some-injective q.1 v (sym q.2 ∙ (ap (get_elem? s.views) same ∙ at))) q.3))
       (λ ne. (r.apart q.0 id q.1 v ne q.2 at).0 r.served (turn_in r.log r.drawn r.served q.1.seen
       q.1.stage (r.each q.0 q.1 q.2).stage q.3).0 mine)))
-      r.desk
+      r.holder
 
-  enters : (s : St) (r : Kept k s) (id t : ℕ) (me : Sat) → get_elem? s.views id ≡ some me.0
+  enters : (s : TableState) (r : Kept k s) (id t : ℕ) (me : Seated)
+      → get_elem? s.views id ≡ some me.0
       → 0 < me.0.number → me.0.stage ≡ Waiting t → t ≡ r.served
       → r.served + 2 < 18446744073709551616
       → (w : View) × (a : Act (Option World)) × Valid s.homes me.1 a
@@ -252,7 +257,7 @@ module _ (k : Config2) where
               (λ j u ne e. less v w u (λ x y. subst (λ z. HasTicket z x) (sym st) y) (λ n y. y)
               (r.apart id j v u (λ x. ne (sym x)) at e))
               r.apart;
-          desk = inr (
+          holder = inr (
             id,
             w,
             set_here s.views id w (at_within s.views id v at),
@@ -269,7 +274,7 @@ module _ (k : Config2) where
         ),
       )
 
-  pub looks : (slots id t : ℕ) (me : Sat) → 0 < me.0.number → me.0.stage ≡ Waiting t
+  pub looks : (slots id t : ℕ) (me : Seated) → 0 < me.0.number → me.0.stage ≡ Waiting t
       → t % 18446744073709551616 + 2 < 18446744073709551616 → Allows (Kept k) slots id me 1 (λ n. n)
       (looked (step slots 1 0 0 none) me)
   looks slots id t me real st room s r _ at _ =
@@ -308,7 +313,7 @@ module _ (k : Config2) where
       ))
 
   -- two histories that met are compared
-  pub compares : (slots id : ℕ) (me : Sat) → 0 < me.0.number → me.0.stage ≡ Idle
+  pub compares : (slots id : ℕ) (me : Seated) → 0 < me.0.number → me.0.stage ≡ Idle
       → length me.0.told ≤ length me.0.seen → Allows (Kept k) slots id me 1 (λ n. n)
       (compared (step slots 1 0 0 none) me)
   compares slots id me real idle shorter s r _ at _ =
@@ -346,8 +351,8 @@ module _ (k : Config2) where
               (λ j u _ e. r.each j u e);
           apart = apart_set s.views id w (λ j u ne e. r.apart id j v u (λ x. ne (sym x)) at e)
               r.apart;
-          desk = desk_stays k r.log r.served s.views s.homes id v w at (λ x. subst HasTurn idle x)
-              (λ x. subst HasTurn idle x) r.desk;
+          holder = holder_stays k r.log r.served s.views s.homes id v w at
+              (λ x. subst HasTurn idle x) (λ x. subst HasTurn idle x) r.holder;
         },
         (
           refl,
@@ -358,28 +363,30 @@ module _ (k : Config2) where
       )
 
 -- a seat that waits looks
-pub looks_as : (k : Config2) (slots id t : ℕ) (me : Sat) (v : View)
+pub looks_as : (k : Config2) (slots id t : ℕ) (me : Seated) (v : View)
     (carried : List (ℕ × Option World)) → me ≡ (record v { stage = Waiting t }, carried)
     → 0 < v.number → t % 18446744073709551616 + 2 < 18446744073709551616
     → Allows (Kept k) slots id me 1 (λ n. n) (looked (step slots 1 0 0 none) me)
 looks_as k slots id t me v carried is real room =
-    subst (λ (m : Sat). Allows (Kept k) slots id m 1 (λ n. n) (looked (step slots 1 0 0 none) m))
+    subst (λ (m : Seated). Allows (Kept k) slots id m 1 (λ n. n) (looked (step slots 1 0 0 none) m))
     (sym is) (looks k slots id t (record v { stage = Waiting t }, carried) real refl room)
 
 -- what the look tells that found the seat's ticket
-pub took_turn : (st : Step (Option World)) (t r : ℕ) (me me' : Sat) (v : View)
+pub took_turn : (st : Step (Option World)) (t r : ℕ) (me me' : Seated) (v : View)
     (carried : List (ℕ × Option World)) → me ≡ (record v { stage = Waiting t }, carried)
     → looked st me r me' → r ≡ t % 18446744073709551616 → Turned t (v, carried) me'
-took_turn st t r me me' v carried is l hit = (subst (λ (m : Sat). looked st m r me') is l t refl).0
+took_turn st t r me me' v carried is l hit =
+    (subst (λ (m : Seated). looked st m r me') is l t refl).0
     hit
 
 -- a seat that met another is compared
-pub compares_as : (k : Config2) (slots id : ℕ) (me : Sat) (v x : View)
+pub compares_as : (k : Config2) (slots id : ℕ) (me : Seated) (v x : View)
     (carried : List (ℕ × Option World)) → me ≡ (meets v x, carried) → 0 < v.number → v.stage ≡ Idle
     → Allows (Kept k) slots id me 1 (λ n. n) (compared (step slots 1 0 0 none) me)
 compares_as k slots id me v x carried is real idle =
     let e = met_same (ltb (length v.seen) (length x.seen)) v x in
-    subst (λ (m : Sat). Allows (Kept k) slots id m 1 (λ n. n) (compared (step slots 1 0 0 none) m))
+    subst (λ (m : Seated). Allows (Kept k) slots id m 1 (λ n. n)
+    (compared (step slots 1 0 0 none) m))
     (sym is)
     (compares k slots id (meets v x, carried) (subst (λ n. 0 < n) (sym e.2) real) (e.0 ∙ idle)
     (told_is_shorter v x))

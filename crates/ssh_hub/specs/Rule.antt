@@ -91,9 +91,10 @@ pub record Fits (k : Config2) (log : List Entry) (drawn served : ℕ) (v : View)
   pub spare : (n : ℕ) → v.spare ≡ Some n → IsSpare k log v.number n
   pub stage : InStage log drawn served v.seen v.stage
 
--- the state is in its place, or one seat has the turn
-abbrev pub Desk : Config2 → List Entry → ℕ → List View → List (maybe.Option (Option World)) → Type 0
-Desk k log served views homes =
+-- the hub is in its slot and no seat has the turn, or one seat has the turn and the hub
+abbrev pub OneHolder :
+    Config2 → List Entry → ℕ → List View → List (maybe.Option (Option World)) → Type 0
+OneHolder k log served views homes =
     (((j : ℕ) (v : View) → get_elem? views j ≡ maybe.some v → HasTurn v.stage → ⊥)
     × (homes ≡ maybe.some (Some (world k log)) ∷ []) × (length log ≤ served))
     ⊎ ((i : ℕ) × (v : View) × (get_elem? views i ≡ maybe.some v)
@@ -113,7 +114,7 @@ pub record Kept (k : Config2) (s : State (Option World) View) : Type 0 where
   pub apart :
       (i j : ℕ) (v w : View) → i ≢ j → get_elem? s.views i ≡ maybe.some v
       → get_elem? s.views j ≡ maybe.some w → Apart v w
-  pub desk : Desk k log served s.views s.homes
+  pub holder : OneHolder k log served s.views s.homes
 
 abbrev pub newcomer : Config2 → ℕ → List Entry → View
 newcomer k n seen = record {
@@ -140,29 +141,30 @@ nobody = record {
 abbrev pub no_entry : Entry
 no_entry = record { by = 0; call = Nudge; reply = Done }
 
-abbrev pub Sat : Type 0
-Sat = Me (Option World) View
+-- a seat: what it knows, and what it took out of the slots
+abbrev pub Seated : Type 0
+Seated = Me (Option World) View
 
 -- a ticket was drawn
-abbrev pub drew : Step (Option World) → Sat → ℕ → Sat → Type 0
+abbrev pub drew : Step (Option World) → Seated → ℕ → Seated → Type 0
 drew st m r m' = (t : ℕ) × (r ≡ t % 18446744073709551616)
     × (m' ≡ (record m.0 { stage = Waiting t }, m.1))
 
 -- the seat has the turn, and the hub's state
-abbrev pub Turned : ℕ → Sat → Sat → Type 0
+abbrev pub Turned : ℕ → Seated → Seated → Type 0
 Turned t m m' =
     (seen : List Entry)
     × (m' ≡ (record m.0 { stage = Inside t; seen = seen }, (0, Some (world m.0.config seen)) ∷ m.1))
     × Grows m.0.number m.0.seen seen × IsLegal (opening m.0.config) seen
     × HasRoom (world m.0.config seen)
 
-abbrev pub looked : Step (Option World) → Sat → ℕ → Sat → Type 0
+abbrev pub looked : Step (Option World) → Seated → ℕ → Seated → Type 0
 looked st m r m' =
     (t : ℕ) → m.0.stage ≡ Waiting t
     → (r ≡ t % 18446744073709551616 → Turned t m m') × (r ≢ t % 18446744073709551616 → m' ≡ m)
 
 -- both histories stand in one
-abbrev pub compared : Step (Option World) → Sat → ℕ → Sat → Type 0
+abbrev pub compared : Step (Option World) → Seated → ℕ → Seated → Type 0
 compared st m r m' =
     (m' ≡ (record m.0 { told = [] }, m.1)) × IsPrefix m.0.told m.0.seen
     × (m.0.mine ≡ calls_by m.0.number m.0.seen)
@@ -185,13 +187,13 @@ written e v = record v {
   mine = v.mine ++ e ∷ [];
 }
 
-abbrev pub committed : Entry → Step (Option World) → Sat → ℕ → Sat → Type 0
+abbrev pub committed : Entry → Step (Option World) → Seated → ℕ → Seated → Type 0
 committed e st m r m' =
     (r ≡ length m.0.seen) × (m' ≡ (written e m.0, m.1))
     × ((n : ℕ) → drawn_by e.call e.reply m.0.spare ≡ Some n
     → (0 < n) × (calls_by n (m.0.seen ++ e ∷ []) ≡ []))
 
-abbrev pub passed : Step (Option World) → Sat → ℕ → Sat → Type 0
+abbrev pub passed : Step (Option World) → Seated → ℕ → Seated → Type 0
 passed st m r m' = m' ≡ (record m.0 { stage = Idle }, rest m.1)
 
 -- a new seat takes the number that was drawn
@@ -212,13 +214,13 @@ meets v w =
     (record v { told = w.seen })
 
 -- a seat with a number, and with no ticket, no slot and no number for a new seat
-abbrev pub AtRest : Sat → Type 0
+abbrev pub AtRest : Seated → Type 0
 AtRest m =
     (0 < m.0.number) × (m.0.stage ≡ Idle) × (m.0.spare ≡ None)
     × (m.0.told ≡ []) × (m.1 ≡ []) × (m.0.mine ≡ calls_by m.0.number m.0.seen)
 
 -- a seat that has the turn, and the hub out of its slot
-abbrev pub InsideAt : Sat → Type 0
+abbrev pub InsideAt : Seated → Type 0
 InsideAt m =
     (0 < m.0.number) × ((t : ℕ) × (m.0.stage ≡ Inside t)) × (m.0.spare ≡ None)
     × (m.0.told ≡ []) × (m.1 ≡ (0, None) ∷ []) × (m.0.mine ≡ calls_by m.0.number m.0.seen)

@@ -12,7 +12,8 @@ use std::alloc::{AllocError, Global};
 use std::collections::VecDeque;
 use std::marker::Model;
 
-// A channel of a hub. A clause sees what the hub of one thread has of it.
+/// A channel of a hub: the bytes that may be sent on it, and the messages for its reader. A clause
+/// sees what the hub of one thread has of it.
 #[derive(Drop)]
 pub struct Channel {
     left: u32,
@@ -44,7 +45,7 @@ impl Model for Channel {
     ghost invariant = { λ c. c.left + total_reserved c.reserved ≤ most_bytes };
 }
 
-// Whether a delivered message closes its channel.
+/// Whether a delivered message closes its channel: a CLOSE, or a refusal of the open.
 fn closes(msg: &ChannelMsg) -> bool
     ensures { result ≡ closes_by msg.now }
 {
@@ -52,7 +53,7 @@ fn closes(msg: &ChannelMsg) -> bool
 }
 
 impl Channel {
-    // A channel whose window is not known.
+    /// A channel whose window is not known: nothing can be reserved of it. It takes no memory.
     pub fn waiting(alloc: Global) -> Channel
         ensures { result ≡ waiting }
     {
@@ -67,7 +68,8 @@ impl Channel {
         }
     }
 
-    // The window and the packet size are known. The inbox and the claim stay.
+    /// The channel is open: the peer takes `window` bytes, and `packet` bytes of data in one
+    /// message (RFC 4254 section 5.1). Nothing is reserved. The inbox and the claim stay.
     pub fn make_ready(&mut self, alloc: Global, window: u32, packet: u32)
         ensures { self.new ≡ with_window self.old window packet }
     {
@@ -78,7 +80,8 @@ impl Channel {
         self.is_closed = false;
     }
 
-    // Takes up to `want` of the bytes that are left for the seat.
+    /// Reserves up to `want` of the bytes that are left for the seat. After an error, for want of
+    /// memory, the channel is unchanged.
     pub fn reserve(&mut self, seat: u64, want: u32) -> Result<Reserve, AllocError>
         ensures ok { IfOk result (λ r. reserve_from self.old seat want self.old.is_closed
             ≡ (self.new, r)) }
@@ -96,7 +99,7 @@ impl Channel {
         Ok(Reserve::Got(got))
     }
 
-    // Gives back bytes of the seat, at most what it has.
+    /// Gives back `amount` bytes of the seat, or all that it has reserved where those are fewer.
     pub fn release(&mut self, seat: u64, amount: u32)
         ensures { self.new ≡ releasing self.old seat amount }
     {
@@ -104,14 +107,15 @@ impl Channel {
         self.left += given;
     }
 
-    // Bytes of the seat are put, at most what it has.
+    /// Spends `amount` bytes of the seat, or all that it has reserved where those are fewer.
     pub fn spend(&mut self, seat: u64, amount: u32)
         ensures { self.new ≡ spending self.old seat amount }
     {
         self.reserved.debit(seat, amount);
     }
 
-    // The peer takes so many bytes more.
+    /// The peer takes `amount` bytes more (RFC 4254 section 5.2). What is left and what is reserved
+    /// stay below 2^32 together; a channel that is closed or not ready gets nothing.
     pub fn grant(&mut self, amount: u32)
         ensures { self.new ≡ granting self.old amount }
     {
@@ -121,7 +125,8 @@ impl Channel {
         }
     }
 
-    // Puts the message into the inbox, which holds `size` of them.
+    /// Puts the message into the inbox, which holds at most `size` messages. After an error, for
+    /// want of memory, the channel is unchanged and the message comes back.
     pub fn deliver(
         &mut self,
         size: usize,
@@ -148,7 +153,8 @@ impl Channel {
         Ok(Deliver::Done)
     }
 
-    // Takes the first message out of the inbox. `ended` is the place where the hub ended.
+    /// Takes the first message out of the inbox. `ended` is the place where the hub ended; none
+    /// where it has not.
     pub fn receive(&mut self, ended: Option<u64>) -> Received
         ensures { receive_from self.old ended self.old.inbox ≡ (self.new, result) }
     {
@@ -164,7 +170,8 @@ impl Channel {
         }
     }
 
-    // What may be sent, unless the channel is closed.
+    /// How many bytes may be reserved, and how many one message may have; none where the channel is
+    /// closed.
     pub fn look(&self) -> Option<Look>
         ensures { result ≡ look_at self.now self.now.is_closed }
     {
@@ -177,14 +184,15 @@ impl Channel {
         })
     }
 
-    // Nothing more can be reserved of the channel, and nothing delivered to it.
+    /// Closes the channel (RFC 4254 section 5.3): nothing more can be reserved of it, and nothing
+    /// delivered to it.
     pub fn close(&mut self)
         ensures { self.new ≡ closed self.old }
     {
         self.is_closed = true;
     }
 
-    // Whether nobody claimed the channel before.
+    /// Claims the channel: `true` exactly where nobody claimed it before.
     pub fn claim(&mut self) -> bool
         ensures after { self.new ≡ claimed self.old }
         ensures answer { result ≡ not self.old.is_claimed }

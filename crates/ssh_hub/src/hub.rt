@@ -15,7 +15,7 @@ mod lists;
 mod outcomes;
 mod slots;
 
-// The state of a hub. A clause sees the world of the hub of one thread.
+/// The state of a hub. A clause sees the world of the hub of one thread.
 #[derive(Drop)]
 pub struct Hub {
     alloc: Global,
@@ -59,7 +59,7 @@ impl Model for Hub {
 }
 
 impl Hub {
-    // The hub as it is made, with its first seat.
+    /// The hub as it is made, with its first seat. It takes no memory.
     pub fn new(alloc: Global, config: &Config2) -> Hub
         ensures { result ≡ opening config.now }
     {
@@ -82,7 +82,7 @@ impl Hub {
         }
     }
 
-    // One more call was made.
+    /// One more call was made.
     pub fn count_entry(&mut self)
         requires { self.old.place + 1 < 2 ^ 64 }
         ensures { self.new ≡ counted self.old }

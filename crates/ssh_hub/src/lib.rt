@@ -15,8 +15,6 @@ mod lock;
 mod queued;
 mod reservations;
 mod rule;
-#[cfg(test)]
-mod tests;
 
 pub use answers::{
     Config2, Deliver, HandleError, Look, Put, PutReply, Received, Reserve, SlotAnswer, Taken,

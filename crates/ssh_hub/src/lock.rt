@@ -21,6 +21,7 @@ mod turn;
 
 pub use meet::crosses;
 
+/// A seat of the lock's table.
 type Place = atomic_table::Seat<Option<Hub>, View>;
 
 /// A hub that threads share. Each of its calls is one event of one history, which the seats of the
@@ -40,5 +41,6 @@ pub struct Seat {
     ghost rests: { AtRest inner.me },
     ghost numbered: { number ≡ inner.me.0.number },
     ghost placed: { place ≡ newest inner.me.0.number inner.me.0.seen },
-    ghost legal: { IsLegal (opening inner.me.0.config) inner.me.0.seen } by { IsLegal-prop (opening inner.me.0.config) inner.me.0.seen },
+    ghost legal: { IsLegal (opening inner.me.0.config) inner.me.0.seen } by { IsLegal-prop
+        (opening inner.me.0.config) inner.me.0.seen },
 }

@@ -1,34 +1,39 @@
 // What waits in a hub, and what is owed for what was taken.
 use ssh_link::{Command, OpenAnswer};
 
-// A command that waits for the session.
+/// A command that waits for the session.
 #[derive(Drop)]
 pub struct QueuedCommand {
+    /// The ticket under which it was put.
     pub ticket: u64,
-    // The number of the seat that put it.
+    /// The number of the seat that put it.
     pub seat: u64,
-    // Whether its outcome is kept.
+    /// Whether its outcome is kept.
     pub wanted: bool,
+    /// The command.
     pub command: Command,
 }
 
-// An answer to an open of the peer that waits for the session.
+/// An answer to an open of the peer (RFC 4254 section 5.1) that waits for the session.
 #[derive(Drop)]
 pub struct QueuedReply {
+    /// The ticket under which it was put.
     pub ticket: u64,
-    // The number of the seat that put it.
+    /// The number of the seat that put it.
     pub seat: u64,
+    /// The answer.
     pub answer: OpenAnswer,
 }
 
-// What was taken last, while its outcome is not known.
+/// The command or reply that was taken last, while its outcome is not known.
 #[derive(Clone, Copy)]
 pub struct Due {
+    /// The ticket under which it was put.
     pub ticket: u64,
-    // The number of the seat that put it.
+    /// The number of the seat that put it.
     pub seat: u64,
-    // Whether its outcome is kept.
+    /// Whether its outcome is kept.
     pub wanted: bool,
-    // The channel that it closes, where it is a close.
+    /// The number of the channel that it closes; none where it is no close.
     pub closes: Option<u32>,
 }

@@ -7,7 +7,8 @@ use std::alloc::{AllocError, Global};
 use std::collections::BTreeMap;
 use std::marker::Model;
 
-// Reserved bytes by the numbers of the seats, with their sum. A clause sees the map.
+/// How many bytes each seat has reserved, by the seat's number, with their sum. A clause sees the
+/// map.
 #[derive(Drop)]
 pub struct Reservations {
     by_seat: BTreeMap<u64, u32>,
@@ -25,7 +26,7 @@ impl Model for Reservations {
     ghost invariant = { λ r. r.total ≡ total_reserved r.by_seat.entries };
 }
 
-// Adds `got` bytes to what the seat has.
+/// Adds `got` bytes to what the seat has. After an error, for want of memory, the map is unchanged.
 fn add_at(by_seat: &mut BTreeMap<u64, u32>, seat: u64, got: u32) -> Result<(), AllocError>
     requires { reserved_by seat by_seat.old.entries + got ≤ most_bytes }
     ensures ok { OnOk result (by_seat.new.entries ≡ credited by_seat.old.entries seat got) }
@@ -41,7 +42,8 @@ fn add_at(by_seat: &mut BTreeMap<u64, u32>, seat: u64, got: u32) -> Result<(), A
     }
 }
 
-// Takes `amount` bytes of what the seat has, or all that it has, and says how many.
+/// Takes `amount` bytes of what the seat has, or all that it has where those are fewer, and answers
+/// how many.
 fn take_at(by_seat: &mut BTreeMap<u64, u32>, seat: u64, amount: u32) -> u32
     ensures after { by_seat.new.entries ≡ debited by_seat.old.entries seat amount }
     ensures taken { result ≡ min amount (reserved_by seat by_seat.old.entries) }
@@ -55,7 +57,7 @@ fn take_at(by_seat: &mut BTreeMap<u64, u32>, seat: u64, amount: u32) -> u32
 }
 
 impl Reservations {
-    // Nothing is reserved.
+    /// Nothing is reserved. It takes no memory.
     pub fn new(alloc: Global) -> Reservations
         ensures { result ≡ [] }
     {
@@ -65,14 +67,16 @@ impl Reservations {
         }
     }
 
-    // What all seats have together.
+    /// How many bytes all seats have together.
     pub fn total(&self) -> u32
         ensures { result ≡ total_reserved self.now }
     {
         self.total
     }
 
-    // Adds `got` bytes to what the seat has, where what is left and what is reserved fit.
+    /// Adds `got` of the `left` bytes of the channel to what the seat has. `left` is for the proof
+    /// alone: with what is reserved it fits 32 bits. After an error, for want of memory, nothing
+    /// has changed.
     pub fn credit(&mut self, seat: u64, got: u32, left: u32) -> Result<(), AllocError>
         requires fits { left + total_reserved self.old ≤ most_bytes }
         requires within { got ≤ left }
@@ -86,7 +90,8 @@ impl Reservations {
         Ok(())
     }
 
-    // Takes `amount` bytes of what the seat has, or all that it has, and says how many.
+    /// Takes `amount` bytes of what the seat has, or all that it has where those are fewer, and
+    /// answers how many.
     pub fn debit(&mut self, seat: u64, amount: u32) -> u32
         ensures after { self.new ≡ debited self.old seat amount }
         ensures taken { result ≡ min amount (reserved_by seat self.old) }

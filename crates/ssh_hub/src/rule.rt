@@ -10,7 +10,7 @@ use crate::hub::Hub;
 use atomic_table::{Join, Play, Split, TableRule};
 use std::marker::{Brand, PhantomData};
 
-// The rule: tickets are served in the order in which they were drawn.
+/// The rule of the lock: tickets are served in the order in which they were drawn.
 pub struct Turns;
 
 impl TableRule<Option<Hub>, View, Config2> for Turns {
@@ -19,7 +19,7 @@ impl TableRule<Option<Hub>, View, Config2> for Turns {
     ghost first = { λ k. newcomer k 1 [] };
 }
 
-// The entry that a call makes. Each call picks it.
+/// The entry that a call makes in the history. Each call picks its own.
 pub trait Event {
     ghost use Rattle.ssh_hub.specs.declared.history.Entry.{Entry};
 
@@ -32,28 +32,29 @@ impl Event for Brand {
     ghost entry = { no_entry };
 }
 
-// Draws a ticket.
+/// A seat draws a ticket.
 pub struct Draw;
 
 impl Play<Option<Hub>, View> for Draw {
     ghost then = { drew };
 }
 
-// Looks at the ticket that is served, and takes the state out where it is the seat's.
+/// A seat looks at the ticket that is served, and takes the hub out where that is its own.
 pub struct Look;
 
 impl Play<Option<Hub>, View> for Look {
     ghost then = { looked };
 }
 
-// Looks at the ticket that is served, and tells that two histories that met are one.
+/// A seat looks at the ticket that is served, and learns that the two histories that met in it are
+/// one.
 pub struct Compare;
 
 impl Play<Option<Hub>, View> for Compare {
     ghost then = { compared };
 }
 
-// Commits the entry.
+/// A seat that has the turn commits the entry of its call.
 pub struct Commit<E> {
     event: PhantomData<E>,
 }
@@ -62,14 +63,14 @@ impl<E: Event> Play<Option<Hub>, View> for Commit<E> {
     ghost then = { committed E.entry };
 }
 
-// Gives the state back, and passes the turn on.
+/// A seat gives the hub back, and passes the turn on.
 pub struct Pass;
 
 impl Play<Option<Hub>, View> for Pass {
     ghost then = { passed };
 }
 
-// Splits a seat: the new one takes the number that was drawn.
+/// Splits a seat: the new one takes the number that was drawn.
 pub struct Twin;
 
 impl Split<View> for Twin {
@@ -78,7 +79,7 @@ impl Split<View> for Twin {
     ghost right = { sits_down };
 }
 
-// Joins a seat: the longer history is kept.
+/// Joins a seat into another: the longer history is kept.
 pub struct Pair;
 
 impl Join<View> for Pair {

@@ -21,7 +21,8 @@ impl Certificate {
             × IsSigned (V.accepts verifier.now) self.now) }
         ensures time { IsErrOf result KeyError.Time ↔ IsOutOfTime self.now moment }
         ensures validation { IsErrOf result KeyError.CertificateValidation
-            ↔ ((IsOutOfTime self.now moment → ⊥) × (IsSigned (V.accepts verifier.now) self.now → ⊥)) }
+            ↔ ((IsOutOfTime self.now moment → ⊥)
+            × (IsSigned (V.accepts verifier.now) self.now → ⊥)) }
         ensures errors { IfErr result (λ e. (e ≡ Time) ⊎ (e ≡ CertificateValidation)) }
     {
         if self.is_early(moment) {

@@ -4,7 +4,9 @@ ghost use Rattle.ssh_keys.specs.Offers.{hash_of, IsOffer, FailsOffer, DecodesOff
 ghost use Rattle.ssh_keys.specs.Offers.{IsPlain};
 ghost use Rattle.ssh_keys.specs.declared.error.KeyError.{KeyError};
 ghost use Rattle.ssh_keys.specs.declared.error.KeyError.TheVariants.{NoMemory};
-ghost use Rattle.ssh_keys.specs.declared.key_or_certificate.PublicKeyOrCertificate.{PublicKeyOrCertificate};
+ghost use Rattle.ssh_keys.specs.declared.key_or_certificate.PublicKeyOrCertificate.{
+  PublicKeyOrCertificate,
+};
 ghost use Rattle.ssh_keys.specs.declared.key_or_certificate.PublicKeyOrCertificate.TheVariants as
     offer;
 
@@ -47,7 +49,8 @@ impl PublicKeyOrCertificate {
         blob: &[u8],
     ) -> Result<PublicKeyOrCertificate, KeyError>
         ensures ok { IfOk result (λ offered. IsOffer offered pubkey_algo.now blob.now) }
-        ensures refused { IfErr result (λ e. (e ≡ NoMemory) ⊎ FailsOffer pubkey_algo.now blob.now e) }
+        ensures refused { IfErr result (λ e. (e ≡ NoMemory)
+            ⊎ FailsOffer pubkey_algo.now blob.now e) }
         ensures exactly { (answer : Result PublicKeyOrCertificate KeyError)
             → DecodesOffer pubkey_algo.now blob.now answer
             → (result ≡ answer) ⊎ IsErrOf result KeyError.NoMemory }
@@ -62,7 +65,8 @@ impl PublicKeyOrCertificate {
         blob: &[u8],
     ) -> Result<PublicKeyOrCertificate, KeyError>
         ensures ok { IfOk result (λ offered. IsOffer offered pubkey_algo.now blob.now) }
-        ensures refused { IfErr result (λ e. (e ≡ NoMemory) ⊎ FailsOffer pubkey_algo.now blob.now e) }
+        ensures refused { IfErr result (λ e. (e ≡ NoMemory)
+            ⊎ FailsOffer pubkey_algo.now blob.now e) }
     {
         if let Some(algorithm) = Algorithm::new(pubkey_algo) {
             return Ok(PublicKeyOrCertificate::PublicKey {

@@ -17,8 +17,6 @@ mod public_key;
 mod signature;
 mod table_verifier;
 mod terms;
-#[cfg(test)]
-mod tests;
 mod verifier;
 
 pub use algorithm::{Algorithm, EcdsaCurve, HashAlg};

@@ -88,7 +88,8 @@ impl PublicKey {
     /// longer than 2^32 - 1 bytes, and no other error but `NoMemory`.
     pub fn blob(&self, alloc: Global) -> Result<Bytes, KeyError>
         ensures ok { IfOk result (λ blob. IsKey self.now blob) }
-        ensures only { IfOk result (λ blob. (other : List ℕ) → IsKey self.now other → other ≡ blob) }
+        ensures only { IfOk result (λ blob. (other : List ℕ) → IsKey self.now other
+            → other ≡ blob) }
         ensures decodes { IfOk result (λ blob. (answer : Result PublicKey KeyError)
             → DecodesKey blob answer → answer ≡ Ok self.now) }
         ensures long { IsErrOf result KeyError.Blob ↔ HasLongField self.now }

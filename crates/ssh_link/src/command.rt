@@ -42,12 +42,14 @@ pub enum Command {
         /// The channel.
         channel: ChannelId,
     },
-    /// Answers a request of the peer on the channel by success (RFC 4254 section 5.4).
+    /// Answers the peer's last request on the channel by success, where that wants an answer and
+    /// has none yet (RFC 4254 section 5.4).
     ChannelSuccess {
         /// The channel.
         channel: ChannelId,
     },
-    /// Answers a request of the peer on the channel by failure (RFC 4254 section 5.4).
+    /// Answers the peer's last request on the channel by failure, where that wants an answer and
+    /// has none yet (RFC 4254 section 5.4).
     ChannelFailure {
         /// The channel.
         channel: ChannelId,
@@ -81,7 +83,7 @@ pub enum Command {
     },
     /// Opens a session (RFC 4254 section 6.1).
     OpenSession,
-    /// Opens a channel to the agent of the client.
+    /// Opens a channel to the agent of the client (OpenSSH's `auth-agent@openssh.com`).
     OpenAgent,
     /// Opens a connection to this host (RFC 4254 section 7.2, direct-tcpip).
     OpenDirectTcpip {
@@ -106,12 +108,14 @@ pub enum Command {
         /// The port there.
         originator_port: u32,
     },
-    /// Opens a connection to the socket of this path at the peer.
+    /// Opens a connection to the socket of this path at the peer (OpenSSH PROTOCOL section 2.4,
+    /// direct-streamlocal).
     OpenDirectStreamlocal {
         /// The path.
         path: Text,
     },
-    /// Hands on a connection that came to the forwarded socket of this path.
+    /// Hands on a connection that came to the forwarded socket of this path (OpenSSH PROTOCOL
+    /// section 2.4, forwarded-streamlocal).
     OpenForwardedStreamlocal {
         /// The path.
         path: Text,
@@ -141,16 +145,19 @@ pub enum Command {
         /// The slot under which the reply is told; none asks for no reply.
         reply: Option<u64>,
     },
-    /// Asks the peer for a sign of life, whose reply is told to nobody.
+    /// Asks the peer for a sign of life, whose reply is told to nobody (RFC 4254 section 4,
+    /// `keepalive@openssh.com`).
     Keepalive,
-    /// Asks the peer for a sign of life.
+    /// Asks the peer for a sign of life (RFC 4254 section 4, `keepalive@openssh.com`).
     Ping {
         /// The slot under which the reply is told.
         slot: u64,
     },
-    /// Answers the peer's oldest global request by success (RFC 4254 section 4).
+    /// Answers the peer's last global request by success, where that wants an answer and has none
+    /// yet (RFC 4254 section 4).
     RequestSuccess,
-    /// Answers the peer's oldest global request by failure (RFC 4254 section 4).
+    /// Answers the peer's last global request by failure, where that wants an answer and has none
+    /// yet (RFC 4254 section 4).
     RequestFailure,
     /// Tells the peer something for people to read (RFC 4253 section 11.3).
     Debug {
@@ -455,6 +462,3 @@ impl CommandList {
         Ok(copies)
     }
 }
-
-#[cfg(test)]
-mod tests;

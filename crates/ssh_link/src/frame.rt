@@ -65,7 +65,11 @@ fn in_place(front: &[u8], back: &[u8]) -> [u8; ROOM]
 impl Frame {
     /// A frame of this whole payload. Takes no memory.
     pub fn new(payload: Bytes, hold_until: Option<u64>, channel: Option<ChannelId>) -> Frame
-        ensures { result ≡ record { payload = payload; hold_until = hold_until; channel = channel } }
+        ensures { result ≡ record {
+          payload = payload;
+          hold_until = hold_until;
+          channel = channel;
+        } }
     {
         Frame {
             head: [0; ROOM],
@@ -335,6 +339,3 @@ impl InputKind {
         matches!(self, InputKind::OpenReply(..))
     }
 }
-
-#[cfg(test)]
-mod tests;

@@ -46,7 +46,8 @@ pub trait Sink {
     fn write(&mut self, piece: &[u8]) -> Result<usize, IoFailed>
         ensures within { IfOk result (λ n. n ≤ length piece.now) }
         ensures some { IfOk result (λ n. 0 < length piece.now → 0 < n) }
-        ensures written { IfOk result (λ n. Adds (held self.old) (held self.new) (take n piece.now)) }
+        ensures written { IfOk result (λ n. Adds (held self.old) (held self.new)
+            (take n piece.now)) }
         ensures err { OnErr result (AddsNothing (held self.old) (held self.new)) }
         ensures cause { OnErr result (RoseOrFull (faults self.old) (faults self.new)) }
         ensures quiet { OnOk result (faults self.new ≡ faults self.old) }

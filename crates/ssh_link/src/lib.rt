@@ -21,8 +21,6 @@ mod open_answer;
 mod outcome;
 mod plain_kex;
 mod standard;
-#[cfg(test)]
-mod tests;
 
 pub use command::{Command, CommandList};
 pub use frame::{Frame, Input, InputKind};

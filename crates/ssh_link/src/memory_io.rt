@@ -65,10 +65,12 @@ impl Source for MemorySource {
     fn read(&mut self, buf: &mut [u8]) -> Result<usize, IoFailed>
         ensures within { IfOk result (λ n. n ≤ length buf.old) }
         ensures len { length buf.new ≡ length buf.old }
-        ensures taken { IfOk result (λ n. Takes (Some self.old.left) (Some self.new.left) n buf.new) }
+        ensures taken { IfOk result (λ n. Takes (Some self.old.left) (Some self.new.left) n
+            buf.new) }
         ensures end { IfOk result (λ n. n ≡ 0 → 0 < length buf.old → AtEnd (Some self.old.left)) }
         ensures err { OnErr result (Some self.new.left ≡ Some self.old.left) }
-        ensures cause { OnErr result (RoseOrFull self.old.failures.faults self.new.failures.faults) }
+        ensures cause { OnErr result (RoseOrFull self.old.failures.faults
+            self.new.failures.faults) }
         ensures quiet { OnOk result (self.new.failures.faults ≡ self.old.failures.faults) }
         ensures later { self.old.failures.faults ≤ self.new.failures.faults }
         ensures count { IfOk result (λ n. n ≡ min (length self.old.left) (length buf.old)) }
@@ -98,7 +100,11 @@ impl Model for MemorySink {
 
     ghost Value = { Written };
 
-    ghost view = { λ s. record { held = s.bytes.items; failures = s.failures; starved = s.starved } };
+    ghost view = { λ s. record {
+      held = s.bytes.items;
+      failures = s.failures;
+      starved = s.starved;
+    } };
 }
 
 impl MemorySink {

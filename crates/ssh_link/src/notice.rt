@@ -120,7 +120,8 @@ pub enum ChannelMsg {
         /// Its height in pixels.
         pix_height: u32,
     },
-    /// The client's agent may be reached.
+    /// The peer asks that its agent may be reached from here (OpenSSH's
+    /// `auth-agent-req@openssh.com`).
     AgentForward {
         /// That an answer is asked for: always true.
         want_reply: bool,
@@ -306,7 +307,8 @@ pub enum Notice {
         /// Whether it does so.
         ok: bool,
     },
-    /// The peer gave a sign of life.
+    /// The peer answered a request for a sign of life (RFC 4254 section 4,
+    /// `keepalive@openssh.com`).
     Pong {
         /// The slot of the command.
         slot: u64,

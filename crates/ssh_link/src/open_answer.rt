@@ -1,7 +1,9 @@
 // The answer to an open of the peer, and the handle that owes one.
 ghost use Rattle.std.specs.Prelude.{◌≡◌, None, Some, IfOk, IfErr};
 ghost use Rattle.ssh_wire.specs.declared.error.WireError.TheVariants.{NoMemory};
-ghost use Rattle.ssh_wire.specs.declared.open_failure.ChannelOpenFailure.TheVariants.{AdministrativelyProhibited};
+ghost use Rattle.ssh_wire.specs.declared.open_failure.ChannelOpenFailure.TheVariants.{
+  AdministrativelyProhibited,
+};
 
 use ssh_wire::{ChannelId, ChannelOpenFailure, Text, WireError};
 use std::marker::Model;

@@ -202,6 +202,3 @@ impl Kex for PlainKex {
         }
     }
 }
-
-#[cfg(test)]
-mod tests;

@@ -58,6 +58,3 @@ impl Blobs {
         })
     }
 }
-
-#[cfg(test)]
-mod tests;

@@ -108,7 +108,8 @@ impl StreamLocalChannelInfo {
 fn whole_x11(alloc: Global, r: &mut Reader<'_>) -> Result<ChannelType, WireError>
     ensures ok { IfOk result (λ typ. SpellsType (Some x11) [] typ r.old.left r.new.left) }
     ensures moves { OnOk result (MovesOn r.old r.new) }
-    ensures misfit { IfErr result (λ why. (why ≡ NoMemory) ⊎ MisfitsWhole x11.fields r.old.left why) }
+    ensures misfit { IfErr result (λ why. (why ≡ NoMemory)
+        ⊎ MisfitsWhole x11.fields r.old.left why) }
 {
     let originator_address = r.text()?;
     let originator_port = r.u32()?;
@@ -209,6 +210,3 @@ impl ChannelType {
         }
     }
 }
-
-#[cfg(test)]
-mod tests;

@@ -45,6 +45,3 @@ impl Disconnect {
         self as u32
     }
 }
-
-#[cfg(test)]
-mod tests;

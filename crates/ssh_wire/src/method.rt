@@ -50,7 +50,8 @@ impl FromStr for MethodKind {
     /// No method has this name.
     type Err = ();
 
-    ghost from_str_gives = { λ name read. MatchResult read (λ kind. method_name kind ≡ name) (λ _. IsNoMethod name) };
+    ghost from_str_gives = { λ name read. MatchResult read (λ kind. method_name kind ≡ name)
+        (λ _. IsNoMethod name) };
 
     fn from_str(name: &str) -> Result<MethodKind, ()> {
         match name {
@@ -71,6 +72,3 @@ pub fn method_from_own_name(kind: MethodKind) -> Result<MethodKind, ()>
 {
     kind.name().parse()
 }
-
-#[cfg(test)]
-mod tests;

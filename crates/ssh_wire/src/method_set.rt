@@ -29,7 +29,10 @@ impl Model for MethodSet {
 
     ghost inverse = { λ methods. record { kinds = placed methods; count = length methods } };
 
-    ghost inverse_ok = { λ set held i. record { kinds = held.is_placed i; count = held.counted i } };
+    ghost inverse_ok = { λ set held i. record {
+      kinds = held.is_placed i;
+      count = held.counted i;
+    } };
 }
 
 impl MethodSet {
@@ -165,6 +168,3 @@ impl Eq for MethodSet {
 
     ghost laws = { are_same-laws };
 }
-
-#[cfg(test)]
-mod tests;

@@ -78,6 +78,3 @@ impl Eq for Modes {
 
     ghost laws = { are_same-laws };
 }
-
-#[cfg(test)]
-mod tests;

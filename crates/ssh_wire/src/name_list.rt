@@ -83,6 +83,3 @@ impl NameList {
         Text::new(alloc, text.as_str())
     }
 }
-
-#[cfg(test)]
-mod tests;

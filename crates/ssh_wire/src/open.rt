@@ -163,6 +163,3 @@ pub fn one_confirmation()
     ensures reason { HasOneReason MisfitsConfirmation }
     ensures apart { NeverBoth SpellsConfirmation MisfitsConfirmation }
 {}
-
-#[cfg(test)]
-mod tests;

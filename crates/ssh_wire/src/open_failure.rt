@@ -51,6 +51,3 @@ impl ChannelOpenFailure {
         }
     }
 }
-
-#[cfg(test)]
-mod tests;

@@ -220,6 +220,3 @@ impl Eq for Pty {
 
     ghost laws = { is_same_mode-laws };
 }
-
-#[cfg(test)]
-mod tests;

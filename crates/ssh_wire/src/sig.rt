@@ -112,6 +112,3 @@ impl Sig {
         })
     }
 }
-
-#[cfg(test)]
-mod tests;

@@ -5,9 +5,7 @@ ghost use Rattle.ssh_handler.specs.Recording.{Passes, Records};
 ghost use Rattle.ssh_auth.specs.declared.call.Call.TheVariants as call;
 
 use crate::made::{channels, forwards, opens, requests};
-use crate::recorded::passed;
 use crate::{Commands, Handler, Recorded};
-use ssh_auth::Call;
 use ssh_link::{ChannelOpenHandle, CommandOutcome};
 use ssh_wire::{ChannelId, Pty, Sig};
 
@@ -19,12 +17,17 @@ where
 
     fn auth_succeeded(&mut self, session: &mut Commands<'_>) -> Result<(), Self::Error>
         requires lent { IsLent H.suits session.old }
-        ensures records { Records self.old.told self.new.told result (call.AuthSucceeded result session.new.recorded) }
+        ensures records { Records self.old.told self.new.told result
+            (call.AuthSucceeded result session.new.recorded) }
         ensures passes { Passes H.AuthHandler.told self.old.inner self.new.inner result
             (λ answer. call.AuthSucceeded answer session.new.recorded) }
     {
-        let answer = self.inner.auth_succeeded(session);
-        pass!(self.told, session, answer, AuthSucceeded)
+        pass!(
+            self.told,
+            session,
+            self.inner.auth_succeeded(session),
+            AuthSucceeded
+        )
     }
 
     fn channel_close(
@@ -38,18 +41,17 @@ where
         ensures passes { Passes H.AuthHandler.told self.old.inner self.new.inner result
             (λ answer. call.ChannelClose id answer session.new.recorded) }
     {
-        let answer = self.inner.channel_close(id, session);
-        pass!(self.told, session, answer, ChannelClose, channel: id)
+        pass!(self.told, session, self.inner.channel_close(id, session), ChannelClose, channel: id)
     }
 
     fn channel_eof(&mut self, id: ChannelId, session: &mut Commands<'_>) -> Result<(), Self::Error>
         requires lent { IsLent H.suits session.old }
-        ensures records { Records self.old.told self.new.told result (call.ChannelEof id result session.new.recorded) }
+        ensures records { Records self.old.told self.new.told result
+            (call.ChannelEof id result session.new.recorded) }
         ensures passes { Passes H.AuthHandler.told self.old.inner self.new.inner result
             (λ answer. call.ChannelEof id answer session.new.recorded) }
     {
-        let answer = self.inner.channel_eof(id, session);
-        pass!(self.told, session, answer, ChannelEof, channel: id)
+        pass!(self.told, session, self.inner.channel_eof(id, session), ChannelEof, channel: id)
     }
 
     fn channel_open_session(
@@ -65,8 +67,8 @@ where
         ensures passes { Passes H.AuthHandler.told self.old.inner self.new.inner result
             (λ answer. call.ChannelOpenSession id answer session.new.recorded) }
     {
-        let answer = self.inner.channel_open_session(id, reply, session);
-        pass!(self.told, session, answer, ChannelOpenSession, channel: id)
+        pass!(self.told, session, self.inner.channel_open_session(id, reply, session),
+            ChannelOpenSession, channel: id)
     }
 
     fn channel_open_x11(
@@ -179,11 +181,8 @@ where
         ensures passes { Passes H.AuthHandler.told self.old.inner self.new.inner result
             (λ answer. call.ChannelOpenConfirmation id packet window answer session.new.recorded) }
     {
-        let answer = self
-            .inner
-            .channel_open_confirmation(id, packet, window, session);
-        pass!(self.told, session, answer, ChannelOpenConfirmation,
-            id: id, max_packet_size: packet, window_size: window)
+        pass!(self.told, session, self.inner.channel_open_confirmation(id, packet, window, session),
+            ChannelOpenConfirmation, id: id, max_packet_size: packet, window_size: window)
     }
 
     fn data(
@@ -233,16 +232,18 @@ where
         ensures passes { Passes H.AuthHandler.told self.old.inner self.new.inner result
             (λ answer. call.WindowAdjusted id new_size answer session.new.recorded) }
     {
-        let answer = self.inner.window_adjusted(id, new_size, session);
-        pass!(self.told, session, answer, WindowAdjusted, channel: id, new_size: new_size)
+        pass!(self.told, session, self.inner.window_adjusted(id, new_size, session),
+            WindowAdjusted, channel: id, new_size: new_size)
     }
 
     fn adjust_window(&mut self, id: ChannelId, current: u32) -> Result<u32, Self::Error>
-        ensures records { Records self.old.told self.new.told result (call.AdjustWindow id current result) }
-        ensures passes { Passes H.AuthHandler.told self.old.inner self.new.inner result (call.AdjustWindow id current) }
+        ensures records { Records self.old.told self.new.told result
+            (call.AdjustWindow id current result) }
+        ensures passes { Passes H.AuthHandler.told self.old.inner self.new.inner result
+            (call.AdjustWindow id current) }
     {
-        let answer = self.inner.adjust_window(id, current);
-        pass!(self.told, answer, AdjustWindow, channel: id, current: current)
+        pass!(self.told, self.inner.adjust_window(id, current),
+            AdjustWindow, channel: id, current: current)
     }
 
     fn pty_request(
@@ -327,8 +328,7 @@ where
         ensures passes { Passes H.AuthHandler.told self.old.inner self.new.inner result
             (λ answer. call.ShellRequest id answer session.new.recorded) }
     {
-        let answer = self.inner.shell_request(id, session);
-        pass!(self.told, session, answer, ShellRequest, channel: id)
+        pass!(self.told, session, self.inner.shell_request(id, session), ShellRequest, channel: id)
     }
 
     fn exec_request(
@@ -381,11 +381,10 @@ where
             (λ answer. call.WindowChangeRequest id columns rows width height answer
             session.new.recorded) }
     {
-        let answer = self
-            .inner
-            .window_change_request(id, columns, rows, width, height, session);
-        pass!(self.told, session, answer, WindowChangeRequest,
-            channel: id, col_width: columns, row_height: rows, pix_width: width, pix_height: height)
+        pass!(self.told, session,
+            self.inner.window_change_request(id, columns, rows, width, height, session),
+            WindowChangeRequest, channel: id, col_width: columns, row_height: rows,
+            pix_width: width, pix_height: height)
     }
 
     fn agent_request(
@@ -399,8 +398,7 @@ where
         ensures passes { Passes H.AuthHandler.told self.old.inner self.new.inner result
             (λ answer. call.AgentRequest id answer session.new.recorded) }
     {
-        let answer = self.inner.agent_request(id, session);
-        pass!(self.told, session, answer, AgentRequest, channel: id)
+        pass!(self.told, session, self.inner.agent_request(id, session), AgentRequest, channel: id)
     }
 
     fn signal(
@@ -490,11 +488,12 @@ where
     }
 
     fn command_done(&mut self, place: usize, outcome: CommandOutcome) -> Result<(), Self::Error>
-        ensures records { Records self.old.told self.new.told result (call.CommandDone place outcome result) }
+        ensures records { Records self.old.told self.new.told result
+            (call.CommandDone place outcome result) }
         ensures passes { Passes H.AuthHandler.told self.old.inner self.new.inner result
             (call.CommandDone place outcome) }
     {
-        let answer = self.inner.command_done(place, outcome);
-        pass!(self.told, answer, CommandDone, place: place, outcome: outcome)
+        pass!(self.told, self.inner.command_done(place, outcome),
+            CommandDone, place: place, outcome: outcome)
     }
 }

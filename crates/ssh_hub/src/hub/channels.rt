@@ -18,7 +18,8 @@ use std::alloc::AllocError;
 
 #[tactic(auto, unfolding(crate::specs::Step::act), using(std::proofs::lemmas::Map::Steps::set_value_same))]
 impl Hub {
-    // Takes up to `want` of what is left of the channel for the seat.
+    /// Reserves up to `want` of the bytes that are left of the channel for the seat `by`. After an
+    /// error, for want of memory, the hub is unchanged.
     pub fn reserve(&mut self, by: u64, channel: ChannelId, want: u32) -> Result<Reserve, AllocError>
         ensures ok { IfOk result (λ r. act self.old by (ReserveBytes channel want)
             ≡ (self.new, Reserved r)) }
@@ -33,7 +34,7 @@ impl Hub {
         }
     }
 
-    // Gives back what the seat has reserved, at most `amount` of it.
+    /// Gives back up to `amount` of the bytes that the seat `by` has reserved of the channel.
     pub fn release(&mut self, by: u64, channel: ChannelId, amount: u32)
         ensures { act self.old by (ReleaseBytes channel amount) ≡ (self.new, Done) }
     {
@@ -42,7 +43,8 @@ impl Hub {
         }
     }
 
-    // The window and the packet size of the channel are known.
+    /// The channel is open: the peer takes `window` bytes, and `packet` bytes of data in one
+    /// message (RFC 4254 section 5.1). After an error, for want of memory, the hub is unchanged.
     pub fn ready(
         &mut self,
         by: u64,
@@ -68,7 +70,7 @@ impl Hub {
         }
     }
 
-    // The peer takes so many bytes more on the channel.
+    /// The peer takes `amount` bytes more on the channel (RFC 4254 section 5.2).
     pub fn grant(&mut self, by: u64, channel: ChannelId, amount: u32)
         ensures { act self.old by (GrantBytes channel amount) ≡ (self.new, Done) }
     {
@@ -78,7 +80,8 @@ impl Hub {
         }
     }
 
-    // Puts the message into the inbox of the channel.
+    /// Puts the message into the inbox of the channel. After an error, for want of memory, the hub
+    /// is unchanged and the message comes back.
     pub fn deliver(
         &mut self,
         by: u64,
@@ -98,7 +101,7 @@ impl Hub {
         }
     }
 
-    // Takes the first message out of the inbox of the channel.
+    /// Takes the first message out of the inbox of the channel.
     pub fn receive(&mut self, by: u64, channel: ChannelId) -> Received
         ensures { act self.old by (ReceiveMsg channel) ≡ (self.new, HasReceived result) }
     {
@@ -110,7 +113,8 @@ impl Hub {
         }
     }
 
-    // What may be sent on the channel.
+    /// How many bytes may be reserved of the channel, and how many one message may have; none where
+    /// the hub has no such channel or it is closed.
     pub fn look(&self, by: u64, channel: ChannelId) -> Option<Look>
         ensures { act self.now by (LookAt channel) ≡ (self.now, Saw result) }
     {
@@ -121,7 +125,7 @@ impl Hub {
         }
     }
 
-    // Whether the channel is there, and nobody claimed it before.
+    /// Claims the channel: `true` exactly where it is there, and nobody claimed it before.
     pub fn claim(&mut self, by: u64, channel: ChannelId) -> bool
         ensures { act self.old by (ClaimChannel channel) ≡ (self.new, Claimed result) }
     {

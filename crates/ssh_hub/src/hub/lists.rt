@@ -14,10 +14,10 @@ use ssh_link::{Command, OpenAnswer};
 use std::alloc::AllocError;
 use std::collections::BTreeMap;
 
-// How many replies wait at most.
+/// How many replies wait at most.
 const REPLY_SIZE: usize = 64;
 
-// The channel whose reservation the command spends.
+/// The number of the channel whose reserved bytes the command spends; none where it has no data.
 fn data_channel(command: &Command) -> Option<u32>
     ensures { result ≡ data_channel command.now }
 {
@@ -28,7 +28,7 @@ fn data_channel(command: &Command) -> Option<u32>
     }
 }
 
-// The channel that the command closes.
+/// The number of the channel that the command closes; none where it is no close.
 fn close_channel(command: &Command) -> Option<u32>
     ensures { result ≡ close_channel command.now }
 {
@@ -38,7 +38,7 @@ fn close_channel(command: &Command) -> Option<u32>
     }
 }
 
-// Takes what a put of data spends out of the reservation of the seat.
+/// Spends up to `spend` of the bytes that the seat has reserved of the channel.
 fn spend_on(channels: &mut BTreeMap<u32, Channel>, seat: u64, spend: u32, channel: Option<u32>)
     ensures { channels.new.entries ≡ spent_on channels.old.entries seat spend channel }
 {
@@ -52,7 +52,9 @@ fn spend_on(channels: &mut BTreeMap<u32, Channel>, seat: u64, spend: u32, channe
 
 #[tactic(auto, unfolding(crate::specs::Step::act))]
 impl Hub {
-    // Puts the command behind those that wait.
+    /// Puts the command of the seat `by` behind those that wait. One with data spends up to `spend`
+    /// of the bytes that the seat has reserved. With `wanted` its outcome is kept. After an error,
+    /// for want of memory, the hub is unchanged and the command comes back.
     pub fn put(
         &mut self,
         by: u64,
@@ -88,7 +90,8 @@ impl Hub {
         Ok(Put::Done(ticket))
     }
 
-    // Puts the answer to an open behind those that wait.
+    /// Puts the answer to an open of the peer (RFC 4254 section 5.1) behind those that wait. After
+    /// an error, for want of memory, the hub is unchanged and the answer comes back.
     pub fn put_reply(
         &mut self,
         by: u64,
@@ -119,7 +122,8 @@ impl Hub {
         Ok(PutReply::Done(ticket))
     }
 
-    // Takes the first reply where asked for, or else the first command where asked for.
+    /// Takes the first reply where asked for, or else the first command where asked for. It is now
+    /// what `answer` may tell the outcome of.
     pub fn take(&mut self, by: u64, replies: bool, commands: bool) -> Option<Taken>
         ensures { act self.old by (TakeNext replies commands) ≡ (self.new, Took result) }
     {

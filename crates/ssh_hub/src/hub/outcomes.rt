@@ -15,7 +15,7 @@ use ssh_wire::ChannelId;
 use std::alloc::{AllocError, Global};
 use std::collections::BTreeMap;
 
-// Keeps the outcome where it is wanted.
+/// Keeps the outcome where it is wanted. After an error, for want of memory, nothing has changed.
 fn keep_outcome(
     outcomes: &mut BTreeMap<u64, CommandOutcome>,
     due: Due,
@@ -34,8 +34,9 @@ fn keep_outcome(
     }
 }
 
+/// Keeps the refusal as the seat's newest, and the outcome where it is wanted. After an error, for
+/// want of memory, nothing has changed.
 #[tactic(auto, using(std::proofs::lemmas::Map::Steps::set_value_same, crate::proofs::Maps::without_new))]
-// Keeps the refusal as the seat's newest, and the outcome where it is wanted.
 fn keep_refused(
     refusals: &mut BTreeMap<u64, (u64, Refusal)>,
     outcomes: &mut BTreeMap<u64, CommandOutcome>,
@@ -66,8 +67,9 @@ fn keep_refused(
     Ok(())
 }
 
+/// The opened channel is there, and the outcome is kept where it is wanted. After an error, for
+/// want of memory, nothing has changed.
 #[tactic(auto, using(crate::proofs::Maps::without_new))]
-// The opened channel is there, and the outcome is kept where it is wanted.
 fn keep_opened(
     alloc: Global,
     channels: &mut BTreeMap<u32, Channel>,
@@ -96,7 +98,7 @@ fn keep_opened(
     Ok(())
 }
 
-// Closes the channel of an accepted close.
+/// Closes the channel of an accepted close; does nothing for what was no close.
 fn close_channel(channels: &mut BTreeMap<u32, Channel>, closes: Option<u32>)
     ensures { channels.new.entries ≡ closed_by channels.old.entries closes }
 {
@@ -110,7 +112,9 @@ fn close_channel(channels: &mut BTreeMap<u32, Channel>, closes: Option<u32>)
 
 #[tactic(auto, unfolding(crate::specs::Step::act))]
 impl Hub {
-    // What came of what was taken last, where that has this ticket.
+    /// What came of the command or reply with this ticket. It does nothing where that is not what
+    /// was taken last, or was answered before. After an error, for want of memory, the hub is
+    /// unchanged.
     pub fn answer(
         &mut self,
         by: u64,
@@ -148,7 +152,7 @@ impl Hub {
         Ok(())
     }
 
-    // Gives out the kept outcome of the ticket.
+    /// Gives out the kept outcome of the command with this ticket, once.
     pub fn outcome(&mut self, by: u64, ticket: u64) -> Option<CommandOutcome>
         ensures { act self.old by (TakeOutcome ticket) ≡ (self.new, OutcomeIs result) }
     {
@@ -156,7 +160,7 @@ impl Hub {
         self.outcomes.remove(&ticket)
     }
 
-    // The newest refusal of the seat: the ticket of the command, and why.
+    /// The newest refusal of the seat `by`: the ticket of the command, and why it was refused.
     pub fn refusal(&self, by: u64) -> Option<(u64, Refusal)>
         ensures { act self.now by AskRefusal ≡ (self.now, RefusalIs result) }
     {

@@ -14,7 +14,8 @@ use std::alloc::AllocError;
 
 #[tactic(auto, unfolding(crate::specs::Step::act), using(std::proofs::lemmas::Map::Steps::set_value_same))]
 impl Hub {
-    // The next slot, with room for its answer.
+    /// The next slot, with room for its answer. After an error, for want of memory, the hub is
+    /// unchanged.
     pub fn slot(&mut self, by: u64) -> Result<u64, AllocError>
         requires { self.old.slots + 1 < 2 ^ 64 }
         ensures ok { IfOk result (λ slot. act self.old by DrawSlot ≡ (self.new, SlotIs slot)) }
@@ -29,7 +30,7 @@ impl Hub {
         Ok(slot)
     }
 
-    // Keeps the first answer of a slot that was given out.
+    /// Keeps the first answer of a slot that was given out, and else does nothing.
     pub fn slot_answer(&mut self, by: u64, slot: u64, answer: SlotAnswer)
         ensures { act self.old by (AnswerSlot slot answer) ≡ (self.new, Done) }
     {
@@ -41,7 +42,7 @@ impl Hub {
         }
     }
 
-    // Gives out the answer of a slot.
+    /// Gives out the answer of the slot, once.
     pub fn slot_outcome(&mut self, by: u64, slot: u64) -> Option<SlotAnswer>
         ensures { act self.old by (TakeSlotAnswer slot) ≡ (self.new, SlotAnswerIs result) }
     {
@@ -53,7 +54,7 @@ impl Hub {
         answer
     }
 
-    // The hub ends, if it has not ended before.
+    /// The hub ends, if it has not ended before.
     pub fn end(&mut self, by: u64)
         ensures { act self.old by EndHub ≡ (self.new, Done) }
     {
@@ -63,7 +64,7 @@ impl Hub {
         }
     }
 
-    // The place of the end.
+    /// The place at which the hub ended; none where it has not.
     pub fn ended(&self, by: u64) -> Option<u64>
         ensures { act self.now by AskEnded ≡ (self.now, EndedAt result) }
     {
@@ -71,14 +72,14 @@ impl Hub {
         self.ended
     }
 
-    // A call that changes nothing.
+    /// A call that changes nothing.
     pub fn nudge(&self, by: u64)
         ensures { act self.now by Nudge ≡ (self.now, Done) }
     {
         let _ = by;
     }
 
-    // The number of a new seat.
+    /// The number of a new seat.
     pub fn split(&mut self, by: u64) -> u64
         requires { self.old.seats + 1 < 2 ^ 64 }
         ensures { act self.old by SplitSeat ≡ (self.new, SeatIs result) }

@@ -67,9 +67,9 @@ impl HubLock {
         );
     }
 
-    /// The channel is there, the peer takes `window` bytes, and `packet` bytes of data in one
-    /// message. Its inbox and its claim stay. After `NoMemory`, the only error, the hub is
-    /// unchanged.
+    /// The channel is open: the peer takes `window` bytes, and `packet` bytes of data in one
+    /// message (RFC 4254 section 5.1). Its inbox and its claim stay. After `NoMemory`, the only
+    /// error, the hub is unchanged.
     pub fn ready<R: Wait>(
         &self,
         rt: &R,
@@ -99,8 +99,8 @@ impl HubLock {
         Ok(answer)
     }
 
-    /// The peer takes `amount` bytes more. What is left and what is reserved stay below 2^32
-    /// together, and a channel that is closed or not ready gets nothing.
+    /// The peer takes `amount` bytes more (RFC 4254 section 5.2). What is left and what is reserved
+    /// stay below 2^32 together, and a channel that is closed or not ready gets nothing.
     pub fn grant<R: Wait>(&self, rt: &R, seat: &mut Seat, channel: ChannelId, amount: u32)
         requires { IsSeatOf self.now seat.old }
         ensures seat { IsSeatOf self.now seat.new }
@@ -116,8 +116,9 @@ impl HubLock {
         );
     }
 
-    /// Puts the message into the inbox of the channel; a close closes the channel. After
-    /// `NoMemory`, the only error, the hub is unchanged and the message comes back.
+    /// Puts the message into the inbox of the channel; a close, or a refusal of the open, closes
+    /// the channel. After `NoMemory`, the only error, the hub is unchanged and the message comes
+    /// back.
     pub fn deliver<R: Wait>(
         &self,
         rt: &R,

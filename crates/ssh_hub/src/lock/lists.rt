@@ -53,8 +53,9 @@ impl HubLock {
         }
     }
 
-    /// Puts the answer to an open of the peer behind those that wait, of which there are at most
-    /// 64. After `NoMemory`, the only error, the hub is unchanged and the answer comes back.
+    /// Puts the answer to an open of the peer (RFC 4254 section 5.1) behind those that wait, of
+    /// which there are at most 64. After `NoMemory`, the only error, the hub is unchanged and the
+    /// answer comes back.
     pub fn put_reply<R: Wait>(
         &self,
         rt: &R,

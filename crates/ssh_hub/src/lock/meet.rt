@@ -57,7 +57,7 @@ impl HubLock {
         Ok(self.twin(rt, seat))
     }
 
-    // Makes a new seat.
+    /// Makes a new seat, with the next seat number.
     fn twin<R: Wait>(&self, rt: &R, seat: &mut Seat) -> Seat
         requires { IsSeatOf self.now seat.old }
         ensures seat { IsSeatOf self.now seat.new }

@@ -15,20 +15,20 @@ use crate::hub::Hub;
 use crate::rule::{Commit, Draw, Event, Look, Pass};
 use std::sync::Wait;
 
-// The word that says how many tickets were drawn.
+/// The word that says how many tickets were drawn.
 const TICKET: usize = 0;
 
-// The word that says which ticket is served.
+/// The word that says which ticket is served.
 const SERVING: usize = 1;
 
-// The word that says how many entries the history has.
+/// The word that says how many entries the history has.
 const COUNT: usize = 2;
 
-// Tickets from here on are not served: the calls that draw them wait for ever.
+/// Tickets from here on are not served: the calls that draw them wait for ever.
 const LAST: u64 = u64::MAX - 1;
 
 impl HubLock {
-    // Waits for its turn, and takes the state out.
+    /// Waits for its turn, and takes the hub out.
     pub(super) fn enter<R: Wait>(&self, rt: &R, place: &mut Place) -> Hub
         requires { IsIdle self.now place.old }
         ensures place { IsOfSame place.old place.new × IsInside place.new }
@@ -52,7 +52,8 @@ impl HubLock {
         unreachable!()
     }
 
-    // Commits the entry, which the call picks from what it passes.
+    /// Commits the entry, which the call picks from what it passes, and answers the entry's place
+    /// in the history.
     fn commit<E: Event>(&self, place: &mut Place) -> u64
         requires place { IsInTurn self.now place.old }
         requires entry { IsAnswered place.old E.entry }
@@ -66,7 +67,7 @@ impl HubLock {
         at
     }
 
-    // Gives the state back, and passes the turn on.
+    /// Gives the hub back, and passes the turn on.
     pub(super) fn leave(&self, place: &mut Place, hub: Hub)
         requires place { (place.old.table_id ≡ self.now.table.shared.table_id)
             × (0 < place.old.me.0.number)
@@ -82,8 +83,8 @@ impl HubLock {
         shared.wake_all(SERVING);
     }
 
-    // Commits the entry, which the call picks from what it passes, and leaves. Its place comes
-    // back.
+    /// Commits the entry, which the call picks from what it passes, and leaves. Answers the entry's
+    /// place in the history.
     pub(super) fn finish<E: Event, C, P>(
         &self,
         place: &mut Place,
@@ -109,7 +110,7 @@ impl HubLock {
         Some(at)
     }
 
-    // Leaves with no entry.
+    /// Leaves with no entry.
     pub(super) fn give_up(&self, place: &mut Place, hub: Hub)
         requires place { IsInTurn self.now place.old }
         requires hub { hub ≡ hub_seen place.old }

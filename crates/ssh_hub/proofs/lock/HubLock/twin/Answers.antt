@@ -1,6 +1,6 @@
 use Rattle.std.proofs.Common.{arith, ◌∙◌, refl, ap}
 use Rattle.ssh_hub.proofs.Seating.{splits}
-use Rattle.ssh_hub.specs.Rule.{Sat}
+use Rattle.ssh_hub.specs.Rule.{Seated}
 use Rattle.ssh_hub.specs.Words.{view_of}
 use Rattle.ssh_hub.proofs.Made.{new_rests, new_legal, split_made, makes_later}
 use Rattle.ssh_hub.proofs.lock.HubLock.twin.Goals as goal
@@ -34,4 +34,4 @@ returns-clause-call g c = let f = c.finish-seat.ensures in
     split_made (view_of c.args.seat.now) c.finish-seat.new.place.me.0
     c.split_seat-inner.new.seat.me.0 c.split-number.result _
     (makes_later _ _ _ _ _ c.enter-hub.ensures.learns f.makes)
-    (ap (λ (m : Sat). m.0) c.split_seat-inner.ensures.2) n.0.1
+    (ap (λ (m : Seated). m.0) c.split_seat-inner.ensures.2) n.0.1

@@ -1,5 +1,0 @@
-use Rattle.ssh_hub.specs.Words.{IsSeatOf}
-use Rattle.ssh_hub.proofs.tests.take_turns.Given as goal
-
-abbrev pub invariant-loop : goal.invariant-loop
-invariant-loop g l = IsSeatOf l.lock l.seat

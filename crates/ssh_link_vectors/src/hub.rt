@@ -1,0 +1,483 @@
+// A hub by example, on one thread and on two.
+ghost use Rattle.std.specs.Prelude.{IfOk};
+ghost use Rattle.ssh_hub.specs.Words.{IsSeatOf};
+
+use bytes::Bytes;
+use ssh_hub::{
+    Config2, Deliver, HandleError, HubLock, Look, Put, PutReply, Received, Reserve, Seat,
+    SlotAnswer, Taken,
+};
+use ssh_link::{ChannelMsg, ChannelOpenHandle, Command, CommandOutcome, OpenAnswer, Refusal};
+use ssh_wire::ChannelId;
+use std::alloc::Global;
+use std::sync::Wait;
+use std::test::Fail;
+use std::thread::{Threads, join};
+
+const CHANNEL: ChannelId = ChannelId(2);
+
+// A hub that holds two commands and two messages in an inbox.
+fn small_hub(alloc: Global) -> Result<(HubLock, Seat), HandleError>
+    ensures { IfOk result (λ made. IsSeatOf made.0 made.1) }
+{
+    let config = Config2 {
+        channel_buffer_size: 2,
+        event_buffer_size: 2,
+    };
+    HubLock::new(alloc, &config)
+}
+
+// What came of a call that hands in or hands out a command or a reply. A value with one in it is
+// read by reference and then always moved: dropping it on some of the ways through a function would
+// take its proof long.
+#[derive(Clone, Copy, Debug, PartialEq, Eq)]
+enum Came {
+    Done(u64),
+    Full,
+    Reply(u64),
+    Command(u64),
+    Else,
+}
+
+fn read_put(put: &Result<Put, (Command, HandleError)>) -> Came {
+    match put {
+        Ok(Put::Done(ticket)) => Came::Done(*ticket),
+        Ok(Put::Full(_)) => Came::Full,
+        _ => Came::Else,
+    }
+}
+
+fn came_of_put(put: Result<Put, (Command, HandleError)>) -> Came {
+    let came = read_put(&put);
+    drop(put);
+    came
+}
+
+fn read_reply(put: &Result<PutReply, (OpenAnswer, HandleError)>) -> Came {
+    match put {
+        Ok(PutReply::Done(ticket)) => Came::Done(*ticket),
+        Ok(PutReply::Full(_)) => Came::Full,
+        _ => Came::Else,
+    }
+}
+
+fn came_of_reply(put: Result<PutReply, (OpenAnswer, HandleError)>) -> Came {
+    let came = read_reply(&put);
+    drop(put);
+    came
+}
+
+fn read_taken(taken: &Option<Taken>) -> Came {
+    match taken {
+        Some(Taken::Reply(ticket, _)) => Came::Reply(*ticket),
+        Some(Taken::Command(ticket, _)) => Came::Command(*ticket),
+        None => Came::Else,
+    }
+}
+
+fn came_of_take(taken: Option<Taken>) -> Came {
+    let came = read_taken(&taken);
+    drop(taken);
+    came
+}
+
+// What came of a call on an inbox.
+#[derive(Clone, Copy, Debug, PartialEq, Eq)]
+enum Inbox {
+    Done,
+    Gone,
+    Eof,
+    Close,
+    Nothing,
+    Closed,
+    Else,
+}
+
+fn read_delivered(delivered: &Result<Deliver, (ChannelMsg, HandleError)>) -> Inbox {
+    match delivered {
+        Ok(Deliver::Done) => Inbox::Done,
+        Ok(Deliver::Gone(_)) => Inbox::Gone,
+        _ => Inbox::Else,
+    }
+}
+
+fn inbox_of_deliver(delivered: Result<Deliver, (ChannelMsg, HandleError)>) -> Inbox {
+    let told = read_delivered(&delivered);
+    drop(delivered);
+    told
+}
+
+fn read_received(received: &Received) -> Inbox {
+    match received {
+        Received::Msg(ChannelMsg::Eof) => Inbox::Eof,
+        Received::Msg(ChannelMsg::Close) => Inbox::Close,
+        Received::Nothing => Inbox::Nothing,
+        Received::Closed => Inbox::Closed,
+        _ => Inbox::Else,
+    }
+}
+
+fn inbox_of_receive(received: Received) -> Inbox {
+    let told = read_received(&received);
+    drop(received);
+    told
+}
+
+// Each of these makes one call of the lock, and lets go of what it hands out.
+
+fn put<R: Wait>(rt: &R, lock: &HubLock, seat: &mut Seat, msg: Command, spend: u32) -> Came
+    requires { IsSeatOf lock.now seat.old }
+    ensures { IsSeatOf lock.now seat.new }
+{
+    came_of_put(lock.put(rt, seat, msg, spend, false))
+}
+
+fn put_wanted<R: Wait>(rt: &R, lock: &HubLock, seat: &mut Seat, msg: Command) -> Came
+    requires { IsSeatOf lock.now seat.old }
+    ensures { IsSeatOf lock.now seat.new }
+{
+    came_of_put(lock.put(rt, seat, msg, 0, true))
+}
+
+fn reply<R: Wait>(rt: &R, lock: &HubLock, seat: &mut Seat, channel: ChannelId) -> Came
+    requires { IsSeatOf lock.now seat.old }
+    ensures { IsSeatOf lock.now seat.new }
+{
+    let accepted = ChannelOpenHandle::new(channel).accept();
+    came_of_reply(lock.put_reply(rt, seat, accepted))
+}
+
+fn take<R: Wait>(rt: &R, lock: &HubLock, seat: &mut Seat, replies: bool) -> Came
+    requires { IsSeatOf lock.now seat.old }
+    ensures { IsSeatOf lock.now seat.new }
+{
+    came_of_take(lock.take(rt, seat, replies, true))
+}
+
+fn deliver<R: Wait>(rt: &R, lock: &HubLock, seat: &mut Seat, msg: ChannelMsg) -> Inbox
+    requires { IsSeatOf lock.now seat.old }
+    ensures { IsSeatOf lock.now seat.new }
+{
+    inbox_of_deliver(lock.deliver(rt, seat, CHANNEL, msg))
+}
+
+fn receive<R: Wait>(rt: &R, lock: &HubLock, seat: &mut Seat) -> Inbox
+    requires { IsSeatOf lock.now seat.old }
+    ensures { IsSeatOf lock.now seat.new }
+{
+    inbox_of_receive(lock.receive(rt, seat, CHANNEL))
+}
+
+// Two seats reserve of ten bytes, and the first gives three back.
+fn reserves<R: Wait>(
+    rt: &R,
+    lock: &HubLock,
+    a: &mut Seat,
+    b: &mut Seat,
+) -> Result<[Reserve; 4], HandleError>
+    requires a { IsSeatOf lock.now a.old }
+    requires b { IsSeatOf lock.now b.old }
+    ensures a { IsSeatOf lock.now a.new }
+    ensures b { IsSeatOf lock.now b.new }
+{
+    let first = lock.reserve(rt, a, CHANNEL, 8)?;
+    let rest = lock.reserve(rt, b, CHANNEL, 8)?;
+    let none = lock.reserve(rt, b, CHANNEL, 1)?;
+    lock.release(rt, a, CHANNEL, 3);
+    let again = lock.reserve(rt, b, CHANNEL, 8)?;
+    Ok([first, rest, none, again])
+}
+
+// One seat puts data, and the other an end of file, for which there is room once.
+fn puts<R: Wait>(rt: &R, lock: &HubLock, a: &mut Seat, b: &mut Seat) -> [Came; 3]
+    requires a { IsSeatOf lock.now a.old }
+    requires b { IsSeatOf lock.now b.old }
+    ensures a { IsSeatOf lock.now a.new }
+    ensures b { IsSeatOf lock.now b.new }
+{
+    let channel = CHANNEL;
+    let bytes = Bytes::from_static(b"hello");
+    let data = put(rt, lock, a, Command::Data { channel, bytes }, 5);
+    let eof = put(rt, lock, b, Command::Eof { channel }, 0);
+    let third = put(rt, lock, b, Command::Eof { channel }, 0);
+    [data, eof, third]
+}
+
+// What one seat takes, while the other puts a reply.
+fn takes<R: Wait>(rt: &R, lock: &HubLock, a: &mut Seat, b: &mut Seat) -> [Came; 4]
+    requires a { IsSeatOf lock.now a.old }
+    requires b { IsSeatOf lock.now b.old }
+    ensures a { IsSeatOf lock.now a.new }
+    ensures b { IsSeatOf lock.now b.new }
+{
+    let first = take(rt, lock, a, true);
+    let put = reply(rt, lock, b, ChannelId(3));
+    let second = take(rt, lock, a, true);
+    let third = take(rt, lock, a, true);
+    [first, put, second, third]
+}
+
+// What two seats of one hub are answered.
+#[derive(Clone, Copy, Debug, PartialEq, Eq)]
+struct Shared {
+    reserved: [Reserve; 4],
+    put: [Came; 3],
+    seen: Option<Look>,
+    taken: [Came; 4],
+}
+
+fn share_a_window<R: Wait>(
+    rt: &R,
+    lock: &HubLock,
+    a: &mut Seat,
+    b: &mut Seat,
+) -> Result<Shared, HandleError>
+    requires a { IsSeatOf lock.now a.old }
+    requires b { IsSeatOf lock.now b.old }
+{
+    let reserved = reserves(rt, lock, a, b)?;
+    let put = puts(rt, lock, a, b);
+    lock.grant(rt, a, CHANNEL, u32::MAX);
+    let seen = lock.look(rt, a, CHANNEL);
+    let taken = takes(rt, lock, a, b);
+    Ok(Shared {
+        reserved,
+        put,
+        seen,
+        taken,
+    })
+}
+
+fn on_two_seats<R: Wait>(rt: &R, alloc: Global) -> Result<Shared, HandleError> {
+    let (lock, mut a) = small_hub(alloc)?;
+    lock.ready(rt, &mut a, CHANNEL, 10, 4)?;
+    let mut b = lock.split(rt, &mut a)?;
+    share_a_window(rt, &lock, &mut a, &mut b)
+}
+
+#[test]
+fn two_seats_share_a_window_and_the_commands(rt: HostRuntime) -> Result<(), Fail> {
+    let wanted = Shared {
+        reserved: [
+            Reserve::Got(8),
+            Reserve::Got(2),
+            Reserve::Empty,
+            Reserve::Got(3),
+        ],
+        put: [Came::Done(1), Came::Done(2), Came::Full],
+        seen: Some(Look {
+            left: 4294967290,
+            packet: 4,
+        }),
+        taken: [
+            Came::Command(1),
+            Came::Done(3),
+            Came::Reply(3),
+            Came::Command(2),
+        ],
+    };
+    assert_eq!(rt; on_two_seats(&rt, rt.alloc())?, wanted);
+    Ok(())
+}
+
+// An end of file and a close come to an inbox, and are taken out of it.
+fn fill_and_empty<R: Wait>(
+    rt: &R,
+    lock: &HubLock,
+    seat: &mut Seat,
+) -> Result<([Inbox; 7], Reserve), HandleError>
+    requires { IsSeatOf lock.now seat.old }
+{
+    let gone = deliver(rt, lock, seat, ChannelMsg::Eof);
+    lock.ready(rt, seat, CHANNEL, 10, 4)?;
+    let none = receive(rt, lock, seat);
+    let first = deliver(rt, lock, seat, ChannelMsg::Eof);
+    let second = deliver(rt, lock, seat, ChannelMsg::Close);
+    let eof = receive(rt, lock, seat);
+    let close = receive(rt, lock, seat);
+    let closed = receive(rt, lock, seat);
+    let reserved = lock.reserve(rt, seat, CHANNEL, 1)?;
+    Ok(([gone, none, first, second, eof, close, closed], reserved))
+}
+
+fn on_an_inbox<R: Wait>(rt: &R, alloc: Global) -> Result<([Inbox; 7], Reserve), HandleError> {
+    let (lock, mut seat) = small_hub(alloc)?;
+    fill_and_empty(rt, &lock, &mut seat)
+}
+
+#[test]
+fn an_inbox_is_emptied_before_it_tells_that_the_channel_is_closed(
+    rt: HostRuntime,
+) -> Result<(), Fail> {
+    let wanted = [
+        Inbox::Gone,
+        Inbox::Nothing,
+        Inbox::Done,
+        Inbox::Done,
+        Inbox::Eof,
+        Inbox::Close,
+        Inbox::Closed,
+    ];
+    let told = on_an_inbox(&rt, rt.alloc())?;
+    assert_eq!(rt; told, (wanted, Reserve::Gone));
+    Ok(())
+}
+
+// What became of two commands, the outcome of the second being wanted.
+#[derive(Clone, Copy, Debug, PartialEq, Eq)]
+struct Kept {
+    put: [Came; 2],
+    taken: [Came; 2],
+    refused: (Option<CommandOutcome>, Option<(u64, Refusal)>),
+    opened: [Option<CommandOutcome>; 2],
+    claimed: [bool; 2],
+}
+
+fn keep_outcomes<R: Wait>(rt: &R, lock: &HubLock, seat: &mut Seat) -> Result<Kept, HandleError>
+    requires { IsSeatOf lock.now seat.old }
+{
+    let channel = CHANNEL;
+    let first = put(rt, lock, seat, Command::Eof { channel }, 0);
+    let second = put_wanted(rt, lock, seat, Command::Eof { channel });
+    let taken = take(rt, lock, seat, true);
+    let why = Refusal::UnknownChannel;
+    lock.answer(rt, seat, 1, CommandOutcome::Refused(why))?;
+    let refused = (lock.outcome(rt, seat, 1), lock.refusal(rt, seat));
+    let next = take(rt, lock, seat, false);
+    lock.answer(rt, seat, 2, CommandOutcome::Opened(channel))?;
+    let opened = [lock.outcome(rt, seat, 2), lock.outcome(rt, seat, 2)];
+    let claimed = [lock.claim(rt, seat, channel), lock.claim(rt, seat, channel)];
+    Ok(Kept {
+        put: [first, second],
+        taken: [taken, next],
+        refused,
+        opened,
+        claimed,
+    })
+}
+
+fn on_outcomes<R: Wait>(rt: &R, alloc: Global) -> Result<Kept, HandleError> {
+    let (lock, mut seat) = small_hub(alloc)?;
+    keep_outcomes(rt, &lock, &mut seat)
+}
+
+#[test]
+fn an_outcome_is_kept_where_it_is_wanted_and_a_refusal_besides(
+    rt: HostRuntime,
+) -> Result<(), Fail> {
+    let wanted = Kept {
+        put: [Came::Done(1), Came::Done(2)],
+        taken: [Came::Command(1), Came::Command(2)],
+        refused: (None, Some((1, Refusal::UnknownChannel))),
+        opened: [Some(CommandOutcome::Opened(CHANNEL)), None],
+        claimed: [true, false],
+    };
+    assert_eq!(rt; on_outcomes(&rt, rt.alloc())?, wanted);
+    Ok(())
+}
+
+// What becomes of a slot that is answered twice, and of a hub that is ended twice.
+#[derive(Clone, Copy, Debug, PartialEq, Eq)]
+struct Ended {
+    slot: u64,
+    answers: [Option<SlotAnswer>; 3],
+    ended: [Option<u64>; 2],
+    place: Option<u64>,
+    reserved: Reserve,
+}
+
+fn answer_and_end<R: Wait>(rt: &R, lock: &HubLock, seat: &mut Seat) -> Result<Ended, HandleError>
+    requires { IsSeatOf lock.now seat.old }
+{
+    let slot = lock.slot(rt, seat)?;
+    let none = lock.slot_outcome(rt, seat, slot);
+    lock.slot_answer(rt, seat, slot, SlotAnswer::Port(Some(22)));
+    lock.slot_answer(rt, seat, slot, SlotAnswer::Pong);
+    let first = lock.slot_outcome(rt, seat, slot);
+    let again = lock.slot_outcome(rt, seat, slot);
+    let before = lock.ended(rt, seat);
+    lock.end(rt, seat);
+    let place = seat.place();
+    lock.nudge(rt, seat);
+    lock.end(rt, seat);
+    let after = lock.ended(rt, seat);
+    let reserved = lock.reserve(rt, seat, CHANNEL, 1)?;
+    lock.pause(rt, 0);
+    Ok(Ended {
+        slot,
+        answers: [none, first, again],
+        ended: [before, after],
+        place,
+        reserved,
+    })
+}
+
+fn on_a_slot<R: Wait>(rt: &R, alloc: Global) -> Result<Ended, HandleError> {
+    let (lock, mut seat) = small_hub(alloc)?;
+    answer_and_end(rt, &lock, &mut seat)
+}
+
+#[test]
+fn a_slot_keeps_its_first_answer_and_the_hub_its_first_end(rt: HostRuntime) -> Result<(), Fail> {
+    let wanted = Ended {
+        slot: 1,
+        answers: [None, Some(SlotAnswer::Port(Some(22))), None],
+        ended: [None, Some(7)],
+        place: Some(7),
+        reserved: Reserve::Ended { at: 7 },
+    };
+    assert_eq!(rt; on_a_slot(&rt, rt.alloc())?, wanted);
+    Ok(())
+}
+
+// Reserves up to three bytes and gives them back, a thousand times. Says how many it got in all.
+fn take_turns<R: Wait>(rt: &R, lock: &HubLock, mut seat: Seat) -> (Seat, u64)
+    requires { IsSeatOf lock.now seat }
+    ensures { IsSeatOf lock.now result.0 }
+{
+    let mut sum: u64 = 0;
+    for _ in 0..1000 {
+        if let Ok(Reserve::Got(got)) = lock.reserve(rt, &mut seat, CHANNEL, 3) {
+            lock.release(rt, &mut seat, CHANNEL, got);
+            sum = sum.saturating_add(u64::from(got));
+        }
+    }
+    (seat, sum)
+}
+
+// Two threads share ten bytes. Says how many they got in all, and what is left at the end.
+fn share<R: Threads + Wait + Sync>(
+    rt: &R,
+    alloc: Global,
+) -> Result<(u64, Option<Look>), HandleError> {
+    let (lock, mut seat) = small_hub(alloc)?;
+    lock.ready(rt, &mut seat, CHANNEL, 10, 4)?;
+    let one = lock.split(rt, &mut seat)?;
+    let two = lock.split(rt, &mut seat)?;
+    let lock_ref = &lock;
+    let (a, b) = join(
+        rt,
+        || take_turns(rt, lock_ref, one),
+        || take_turns(rt, lock_ref, two),
+    );
+    lock.join(&mut seat, a.0);
+    lock.join(&mut seat, b.0);
+    let seen = lock.look(rt, &mut seat, CHANNEL);
+    Ok((a.1.saturating_add(b.1), seen))
+}
+
+#[test]
+fn two_threads_give_back_what_they_reserve(rt: HostRuntime) -> Result<(), Fail> {
+    let shared = share(&rt, rt.alloc())?;
+    assert_eq!(rt;
+        shared,
+        (
+            6000,
+            Some(Look {
+                left: 10,
+                packet: 4
+            })
+        )
+    );
+    Ok(())
+}

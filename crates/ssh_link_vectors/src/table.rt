@@ -1,0 +1,265 @@
+// The table by example: what goes out for lists of calls, in the bytes of the standard's messages.
+mod opening;
+mod sending;
+mod windows;
+
+use bytes::Bytes;
+use ssh_channels::{Adjusted, ChannelParams, Encrypted, FrameSink, TableError};
+use ssh_link::Frame;
+use ssh_wire::{ChannelId, ChannelOpenConfirmation};
+use std::alloc::Global;
+use std::test::Fail;
+
+// Which way data go.
+#[derive(Clone, Copy)]
+enum Way {
+    Staged,
+    InExchange,
+    ToSink,
+}
+
+// A call on a table, with the channel first where it is on one.
+#[derive(Clone, Copy)]
+enum Call {
+    // Channel, the peer's number, its window, its packet size; the room is 8.
+    Insert(u32, u32, u32, u32),
+    Data(u32, Way, &'static [u8]),
+    // With the data type code.
+    Extended(u32, u32, Way, &'static [u8]),
+    Byte(u32, u8),
+    Eof(u32),
+    Close(u32),
+    PeerClose(u32),
+    Grant(u32, u32),
+    GrantInExchange(u32, u32),
+    // As many bytes came in, and the target is 8.
+    Adjust(u32, &'static [u8]),
+    FlushPending(u32),
+    FlushPendingToSink(u32),
+    FlushAll,
+    FlushAllToSink,
+    Flush,
+    FlushInExchange,
+    // REQUEST_SUCCESS, which is for no channel.
+    StageSuccess,
+    Draw,
+    Open,
+    DropPending(u32),
+    // Channel and packet size; the peer's number is 44 and its window 3.
+    Confirm(u32, u32),
+    FailOpen(u32),
+    SetWantsReply(u32),
+    Look(u32),
+    AnyWaits,
+    CanSend(u32),
+}
+
+// What a call answers.
+#[derive(Clone, Copy, PartialEq, Eq)]
+enum Answer {
+    Done,
+    Is(bool),
+    Framed(usize),
+    Credit(Option<u32>),
+    Room(Adjusted),
+    Number(u32),
+    // The room, the credit, whether data wait, and an EOF, and a CLOSE, and whether a reply is
+    // wanted.
+    Line(usize, u32, bool, bool, bool, bool),
+    NoLine,
+    Refused(TableError),
+}
+
+fn is(answered: Result<bool, TableError>) -> Answer {
+    match answered {
+        Ok(answer) => Answer::Is(answer),
+        Err(why) => Answer::Refused(why),
+    }
+}
+
+fn framed(answered: Result<usize, TableError>) -> Answer {
+    match answered {
+        Ok(count) => Answer::Framed(count),
+        Err(why) => Answer::Refused(why),
+    }
+}
+
+fn done(answered: Result<(), TableError>) -> Answer {
+    match answered {
+        Ok(()) => Answer::Done,
+        Err(why) => Answer::Refused(why),
+    }
+}
+
+fn number(answered: Result<ChannelId, TableError>) -> Answer {
+    match answered {
+        Ok(channel) => Answer::Number(channel.0),
+        Err(why) => Answer::Refused(why),
+    }
+}
+
+fn credit(answered: Result<Option<u32>, TableError>) -> Answer {
+    match answered {
+        Ok(credit) => Answer::Credit(credit),
+        Err(why) => Answer::Refused(why),
+    }
+}
+
+fn room(answered: Result<Adjusted, TableError>) -> Answer {
+    match answered {
+        Ok(adjusted) => Answer::Room(adjusted),
+        Err(why) => Answer::Refused(why),
+    }
+}
+
+fn line(table: &Encrypted, channel: ChannelId) -> Answer {
+    match table.params(channel) {
+        Some(line) => Answer::Line(
+            table.sender_window_size(channel),
+            line.recipient_window_size,
+            table.has_pending_data(channel),
+            line.pending_eof,
+            line.pending_close,
+            line.wants_reply,
+        ),
+        None => Answer::NoLine,
+    }
+}
+
+fn confirmation(channel: u32, packet: u32) -> ChannelOpenConfirmation {
+    ChannelOpenConfirmation {
+        recipient_channel: channel,
+        sender_channel: 44,
+        initial_window_size: 3,
+        maximum_packet_size: packet,
+    }
+}
+
+// One call of data.
+fn sent(
+    table: &mut Encrypted,
+    sink: &mut FrameSink,
+    channel: ChannelId,
+    way: Way,
+    bytes: Bytes,
+) -> Answer {
+    is(match way {
+        Way::Staged => table.data(channel, bytes, false),
+        Way::InExchange => table.data(channel, bytes, true),
+        Way::ToSink => table.data_with_writer(sink, channel, bytes, false),
+    })
+}
+
+// One call of extended data.
+fn extended(
+    table: &mut Encrypted,
+    sink: &mut FrameSink,
+    channel: ChannelId,
+    ext: u32,
+    way: Way,
+    bytes: Bytes,
+) -> Answer {
+    is(match way {
+        Way::Staged => table.extended_data(channel, ext, bytes, false),
+        Way::InExchange => table.extended_data(channel, ext, bytes, true),
+        Way::ToSink => table.extended_data_with_writer(sink, channel, ext, bytes, false),
+    })
+}
+
+fn made(
+    alloc: Global,
+    table: &mut Encrypted,
+    sink: &mut FrameSink,
+    call: Call,
+) -> Result<Answer, Fail> {
+    Ok(match call {
+        Call::Insert(own, peer, window, packet) => {
+            let own = ChannelId(own);
+            let params = ChannelParams::new(alloc, peer, own, window, 8, packet, 32768);
+            is(table.insert(params))
+        }
+        Call::Data(n, way, bytes) => {
+            let bytes = Bytes::copy_from_slice(alloc, bytes)?;
+            sent(table, sink, ChannelId(n), way, bytes)
+        }
+        Call::Extended(n, ext, way, bytes) => {
+            let bytes = Bytes::copy_from_slice(alloc, bytes)?;
+            extended(table, sink, ChannelId(n), ext, way, bytes)
+        }
+        other => made_without_bytes(table, sink, other),
+    })
+}
+
+fn made_without_bytes(table: &mut Encrypted, sink: &mut FrameSink, call: Call) -> Answer {
+    match call {
+        Call::Byte(n, msg) => is(table.byte(ChannelId(n), msg)),
+        Call::Eof(n) => is(table.eof(ChannelId(n))),
+        Call::Close(n) => is(table.close(ChannelId(n))),
+        Call::PeerClose(n) => is(table.peer_close(ChannelId(n))),
+        Call::Grant(n, amount) => credit(table.grant(ChannelId(n), amount, false)),
+        Call::GrantInExchange(n, amount) => credit(table.grant(ChannelId(n), amount, true)),
+        Call::Adjust(n, bytes) => room(table.adjust_window_size(ChannelId(n), bytes, 8)),
+        Call::FlushPending(n) => framed(table.flush_pending(ChannelId(n))),
+        Call::FlushPendingToSink(n) => {
+            framed(table.flush_pending_with_writer(sink, ChannelId(n), false))
+        }
+        Call::FlushAll => done(table.flush_all_pending()),
+        Call::FlushAllToSink => done(table.flush_all_pending_with_writer(sink, false)),
+        Call::Flush => done(table.flush(sink, false)),
+        Call::FlushInExchange => done(table.flush(sink, true)),
+        Call::StageSuccess => done(table.stage(Frame::short(&[81], None, None))),
+        Call::Draw => number(table.new_channel_id()),
+        Call::Open => number(table.new_channel(8, 32768)),
+        Call::DropPending(n) => Answer::Is(table.drop_pending(ChannelId(n))),
+        Call::Confirm(n, packet) => is(table.confirm(&confirmation(n, packet))),
+        Call::FailOpen(n) => Answer::Is(table.fail_open(ChannelId(n))),
+        Call::SetWantsReply(n) => Answer::Is(table.set_wants_reply(ChannelId(n), true)),
+        Call::Look(n) => line(table, ChannelId(n)),
+        Call::AnyWaits => Answer::Is(table.has_any_pending_data()),
+        Call::CanSend(n) => Answer::Is(table.can_send(ChannelId(n))),
+        _ => Answer::Done,
+    }
+}
+
+// The channel of a frame, and its payload.
+type Sent = (Option<u32>, &'static [u8]);
+
+// Whether these are the frames.
+fn are(frames: &[Frame], alloc: Global, wanted: &[Sent]) -> Result<bool, Fail> {
+    if frames.len() != wanted.len() {
+        return Ok(false);
+    }
+    for (frame, (channel, payload)) in frames.iter().zip(wanted) {
+        let payload = Bytes::copy_from_slice(alloc, *payload)?;
+        if *frame != Frame::new(payload, None, channel.map(ChannelId)) {
+            return Ok(false);
+        }
+    }
+    Ok(true)
+}
+
+// Calls with their answers on a new table, and the frames that are then in the sink, and staged.
+#[derive(Clone, Copy)]
+struct Row {
+    shows: &'static str,
+    calls: &'static [(Call, Answer)],
+    sink: &'static [Sent],
+    staged: &'static [Sent],
+}
+
+// Whether the row's calls answer so, and put out these frames. What is staged in the end is what a
+// flush outside an exchange hands on.
+fn holds(alloc: Global, row: Row) -> Result<bool, Fail> {
+    let mut table = Encrypted::new(alloc);
+    let mut sink = FrameSink::new(alloc);
+    for (call, answer) in row.calls {
+        if made(alloc, &mut table, &mut sink, *call)? != *answer {
+            return Ok(false);
+        }
+    }
+    let mut staged = FrameSink::new(alloc);
+    if done(table.flush(&mut staged, false)) != Answer::Done {
+        return Ok(false);
+    }
+    Ok(are(sink.as_slice(), alloc, row.sink)? && are(staged.as_slice(), alloc, row.staged)?)
+}
