@@ -5,8 +5,8 @@ use Rattle.std.proofs.lemmas.List.{length-take, take_all}
 use Rattle.ssh_link.specs.Told.{Adds}
 use Rattle.ssh_link.specs.declared.plain_kex.PlainKexError.{PlainKexError}
 use Rattle.ssh_handler.specs.declared.recorded.RecordError.TheVariants as record_error
-use Rattle.ssh_session.specs.declared.error.RunError.{RunError}
-use Rattle.ssh_session.specs.declared.error.RunError.TheVariants as error
+use Rattle.ssh_rules.specs.declared.error.RunError.{RunError}
+use Rattle.ssh_rules.specs.declared.error.RunError.TheVariants as error
 use Rattle.ssh_script.specs.Transfer.{IsFront, AddsPart}
 use Rattle.ssh_script.specs.Scene.{Scene}
 use Rattle.ssh_script.specs.Played.{Failure}

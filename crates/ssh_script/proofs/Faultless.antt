@@ -2,14 +2,14 @@
 use Rattle.std.proofs.Common.{ℕ, List, Option, Some, None, Result, Ok, Err}
 use Rattle.ssh_auth.specs.Plan.{Plan, Event}
 use Rattle.ssh_auth.specs.Publickey.{Acceptance}
-use Rattle.ssh_session.specs.declared.error.RunError.{RunError}
-use Rattle.ssh_session.specs.declared.error.RunError.TheVariants as error
-use Rattle.ssh_session.specs.World.{World}
-use Rattle.ssh_session.specs.Outcome.{Outcome}
-use Rattle.ssh_session.specs.Serve.{Cause, Wants_memory, Link_failed, Limit_reached, Faulty}
-use Rattle.ssh_session.specs.Serve.{Refused_by, Broken_by, cause_of, IsCaused}
-use Rattle.ssh_session.specs.Run.{Turn}
-use Rattle.ssh_session.specs.Account.{Concludes, Closes}
+use Rattle.ssh_rules.specs.declared.error.RunError.{RunError}
+use Rattle.ssh_rules.specs.declared.error.RunError.TheVariants as error
+use Rattle.ssh_rules.specs.World.{World}
+use Rattle.ssh_rules.specs.Outcome.{Outcome}
+use Rattle.ssh_rules.specs.Cause.{Cause, Wants_memory, Link_failed, Limit_reached, Faulty}
+use Rattle.ssh_rules.specs.Cause.{Refused_by, Broken_by, cause_of, IsCaused}
+use Rattle.ssh_rules.specs.Run.{Turn}
+use Rattle.ssh_rules.specs.Account.{Concludes, Closes}
 
 -- where one rise of the faults is another, a run that ends by the one ends by the other
 caused_by : {E F : Type 0} (cause : Cause E F) (plan : Plan Outcome) (rose other : Type 0)

@@ -18,11 +18,11 @@ use Rattle.ssh_auth.specs.declared.question.Question.TheVariants as ask
 use Rattle.ssh_auth.specs.Calls.{admission_call, lent_call, judged_call}
 use Rattle.ssh_auth.specs.Was.{question_of, asked_of}
 use Rattle.ssh_auth.proofs.Back.{admitted_back, lent_back, judged_back}
-use Rattle.ssh_session.specs.declared.error.RunError.{RunError}
-use Rattle.ssh_session.specs.World.{settings_of}
-use Rattle.ssh_session.specs.Serve.{may_stop}
-use Rattle.ssh_session.specs.Run.{calls_of, steps_of, entries}
-use Rattle.ssh_session.specs.Account.{Told, Ran}
+use Rattle.ssh_rules.specs.declared.error.RunError.{RunError}
+use Rattle.ssh_rules.specs.World.{settings_of}
+use Rattle.ssh_rules.specs.Cause.{may_stop}
+use Rattle.ssh_rules.specs.Run.{calls_of, steps_of, entries}
+use Rattle.ssh_rules.specs.Account.{Told, Ran}
 use Rattle.ssh_script.specs.Scene.{Scene}
 use Rattle.ssh_script.specs.Played.{Failure, Queues, banner_answer, interactive_answer, verdict_on}
 use Rattle.ssh_script.specs.Played.{records, grants, listened, answered, after, played, IsAnswered}

@@ -15,13 +15,13 @@ use Rattle.ssh_auth.specs.Plan.{Event, Called, Stepped, Told, calls_in, steps_in
 use Rattle.ssh_auth.specs.Plan.{asked_in_step}
 use Rattle.ssh_auth.specs.Was.{asked_of}
 use Rattle.ssh_auth.proofs.Plans.{calls_in_both, steps_in_both}
-use Rattle.ssh_session.specs.Account.{Closes, Ran}
-use Rattle.ssh_session.specs.Account.{Told as Telling}
-use Rattle.ssh_session.specs.Once.{AreAnsweredAlike, AreTakenAlike, IsDetermined}
-use Rattle.ssh_session.specs.Replied.{events_of}
-use Rattle.ssh_session.specs.Run.{Turn, calls_of, steps_of, entries}
-use Rattle.ssh_session.specs.Serve.{may_stop}
-use Rattle.ssh_session.proofs.RunsOnce.{outside_once}
+use Rattle.ssh_rules.specs.Account.{Closes, Ran}
+use Rattle.ssh_rules.specs.Account.{Told as Telling}
+use Rattle.ssh_rules.specs.Once.{AreAnsweredAlike, AreTakenAlike, IsDetermined}
+use Rattle.ssh_rules.specs.Replied.{events_of}
+use Rattle.ssh_rules.specs.Run.{Turn, calls_of, steps_of, entries}
+use Rattle.ssh_rules.specs.Cause.{may_stop}
+use Rattle.ssh_rules.proofs.RunsOnce.{outside_once}
 use Rattle.ssh_script.specs.Exchanged.{IsExchanged}
 use Rattle.ssh_script.specs.Exchanged.{after as after_step}
 use Rattle.ssh_script.specs.Given.{IsGiven, left_after}
@@ -181,7 +181,7 @@ untold : (stops : Bool) (calls : List (Call Failure)) → ToldBy stops None None
 untold true calls = tt
 untold false calls = refl
 
--- a run as ssh_session accounts for one
+-- a run as `ssh_rules` accounts for one
 abbrev account : (scene : Scene) (status : ℕ) (text : List ℕ) (h : IsRun scene status text)
     → Ran (scene_accepts scene) (scene_settings scene) silent silent scene.max_inputs h.result
 account scene status text h = record {

@@ -4,8 +4,8 @@ use Rattle.std.proofs.Common.{Err, arith, sym, ◌∙◌, ap, subst, inl, inr}
 use Rattle.std.specs.Prelude.{◌↔◌}
 use Rattle.ssh_link.specs.declared.plain_kex.PlainKexError.{PlainKexError}
 use Rattle.ssh_handler.specs.declared.recorded.RecordError.TheVariants as record_error
-use Rattle.ssh_session.specs.declared.error.RunError.{RunError}
-use Rattle.ssh_session.specs.declared.error.RunError.TheVariants as error
+use Rattle.ssh_rules.specs.declared.error.RunError.{RunError}
+use Rattle.ssh_rules.specs.declared.error.RunError.TheVariants as error
 use Rattle.ssh_script.specs.Scene.{Scene, opening_scene, lines_of, Gives}
 use Rattle.ssh_script.specs.Played.{Failure}
 use Rattle.ssh_script.specs.Transcript.{status_of, Shows, Scripted, Transcript, IsBadScript}

@@ -11,8 +11,8 @@ use Rattle.ssh_link.specs.Frames.{Frame}
 use Rattle.ssh_link.specs.declared.link.TraceEntry.{TraceEntry}
 use Rattle.ssh_link.specs.declared.link.TraceEntry.TheVariants as entry
 use Rattle.ssh_auth.specs.declared.call.Call.{Call}
-use Rattle.ssh_session.specs.declared.error.RunError.{RunError}
-use Rattle.ssh_session.specs.declared.error.RunError.TheVariants as error
+use Rattle.ssh_rules.specs.declared.error.RunError.{RunError}
+use Rattle.ssh_rules.specs.declared.error.RunError.TheVariants as error
 use Rattle.ssh_script.specs.Words.{hex_text, flag_text, outcome_text, named_text}
 use Rattle.ssh_script.specs.Happenings.{msg_words}
 use Rattle.ssh_script.specs.CallLines.{call_line}

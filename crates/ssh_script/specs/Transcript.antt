@@ -10,11 +10,11 @@ use Rattle.ssh_link.specs.declared.plain_kex.PlainKexError.{PlainKexError}
 use Rattle.ssh_link.specs.Supply.{Supply, left_until}
 use Rattle.ssh_auth.specs.Publickey.{Acceptance}
 use Rattle.ssh_handler.specs.declared.recorded.RecordError.TheVariants as record_error
-use Rattle.ssh_session.specs.declared.error.RunError.{RunError}
-use Rattle.ssh_session.specs.declared.error.RunError.TheVariants as error
-use Rattle.ssh_session.specs.World.{Settings, settings_of, World, opening_world}
-use Rattle.ssh_session.specs.Run.{Turn, Run, calls_of, steps_of, entries}
-use Rattle.ssh_session.specs.Account.{Closes}
+use Rattle.ssh_rules.specs.declared.error.RunError.{RunError}
+use Rattle.ssh_rules.specs.declared.error.RunError.TheVariants as error
+use Rattle.ssh_rules.specs.World.{Settings, settings_of, World, opening_world}
+use Rattle.ssh_rules.specs.Run.{Turn, Run, calls_of, steps_of, entries}
+use Rattle.ssh_rules.specs.Account.{Closes}
 use Rattle.ssh_script.specs.declared.task.Task.{Task}
 use Rattle.ssh_script.specs.declared.task.Task.TheVariants as task
 use Rattle.ssh_script.specs.Transfer.{IsAll, AddsPart}

@@ -8,15 +8,16 @@ use Rattle.ssh_auth.specs.declared.call.Call.TheVariants.{CommandDone}
 use Rattle.ssh_auth.specs.declared.question.Question.TheVariants.{Done}
 use Rattle.ssh_auth.specs.Plan.{Plan}
 use Rattle.ssh_session.specs.declared.apply.Done.{Done as Made}
-use Rattle.ssh_session.specs.declared.error.RunError.{RunError}
-use Rattle.ssh_session.specs.declared.error.RunError.TheVariants as error
+use Rattle.ssh_rules.specs.declared.error.RunError.{RunError}
+use Rattle.ssh_rules.specs.declared.error.RunError.TheVariants as error
 use Rattle.ssh_session.specs.declared.session.Session.{Session}
-use Rattle.ssh_session.specs.World.{World}
-use Rattle.ssh_session.specs.Heard.{Heard, Calls}
-use Rattle.ssh_session.specs.Outcome.{Outcome}
-use Rattle.ssh_session.specs.Effect.{Effect}
-use Rattle.ssh_session.specs.Acts.{done, tell_all, tell_done}
-use Rattle.ssh_session.specs.Serve.{Refines, Serves, Puts, HasEffect}
+use Rattle.ssh_rules.specs.World.{World}
+use Rattle.ssh_rules.specs.Heard.{Heard, Calls}
+use Rattle.ssh_rules.specs.Outcome.{Outcome}
+use Rattle.ssh_rules.specs.Effect.{Effect}
+use Rattle.ssh_rules.specs.Acts.{done, tell_all, tell_done}
+use Rattle.ssh_rules.specs.Cause.{Puts}
+use Rattle.ssh_session.specs.Serve.{Refines, Serves, HasEffect}
 use Rattle.ssh_session.proofs.Serving.{asked, asked_in_vain, served_both, starves}
 
 told_done : {E F : Type 0} (place : ℕ) (outcome : CommandOutcome) (next : Plan Outcome)

@@ -19,18 +19,18 @@ use Rattle.ssh_link.specs.declared.outcome.Refusal.{Refusal}
 use Rattle.ssh_link.specs.declared.outcome.Refusal.TheVariants.{TooLong}
 use Rattle.ssh_channels.specs.Lines.{drops_pending}
 use Rattle.ssh_session.specs.declared.apply.Done.{Done}
-use Rattle.ssh_session.specs.declared.error.RunError.{RunError}
-use Rattle.ssh_session.specs.declared.error.RunError.TheVariants.{NoMemory}
+use Rattle.ssh_rules.specs.declared.error.RunError.{RunError}
+use Rattle.ssh_rules.specs.declared.error.RunError.TheVariants.{NoMemory}
 use Rattle.ssh_session.specs.declared.session.Session.{Session}
-use Rattle.ssh_session.specs.Effect.{Effect, Does, effect, lacks, needs, done_by, accepts}
-use Rattle.ssh_session.specs.Effect.{refuses, refused_or, fails_open, is_too_long, opens_need}
-use Rattle.ssh_session.specs.Effect.{opens_or_not, apart_needs, done_apart, refused_for, said}
-use Rattle.ssh_session.specs.Effect.{sends}
-use Rattle.ssh_session.specs.OwnMessages.{OwnMessage, IsUnbuilt}
-use Rattle.ssh_session.specs.OwnOpens.{asking}
-use Rattle.ssh_session.specs.Opens.{answered, failure_frame}
+use Rattle.ssh_rules.specs.Effect.{Effect, Does, effect, lacks, needs, done_by, accepts}
+use Rattle.ssh_rules.specs.Effect.{refuses, refused_or, fails_open, is_too_long, opens_need}
+use Rattle.ssh_rules.specs.Effect.{opens_or_not, apart_needs, done_apart, refused_for, said}
+use Rattle.ssh_rules.specs.Effect.{sends}
+use Rattle.ssh_rules.specs.OwnMessages.{OwnMessage, IsUnbuilt}
+use Rattle.ssh_rules.specs.OwnOpens.{asking}
+use Rattle.ssh_rules.specs.Opens.{answered, failure_frame}
 use Rattle.ssh_session.specs.Serve.{Refines, HasEffect}
-use Rattle.ssh_session.specs.World.{World, lined, writes}
+use Rattle.ssh_rules.specs.World.{World, lined, writes}
 
 -- a command that was done, and gives no notice
 pub accepted : (E F : Type 0) (does : Effect) (world : World) (session : Session) (made : Done)

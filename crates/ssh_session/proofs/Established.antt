@@ -15,11 +15,11 @@ use Rattle.ssh_channels.specs.Lines.{find, wants, says}
 use Rattle.ssh_channels.specs.Table.{is_one, line_at}
 use Rattle.ssh_channels.proofs.Standing.{Found, found}
 use Rattle.ssh_session.specs.declared.session.Session.{Session}
-use Rattle.ssh_session.specs.Effect.{Effect, accepts, refuses, requests, requests_on, is_too_long}
-use Rattle.ssh_session.specs.Effect.{not_usable, no_established}
-use Rattle.ssh_session.specs.OwnRequests.{OwnRequest, request_payload}
+use Rattle.ssh_rules.specs.Effect.{Effect, accepts, refuses, requests, requests_on, is_too_long}
+use Rattle.ssh_rules.specs.Effect.{not_usable, no_established}
+use Rattle.ssh_rules.specs.OwnRequests.{OwnRequest, request_payload}
 use Rattle.ssh_session.specs.Serve.{Refines}
-use Rattle.ssh_session.specs.World.{World, writes, lined, replies, wants_reply}
+use Rattle.ssh_rules.specs.World.{World, writes, lined, replies, wants_reply}
 
 -- ---- whether a reply is wanted
 

@@ -14,20 +14,23 @@ use Rattle.ssh_auth.specs.Plan.{Reaches}
 use Rattle.ssh_auth.proofs.Plans.{reaches_after}
 use Rattle.ssh_auth.proofs.Plans.{begins_after}
 use Rattle.ssh_auth.proofs.Plans.{breaks_after}
-use Rattle.ssh_session.specs.declared.error.Flow.{Flow}
-use Rattle.ssh_session.specs.declared.error.Flow.TheVariants.{Continue, Ended}
-use Rattle.ssh_session.specs.declared.error.RunError.{RunError}
+use Rattle.ssh_rules.specs.declared.error.Flow.{Flow}
+use Rattle.ssh_rules.specs.declared.error.Flow.TheVariants.{Continue, Ended}
+use Rattle.ssh_rules.specs.declared.error.RunError.{RunError}
 use Rattle.ssh_session.specs.declared.session.Session.{Session}
-use Rattle.ssh_session.specs.World.{World}
-use Rattle.ssh_session.specs.Failure.{error_of_link}
-use Rattle.ssh_session.specs.Heard.{Heard, Gives}
-use Rattle.ssh_session.specs.Outcome.{Fault, Outcome, Ends, Fails}
-use Rattle.ssh_session.specs.Acts.{Beginning, Exchanges, acts, tell_all}
-use Rattle.ssh_session.specs.Run.{begins, finish_input, goes_unless_ended, hand_on, is_due}
-use Rattle.ssh_session.specs.Serve.{Refines, Cause, Wants_memory, Link_failed, Limit_reached}
-use Rattle.ssh_session.specs.Serve.{Faulty, Refused_by, Broken_by, cause_of}
-use Rattle.ssh_session.specs.Serve.{IsCaused, Serves}
-use Rattle.ssh_session.specs.Serve.{Completes, Does, TellsEach, comes, ends_by_flow}
+use Rattle.ssh_rules.specs.World.{World}
+use Rattle.ssh_rules.specs.Failure.{error_of_link}
+use Rattle.ssh_rules.specs.Heard.{Heard, Gives}
+use Rattle.ssh_rules.specs.Outcome.{Fault, Outcome, Ends, Fails}
+use Rattle.ssh_rules.specs.Acts.{Beginning, Exchanges, acts, tell_all}
+use Rattle.ssh_rules.specs.Run.{begins, finish_input, goes_unless_ended, hand_on, is_due}
+use Rattle.ssh_rules.specs.Cause.{Cause, Wants_memory, Link_failed, Limit_reached}
+use Rattle.ssh_session.specs.Serve.{Refines}
+use Rattle.ssh_rules.specs.Cause.{Faulty, Refused_by, Broken_by, cause_of}
+use Rattle.ssh_rules.specs.Cause.{IsCaused}
+use Rattle.ssh_session.specs.Serve.{Serves}
+use Rattle.ssh_rules.specs.Cause.{comes, ends_by_flow}
+use Rattle.ssh_session.specs.Serve.{Completes, Does, TellsEach}
 use Rattle.ssh_session.proofs.Serving.{reached, served_both, serves_nothing, given, not_given}
 use Rattle.ssh_session.proofs.Serving.{goes_on, stops_short}
 

@@ -10,19 +10,21 @@ use Rattle.ssh_auth.specs.declared.question.Question.TheVariants as asked
 use Rattle.ssh_auth.specs.Plan.{Plan, Finish, Ask, Tell, Answer, Answered, Event, Reaches}
 use Rattle.ssh_auth.specs.Plan.{Handler_error, Exchange_error, Breaks, Refused, calls_in}
 use Rattle.ssh_auth.proofs.Plans.{calls_in_both}
-use Rattle.ssh_session.specs.declared.error.RunError.{RunError}
-use Rattle.ssh_session.specs.declared.error.RunError.TheVariants as error
+use Rattle.ssh_rules.specs.declared.error.RunError.{RunError}
+use Rattle.ssh_rules.specs.declared.error.RunError.TheVariants as error
 use Rattle.ssh_session.specs.declared.session.Session.{Session}
-use Rattle.ssh_session.specs.Acts.{Beginning, acts, frames_given, moved, tell_all}
+use Rattle.ssh_rules.specs.Acts.{Beginning, acts, frames_given, moved, tell_all}
 use Rattle.ssh_session.specs.Between.{ComesFlushed, Flushes, flushed}
-use Rattle.ssh_session.specs.Failure.{flush_error_of}
-use Rattle.ssh_session.specs.Heard.{Heard}
-use Rattle.ssh_session.specs.Outcome.{Outcome, Goes, Fails}
-use Rattle.ssh_session.specs.Outcome as outcome
-use Rattle.ssh_session.specs.Run.{begins, going_out, hand_on, handed_on, is_due}
-use Rattle.ssh_session.specs.Serve.{Refines, Cause, Wants_memory, Link_failed, Limit_reached}
-use Rattle.ssh_session.specs.Serve.{Faulty, Refused_by, Broken_by, IsCaused, Serves, Does, cause_of}
-use Rattle.ssh_session.specs.World.{World}
+use Rattle.ssh_rules.specs.Failure.{flush_error_of}
+use Rattle.ssh_rules.specs.Heard.{Heard}
+use Rattle.ssh_rules.specs.Outcome.{Outcome, Goes, Fails}
+use Rattle.ssh_rules.specs.Outcome as outcome
+use Rattle.ssh_rules.specs.Run.{begins, going_out, hand_on, handed_on, is_due}
+use Rattle.ssh_rules.specs.Cause.{Cause, Wants_memory, Link_failed, Limit_reached}
+use Rattle.ssh_session.specs.Serve.{Refines}
+use Rattle.ssh_rules.specs.Cause.{Faulty, Refused_by, Broken_by, IsCaused, cause_of}
+use Rattle.ssh_session.specs.Serve.{Serves, Does}
+use Rattle.ssh_rules.specs.World.{World}
 use Rattle.ssh_session.proofs.Serving.{completes, serves_nothing}
 use Rattle.ssh_session.proofs.Stepping.{told_of}
 

@@ -7,12 +7,12 @@ use Rattle.ssh_link.specs.Frames.{Frame}
 use Rattle.ssh_wire.specs.declared.error.WireError.{WireError}
 use Rattle.ssh_wire.specs.declared.error.WireError.TheVariants.{NoMemory, TooLong}
 use Rattle.ssh_session.specs.declared.session.Session.{Session}
-use Rattle.ssh_session.specs.Acts.{Act, acts}
-use Rattle.ssh_session.specs.Failure.{run_error_of}
-use Rattle.ssh_session.specs.Layout.{banner}
-use Rattle.ssh_session.specs.Rows.{greets, greeting, is_short, served}
+use Rattle.ssh_rules.specs.Acts.{Act, acts}
+use Rattle.ssh_rules.specs.Failure.{run_error_of}
+use Rattle.ssh_rules.specs.Layout.{banner}
+use Rattle.ssh_rules.specs.Rows.{greets, greeting, is_short, served}
 use Rattle.ssh_session.specs.Serve.{Refines, Answers}
-use Rattle.ssh_session.specs.World.{World, writes}
+use Rattle.ssh_rules.specs.World.{World, writes}
 
 -- frames one after another
 pub both_written : (session : Session) (w : World) (one other : Frame) →

@@ -15,13 +15,13 @@ use Rattle.ssh_channels.specs.Stands.{Stands}
 use Rattle.ssh_channels.specs.Table.{Table}
 use Rattle.ssh_channels.proofs.Opening.{add_stands, draw_stands, drop_stands}
 use Rattle.ssh_session.specs.declared.session.Session.{Session}
-use Rattle.ssh_session.specs.Opening.{Opening}
+use Rattle.ssh_rules.specs.Opening.{Opening}
 use Rattle.ssh_session.specs.Serve.{Refines}
-use Rattle.ssh_session.specs.Opens.{failure_frame}
-use Rattle.ssh_session.specs.Rows.{turns_away}
-use Rattle.ssh_session.specs.World.{World, lined}
+use Rattle.ssh_rules.specs.Opens.{failure_frame}
+use Rattle.ssh_rules.specs.Rows.{turns_away}
+use Rattle.ssh_rules.specs.World.{World, lined}
 use Rattle.ssh_session.proofs.Refining.{called}
-use Rattle.ssh_session.proofs.Reading.{full_packet}
+use Rattle.ssh_rules.proofs.Misread.{full_packet}
 use Rattle.ssh_session.proofs.Rows.{confirms_as}
 
 -- the table and the opens that wait changed alone

@@ -1,6 +1,6 @@
 -- Opens of this side's: their messages, and what they leave.
-use Rattle.std.proofs.Common.{◌≡◌, ◌<◌, ◌≤◌, ◌+◌, ◌∷◌, ◌++◌, ◌∙◌, ℕ, List, [], Option, false}
-use Rattle.std.proofs.Common.{length, rules, refl, sym, ap, subst, append_assoc, arith}
+use Rattle.std.proofs.Common.{◌≡◌, ◌<◌, ◌≤◌, ◌+◌, ◌∷◌, ◌++◌, ℕ, [], Option, false}
+use Rattle.std.proofs.Common.{length, rules, refl, sym, subst, arith}
 use Rattle.std.specs.Prelude.{◌^◌}
 use Rattle.std.proofs.lemmas.List.{length-append}
 use Rattle.ssh_wire.specs.Field.{Number}
@@ -13,20 +13,10 @@ use Rattle.ssh_channels.specs.Lines.{next_number, asks_next}
 use Rattle.ssh_channels.specs.Stands.{Stands}
 use Rattle.ssh_channels.specs.Table.{Table}
 use Rattle.ssh_session.specs.declared.session.Session.{Session}
-use Rattle.ssh_session.specs.Effect.{opens, opens_at, is_too_long}
-use Rattle.ssh_session.specs.OwnOpens.{OwnOpen, open_payload, open_frame}
+use Rattle.ssh_rules.specs.Effect.{opens, opens_at, is_too_long}
+use Rattle.ssh_rules.specs.OwnOpens.{OwnOpen, open_payload, open_frame}
 use Rattle.ssh_session.specs.Serve.{Refines}
-use Rattle.ssh_session.specs.World.{World, lined, writes}
-
--- what was put one after another
-pub head_items : (a b c d e f name own window packet : List ℕ) → a ≡ [] → b ≡ a ++ 90 ∷ []
-    → c ≡ b ++ name → d ≡ c ++ own → e ≡ d ++ window → f ≡ e ++ packet
-    → f ≡ 90 ∷ (name ++ (own ++ (window ++ packet)))
-head_items a b c d e f name own window packet p q r s t u =
-    u ∙ (ap (λ l. l ++ packet) (t ∙ ap (λ l. l ++ window) (s ∙ ap (λ l. l ++ own)
-    (r ∙ ap (λ l. l ++ name) (q ∙ ap (λ l. l ++ 90 ∷ []) p))))
-    ∙ ap (λ l. 90 ∷ l) (append_assoc (name ++ own) window packet
-    ∙ append_assoc name own (window ++ packet)))
+use Rattle.ssh_rules.specs.World.{World, lined, writes}
 
 -- an open whose parts are short enough draws the next number
 pub opens_short : (asked : OwnOpen) (w : World) (number : Option ℕ)

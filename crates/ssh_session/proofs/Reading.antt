@@ -1,7 +1,7 @@
 -- What the code reads of a message is what its layout says.
-use Rattle.std.proofs.Common.{◌≡◌, ◌==◌, ◌∙◌, ℕ, List, [], false, refl, sym, ap, subst, inl, inr}
-use Rattle.std.proofs.Common.{length, rules}
-use Rattle.std.specs.Prelude.{IsErrAnd, MatchResult, Result, Err}
+use Rattle.std.proofs.Common.{◌≡◌, ◌∙◌, ℕ, List, [], false, refl, sym, ap, subst, inl, inr}
+use Rattle.std.proofs.Common.{length}
+use Rattle.std.specs.Prelude.{IsErrAnd, Result, Err}
 use Rattle.std.proofs.lemmas.Result.{err_from_is_err_and}
 use Rattle.ssh_wire.specs.declared.error.WireError.{WireError}
 use Rattle.ssh_wire.specs.declared.error.WireError.TheVariants as wire
@@ -10,52 +10,21 @@ use Rattle.ssh_wire.specs.declared.error.LayoutError.TheVariants as layout
 use Rattle.ssh_wire.specs.declared.open.ChannelOpenConfirmation.{ChannelOpenConfirmation}
 use Rattle.ssh_wire.specs.Open.{SpellsConfirmation, MisfitsConfirmation}
 use Rattle.ssh_auth.specs.Plan.{Plan, Finish}
-use Rattle.ssh_session.specs.declared.error.Flow.{Flow}
-use Rattle.ssh_session.specs.declared.error.RunError.{RunError}
-use Rattle.ssh_session.specs.declared.messages.Spoken.{Spoken}
+use Rattle.ssh_rules.specs.declared.error.Flow.{Flow}
+use Rattle.ssh_rules.specs.declared.error.RunError.{RunError}
+use Rattle.ssh_rules.specs.declared.messages.Spoken.{Spoken}
 use Rattle.ssh_session.specs.declared.session.Session.{Session}
-use Rattle.ssh_session.specs.Failure.{run_error_of, error_of_layout}
-use Rattle.ssh_session.specs.Heard.{Heard}
-use Rattle.ssh_session.specs.Outcome.{Outcome}
-use Rattle.ssh_session.specs.Reading.{Said, said_of, Connection, Unfit, Agreed, Without_packets}
-use Rattle.ssh_session.specs.Reading.{SaysConfirmation}
-use Rattle.ssh_session.specs.Rows.{row}
-use Rattle.ssh_session.specs.Serve.{Completes, comes}
-use Rattle.ssh_session.specs.Spelling.{Layout, Spells, IsRead}
-use Rattle.ssh_session.specs.World.{World}
+use Rattle.ssh_rules.specs.Failure.{run_error_of, error_of_layout}
+use Rattle.ssh_rules.specs.Heard.{Heard}
+use Rattle.ssh_rules.specs.Outcome.{Outcome}
+use Rattle.ssh_rules.specs.Reading.{Said, said_of, Connection, Unfit, Agreed, Without_packets}
+use Rattle.ssh_rules.specs.Reading.{SaysConfirmation}
+use Rattle.ssh_rules.specs.Rows.{row}
+use Rattle.ssh_rules.specs.Cause.{comes}
+use Rattle.ssh_session.specs.Serve.{Completes}
+use Rattle.ssh_rules.specs.Spelling.{Layout, Spells, IsRead}
+use Rattle.ssh_rules.specs.World.{World}
 use Rattle.ssh_session.proofs.Serving.{starves, unfit, hears_nothing}
-
-pub misread_so : {S : Type 0} (layout : Layout S) (bytes : List ℕ) (why : WireError)
-    → Spells layout bytes (Err why) → IsRead layout bytes (Err why)
-misread_so layout bytes wire.NoMemory h = (Err wire.NoMemory, h)
-misread_so layout bytes wire.Short h = h
-misread_so layout bytes wire.NotUtf8 h = h
-misread_so layout bytes (wire.Trailing left) h = h
-misread_so layout bytes wire.TooLong h = h
-
--- fields that were read one after another do not fit
-pub misfit_at : {T : Type 0} (fits : T → Type 0) (misfits : WireError → Type 0) (why : WireError)
-    (result : Result T WireError) → IsErrAnd result (λ x. x ≡ why) → misfits why
-    → MatchResult result fits misfits
-misfit_at fits misfits why result h m =
-    let p = err_from_is_err_and result h in
-    subst (λ r. MatchResult r fits misfits) (sym (p.1 ∙ ap Err p.2)) m
-
--- a field does not fit
-pub misread : {S : Type 0} (layout : Layout S) (bytes : List ℕ) (why : WireError)
-    (result : Result S WireError) → IsErrAnd result (λ x. x ≡ why) → Spells layout bytes (Err why)
-    → IsRead layout bytes result
-misread layout bytes why result h spells =
-    let p = err_from_is_err_and result h in
-    subst (IsRead layout bytes) (sym (p.1 ∙ ap Err p.2)) (misread_so layout bytes why spells)
-
--- memory was wanting to keep what was read
-pub unkept : {S : Type 0} (layout : Layout S) (bytes : List ℕ) (why : WireError)
-    (read result : Result S WireError) → IsErrAnd result (λ x. x ≡ why) → why ≡ wire.NoMemory
-    → Spells layout bytes read → IsRead layout bytes result
-unkept layout bytes why read result h is spells =
-    let p = err_from_is_err_and result h in
-    subst (IsRead layout bytes) (sym (p.1 ∙ ap Err (p.2 ∙ is))) (read, spells)
 
 abbrev pub finish : Flow → World → Plan Outcome
 finish flow world = Finish (comes flow world)
@@ -87,10 +56,6 @@ unserved {E} {F} w moment layout bytes why a session e result h is k =
     subst (λ r. (read : Result Spoken WireError) × Spells layout bytes read
     × Completes {E = E} {F = F} (row w moment (said_of Connection read)) a a session r)
     (sym (p.1 ∙ ap Err (p.2 ∙ is))) (unserved_so w moment layout bytes why a session k)
-
--- a packet size
-pub full_packet : (n : ℕ) → (n ≡ 0 → ⊥) → (n == 0) ≡ false
-full_packet n h = search (rules, h)
 
 pub ended_confirmation : (fields left rest : List ℕ) (message : ChannelOpenConfirmation)
     (why : WireError) → left ≡ fields → SpellsConfirmation message left rest → (rest ≡ [] → ⊥)

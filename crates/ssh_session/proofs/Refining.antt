@@ -1,8 +1,8 @@
 -- How a session that changed stands for a world that changed.
 use Rattle.std.proofs.Common.{◌≡◌, ◌<◌, ◌+◌, ◌||◌, ◌&&◌, ℕ, List, [], ◌∷◌, Bool, true, false}
 use Rattle.std.proofs.Common.{not, Option, Some, None}
-use Rattle.std.proofs.Common.{Result, Ok, Err, refl, sym, ◌∙◌, ap, subst}
-use Rattle.std.specs.Prelude.{◌^◌, length, cond, OnOk, IfOk}
+use Rattle.std.proofs.Common.{refl, sym, ◌∙◌, ap, subst}
+use Rattle.std.specs.Prelude.{◌^◌, length, cond}
 use Rattle.std.specs.List.{list_any, list_all}
 use Rattle.std.specs.Map.{values_of}
 use Rattle.ssh_link.specs.Frames.{Frame}
@@ -28,30 +28,14 @@ use Rattle.ssh_channels.proofs.Opening.{hands_on_stands, handed_same}
 use Rattle.ssh_channels.proofs.Holding as holding
 use Rattle.ssh_channels.proofs.Standing.{Found, found}
 use Rattle.ssh_session.specs.declared.session.Session.{Session}
-use Rattle.ssh_session.specs.Effect.{not_usable, no_sending, no_closing}
-use Rattle.ssh_session.specs.declared.exchange.Keys.{Keys}
-use Rattle.ssh_session.specs.Acts.{renews}
-use Rattle.ssh_session.specs.Exchange.{given, heard, renewed}
-use Rattle.ssh_session.specs.Run.{nothing_waits, going_out, handed_on}
+use Rattle.ssh_rules.specs.Effect.{not_usable, no_sending, no_closing}
+use Rattle.ssh_rules.specs.declared.exchange.Keys.{Keys}
+use Rattle.ssh_rules.specs.Acts.{renews}
+use Rattle.ssh_rules.specs.Exchange.{given, heard, renewed}
+use Rattle.ssh_rules.specs.Run.{nothing_waits, going_out, handed_on}
 use Rattle.ssh_session.specs.Serve.{Refines}
-use Rattle.ssh_session.specs.World.{World, hears, in_exchange, is_empty, is_held, keyed, lined, is_there}
-
--- what follows from a value
-pub on_ok : {T E : Type 0} (A B : Type 0) (result : Result T E) → (A → B) → OnOk result A
-    → OnOk result B
-on_ok A B (Ok value) f h = f h
-on_ok A B (Err e) f h = tt
-
--- what is so anyway
-pub in_any_case : {T E : Type 0} (A : Type 0) (result : Result T E) → A → OnOk result A
-in_any_case A (Ok value) h = h
-in_any_case A (Err e) h = tt
-
-pub if_ok : {T E : Type 0} (P Q : T → Type 0) (result : Result T E)
-    → ((value : T) → P value → Q value) → IfOk result P →
-    IfOk result Q
-if_ok P Q (Ok value) f h = f value h
-if_ok P Q (Err e) f h = tt
+use Rattle.ssh_rules.specs.World.{World, hears, in_exchange, is_empty, is_held, keyed, lined}
+use Rattle.ssh_rules.specs.World.{is_there}
 
 -- ---- the table
 

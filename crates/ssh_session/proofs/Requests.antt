@@ -20,20 +20,21 @@ use Rattle.ssh_auth.specs.Verdict.{AuthOutcome, Replies, verdict, response_verdi
 use Rattle.ssh_auth.specs.Verdict as reply
 use Rattle.ssh_auth.proofs.Plans.{reaches_after, begins_after, breaks_after, calls_of_calls}
 use Rattle.ssh_auth.proofs.Plans.{steps_of_calls, told_of_calls}
-use Rattle.ssh_session.specs.declared.error.RunError.{RunError}
+use Rattle.ssh_rules.specs.declared.error.RunError.{RunError}
 use Rattle.ssh_session.specs.declared.session.Session.{Session}
-use Rattle.ssh_session.specs.declared.state.EncryptedState.TheVariants.{WaitingAuthRequest}
-use Rattle.ssh_session.specs.declared.state.EncryptedState.TheVariants.{InitCompression}
-use Rattle.ssh_session.specs.Acts.{acts}
-use Rattle.ssh_session.specs.Failure.{error_of_auth}
-use Rattle.ssh_session.specs.Heard.{Heard, CallsAlone, AnswersRequest, AnswersResponse}
-use Rattle.ssh_session.specs.Outcome.{Outcome, Goes, Fails, Key}
-use Rattle.ssh_session.specs.Rows.{replied, reply_row, concluded, fault_of, asked_of, request_row}
-use Rattle.ssh_session.specs.Rows.{response_row, user_of, lets_in, finishes}
-use Rattle.ssh_session.specs.Serve.{Refines, IsCaused, cause_of, may_stop, Hears, Serves, Does}
-use Rattle.ssh_session.specs.World.{World, circumstances, waits_for}
-use Rattle.ssh_session.proofs.CallsAlone.{calls_beside, reaches_beside, begins_beside}
-use Rattle.ssh_session.proofs.CallsAlone.{breaks_beside}
+use Rattle.ssh_rules.specs.declared.state.EncryptedState.TheVariants.{WaitingAuthRequest}
+use Rattle.ssh_rules.specs.declared.state.EncryptedState.TheVariants.{InitCompression}
+use Rattle.ssh_rules.specs.Acts.{acts}
+use Rattle.ssh_rules.specs.Failure.{error_of_auth}
+use Rattle.ssh_rules.specs.Heard.{Heard, CallsAlone, AnswersRequest, AnswersResponse}
+use Rattle.ssh_rules.specs.Outcome.{Outcome, Goes, Fails, Key}
+use Rattle.ssh_rules.specs.Rows.{replied, reply_row, concluded, fault_of, asked_of, request_row}
+use Rattle.ssh_rules.specs.Rows.{response_row, user_of, lets_in, finishes}
+use Rattle.ssh_rules.specs.Cause.{IsCaused, cause_of, may_stop, Hears}
+use Rattle.ssh_session.specs.Serve.{Refines, Serves, Does}
+use Rattle.ssh_rules.specs.World.{World, circumstances, waits_for}
+use Rattle.ssh_rules.proofs.CallsAlone.{calls_beside, reaches_beside, begins_beside}
+use Rattle.ssh_rules.proofs.CallsAlone.{breaks_beside}
 use Rattle.ssh_session.proofs.Serving.{reached, completes}
 
 -- the handler alone was asked

@@ -27,21 +27,22 @@ use Rattle.ssh_wire.specs.declared.open.ChannelOpenConfirmation.{ChannelOpenConf
 use Rattle.ssh_wire.specs.declared.open_failure.ChannelOpenFailure.{ChannelOpenFailure}
 use Rattle.ssh_channels.specs.Lines.{next_number}
 use Rattle.ssh_auth.specs.Plan.{Plan, Finish}
-use Rattle.ssh_session.specs.declared.error.Flow.{Flow}
-use Rattle.ssh_session.specs.declared.error.RunError.{RunError}
+use Rattle.ssh_rules.specs.declared.error.Flow.{Flow}
+use Rattle.ssh_rules.specs.declared.error.RunError.{RunError}
 use Rattle.ssh_session.specs.declared.session.Session.{Session}
-use Rattle.ssh_session.specs.Acts.{Act, Stops, acts, tell_all}
-use Rattle.ssh_session.specs.Failure.{error_of_layout, error_of_table}
-use Rattle.ssh_session.specs.Heard.{Heard}
-use Rattle.ssh_session.specs.Opens.{own}
-use Rattle.ssh_session.specs.Outcome.{Outcome, Fails, Channels_full}
-use Rattle.ssh_session.specs.declared.messages.Spoken.TheVariants.{Data, Failed}
-use Rattle.ssh_session.specs.Reading.{Said, Open, Unread, Unfit, Without_packets, SaysOpen}
-use Rattle.ssh_session.specs.Rows.{on, on_entry, on_confirmed, grant_acts, credit_left, data_acts}
-use Rattle.ssh_session.specs.Rows.{spoken_acts, failure_acts, row, notes}
-use Rattle.ssh_session.proofs.Reading.{full_packet}
-use Rattle.ssh_session.specs.Serve.{Refines, Answers, Completes, comes}
-use Rattle.ssh_session.specs.World.{World, lined, is_there, is_waiting}
+use Rattle.ssh_rules.specs.Acts.{Act, Stops, acts, tell_all}
+use Rattle.ssh_rules.specs.Failure.{error_of_layout, error_of_table}
+use Rattle.ssh_rules.specs.Heard.{Heard}
+use Rattle.ssh_rules.specs.Opens.{own}
+use Rattle.ssh_rules.specs.Outcome.{Outcome, Fails, Channels_full}
+use Rattle.ssh_rules.specs.declared.messages.Spoken.TheVariants.{Data, Failed}
+use Rattle.ssh_rules.specs.Reading.{Said, Open, Unread, Unfit, Without_packets, SaysOpen}
+use Rattle.ssh_rules.specs.Rows.{on, on_entry, on_confirmed, grant_acts, credit_left, data_acts}
+use Rattle.ssh_rules.specs.Rows.{spoken_acts, failure_acts, row, notes}
+use Rattle.ssh_rules.proofs.Misread.{full_packet}
+use Rattle.ssh_rules.specs.Cause.{comes}
+use Rattle.ssh_session.specs.Serve.{Refines, Answers, Completes}
+use Rattle.ssh_rules.specs.World.{World, lined, is_there, is_waiting}
 use Rattle.ssh_session.proofs.Serving.{unfit, starves, hears_nothing}
 
 -- ---- a row on a channel, where there is one and where there is none

@@ -19,18 +19,20 @@ use Rattle.ssh_auth.specs.declared.call.Call.{Call}
 use Rattle.ssh_auth.specs.Publickey.{Acceptance}
 use Rattle.ssh_auth.specs.Plan.{told_in}
 use Rattle.ssh_handler.specs.declared.config.Config.{Config}
-use Rattle.ssh_session.specs.declared.error.Flow.TheVariants.{Continue, Ended}
-use Rattle.ssh_session.specs.declared.error.RunError.{RunError}
-use Rattle.ssh_session.specs.declared.error.RunError.TheVariants as error
+use Rattle.ssh_rules.specs.declared.error.Flow.TheVariants.{Continue, Ended}
+use Rattle.ssh_rules.specs.declared.error.RunError.{RunError}
+use Rattle.ssh_rules.specs.declared.error.RunError.TheVariants as error
 use Rattle.ssh_session.specs.declared.session.Session.{Session}
-use Rattle.ssh_session.specs.Account.{Told, Steps, Closes, Ran, Laws}
-use Rattle.ssh_session.specs.Failure.{error_of_link}
-use Rattle.ssh_session.specs.Run.{Owes, Turn, Turns, Run, calls_of, steps_of, entries}
-use Rattle.ssh_session.specs.Run.{wants_commands}
-use Rattle.ssh_session.specs.Serve.{Refines, IsSuited, cause_of, may_stop}
-use Rattle.ssh_session.specs.World.{Settings, World, in_exchange, opening_world}
-use Rattle.ssh_session.proofs.Lawful.{lawful}
-use Rattle.ssh_session.proofs.Settled.{stays_set}
+use Rattle.ssh_rules.specs.Account.{Told, Closes, Ran, Laws}
+use Rattle.ssh_session.specs.Steps.{Steps}
+use Rattle.ssh_rules.specs.Failure.{error_of_link}
+use Rattle.ssh_rules.specs.Run.{Owes, Turn, Turns, Run, calls_of, steps_of, entries}
+use Rattle.ssh_rules.specs.Run.{wants_commands}
+use Rattle.ssh_rules.specs.Cause.{cause_of, may_stop}
+use Rattle.ssh_session.specs.Serve.{Refines, IsSuited}
+use Rattle.ssh_rules.specs.World.{Settings, World, in_exchange, opening_world}
+use Rattle.ssh_rules.proofs.Lawful.{lawful}
+use Rattle.ssh_rules.proofs.Settled.{stays_set}
 use Rattle.ssh_session.proofs.Serving.{told_then, told_none, caused_rose}
 
 -- a run that goes on: this many inputs were finished

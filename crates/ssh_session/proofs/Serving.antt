@@ -26,18 +26,20 @@ use Rattle.ssh_auth.proofs.Plans.{reaches_both, reaches_begins, reaches_follows}
 use Rattle.ssh_auth.proofs.Plans.{reaches_breaks}
 use Rattle.ssh_auth.proofs.Plans.{breaks_first, calls_in_both, steps_in_both}
 use Rattle.ssh_auth.proofs.Plans.{told_in_both}
-use Rattle.ssh_session.specs.declared.error.Flow.TheVariants.{Continue}
-use Rattle.ssh_session.specs.declared.error.RunError.{RunError}
-use Rattle.ssh_session.specs.declared.error.RunError.TheVariants as error
+use Rattle.ssh_rules.specs.declared.error.Flow.TheVariants.{Continue}
+use Rattle.ssh_rules.specs.declared.error.RunError.{RunError}
+use Rattle.ssh_rules.specs.declared.error.RunError.TheVariants as error
 use Rattle.ssh_session.specs.declared.session.Session.{Session}
-use Rattle.ssh_session.specs.World.{World}
-use Rattle.ssh_session.specs.Failure.{run_error_of, error_of_exchange, error_of_link}
-use Rattle.ssh_session.specs.Heard.{Heard, AreSame, AsksExchangeAlone, Exchanges, Gives}
-use Rattle.ssh_session.specs.Outcome.{Outcome, Goes, Fails, Encoding}
-use Rattle.ssh_session.specs.Acts.{Act, acts}
-use Rattle.ssh_session.specs.Serve.{Refines, Cause, Wants_memory, Link_failed, Limit_reached}
-use Rattle.ssh_session.specs.Serve.{Faulty, Refused_by, Broken_by, cause_of}
-use Rattle.ssh_session.specs.Serve.{IsCaused, Answers, may_stop, Hears, Serves, Does, Turned, Puts}
+use Rattle.ssh_rules.specs.World.{World}
+use Rattle.ssh_rules.specs.Failure.{run_error_of, error_of_exchange, error_of_link}
+use Rattle.ssh_rules.specs.Heard.{Heard, AreSame, AsksExchangeAlone, Exchanges, Gives}
+use Rattle.ssh_rules.specs.Outcome.{Outcome, Goes, Fails, Encoding}
+use Rattle.ssh_rules.specs.Acts.{Act, acts}
+use Rattle.ssh_rules.specs.Cause.{Cause, Wants_memory, Link_failed, Limit_reached}
+use Rattle.ssh_session.specs.Serve.{Refines}
+use Rattle.ssh_rules.specs.Cause.{Faulty, Refused_by, Broken_by, cause_of}
+use Rattle.ssh_rules.specs.Cause.{IsCaused, may_stop, Hears, Puts}
+use Rattle.ssh_session.specs.Serve.{Answers, Serves, Does, Turned}
 use Rattle.ssh_session.specs.Serve.{Completes}
 
 -- ---- parts of plans

@@ -4,16 +4,17 @@ use Rattle.ssh_link.specs.declared.frame.Input.{Input}
 use Rattle.ssh_link.specs.declared.notice.Notice.{Notice}
 use Rattle.ssh_auth.specs.Publickey.{Acceptance}
 use Rattle.ssh_auth.specs.Plan.{Plan, Event}
-use Rattle.ssh_session.specs.declared.error.Flow.{Flow}
-use Rattle.ssh_session.specs.declared.error.Flow.TheVariants.{Continue, Ended}
-use Rattle.ssh_session.specs.declared.error.RunError.{RunError}
+use Rattle.ssh_rules.specs.declared.error.Flow.{Flow}
+use Rattle.ssh_rules.specs.declared.error.Flow.TheVariants.{Continue, Ended}
+use Rattle.ssh_rules.specs.declared.error.RunError.{RunError}
 use Rattle.ssh_session.specs.declared.session.Session.{Session}
-use Rattle.ssh_session.specs.Account.{Told, Comes, Steps}
+use Rattle.ssh_rules.specs.Account.{Told}
+use Rattle.ssh_session.specs.Steps.{Comes, Steps}
 use Rattle.ssh_session.specs.Between.{OwesBehind, OwesNotices, StepsAfter, TakesBehind}
-use Rattle.ssh_session.specs.Heard.{Heard}
-use Rattle.ssh_session.specs.Outcome.{Outcome}
+use Rattle.ssh_rules.specs.Heard.{Heard}
+use Rattle.ssh_rules.specs.Outcome.{Outcome}
 use Rattle.ssh_session.specs.Serve.{Refines, Completes, IsUnchanged}
-use Rattle.ssh_session.specs.World.{World}
+use Rattle.ssh_rules.specs.World.{World}
 use Rattle.ssh_link.specs.Faults.{Rose}
 
 -- what the three of an outside have told

@@ -1,12 +1,12 @@
 -- Inputs that stop a run before anybody is told or asked anything.
 use Rattle.std.proofs.Common.{false, [], Err, refl}
 use Rattle.ssh_auth.specs.Plan.{Plan, Finish}
-use Rattle.ssh_session.specs.declared.error.RunError.TheVariants as error
+use Rattle.ssh_rules.specs.declared.error.RunError.TheVariants as error
 use Rattle.ssh_session.specs.declared.session.Session.{Session}
-use Rattle.ssh_session.specs.Heard.{Heard}
-use Rattle.ssh_session.specs.Outcome.{Outcome, Fails, Inconsistent, Pending, Inactivity_timeout}
+use Rattle.ssh_rules.specs.Heard.{Heard}
+use Rattle.ssh_rules.specs.Outcome.{Outcome, Fails, Inconsistent, Pending, Inactivity_timeout}
 use Rattle.ssh_session.specs.Serve.{Serves}
-use Rattle.ssh_session.specs.World.{World}
+use Rattle.ssh_rules.specs.World.{World}
 use Rattle.ssh_session.proofs.Serving.{hears_nothing}
 
 -- what does not come in an exchange of keys

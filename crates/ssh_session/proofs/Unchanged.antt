@@ -2,10 +2,10 @@
 use Rattle.std.proofs.Common.{◌≡◌, ◌<◌, ◌∙◌, Global, false, cond, sym, subst}
 use Rattle.std.specs.declared.collections.VecDeque.{VecDeque}
 use Rattle.std.specs.Prelude.{◌^◌, length}
-use Rattle.ssh_session.specs.declared.outstanding.Outstanding.{Outstanding}
+use Rattle.ssh_rules.specs.declared.outstanding.Outstanding.{Outstanding}
 use Rattle.ssh_session.specs.declared.session.Session.{Session}
 use Rattle.ssh_session.specs.Serve.{Refines}
-use Rattle.ssh_session.specs.World.{World, unless_ended}
+use Rattle.ssh_rules.specs.World.{World, unless_ended}
 
 -- the room for requests that wait for a reply is no part of a world
 pub made_room : (session : Session) (outstanding : VecDeque Outstanding Global)

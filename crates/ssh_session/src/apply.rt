@@ -1,27 +1,29 @@
 // What one command does, or why it is refused (RFC 4254 section 5).
 ghost use Rattle.std.specs.Prelude.{◌≡◌, None, OnErr};
-ghost use Rattle.ssh_session.specs.World.{World};
-ghost use Rattle.ssh_session.specs.Opens.{opening_of};
+ghost use Rattle.ssh_rules.specs.World.{World};
+ghost use Rattle.ssh_rules.specs.Opens.{opening_of};
 ghost use Rattle.ssh_wire.specs.Open.{open_failure};
 ghost use Rattle.ssh_wire.specs.OpenFailures.{open_failure_code};
-ghost use Rattle.ssh_session.specs.Effect.{not_usable, effect, done_by, needs, lacks, Sending};
-ghost use Rattle.ssh_session.specs.Effect.{Closing, Opening_of, answers, confirms};
-ghost use Rattle.ssh_session.specs.Effect.{fails_open, failure_of, refused_for, apart_needs};
-ghost use Rattle.ssh_session.specs.Effect.{done_apart};
+ghost use Rattle.ssh_rules.specs.Effect.{not_usable, effect, done_by, needs, lacks, Sending};
+ghost use Rattle.ssh_rules.specs.Effect.{Closing, Opening_of, answers, confirms};
+ghost use Rattle.ssh_rules.specs.Effect.{fails_open, failure_of, refused_for, apart_needs};
+ghost use Rattle.ssh_rules.specs.Effect.{done_apart};
 ghost use Rattle.ssh_session.specs.Serve.{Refines, HasEffect, IsSameSession, IsUnchanged};
 
-use crate::channel_frames::{confirmation_frame, failure_frame};
-use crate::outstanding::Outstanding;
 use crate::peer_open::PeerOpen;
 use crate::{RunError, Session};
 use ssh_channels::ChannelParams;
 use ssh_link::{Command, CommandOutcome, Notice, OpenAnswer, Refusal};
+use ssh_messages::{confirmation_frame, failure_frame};
+use ssh_rules::Outstanding;
 use ssh_wire::{ChannelId, ChannelOpenFailure, Text, WireError};
 
 /// What came of a command, and the notice that it gives.
 #[derive(Debug, Drop)]
 pub(crate) struct Done {
+    /// What is to be told, where anything is.
     pub(crate) notice: Option<Notice>,
+    /// Whether it was done, or why not.
     pub(crate) outcome: CommandOutcome,
 }
 

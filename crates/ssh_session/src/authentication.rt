@@ -2,26 +2,26 @@
 ghost use Rattle.std.specs.Prelude.{◌≡◌, ℕ, drop, None, [], ◌∷◌, IfOk, IfErr};
 ghost use Rattle.ssh_wire.specs.declared.error.WireError.TheVariants.{NoMemory};
 ghost use Rattle.ssh_auth.specs.Serve.{IsNumbered};
-ghost use Rattle.ssh_session.specs.declared.gate.Gate.TheVariants as gate;
-ghost use Rattle.ssh_session.specs.World.{World, circumstances, writes};
-ghost use Rattle.ssh_session.specs.Reading.{Said, Says, SaysResponse, Over_cap};
+ghost use Rattle.ssh_rules.specs.declared.gate.Gate.TheVariants as gate;
+ghost use Rattle.ssh_rules.specs.World.{World, circumstances, writes};
+ghost use Rattle.ssh_rules.specs.Reading.{Said, Says, SaysResponse, Over_cap};
 ghost use Rattle.ssh_auth.specs.declared.auth_step.AuthVerdict.TheVariants as verdict;
 ghost use Rattle.ssh_auth.specs.Plan.{Finish};
-ghost use Rattle.ssh_session.specs.Acts.{Turns};
-ghost use Rattle.ssh_session.specs.Rows.{row, replied, rejection_hold, finishes, user_of};
-ghost use Rattle.ssh_session.specs.Gate.{IsRequesting};
-ghost use Rattle.ssh_session.specs.Heard.{AreSame};
+ghost use Rattle.ssh_rules.specs.Acts.{Turns};
+ghost use Rattle.ssh_rules.specs.Rows.{row, replied, rejection_hold, finishes, user_of};
+ghost use Rattle.ssh_rules.specs.Gate.{IsRequesting};
+ghost use Rattle.ssh_rules.specs.Heard.{AreSame};
 ghost use Rattle.ssh_session.specs.Serve.{Refines, Answers, Does, Completes, Turned, IsSuited};
-ghost use Rattle.ssh_session.specs.Serve.{comes};
+ghost use Rattle.ssh_rules.specs.Cause.{comes};
 
-use crate::frames::too_many_attempts_frame;
 use crate::outside::Outside;
-use crate::state::EncryptedState;
 use crate::{Flow, RunError, Session};
 use bytes::Bytes;
 use ssh_auth::{AuthStep, AuthVerdict, Lent};
 use ssh_keys::Verifier;
 use ssh_link::Frame;
+use ssh_messages::too_many_attempts_frame;
+use ssh_rules::EncryptedState;
 use ssh_wire::{Text, WireError};
 
 impl Session {

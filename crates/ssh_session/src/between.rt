@@ -1,15 +1,15 @@
 // What is done between two inputs, by whoever holds the session.
-ghost use Rattle.std.specs.Prelude.{◌≡◌, ◌<◌, ◌++◌, [], false, IfOk, IfErr, OnErr, Option};
+ghost use Rattle.std.specs.Prelude.{◌≡◌, ◌<◌, ◌++◌, false, IfOk, IfErr, OnErr, Option};
 ghost use Rattle.std.specs.Prelude.{option_to_list};
 ghost use Rattle.std.specs.VecDeque.{deque_len, deque_capacity};
 ghost use Rattle.ssh_wire.specs.declared.error.WireError.TheVariants.{NoMemory};
 ghost use Rattle.ssh_session.specs.Between.{Applies, untold};
-ghost use Rattle.ssh_session.specs.Effect.{effect, Does};
+ghost use Rattle.ssh_rules.specs.Effect.{effect, Does};
 ghost use Rattle.ssh_session.specs.Serve.{Refines, IsSameSession, IsUnchanged, is_spent};
-ghost use Rattle.ssh_session.specs.World.{World};
+ghost use Rattle.ssh_rules.specs.World.{World};
 
+use crate::Session;
 use crate::apply::Done;
-use crate::{RunError, Session};
 use ssh_link::{Command, CommandOutcome, Notice};
 use ssh_wire::WireError;
 use std::collections::VecDeque;

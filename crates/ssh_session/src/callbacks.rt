@@ -3,12 +3,13 @@ ghost use Rattle.std.specs.Prelude.{◌≡◌, ◌∷◌, [], ℕ, Bool, Ok, Err
 ghost use Rattle.ssh_link.specs.declared.link.TraceEntry.TheVariants.{Noticed};
 ghost use Rattle.ssh_auth.specs.declared.question.Question.TheVariants.{Lends, Judges, Listens};
 ghost use Rattle.ssh_auth.specs.Plan.{Plan, Ask, Tell};
-ghost use Rattle.ssh_session.specs.World.{World};
-ghost use Rattle.ssh_session.specs.Outcome.{Outcome};
-ghost use Rattle.ssh_session.specs.Acts.{Calls, Adjusts_by, done_all};
-ghost use Rattle.ssh_session.specs.Rows.{told, aims};
-ghost use Rattle.ssh_session.specs.Heard.{AreSame};
-ghost use Rattle.ssh_session.specs.Serve.{Refines, Does, Serves, Puts, IsSuited, IsSameSession};
+ghost use Rattle.ssh_rules.specs.World.{World};
+ghost use Rattle.ssh_rules.specs.Outcome.{Outcome};
+ghost use Rattle.ssh_rules.specs.Acts.{Calls, Adjusts_by, done_all};
+ghost use Rattle.ssh_rules.specs.Rows.{told, aims};
+ghost use Rattle.ssh_rules.specs.Heard.{AreSame};
+ghost use Rattle.ssh_rules.specs.Cause.{Puts};
+ghost use Rattle.ssh_session.specs.Serve.{Refines, Does, Serves, IsSuited, IsSameSession};
 ghost use Rattle.ssh_session.specs.Serve.{lends};
 
 use crate::outside::{Outside, Transport};

@@ -3,7 +3,7 @@ ghost use Rattle.std.specs.Prelude.{◌≡◌, ◌∷◌, [], false, length, OnO
 ghost use Rattle.ssh_channels.specs.declared.error.TableError.TheVariants.{NoMemory};
 ghost use Rattle.ssh_channels.specs.Lines.{find, takes_grant, takes_in, peer_closes, goes_on};
 ghost use Rattle.ssh_channels.specs.Lines.{wants};
-ghost use Rattle.ssh_session.specs.World.{World, lined, writes, is_there, unless_ended};
+ghost use Rattle.ssh_rules.specs.World.{World, lined, writes, is_there, unless_ended};
 ghost use Rattle.ssh_session.specs.Between.{goes_out_unless_ended};
 ghost use Rattle.ssh_channels.specs.Does.{credit_after, coming_of};
 ghost use Rattle.ssh_session.specs.Serve.{Refines, IsSameSession, IsUnchanged, is_spent};

@@ -1,13 +1,13 @@
 // Commands of callbacks and from outside.
-ghost use Rattle.std.specs.Prelude.{◌≡◌, ◌+◌, ◌∷◌, List, map, option_to_list};
+ghost use Rattle.std.specs.Prelude.{◌+◌, ◌∷◌, List, map, option_to_list};
 ghost use Rattle.ssh_link.specs.declared.command.Command.{Command as CommandOf};
 ghost use Rattle.ssh_link.specs.declared.link.TraceEntry.TheVariants.{Noticed};
 ghost use Rattle.ssh_auth.specs.Plan.{Plan};
-ghost use Rattle.ssh_session.specs.Outcome.{Outcome};
-ghost use Rattle.ssh_session.specs.World.{World};
-ghost use Rattle.ssh_session.specs.Acts.{done_all, tell_all, tell_done};
-ghost use Rattle.ssh_session.specs.Run.{command_row};
-ghost use Rattle.ssh_session.specs.Heard.{AreSame};
+ghost use Rattle.ssh_rules.specs.Outcome.{Outcome};
+ghost use Rattle.ssh_rules.specs.World.{World};
+ghost use Rattle.ssh_rules.specs.Acts.{done_all, tell_all, tell_done};
+ghost use Rattle.ssh_rules.specs.Run.{command_row};
+ghost use Rattle.ssh_rules.specs.Heard.{AreSame};
 ghost use Rattle.ssh_session.specs.Serve.{Refines, Serves, Completes, IsSameSession};
 
 use crate::apply::Done;

@@ -1,27 +1,15 @@
 // The end of a channel (RFC 4254 section 5.3).
-ghost use Rattle.ssh_session.specs.declared.messages.Spoken.TheVariants.{Close};
-ghost use Rattle.ssh_session.specs.World.{World};
-ghost use Rattle.ssh_session.specs.Spelling.{IsRead};
-ghost use Rattle.ssh_session.specs.Messages.{close};
-ghost use Rattle.ssh_session.specs.Rows.{spoken_acts};
-ghost use Rattle.ssh_session.specs.Heard.{AreSame};
+ghost use Rattle.ssh_rules.specs.declared.messages.Spoken.TheVariants.{Close};
+ghost use Rattle.ssh_rules.specs.World.{World};
+ghost use Rattle.ssh_rules.specs.Rows.{spoken_acts};
+ghost use Rattle.ssh_rules.specs.Heard.{AreSame};
 ghost use Rattle.ssh_session.specs.Serve.{Refines, Does, IsSuited};
 
-use crate::message::read_channel;
-use crate::messages::Spoken;
 use crate::outside::Outside;
 use crate::{RunError, Session};
 use ssh_auth::Happening;
 use ssh_link::ChannelMsg;
-use ssh_wire::{ChannelId, WireError};
-
-/// CHANNEL_CLOSE.
-pub(crate) fn close_message(fields: &[u8]) -> Result<Spoken, WireError>
-    ensures { IsRead close fields.now result }
-{
-    let channel = read_channel(fields)?;
-    Ok(Spoken::Close(channel))
-}
+use ssh_wire::ChannelId;
 
 impl Session {
     /// The channel is gone, which is answered by a CLOSE.

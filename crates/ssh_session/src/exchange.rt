@@ -1,225 +1,24 @@
-// The exchange of keys: what is kept of it, where a payload goes meanwhile, and its calls (RFC 4253
-// section 7).
-ghost use Rattle.std.specs.Prelude.{◌≡◌, ◌∷◌, [], ◌^◌, ◌-◌, min, map, All, OnOk, IfErr};
+// The exchange of keys: where a payload goes meanwhile, and its calls (RFC 4253 section 7).
+ghost use Rattle.std.specs.Prelude.{◌≡◌, ◌∷◌, [], map, All, OnOk, IfErr};
 ghost use Rattle.ssh_link.specs.Exchange.{IsOfTransport};
 ghost use Rattle.ssh_link.specs.declared.link.TraceEntry.TheVariants.{Sent};
 ghost use Rattle.ssh_auth.specs.Plan.{Plan};
 ghost use Rattle.ssh_channels.specs.declared.error.TableError.TheVariants.{NoMemory};
-ghost use Rattle.ssh_session.specs.Acts.{Exchanges, Beginning, Stepping, frames_given, gives};
-ghost use Rattle.ssh_session.specs.Acts.{steps_on, tell_all};
-ghost use Rattle.ssh_session.specs.Exchange.{is_exchanged, is_serving, is_served, passage_in};
-ghost use Rattle.ssh_session.specs.Exchange.{is_running, bytes_of, early_with, heard, given};
-ghost use Rattle.ssh_session.specs.Exchange.{is_worn, joined, renewed};
-ghost use Rattle.ssh_session.specs.Heard.{AreSame};
-ghost use Rattle.ssh_session.specs.Outcome.{Outcome};
-ghost use Rattle.ssh_session.specs.Run.{passage, begins, is_due, is_let_in};
+ghost use Rattle.ssh_rules.specs.Acts.{Exchanges, Beginning, Stepping, frames_given, gives};
+ghost use Rattle.ssh_rules.specs.Acts.{steps_on, tell_all};
+ghost use Rattle.ssh_rules.specs.Heard.{AreSame};
+ghost use Rattle.ssh_rules.specs.Outcome.{Outcome};
+ghost use Rattle.ssh_rules.specs.Run.{passage, begins, is_due};
 ghost use Rattle.ssh_session.specs.Serve.{Refines, Serves, Does, IsSameSession, is_exchanging};
-ghost use Rattle.ssh_session.specs.World.{World, in_exchange, is_held};
+ghost use Rattle.ssh_rules.specs.World.{World, in_exchange, is_held};
 
 use crate::finish::send_each;
-use crate::frames::frames_of;
 use crate::outside::Transport;
-use crate::state::EncryptedState;
 use crate::{RunError, Session};
 use ssh_channels::TableError;
-use ssh_link::Frame;
-use ssh_wire::message::KEXINIT;
-use ssh_wire::{Blobs, Limits};
-
-/// How far an exchange of keys has come (RFC 4253 section 7.1).
-#[derive(Clone, Copy, Debug)]
-pub enum ExchangeState {
-    /// None runs.
-    Idle,
-    /// This side's KEXINIT went out, and the peer's did not come: so many bytes of messages of
-    /// authentication and of the connection have come since.
-    Own(u32),
-    /// The KEXINIT of both sides went out.
-    Both,
-}
-
-/// The exchange of keys, and how much passed under the keys in use (RFC 4253 section 9).
-#[derive(Clone, Copy, Debug)]
-pub struct Keys {
-    /// How far an exchange has come.
-    pub exchange: ExchangeState,
-    /// How many bytes of payloads came since the last exchange.
-    pub taken: u64,
-    /// How many bytes of payloads were handed on since then.
-    pub handed_on: u64,
-}
-
-/// Where a payload goes, by its number alone (RFC 4253 section 7.1).
-#[derive(Clone, Copy, Debug)]
-pub(crate) enum Passage {
-    /// To the exchange, which begins with it.
-    Begins,
-    /// To the exchange that runs.
-    Steps,
-    /// Nowhere: no message of a service comes between the peer's KEXINIT and its NEWKEYS.
-    Barred,
-    /// Nowhere: too much came since this side's KEXINIT.
-    Late,
-    /// To whoever waits for it.
-    Passes,
-}
-
-/// The least number of a message of authentication or of the connection (RFC 4250 section 4.1.1).
-const FIRST_SERVICE: u8 = 50;
-
-/// Whether it is a message of an exchange (RFC 4250 section 4.1.1).
-fn is_exchanged(number: u8) -> bool
-    ensures { result ≡ is_exchanged number }
-{
-    KEXINIT <= number && number < FIRST_SERVICE
-}
-
-/// Whether it is a message of authentication or of the connection (RFC 4250 section 4.1.1).
-fn is_serving(number: u8) -> bool
-    ensures { result ≡ is_serving number }
-{
-    FIRST_SERVICE <= number
-}
-
-/// The same of a payload.
-fn is_served(payload: &[u8]) -> bool
-    ensures { result ≡ is_served payload.now }
-{
-    match payload.first() {
-        Some(number) => is_serving(*number),
-        None => false,
-    }
-}
-
-/// How many bytes the payloads of these frames have together, up to 2^64 - 1.
-fn bytes_of(frames: &[Frame]) -> u64
-    ensures { result ≡ min (bytes_of frames.now) (2 ^ 64 - 1) }
-{
-    let mut bytes = 0u64;
-    for frame in frames {
-        let (head, body) = frame.parts();
-        bytes = bytes
-            .saturating_add(head.len() as u64)
-            .saturating_add(body.len() as u64);
-    }
-    bytes
-}
-
-impl ExchangeState {
-    /// Whether an exchange runs.
-    pub(crate) fn is_running(&self) -> bool
-        ensures { result ≡ is_running self.now }
-    {
-        !matches!(self, ExchangeState::Idle)
-    }
-
-    /// Where a payload of this number goes, where each channel grants so large a window.
-    fn passage(&self, window: u32, number: u8) -> Passage
-        ensures { result ≡ passage_in self.now window number }
-    {
-        match self {
-            ExchangeState::Idle => {
-                if number == KEXINIT {
-                    Passage::Begins
-                } else {
-                    Passage::Passes
-                }
-            }
-            ExchangeState::Own(early) => {
-                if is_exchanged(number) {
-                    Passage::Steps
-                } else if is_serving(number) && *early as u64 > window as u64 * 2 {
-                    Passage::Late
-                } else {
-                    Passage::Passes
-                }
-            }
-            ExchangeState::Both => {
-                if is_exchanged(number) {
-                    Passage::Steps
-                } else if is_serving(number) {
-                    Passage::Barred
-                } else {
-                    Passage::Passes
-                }
-            }
-        }
-    }
-
-    /// A message of the exchange came: with the peer's KEXINIT both have sent one.
-    fn join(&mut self, payload: &[u8])
-        ensures { self.new ≡ joined payload.now self.old }
-    {
-        if let Some(number) = payload.first() {
-            if *number == KEXINIT {
-                *self = ExchangeState::Both;
-            }
-        }
-    }
-
-    /// A payload came, which counts where it comes between the KEXINIT of both.
-    fn count(&mut self, payload: &[u8])
-        ensures { self.new ≡ early_with payload.now self.old }
-    {
-        if let ExchangeState::Own(early) = self {
-            if is_served(payload) {
-                *self = ExchangeState::Own(early.saturating_add(capped(payload.len())));
-            }
-        }
-    }
-}
-
-/// A length, up to 2^32 - 1.
-fn capped(length: usize) -> u32
-    ensures { result ≡ min length (2 ^ 32 - 1) }
-{
-    u32::try_from(length).unwrap_or(u32::MAX)
-}
-
-impl Keys {
-    /// Keys under which nothing passed.
-    pub(crate) fn renewed() -> Keys
-        ensures { result ≡ renewed }
-    {
-        Keys {
-            exchange: ExchangeState::Idle,
-            taken: 0,
-            handed_on: 0,
-        }
-    }
-
-    /// A payload came.
-    pub(crate) fn hear(&mut self, payload: &[u8])
-        ensures { self.new ≡ heard payload.now self.old }
-    {
-        self.taken = self.taken.saturating_add(payload.len() as u64);
-        self.exchange.count(payload);
-    }
-
-    /// Frames were handed on.
-    pub(crate) fn give(&mut self, frames: &[Frame])
-        ensures { self.new ≡ given frames.now self.old }
-    {
-        self.handed_on = self.handed_on.saturating_add(bytes_of(frames));
-    }
-
-    /// Whether as much passed as may (RFC 4253 section 9).
-    fn is_worn(&self, limits: &Limits) -> bool
-        ensures { result ≡ is_worn limits.now self.now }
-    {
-        self.taken >= limits.rekey_read_limit || self.handed_on >= limits.rekey_write_limit
-    }
-}
-
-/// Whether a user was let in.
-fn is_let_in(state: &EncryptedState) -> bool
-    ensures { result ≡ is_let_in state.now }
-{
-    matches!(
-        state,
-        EncryptedState::InitCompression | EncryptedState::Authenticated
-    )
-}
+use ssh_messages::frames_of;
+use ssh_rules::{ExchangeState, Keys, Passage, is_let_in};
+use ssh_wire::Blobs;
 
 impl Session {
     /// Where this payload goes.

@@ -2,11 +2,12 @@
 ghost use Rattle.std.specs.Prelude.{◌≡◌, [], OnOk};
 ghost use Rattle.ssh_link.specs.declared.link.TraceEntry.TheVariants.{Sent, Noticed};
 ghost use Rattle.ssh_auth.specs.Plan.{Plan};
-ghost use Rattle.ssh_session.specs.Outcome.{Outcome};
-ghost use Rattle.ssh_session.specs.World.{World};
-ghost use Rattle.ssh_session.specs.Run.{hand_on, handed_on, is_over, goes_unless_ended};
-ghost use Rattle.ssh_session.specs.Heard.{AreSame};
-ghost use Rattle.ssh_session.specs.Serve.{Refines, Serves, Completes, TellsEach, ends_by_flow};
+ghost use Rattle.ssh_rules.specs.Outcome.{Outcome};
+ghost use Rattle.ssh_rules.specs.World.{World};
+ghost use Rattle.ssh_rules.specs.Run.{hand_on, handed_on, is_over, goes_unless_ended};
+ghost use Rattle.ssh_rules.specs.Heard.{AreSame};
+ghost use Rattle.ssh_rules.specs.Cause.{ends_by_flow};
+ghost use Rattle.ssh_session.specs.Serve.{Refines, Serves, Completes, TellsEach};
 ghost use Rattle.ssh_session.specs.Serve.{IsSameSession};
 
 use crate::outside::Transport;
@@ -70,7 +71,7 @@ impl Session {
         send_each(outside, frames)
     }
 
-    /// The run is over as soon as they are.
+    /// Hands on what was written, with which the run is over.
     pub(crate) fn end_run<O: Transport>(
         &mut self,
         outside: &mut O,

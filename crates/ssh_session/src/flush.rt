@@ -2,14 +2,14 @@
 ghost use Rattle.std.specs.Prelude.{◌≡◌, [], false, true, map, OnOk, OnErr};
 ghost use Rattle.ssh_link.specs.declared.link.TraceEntry.TheVariants.{Noticed};
 ghost use Rattle.ssh_auth.specs.Plan.{Finish};
-ghost use Rattle.ssh_session.specs.Acts.{tell_all};
+ghost use Rattle.ssh_rules.specs.Acts.{tell_all};
 ghost use Rattle.ssh_session.specs.Between.{FlushesBy, told_beneath, flushed, untold};
-ghost use Rattle.ssh_session.specs.Failure.{flush_error_of};
-ghost use Rattle.ssh_session.specs.Heard.{AreSame};
-ghost use Rattle.ssh_session.specs.Outcome.{Goes};
-ghost use Rattle.ssh_session.specs.Run.{hand_on};
+ghost use Rattle.ssh_rules.specs.Failure.{flush_error_of};
+ghost use Rattle.ssh_rules.specs.Heard.{AreSame};
+ghost use Rattle.ssh_rules.specs.Outcome.{Goes};
+ghost use Rattle.ssh_rules.specs.Run.{hand_on};
 ghost use Rattle.ssh_session.specs.Serve.{Refines, Serves, IsSameSession, is_spent};
-ghost use Rattle.ssh_session.specs.World.{World};
+ghost use Rattle.ssh_rules.specs.World.{World};
 
 use crate::finish::tell_each;
 use crate::outside::{Ends, Transport};
@@ -83,7 +83,7 @@ impl Session {
         }
     }
 
-    /// The same of a session that is not spent.
+    /// The end of an input without one, over an outside.
     fn flush_over<O: Transport>(
         &mut self,
         outside: &mut O,

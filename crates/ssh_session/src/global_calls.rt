@@ -69,8 +69,8 @@ impl Session {
         self.apply(Command::Ping { slot })
     }
 
-    /// Answers the peer's global request by success, where an answer is wanted (RFC 4254 section
-    /// 4).
+    /// Answers the peer's last global request by success, where that wants an answer and has none
+    /// yet (RFC 4254 section 4).
     pub fn request_success(&mut self) -> Result<CommandOutcome, WireError>
         requires live { is_spent self.old ≡ false }
         ensures applied { Applies command.RequestSuccess self.old self.new result }
@@ -78,8 +78,8 @@ impl Session {
         self.apply(Command::RequestSuccess)
     }
 
-    /// Answers the peer's global request by failure, where an answer is wanted (RFC 4254 section
-    /// 4).
+    /// Answers the peer's last global request by failure, where that wants an answer and has none
+    /// yet (RFC 4254 section 4).
     pub fn request_failure(&mut self) -> Result<CommandOutcome, WireError>
         requires live { is_spent self.old ≡ false }
         ensures applied { Applies command.RequestFailure self.old self.new result }

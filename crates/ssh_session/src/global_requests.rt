@@ -1,128 +1,14 @@
 // Global requests of the peer, and replies to those of this side, as they are read (RFC 4254
 // section 4).
-ghost use Rattle.std.specs.Prelude.{◌≡◌, Some};
-ghost use Rattle.ssh_session.specs.World.{World};
-ghost use Rattle.ssh_session.specs.Spelling.{IsRead};
-ghost use Rattle.ssh_session.specs.Globals.{asks_globally, globally_asked_by, global_named};
-ghost use Rattle.ssh_session.specs.Globals.{port_told, success, denial, oldest};
-ghost use Rattle.ssh_session.specs.Globals as known;
+ghost use Rattle.ssh_rules.specs.World.{World};
+ghost use Rattle.ssh_rules.specs.Spelling.{IsRead};
+ghost use Rattle.ssh_rules.specs.Globals.{asks_globally, success, denial, oldest};
 ghost use Rattle.ssh_session.specs.Serve.{Refines};
 
 use crate::Session;
-use crate::message::{read_address, read_end, read_global_request, read_text};
-use crate::messages::Spoken;
-use crate::outstanding::Outstanding;
-use ssh_auth::Judged;
-use ssh_link::Notice;
-use ssh_wire::{Text, WireError};
-use std::alloc::Global;
-
-/// A request as far as all are alike: whether a reply is wanted.
-#[derive(Clone, Copy)]
-struct Asking {
-    alloc: Global,
-    wanted: bool,
-}
-
-/// Connections to an address are to be forwarded (section 7.1).
-fn ask_forward(asking: Asking, rest: &[u8]) -> Result<Spoken, WireError>
-    ensures { IsRead (globally_asked_by (Some known.forward) asking.wanted) rest.now result }
-{
-    let (address, port) = read_address(rest)?;
-    let address = Text::new(asking.alloc, address)?;
-    Ok(Spoken::AsksToForward(asking.wanted, address, port))
-}
-
-/// They are to be forwarded no longer (section 7.1).
-fn ask_cancel(asking: Asking, rest: &[u8]) -> Result<Spoken, WireError>
-    ensures { IsRead (globally_asked_by (Some known.cancel_forward) asking.wanted) rest.now
-        result }
-{
-    let (address, port) = read_address(rest)?;
-    let address = Text::new(asking.alloc, address)?;
-    let judged = Judged::CancelTcpipForward { address, port };
-    Ok(Spoken::AsksGlobally(asking.wanted, judged))
-}
-
-/// Connections to a socket are to be forwarded (OpenSSH PROTOCOL section 2.4).
-fn ask_forward_socket(asking: Asking, rest: &[u8]) -> Result<Spoken, WireError>
-    ensures { IsRead (globally_asked_by (Some known.forward_socket) asking.wanted) rest.now
-        result }
-{
-    let path = read_text(rest)?;
-    let socket_path = Text::new(asking.alloc, path)?;
-    let judged = Judged::StreamlocalForward { socket_path };
-    Ok(Spoken::AsksGlobally(asking.wanted, judged))
-}
-
-/// They are to be forwarded no longer (OpenSSH PROTOCOL section 2.4).
-fn ask_cancel_socket(asking: Asking, rest: &[u8]) -> Result<Spoken, WireError>
-    ensures { IsRead (globally_asked_by (Some known.cancel_socket) asking.wanted) rest.now
-        result }
-{
-    let path = read_text(rest)?;
-    let socket_path = Text::new(asking.alloc, path)?;
-    let judged = Judged::CancelStreamlocalForward { socket_path };
-    Ok(Spoken::AsksGlobally(asking.wanted, judged))
-}
-
-/// What a request of this name says: one line a request. Of one that is not known nothing is read.
-fn ask_globally(asking: Asking, name: &str, rest: &[u8]) -> Result<Spoken, WireError>
-    ensures { IsRead (globally_asked_by (global_named name.now) asking.wanted) rest.now result }
-{
-    match name {
-        "tcpip-forward" => ask_forward(asking, rest),
-        "cancel-tcpip-forward" => ask_cancel(asking, rest),
-        "streamlocal-forward@openssh.com" => ask_forward_socket(asking, rest),
-        "cancel-streamlocal-forward@openssh.com" => ask_cancel_socket(asking, rest),
-        _ => Ok(Spoken::AsksGloballyUnknown(asking.wanted)),
-    }
-}
-
-/// The port that the peer listens at: it tells none where it listens at the one that was asked for,
-/// and what is no port counts as a refusal (section 7.1).
-fn port_told(rest: &[u8]) -> Option<u32>
-    ensures { result ≡ port_told rest.now }
-{
-    match rest {
-        [] => Some(0),
-        [a, b, c, d] => Some(u32::from_be_bytes([*a, *b, *c, *d])),
-        _ => None,
-    }
-}
-
-/// What REQUEST_SUCCESS says where this request waits for it.
-fn granted(outstanding: Outstanding, fields: &[u8]) -> Result<Spoken, WireError>
-    ensures { IsRead (success (Some outstanding)) fields.now result }
-{
-    let told = match outstanding {
-        Outstanding::Forward { slot } => {
-            let port = port_told(fields);
-            return Ok(Spoken::Settles(Some(Notice::Forwarded { slot, port })));
-        }
-        Outstanding::Cancel { slot } => Some(Notice::Cancelled { slot, ok: true }),
-        Outstanding::Ping { slot } => Some(Notice::Pong { slot }),
-        Outstanding::Keepalive => None,
-    };
-    read_end(fields)?;
-    Ok(Spoken::Settles(told))
-}
-
-/// What REQUEST_FAILURE says where this request waits for it.
-fn denied(outstanding: Outstanding) -> Spoken
-    ensures { result ≡ known.denied (Some outstanding) }
-{
-    match outstanding {
-        Outstanding::Forward { slot } => {
-            Spoken::Settles(Some(Notice::Forwarded { slot, port: None }))
-        }
-        Outstanding::Cancel { slot } => {
-            Spoken::Settles(Some(Notice::Cancelled { slot, ok: false }))
-        }
-        Outstanding::Ping { slot } => Spoken::Settles(Some(Notice::Pong { slot })),
-        Outstanding::Keepalive => Spoken::Settles(None),
-    }
-}
+use ssh_messages::{AskingGlobally, ask_globally, denied, granted, read_end, read_global_request};
+use ssh_rules::Spoken;
+use ssh_wire::WireError;
 
 impl Session {
     /// GLOBAL_REQUEST.
@@ -130,7 +16,7 @@ impl Session {
         ensures { IsRead asks_globally fields.now result }
     {
         let asked = read_global_request(fields)?;
-        let asking = Asking {
+        let asking = AskingGlobally {
             alloc: self.alloc,
             wanted: asked.wanted,
         };

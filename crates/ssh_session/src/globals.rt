@@ -1,17 +1,17 @@
 // Global requests of the peer and their replies, and what comes of those of this side (RFC 4254
 // section 4).
-ghost use Rattle.std.specs.Prelude.{◌≡◌, OnOk, OnErr, IfOk, IfErr};
-ghost use Rattle.ssh_session.specs.declared.error.RunError.TheVariants.{NoMemory};
-ghost use Rattle.ssh_session.specs.declared.messages.Spoken.TheVariants.{AsksToForward};
-ghost use Rattle.ssh_session.specs.declared.messages.Spoken.TheVariants.{AsksGlobally};
-ghost use Rattle.ssh_session.specs.declared.messages.Spoken.TheVariants.{AsksGloballyUnknown};
-ghost use Rattle.ssh_session.specs.declared.messages.Spoken.TheVariants.{Settles};
-ghost use Rattle.ssh_session.specs.Layout.{at_once};
-ghost use Rattle.ssh_session.specs.World.{World, wants_global, settles_global, unless_ended};
-ghost use Rattle.ssh_session.specs.World.{settled_first};
-ghost use Rattle.ssh_session.specs.Effect.{accepts};
-ghost use Rattle.ssh_session.specs.Rows.{spoken_acts, bound_to, global_reply};
-ghost use Rattle.ssh_session.specs.Heard.{AreSame};
+ghost use Rattle.std.specs.Prelude.{◌≡◌, OnOk, OnErr, IfErr};
+ghost use Rattle.ssh_rules.specs.declared.error.RunError.TheVariants.{NoMemory};
+ghost use Rattle.ssh_rules.specs.declared.messages.Spoken.TheVariants.{AsksToForward};
+ghost use Rattle.ssh_rules.specs.declared.messages.Spoken.TheVariants.{AsksGlobally};
+ghost use Rattle.ssh_rules.specs.declared.messages.Spoken.TheVariants.{AsksGloballyUnknown};
+ghost use Rattle.ssh_rules.specs.declared.messages.Spoken.TheVariants.{Settles};
+ghost use Rattle.ssh_rules.specs.Layout.{at_once};
+ghost use Rattle.ssh_rules.specs.World.{World, wants_global, settles_global, unless_ended};
+ghost use Rattle.ssh_rules.specs.World.{settled_first};
+ghost use Rattle.ssh_rules.specs.Effect.{accepts};
+ghost use Rattle.ssh_rules.specs.Rows.{spoken_acts, bound_to, global_reply};
+ghost use Rattle.ssh_rules.specs.Heard.{AreSame};
 ghost use Rattle.ssh_session.specs.Serve.{Refines, Does, Turned, HasEffect, IsSameSession};
 ghost use Rattle.ssh_session.specs.Serve.{IsSuited, IsUnchanged};
 
@@ -81,7 +81,8 @@ impl Session {
         Ok(())
     }
 
-    /// The same, unless a command of the callback ended the connection.
+    /// The reply goes out where it is wanted, unless a command of the callback ended the
+    /// connection.
     fn settle_unless_ended<E, F>(
         &mut self,
         granted: bool,

@@ -21,7 +21,7 @@ impl Session {
         self.apply(Command::OpenSession)
     }
 
-    /// Opens a channel to the agent of the client.
+    /// Opens a channel to the agent of the client (OpenSSH's `auth-agent@openssh.com`).
     pub fn channel_open_agent(&mut self) -> Result<CommandOutcome, WireError>
         requires live { is_spent self.old ≡ false }
         ensures applied { Applies command.OpenAgent self.old self.new result }

@@ -1,70 +1,24 @@
 // Opens of the peer (RFC 4254 section 5.1).
-ghost use Rattle.std.specs.Prelude.{◌≡◌, ◌≢◌, ◌<◌, ◌^◌, ◌⊎◌, ◌∷◌, [], ℕ, Some, None, length};
+ghost use Rattle.std.specs.Prelude.{◌≡◌, ◌≢◌, ◌<◌, ◌^◌, ◌⊎◌, ℕ, Some, None, length};
 ghost use Rattle.std.specs.Prelude.{IfOk, IfErr, IsErrOf};
-ghost use Rattle.ssh_wire.specs.declared.open.OpenChannelMessage.{OpenChannelMessage as Message};
-ghost use Rattle.ssh_auth.specs.declared.question.Lent.TheVariants.{Opens};
 ghost use Rattle.ssh_channels.specs.declared.error.TableError.TheVariants.{NoMemory};
 ghost use Rattle.ssh_channels.specs.Lines.{next_number};
-ghost use Rattle.ssh_session.specs.World.{World};
-ghost use Rattle.ssh_session.specs.Types.{handling, opening_by, type_refusal};
-ghost use Rattle.ssh_session.specs.Reading.{Said, SaysOpen, Open};
-ghost use Rattle.ssh_session.specs.Rows.{row, owed, waits, asks_first, turns_first};
-ghost use Rattle.ssh_session.specs.Heard.{AreSame};
+ghost use Rattle.ssh_rules.specs.World.{World};
+ghost use Rattle.ssh_rules.specs.Types.{type_refusal};
+ghost use Rattle.ssh_rules.specs.Reading.{Said, SaysOpen, Open};
+ghost use Rattle.ssh_rules.specs.Rows.{row, owed, waits, asks_first, turns_first};
+ghost use Rattle.ssh_rules.specs.Heard.{AreSame};
 ghost use Rattle.ssh_session.specs.Serve.{Refines, Does, Completes, Turned, IsSuited};
 ghost use Rattle.ssh_session.specs.Serve.{IsSameSession};
 
-use crate::channel_frames::type_refusal_frame;
 use crate::outside::Outside;
 use crate::peer_open::PeerOpen;
 use crate::{Flow, RunError, Session};
 use ssh_auth::{Lent, OpenType};
 use ssh_channels::TableError;
-use ssh_wire::{ChannelId, ChannelOpenFailure, ChannelType, OpenChannelMessage, Reader};
-
-/// What is done by the type of an open.
-#[derive(Debug, Drop)]
-pub enum Handling {
-    /// The handler is asked.
-    Asks(OpenType),
-    /// It is refused: a server takes no channel of this type.
-    Unsupported,
-    /// It is refused: the type is not known.
-    Unknown,
-}
-
-/// How an open of this type is handled: one line a type.
-fn handled_by(typ: ChannelType) -> Handling
-    ensures { result ≡ handling typ }
-{
-    match typ {
-        ChannelType::Session => Handling::Asks(OpenType::Session),
-        ChannelType::X11 {
-            originator_address,
-            originator_port,
-        } => Handling::Asks(OpenType::X11 {
-            originator_address,
-            originator_port,
-        }),
-        ChannelType::DirectTcpip(info) => Handling::Asks(OpenType::DirectTcpip {
-            host_to_connect: info.host_to_connect,
-            port_to_connect: info.port_to_connect,
-            originator_address: info.originator_address,
-            originator_port: info.originator_port,
-        }),
-        ChannelType::ForwardedTcpIp(info) => Handling::Asks(OpenType::ForwardedTcpip {
-            host_to_connect: info.host_to_connect,
-            port_to_connect: info.port_to_connect,
-            originator_address: info.originator_address,
-            originator_port: info.originator_port,
-        }),
-        ChannelType::DirectStreamLocal(info) => Handling::Asks(OpenType::DirectStreamlocal {
-            socket_path: info.socket_path,
-        }),
-        ChannelType::ForwardedStreamLocal(_) => Handling::Unsupported,
-        ChannelType::AgentForward => Handling::Unsupported,
-        ChannelType::Unknown { .. } => Handling::Unknown,
-    }
-}
+use ssh_messages::type_refusal_frame;
+use ssh_rules::{Handling, handled_by};
+use ssh_wire::{ChannelId, ChannelOpenFailure, OpenChannelMessage, Reader};
 
 impl Session {
     /// CHANNEL_OPEN.

@@ -8,8 +8,8 @@ ghost use Rattle.ssh_auth.specs.Calls.{lent_call, judged_call};
 ghost use Rattle.ssh_auth.specs.Serve.{IsNumbered};
 ghost use Rattle.ssh_auth.specs.declared.call.Call.TheVariants.{AuthenticationBanner, AdjustWindow};
 ghost use Rattle.ssh_auth.specs.declared.call.Call.TheVariants.{CommandDone, TcpipForward};
-ghost use Rattle.ssh_session.specs.Heard.{Heard, Gives, Exchanges, Calls, AnswersRequest};
-ghost use Rattle.ssh_session.specs.Heard.{AnswersResponse};
+ghost use Rattle.ssh_rules.specs.Heard.{Heard, Gives, Exchanges, Calls, AnswersRequest};
+ghost use Rattle.ssh_rules.specs.Heard.{AnswersResponse};
 
 use bytes::Bytes;
 use ssh_auth::{AuthError, AuthRequest, AuthStep, Judged, Lent, serve_request, serve_response};

@@ -1,54 +1,27 @@
 // Opens of this side (RFC 4254 section 5.1).
 ghost use Rattle.std.specs.Prelude.{◌≡◌, ◌≢◌, ◌<◌, ◌^◌, ℕ, OnErr};
-ghost use Rattle.ssh_session.specs.declared.messages.Spoken.TheVariants.{Failed};
-ghost use Rattle.ssh_session.specs.World.{World, is_waiting};
-ghost use Rattle.ssh_session.specs.Spelling.{IsRead};
-ghost use Rattle.ssh_session.specs.Messages.{failure, reason_of};
-ghost use Rattle.ssh_session.specs.Reading.{Said, SaysConfirmation};
-ghost use Rattle.ssh_session.specs.Rows.{row, confirmation_acts, spoken_acts};
-ghost use Rattle.ssh_session.specs.OwnOpens.{asking};
-ghost use Rattle.ssh_session.specs.Effect.{no_user, lacks, opens_need, opens_or_not, opens};
-ghost use Rattle.ssh_session.specs.Heard.{AreSame};
+ghost use Rattle.ssh_rules.specs.declared.messages.Spoken.TheVariants.{Failed};
+ghost use Rattle.ssh_rules.specs.World.{World, is_waiting};
+ghost use Rattle.ssh_rules.specs.Reading.{Said, SaysConfirmation};
+ghost use Rattle.ssh_rules.specs.Rows.{row, confirmation_acts, spoken_acts};
+ghost use Rattle.ssh_rules.specs.OwnOpens.{asking};
+ghost use Rattle.ssh_rules.specs.Effect.{no_user, lacks, opens_need, opens_or_not, opens};
+ghost use Rattle.ssh_rules.specs.Heard.{AreSame};
 ghost use Rattle.ssh_session.specs.Serve.{Refines, Does, Completes, HasEffect, IsSuited};
 ghost use Rattle.ssh_session.specs.Serve.{IsSameSession, IsUnchanged};
 
 use crate::apply::Done;
-use crate::asked::{own_open_frame, put_own_fields, type_name};
-use crate::message::{read_number, read_recipient, read_texts};
-use crate::messages::Spoken;
 use crate::outside::Outside;
-use crate::state::EncryptedState;
 use crate::{Flow, RunError, Session};
 use ssh_auth::Happening;
-use ssh_channels::TableError;
 use ssh_link::{ChannelMsg, Command, CommandOutcome, Notice, Refusal};
+use ssh_messages::{own_open_frame, put_own_fields, type_name};
+use ssh_rules::EncryptedState;
 use ssh_wire::{ChannelId, ChannelOpenConfirmation, ChannelOpenFailure, Reader, WireError};
 
 /// How many bytes the name and the own fields of a CHANNEL_OPEN have together at most: 17 bytes are
 /// the other fields, and a payload has at most 2^32 - 1.
 const MAX_OPEN_PARTS: usize = u32::MAX as usize - 17;
-
-/// The reason of a refusal; a code that is none is read as the first.
-fn reason_of(code: u32) -> ChannelOpenFailure
-    ensures { result ≡ reason_of code }
-{
-    match code {
-        2 => ChannelOpenFailure::ConnectFailed,
-        3 => ChannelOpenFailure::UnknownChannelType,
-        4 => ChannelOpenFailure::ResourceShortage,
-        _ => ChannelOpenFailure::AdministrativelyProhibited,
-    }
-}
-
-/// CHANNEL_OPEN_FAILURE.
-pub(crate) fn open_failure_message(fields: &[u8]) -> Result<Spoken, WireError>
-    ensures { IsRead failure fields.now result }
-{
-    let (channel, rest) = read_recipient(fields)?;
-    let (code, texts) = read_number(rest)?;
-    read_texts(texts)?;
-    Ok(Spoken::Failed(channel, reason_of(code)))
-}
 
 impl Session {
     /// CHANNEL_OPEN_CONFIRMATION. `Inconsistent` at a packet size of 0, and where no open of this

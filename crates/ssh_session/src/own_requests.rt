@@ -1,77 +1,19 @@
 // Requests of this side on a channel (RFC 4254 section 5.4).
-ghost use Rattle.std.specs.Prelude.{◌≡◌, ◌≤◌, ◌<◌, ◌^◌, ◌⊎◌, ◌++◌, length, OnOk, IfOk, IfErr};
-ghost use Rattle.std.specs.Prelude.{IsErrOf, OnErr};
-ghost use Rattle.ssh_wire.specs.declared.error.WireError.TheVariants.{NoMemory, TooLong};
-ghost use Rattle.ssh_wire.specs.Field.{Flag};
-ghost use Rattle.ssh_wire.specs.Messages.{spelling};
-ghost use Rattle.ssh_channels.specs.Layout.{on_channel};
-ghost use Rattle.ssh_session.specs.World.{World};
-ghost use Rattle.ssh_session.specs.Effect.{requests, lacks, Established};
-ghost use Rattle.ssh_session.specs.OwnRequests.{request_payload};
-ghost use Rattle.ssh_session.specs.OwnRequests as own;
+ghost use Rattle.std.specs.Prelude.{◌≡◌, ◌<◌, ◌^◌, length, OnErr};
+ghost use Rattle.ssh_rules.specs.World.{World};
+ghost use Rattle.ssh_rules.specs.Effect.{requests, lacks, Established};
+ghost use Rattle.ssh_rules.specs.OwnRequests as own;
 ghost use Rattle.ssh_session.specs.Serve.{Refines, HasEffect, IsSameSession, IsUnchanged};
 
 use crate::apply::{Done, unusable};
-use crate::channel_frames::frame_on;
 use crate::{RunError, Session};
-use ssh_link::{Frame, Refusal};
-use ssh_wire::message::CHANNEL_REQUEST;
-use ssh_wire::{ChannelId, Sig, Text, WireError, put_text, put_u8, put_u32};
-use std::alloc::Global;
+use ssh_link::Refusal;
+use ssh_messages::{put_exit_signal, request_frame};
+use ssh_wire::{ChannelId, Sig, Text, WireError};
 
 /// How many bytes the name and the own fields of a CHANNEL_REQUEST have together at most: 10 bytes
 /// are the other fields, and a payload has at most 2^32 - 1.
 const MAX_REQUEST_PARTS: usize = u32::MAX as usize - 10;
-
-/// A CHANNEL_REQUEST that wants no reply.
-fn request_frame(
-    alloc: Global,
-    own: ChannelId,
-    peer: u32,
-    name: &str,
-    fields: &[u8],
-) -> Result<Frame, WireError>
-    requires short { length name.now < 2 ^ 32 }
-    ensures ok { IfOk result (λ f. f ≡ on_channel own.0
-        (request_payload peer (record { name = name.now; fields = fields.now }))) }
-    ensures memory { IfErr result (λ e. e ≡ NoMemory) }
-{
-    let mut payload = Vec::new(alloc);
-    put_u8(&mut payload, CHANNEL_REQUEST)?;
-    put_u32(&mut payload, peer)?;
-    put_text(&mut payload, name)?;
-    put_u8(&mut payload, 0)?;
-    payload.extend_from_slice(fields)?;
-    frame_on(own, payload)
-}
-
-/// Appends a boolean (RFC 4251 section 5).
-fn put_flag(out: &mut Vec<u8>, flag: bool) -> Result<(), WireError>
-    ensures ok { OnOk result (out.new.items ≡ out.old.items ++ spelling Flag flag) }
-    ensures memory { IfErr result (λ e. e ≡ NoMemory) }
-{
-    put_u8(out, flag as u8)
-}
-
-/// Appends the fields of exit-signal (RFC 4254 section 6.10).
-fn put_exit_signal(
-    out: &mut Vec<u8>,
-    signal: &Sig,
-    core_dumped: bool,
-    message: &Text,
-    language: &Text,
-) -> Result<(), WireError>
-    ensures ok { OnOk result (out.new.items ≡ out.old.items
-        ++ (own.exit_signal signal.now core_dumped message.now language.now).fields) }
-    ensures too_long { IsErrOf result WireError.TooLong → 2 ^ 32
-        ≤ length (own.exit_signal signal.now core_dumped message.now language.now).fields }
-    ensures errors { IfErr result (λ e. (e ≡ TooLong) ⊎ (e ≡ NoMemory)) }
-{
-    put_text(out, signal.name())?;
-    put_flag(out, core_dumped)?;
-    put_text(out, message.as_str())?;
-    put_text(out, language.as_str())
-}
 
 impl Session {
     /// Why nothing can be said on the channel.

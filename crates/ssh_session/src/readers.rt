@@ -4,8 +4,8 @@ ghost use Rattle.ssh_channels.specs.Line as line;
 ghost use Rattle.ssh_channels.specs.Table as table_of;
 ghost use Rattle.ssh_channels.specs.Calls as calls;
 ghost use Rattle.ssh_handler.specs.Receiving as receiving;
-ghost use Rattle.ssh_session.specs.World.{World, in_exchange};
-ghost use Rattle.ssh_session.specs.Run.{wants_commands};
+ghost use Rattle.ssh_rules.specs.World.{World, in_exchange};
+ghost use Rattle.ssh_rules.specs.Run.{wants_commands};
 ghost use Rattle.ssh_session.specs.Serve.{Refines, lends};
 
 use crate::Session;

@@ -1,12 +1,12 @@
 // Replies to the requests of the peer (RFC 4254 section 5.4).
 ghost use Rattle.std.specs.Prelude.{◌≡◌, ◌&&◌, OnOk, OnErr, IfErr};
 ghost use Rattle.ssh_channels.specs.declared.error.TableError.TheVariants.{NoMemory};
-ghost use Rattle.ssh_session.specs.declared.messages.Spoken.TheVariants.{Asks, AsksForAgent};
-ghost use Rattle.ssh_session.specs.declared.messages.Spoken.TheVariants.{AsksUnknown};
-ghost use Rattle.ssh_session.specs.World.{World, lined, replies, wants_reply, unless_ended};
-ghost use Rattle.ssh_session.specs.Effect.{accepts};
-ghost use Rattle.ssh_session.specs.Rows.{spoken_acts, reply_of};
-ghost use Rattle.ssh_session.specs.Heard.{AreSame};
+ghost use Rattle.ssh_rules.specs.declared.messages.Spoken.TheVariants.{Asks, AsksForAgent};
+ghost use Rattle.ssh_rules.specs.declared.messages.Spoken.TheVariants.{AsksUnknown};
+ghost use Rattle.ssh_rules.specs.World.{World, lined, replies, wants_reply, unless_ended};
+ghost use Rattle.ssh_rules.specs.Effect.{accepts};
+ghost use Rattle.ssh_rules.specs.Rows.{spoken_acts, reply_of};
+ghost use Rattle.ssh_rules.specs.Heard.{AreSame};
 ghost use Rattle.ssh_session.specs.Serve.{Refines, Does, Turned, HasEffect, IsSameSession};
 ghost use Rattle.ssh_session.specs.Serve.{IsSuited, IsUnchanged};
 
@@ -65,7 +65,8 @@ impl Session {
         Ok(())
     }
 
-    /// The same, unless a command of the callback ended the connection.
+    /// The reply goes out where it is wanted, unless a command of the callback ended the
+    /// connection.
     fn reply_unless_ended(&mut self, channel: ChannelId, message: u8) -> Result<(), TableError>
         ensures world { OnOk result ((w : World) → Refines self.old w →
             Refines self.new (unless_ended (lined (replies channel.0 message)) w)) }

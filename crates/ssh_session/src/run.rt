@@ -1,7 +1,7 @@
 // A run: inputs from a link, one after another, until one ends it.
 ghost use Rattle.std.specs.Prelude.{◌≡◌, ◌<◌, ◌^◌, length};
-ghost use Rattle.ssh_session.specs.World.{Settings, settings_of, opening_world};
-ghost use Rattle.ssh_session.specs.Account.{told_by, Ran, KeepsLaws};
+ghost use Rattle.ssh_rules.specs.World.{Settings, settings_of, opening_world};
+ghost use Rattle.ssh_rules.specs.Account.{told_by, Ran, KeepsLaws};
 ghost use Rattle.ssh_session.specs.Serve.{Refines, BeginsSuited};
 
 use crate::{Flow, RunError, Session};

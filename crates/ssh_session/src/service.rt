@@ -1,21 +1,20 @@
 // The service request (RFC 4253 section 10).
 ghost use Rattle.std.specs.Prelude.{ℕ, List, Some, None, Result};
 ghost use Rattle.ssh_wire.specs.declared.error.WireError.{WireError as Misfit};
-ghost use Rattle.ssh_session.specs.World.{World};
-ghost use Rattle.ssh_session.specs.Outcome.{Goes};
+ghost use Rattle.ssh_rules.specs.World.{World};
+ghost use Rattle.ssh_rules.specs.Outcome.{Goes};
 ghost use Rattle.ssh_auth.specs.Plan.{Finish};
-ghost use Rattle.ssh_session.specs.Spelling.{Spells};
-ghost use Rattle.ssh_session.specs.Reading.{said_of, Service, service};
-ghost use Rattle.ssh_session.specs.Rows.{row, service_row, served, greets};
-ghost use Rattle.ssh_session.specs.Heard.{AreSame};
+ghost use Rattle.ssh_rules.specs.Spelling.{Spells};
+ghost use Rattle.ssh_rules.specs.Reading.{said_of, Service, service};
+ghost use Rattle.ssh_rules.specs.Rows.{row, service_row, served, greets};
+ghost use Rattle.ssh_rules.specs.Heard.{AreSame};
 ghost use Rattle.ssh_session.specs.Serve.{Refines, Serves, Completes, Turned};
 
-use crate::frames::{banner_frame, service_accept_frame};
-use crate::message::read_text;
 use crate::outside::Outside;
-use crate::state::EncryptedState;
 use crate::{Flow, RunError, Session};
 use ssh_auth::AuthRequest;
+use ssh_messages::{banner_frame, read_text, service_accept_frame};
+use ssh_rules::EncryptedState;
 use ssh_wire::Text;
 
 impl Session {
@@ -56,7 +55,7 @@ impl Session {
         }
     }
 
-    /// SERVICE_ACCEPT, and BANNER where there is one (RFC 4252 section 5.4). Requests of
+    /// SERVICE_ACCEPT, and USERAUTH_BANNER where there is one (RFC 4252 section 5.4). Requests of
     /// authentication are read from now on.
     fn greet<E, F>(&mut self, banner: Option<Text>) -> Result<(), RunError<E, F>>
         ensures { (w : World) → Refines self.old w → Turned (greets banner) w self.new result }
@@ -77,7 +76,7 @@ impl Session {
         Ok(())
     }
 
-    /// SERVICE_ACCEPT, and this BANNER.
+    /// SERVICE_ACCEPT, and this USERAUTH_BANNER.
     fn greet_with<E, F>(&mut self, message: &str) -> Result<(), RunError<E, F>>
         ensures { (w : World) → Refines self.old w →
             Turned (greets (Some message.now)) w self.new result }

@@ -1,26 +1,26 @@
 // One input, taken and finished.
 ghost use Rattle.std.specs.Prelude.{◌≡◌, ◌≢◌, [], Ok, Err, OnOk, true, drop};
 ghost use Rattle.ssh_auth.specs.Plan.{Plan};
-ghost use Rattle.ssh_session.specs.Outcome.{Outcome};
-ghost use Rattle.ssh_session.specs.World.{World, circumstances, hears};
-ghost use Rattle.ssh_session.specs.Gate.{gate_of};
-ghost use Rattle.ssh_session.specs.Reading.{Said, Says};
-ghost use Rattle.ssh_session.specs.Rows.{row};
-ghost use Rattle.ssh_session.specs.Run.{OwesKind, OwesPayload, Owes, asks_for_keys};
-ghost use Rattle.ssh_session.specs.Heard.{AreSame};
+ghost use Rattle.ssh_rules.specs.Outcome.{Outcome};
+ghost use Rattle.ssh_rules.specs.World.{World, circumstances, hears};
+ghost use Rattle.ssh_rules.specs.Gate.{gate_of};
+ghost use Rattle.ssh_rules.specs.Reading.{Said, Says};
+ghost use Rattle.ssh_rules.specs.Rows.{row};
+ghost use Rattle.ssh_rules.specs.Run.{OwesKind, OwesPayload, Owes, asks_for_keys};
+ghost use Rattle.ssh_rules.specs.Heard.{AreSame};
 ghost use Rattle.ssh_session.specs.Between.{StepsBehind, TakesBehind, OwesUnlessEnded, untold};
-ghost use Rattle.ssh_session.specs.Account.{told_by, Steps, StepsBy};
+ghost use Rattle.ssh_rules.specs.Account.{told_by};
+ghost use Rattle.ssh_session.specs.Steps.{Steps, StepsBy};
 ghost use Rattle.ssh_session.specs.Serve.{Refines, Completes, is_spent, IsSuited, IsSameSession};
 
-use crate::exchange::Passage;
 use crate::finish::tell_each;
-use crate::gate::Gate;
 use crate::outside::{Outside, Sides};
 use crate::ticks::ticks_behind;
 use crate::{Flow, RunError, Session};
 use ssh_handler::Handler;
 use ssh_keys::Verifier;
 use ssh_link::{Command, Input, InputKind, Kex, Link, Notice};
+use ssh_rules::{Gate, Passage};
 use ssh_wire::fields_of;
 use std::collections::VecDeque;
 

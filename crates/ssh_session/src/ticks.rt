@@ -1,13 +1,13 @@
 // Ticks, which come from whoever keeps the time.
 ghost use Rattle.std.specs.Prelude.{◌≡◌, cond};
-ghost use Rattle.ssh_session.specs.World.{World, is_empty};
-ghost use Rattle.ssh_session.specs.Ticks.{keepalive_acts, ticked, is_too_many};
+ghost use Rattle.ssh_rules.specs.World.{World, is_empty};
+ghost use Rattle.ssh_rules.specs.Ticks.{keepalive_acts, ticked, is_too_many};
 ghost use Rattle.ssh_session.specs.Serve.{Refines, Turned, IsSameSession};
 
-use crate::outstanding::Outstanding;
-use crate::own_messages::keepalive_payload;
 use crate::{RunError, Session};
 use ssh_handler::Config;
+use ssh_messages::keepalive_payload;
+use ssh_rules::Outstanding;
 
 /// Whether so many ticks without a sign of life are more than are allowed; 0 allows any number.
 fn is_too_many(config: &Config, keepalives: u64) -> bool

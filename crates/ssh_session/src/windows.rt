@@ -3,23 +3,23 @@ ghost use Rattle.std.specs.Prelude.{◌≡◌, ◌∷◌, []};
 ghost use Rattle.ssh_link.specs.declared.link.TraceEntry.TheVariants.{Noticed};
 ghost use Rattle.ssh_link.specs.declared.notice.Notice.TheVariants.{Channel};
 ghost use Rattle.ssh_auth.specs.Plan.{Plan, Tell};
-ghost use Rattle.ssh_session.specs.declared.messages.Spoken.TheVariants.{Grant, Data};
-ghost use Rattle.ssh_session.specs.Outcome.{Outcome};
-ghost use Rattle.ssh_session.specs.World.{World, is_there};
-ghost use Rattle.ssh_session.specs.Spelling.{IsRead};
-ghost use Rattle.ssh_session.specs.Messages.{grant, plain_data, extended_data};
-ghost use Rattle.ssh_session.specs.Rows.{spoken_acts, data_notice, data_happening, noted, called};
-ghost use Rattle.ssh_session.specs.Heard.{AreSame};
+ghost use Rattle.ssh_rules.specs.declared.messages.Spoken.TheVariants.{Grant, Data};
+ghost use Rattle.ssh_rules.specs.Outcome.{Outcome};
+ghost use Rattle.ssh_rules.specs.World.{World, is_there};
+ghost use Rattle.ssh_rules.specs.Spelling.{IsRead};
+ghost use Rattle.ssh_rules.specs.Messages.{plain_data, extended_data};
+ghost use Rattle.ssh_rules.specs.Rows.{spoken_acts, data_notice, data_happening, noted, called};
+ghost use Rattle.ssh_rules.specs.Heard.{AreSame};
 ghost use Rattle.ssh_session.specs.Serve.{Refines, Does, Serves, IsSuited};
 
-use crate::message::{read_data, read_extended_data, read_grant, read_recipient};
-use crate::messages::Spoken;
 use crate::outside::Outside;
 use crate::{RunError, Session};
 use bytes::Bytes;
 use ssh_auth::{Happening, Lent};
 use ssh_channels::{Adjusted, Chunk, DataKind};
 use ssh_link::{ChannelMsg, Notice};
+use ssh_messages::{read_data, read_extended_data, read_recipient};
+use ssh_rules::Spoken;
 use ssh_wire::{ChannelId, WireError};
 
 /// Data, as the user of their channel is told of them.
@@ -40,14 +40,6 @@ fn happening_of(kind: DataKind, bytes: Bytes) -> Happening
         DataKind::Plain => Happening::Data { bytes },
         DataKind::Extended(code) => Happening::ExtendedData { code, bytes },
     }
-}
-
-/// CHANNEL_WINDOW_ADJUST.
-pub(crate) fn grant_message(fields: &[u8]) -> Result<Spoken, WireError>
-    ensures { IsRead grant fields.now result }
-{
-    let (channel, amount) = read_grant(fields)?;
-    Ok(Spoken::Grant(channel, amount))
 }
 
 impl Session {

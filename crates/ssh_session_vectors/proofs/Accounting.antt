@@ -2,11 +2,11 @@
 use Rattle.std.proofs.Common.{◌≡◌, ℕ, List, [], ◌∷◌, ◌++◌}
 use Rattle.std.specs.Prelude.{flat_map, true}
 use Rattle.ssh_auth.specs.Publickey.{Acceptance}
-use Rattle.ssh_session.specs.Ledger.{SentAll}
-use Rattle.ssh_session.specs.World.{Settings}
-use Rattle.ssh_session.proofs.Books.{nothing_kept}
-use Rattle.ssh_session.proofs.Keeping.{Kept}
-use Rattle.ssh_session.proofs.Sums.{sent_so, sent_all}
+use Rattle.ssh_rules.specs.Ledger.{SentAll}
+use Rattle.ssh_rules.specs.World.{Settings}
+use Rattle.ssh_rules.proofs.Books.{nothing_kept}
+use Rattle.ssh_rules.proofs.Keeping.{Kept}
+use Rattle.ssh_rules.proofs.Sums.{sent_so, sent_all}
 use Rattle.ssh_session_vectors.specs.Client.{Accounted, IsOutside, hands_on}
 use Rattle.ssh_session_vectors.specs.Moves.{Place, Made, Leads, Drives, opening_place, told_of}
 use Rattle.ssh_session_vectors.proofs.Keeping.{drive_kept}

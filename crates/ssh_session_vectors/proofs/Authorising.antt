@@ -6,18 +6,18 @@ use Rattle.std.specs.Prelude.{option_to_list}
 use Rattle.ssh_link.specs.declared.frame.InputKind.TheVariants as input
 use Rattle.ssh_auth.specs.Plan.{Plan, Event}
 use Rattle.ssh_auth.specs.Publickey.{Acceptance}
-use Rattle.ssh_session.specs.declared.error.Flow.{Flow}
-use Rattle.ssh_session.specs.declared.error.Flow.TheVariants.{Ended}
-use Rattle.ssh_session.specs.Authorised.{LastNamed, NeedsUser, SomeoneIsIn}
+use Rattle.ssh_rules.specs.declared.error.Flow.{Flow}
+use Rattle.ssh_rules.specs.declared.error.Flow.TheVariants.{Ended}
+use Rattle.ssh_rules.specs.Authorised.{LastNamed, NeedsUser, SomeoneIsIn}
 use Rattle.ssh_session.specs.Between.{OwesBehind, OwesFlush}
-use Rattle.ssh_session.specs.Outcome.{Outcome, Goes, Ends}
-use Rattle.ssh_session.specs.Run.{Turn}
-use Rattle.ssh_session.specs.Serve.{cause_of}
-use Rattle.ssh_session.specs.World.{Settings, World, circumstances}
-use Rattle.ssh_session.proofs.Accepting.{caused_walks, clear_more}
-use Rattle.ssh_session.proofs.Emptied.{nothing_left}
-use Rattle.ssh_session.proofs.Guards.{IsClear, Guarded, Walks, either}
-use Rattle.ssh_session.proofs.Guards.{walks_guarded, follows_guarded, follows_walks}
+use Rattle.ssh_rules.specs.Outcome.{Outcome, Goes, Ends}
+use Rattle.ssh_rules.specs.Run.{Turn}
+use Rattle.ssh_rules.specs.Cause.{cause_of}
+use Rattle.ssh_rules.specs.World.{Settings, World, circumstances}
+use Rattle.ssh_rules.proofs.Accepting.{caused_walks, clear_more}
+use Rattle.ssh_rules.proofs.Emptied.{nothing_left}
+use Rattle.ssh_rules.proofs.Guards.{IsClear, Guarded, Walks, either}
+use Rattle.ssh_rules.proofs.Guards.{walks_guarded, follows_guarded, follows_walks}
 use Rattle.ssh_session_vectors.specs.declared.client.MoveError.{MoveError}
 use Rattle.ssh_session_vectors.specs.declared.client.MoveError.TheVariants as error
 use Rattle.ssh_session_vectors.specs.Authorised.{turn_of, served_in, NeedsUserBehind}

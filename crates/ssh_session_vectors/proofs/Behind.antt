@@ -6,15 +6,15 @@ use Rattle.ssh_link.specs.declared.link.TraceEntry.{TraceEntry}
 use Rattle.ssh_link.specs.declared.link.TraceEntry.TheVariants.{Sent}
 use Rattle.ssh_auth.specs.Plan.{Plan, Finish, Tell, Event, Follows, told_in}
 use Rattle.ssh_auth.specs.Publickey.{Acceptance}
-use Rattle.ssh_session.specs.Acts.{Beginning, acts, moved, tell_all, payloads_given, frames_given}
+use Rattle.ssh_rules.specs.Acts.{Beginning, acts, moved, tell_all, payloads_given, frames_given}
 use Rattle.ssh_session.specs.Between.{OwesUnlessEnded, flushed}
-use Rattle.ssh_session.specs.Outcome.{Outcome, Goes, Ends}
-use Rattle.ssh_session.specs.Run.{Owes, begins, going_out, hand_on, handed_on, is_due, is_over}
-use Rattle.ssh_session.specs.World.{Settings, World}
-use Rattle.ssh_session.proofs.Acting.{PlanComes}
-use Rattle.ssh_session.proofs.Emptied.{told_comes, comes_of}
-use Rattle.ssh_session.proofs.Passing.{moved_so}
-use Rattle.ssh_session.proofs.Settled.{Anything, ComesSet}
+use Rattle.ssh_rules.specs.Outcome.{Outcome, Goes, Ends}
+use Rattle.ssh_rules.specs.Run.{Owes, begins, going_out, hand_on, handed_on, is_due, is_over}
+use Rattle.ssh_rules.specs.World.{Settings, World}
+use Rattle.ssh_rules.proofs.Acting.{PlanComes}
+use Rattle.ssh_rules.proofs.Emptied.{told_comes, comes_of}
+use Rattle.ssh_rules.proofs.Passing.{moved_so}
+use Rattle.ssh_rules.proofs.Settled.{Anything, ComesSet}
 
 -- these were told, and then the rest
 pub told_first : {E F : Type 0} (entries : List TraceEntry) (next : Plan Outcome)

@@ -10,13 +10,14 @@ use Rattle.ssh_link.specs.Told.{Adds, ToldBy}
 use Rattle.ssh_link.proofs.Tellings.{adds_nil}
 use Rattle.ssh_auth.specs.Publickey.{Acceptance}
 use Rattle.ssh_handler.specs.declared.config.Config.{Config}
-use Rattle.ssh_session.specs.declared.error.Flow.{Flow}
-use Rattle.ssh_session.specs.declared.error.Flow.TheVariants.{Continue, Ended}
+use Rattle.ssh_rules.specs.declared.error.Flow.{Flow}
+use Rattle.ssh_rules.specs.declared.error.Flow.TheVariants.{Continue, Ended}
 use Rattle.ssh_session.specs.declared.session.Session.{Session}
-use Rattle.ssh_session.specs.Account.{Told}
+use Rattle.ssh_rules.specs.Account.{Told}
 use Rattle.ssh_session.specs.Between.{untold}
-use Rattle.ssh_session.specs.Serve.{Refines, IsSuited, cause_of, is_spent}
-use Rattle.ssh_session.specs.World.{Settings, World, opening_world}
+use Rattle.ssh_rules.specs.Cause.{cause_of}
+use Rattle.ssh_session.specs.Serve.{Refines, IsSuited, is_spent}
+use Rattle.ssh_rules.specs.World.{Settings, World, opening_world}
 use Rattle.ssh_session.proofs.Serving.{told_then, told_none, caused_rose}
 use Rattle.ssh_session_vectors.specs.declared.client.Move.{Move}
 use Rattle.ssh_session_vectors.specs.declared.client.MoveError.{MoveError}

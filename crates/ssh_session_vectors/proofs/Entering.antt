@@ -2,11 +2,11 @@
 use Rattle.std.proofs.Common.{◌⊎◌, ℕ, List, [], ◌∷◌, ◌++◌, refl, inl, inr}
 use Rattle.ssh_link.specs.declared.frame.InputKind.{InputKind}
 use Rattle.ssh_auth.specs.Publickey.{Acceptance}
-use Rattle.ssh_session.specs.Authorised.{IsRequestOf, LastNamed, SomeoneIsIn}
-use Rattle.ssh_session.specs.Run.{Turn}
-use Rattle.ssh_session.specs.World.{Settings, World, circumstances}
-use Rattle.ssh_session.proofs.Accepting.{before_weak, someone_earlier, some_split}
-use Rattle.ssh_session.proofs.Guards.{IsClear, NamesLast, SomeAccepts}
+use Rattle.ssh_rules.specs.Authorised.{IsRequestOf, LastNamed, SomeoneIsIn}
+use Rattle.ssh_rules.specs.Run.{Turn}
+use Rattle.ssh_rules.specs.World.{Settings, World, circumstances}
+use Rattle.ssh_rules.proofs.Accepting.{before_weak, someone_earlier, some_split}
+use Rattle.ssh_rules.proofs.Guards.{IsClear, NamesLast, SomeAccepts}
 
 -- ---- who was named last
 

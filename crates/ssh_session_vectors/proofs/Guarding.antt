@@ -13,18 +13,18 @@ use Rattle.ssh_auth.specs.declared.question.Admission.TheVariants as by
 use Rattle.ssh_auth.specs.Plan.{Plan, Finish, Tell, Event, Called, Stepped, Told}
 use Rattle.ssh_auth.specs.Publickey.{Acceptance, Circumstances}
 use Rattle.ssh_auth.specs.Was.{Was, Admitted_so, was}
-use Rattle.ssh_session.specs.Acts.{acts, done, tell_all}
-use Rattle.ssh_session.specs.Authorised.{IsAdmitted, IsAcceptingSo, NeedsUser}
+use Rattle.ssh_rules.specs.Acts.{acts, done, tell_all}
+use Rattle.ssh_rules.specs.Authorised.{IsAdmitted, IsAcceptingSo, NeedsUser}
 use Rattle.ssh_session.specs.Between.{OwesBehind, OwesUnlessEnded, flushed}
-use Rattle.ssh_session.specs.Effect.{Does, effect}
-use Rattle.ssh_session.specs.Outcome.{Outcome, Goes, Ends}
-use Rattle.ssh_session.specs.Run.{begins, command_row, going_out, hand_on, handed_on, is_due}
-use Rattle.ssh_session.specs.World.{World, circumstances, is_held}
-use Rattle.ssh_session.proofs.Admitted.{noted_guarded, owed_guarded}
-use Rattle.ssh_session.proofs.Admitting.{unnamed}
-use Rattle.ssh_session.proofs.Guards.{IsClear, NamesLast, Guarded, SomeAccepts, Walks}
-use Rattle.ssh_session.proofs.Guards.{plan_accepted, low_told, handed_low, handed_clear}
-use Rattle.ssh_session.proofs.Guards.{begins_guarded, input_guarded}
+use Rattle.ssh_rules.specs.Effect.{Does, effect}
+use Rattle.ssh_rules.specs.Outcome.{Outcome, Goes, Ends}
+use Rattle.ssh_rules.specs.Run.{begins, command_row, going_out, hand_on, handed_on, is_due}
+use Rattle.ssh_rules.specs.World.{World, circumstances, is_held}
+use Rattle.ssh_rules.proofs.Admitted.{noted_guarded, owed_guarded}
+use Rattle.ssh_rules.proofs.Admitting.{unnamed}
+use Rattle.ssh_rules.proofs.Guards.{IsClear, NamesLast, Guarded, SomeAccepts, Walks}
+use Rattle.ssh_rules.proofs.Guards.{plan_accepted, low_told, handed_low, handed_clear}
+use Rattle.ssh_rules.proofs.Guards.{begins_guarded, input_guarded}
 use Rattle.ssh_session_vectors.specs.Moves.{coming}
 use Rattle.ssh_session_vectors.proofs.Entering.{clear_stays}
 

@@ -14,16 +14,16 @@ use Rattle.ssh_auth.specs.Publickey.{Acceptance}
 use Rattle.ssh_channels.specs.Lines.{find, last_left}
 use Rattle.ssh_channels.specs.Sent.{IsKept, IsQuiet, since}
 use Rattle.ssh_channels.proofs.Traces.{since_both}
-use Rattle.ssh_session.specs.Acts.{Beginning, acts, exchanged, frames_given, moved, tell_all}
+use Rattle.ssh_rules.specs.Acts.{Beginning, acts, exchanged, frames_given, moved, tell_all}
 use Rattle.ssh_session.specs.Between.{OwesBehind, flushed}
-use Rattle.ssh_session.specs.Effect.{Does, effect}
-use Rattle.ssh_session.specs.Outcome.{Outcome, Goes}
-use Rattle.ssh_session.specs.Run.{Turn, Owes, begins, going_out, hand_on, handed_on, is_due}
-use Rattle.ssh_session.specs.World.{World}
-use Rattle.ssh_session.proofs.Acting.{EffectComes}
-use Rattle.ssh_session.proofs.Books.{given_quiet, all_quiet, handed_kept, owed_kept}
-use Rattle.ssh_session.proofs.Keeping.{Kept, effect_on, keyed_on, renewed_on}
-use Rattle.ssh_session.proofs.Passing.{moved_on}
+use Rattle.ssh_rules.specs.Effect.{Does, effect}
+use Rattle.ssh_rules.specs.Outcome.{Outcome, Goes}
+use Rattle.ssh_rules.specs.Run.{Turn, Owes, begins, going_out, hand_on, handed_on, is_due}
+use Rattle.ssh_rules.specs.World.{World}
+use Rattle.ssh_rules.proofs.Acting.{EffectComes}
+use Rattle.ssh_rules.proofs.Books.{given_quiet, all_quiet, handed_kept, owed_kept}
+use Rattle.ssh_rules.proofs.Keeping.{Kept, effect_on, keyed_on, renewed_on}
+use Rattle.ssh_rules.proofs.Passing.{moved_on}
 use Rattle.ssh_session_vectors.specs.Moves.{Place, Made, Served, Said, Handed_on, Leads, Drives}
 use Rattle.ssh_session_vectors.specs.Moves.{coming, told_of}
 use Rattle.ssh_session_vectors.proofs.Behind.{told_first, owes_live}

@@ -12,17 +12,18 @@ use Rattle.ssh_link.specs.declared.outcome.CommandOutcome.{CommandOutcome}
 use Rattle.ssh_auth.specs.declared.call.Call.{Call}
 use Rattle.ssh_auth.specs.Plan.{Plan, Event}
 use Rattle.ssh_auth.specs.Publickey.{Acceptance}
-use Rattle.ssh_session.specs.declared.error.FlushError.{FlushError}
-use Rattle.ssh_session.specs.declared.error.FlushError.TheVariants as flush
-use Rattle.ssh_session.specs.declared.error.Flow.{Flow}
-use Rattle.ssh_session.specs.declared.error.Flow.TheVariants.{Continue, Ended}
-use Rattle.ssh_session.specs.declared.error.RunError.{RunError}
+use Rattle.ssh_rules.specs.declared.error.FlushError.{FlushError}
+use Rattle.ssh_rules.specs.declared.error.FlushError.TheVariants as flush
+use Rattle.ssh_rules.specs.declared.error.Flow.{Flow}
+use Rattle.ssh_rules.specs.declared.error.Flow.TheVariants.{Continue, Ended}
+use Rattle.ssh_rules.specs.declared.error.RunError.{RunError}
 use Rattle.ssh_session.specs.declared.session.Session.{Session}
-use Rattle.ssh_session.specs.Account.{Told}
+use Rattle.ssh_rules.specs.Account.{Told}
 use Rattle.ssh_session.specs.Between.{Applies, ComesFlushed, Flushes, StepsAfter, untold}
-use Rattle.ssh_session.specs.Outcome.{Outcome}
-use Rattle.ssh_session.specs.Serve.{Refines, IsCaused}
-use Rattle.ssh_session.specs.World.{World}
+use Rattle.ssh_rules.specs.Outcome.{Outcome}
+use Rattle.ssh_rules.specs.Cause.{IsCaused}
+use Rattle.ssh_session.specs.Serve.{Refines}
+use Rattle.ssh_rules.specs.World.{World}
 use Rattle.ssh_session.proofs.Serving.{told_none}
 use Rattle.ssh_session_vectors.specs.declared.client.Move.TheVariants.{Payload, Say, HandOn}
 use Rattle.ssh_session_vectors.specs.declared.client.MoveError.{MoveError}

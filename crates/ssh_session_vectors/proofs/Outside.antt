@@ -6,23 +6,23 @@ use Rattle.ssh_link.specs.declared.link.TraceEntry.{TraceEntry}
 use Rattle.ssh_link.specs.declared.link.TraceEntry.TheVariants.{Sent, Noticed}
 use Rattle.ssh_auth.specs.Plan.{Plan, Finish, Ask, Tell, Event, Follows, after}
 use Rattle.ssh_auth.specs.Publickey.{Acceptance}
-use Rattle.ssh_session.specs.declared.exchange.ExchangeState.TheVariants.{Idle}
-use Rattle.ssh_session.specs.Acts.{tell_all}
+use Rattle.ssh_rules.specs.declared.exchange.ExchangeState.TheVariants.{Idle}
+use Rattle.ssh_rules.specs.Acts.{tell_all}
 use Rattle.ssh_session.specs.Between.{flushed}
-use Rattle.ssh_session.specs.Exchange.{passage_of}
-use Rattle.ssh_session.specs.Exchanged.{ends_exchange}
-use Rattle.ssh_session.specs.Ledger.{is_kexinit}
-use Rattle.ssh_session.specs.Outcome.{Outcome, Goes, Ends, Fails}
-use Rattle.ssh_session.specs.Run.{Turn, Owes, OwesKind, OwesPassed, passage, finish_input}
-use Rattle.ssh_session.specs.Run.{going_out, goes_unless_ended, hand_on, handed_on, is_due, is_over}
-use Rattle.ssh_session.specs.World.{World, hears, in_exchange}
-use Rattle.ssh_session.proofs.Acting.{PlanComes}
-use Rattle.ssh_session.proofs.Books.{kind_kept}
-use Rattle.ssh_session.proofs.Emptied.{IsUnheld, told_comes, comes_of, owed_emptied, unheld}
-use Rattle.ssh_session.proofs.Idling.{ComesIdle, ComesSettled, IsSettled, row_idle, passes_of}
-use Rattle.ssh_session.proofs.Idling.{still_idle, ended_settled, handed_settled, owed_renewed}
-use Rattle.ssh_session.proofs.Keeping.{Kept, ComesKept}
-use Rattle.ssh_session.proofs.Settled.{Anything}
+use Rattle.ssh_rules.specs.Exchange.{passage_of}
+use Rattle.ssh_rules.specs.Exchanged.{ends_exchange}
+use Rattle.ssh_rules.specs.Ledger.{is_kexinit}
+use Rattle.ssh_rules.specs.Outcome.{Outcome, Goes, Ends, Fails}
+use Rattle.ssh_rules.specs.Run.{Turn, Owes, OwesKind, OwesPassed, passage, finish_input}
+use Rattle.ssh_rules.specs.Run.{going_out, goes_unless_ended, hand_on, handed_on, is_due, is_over}
+use Rattle.ssh_rules.specs.World.{World, hears, in_exchange}
+use Rattle.ssh_rules.proofs.Acting.{PlanComes}
+use Rattle.ssh_rules.proofs.Books.{kind_kept}
+use Rattle.ssh_rules.proofs.Emptied.{IsUnheld, told_comes, comes_of, owed_emptied, unheld}
+use Rattle.ssh_rules.proofs.Idling.{ComesIdle, ComesSettled, IsSettled, row_idle, passes_of}
+use Rattle.ssh_rules.proofs.Idling.{still_idle, ended_settled, handed_settled, owed_renewed}
+use Rattle.ssh_rules.proofs.Keeping.{Kept, ComesKept}
+use Rattle.ssh_rules.proofs.Settled.{Anything}
 use Rattle.ssh_session_vectors.specs.Client.{IsOutside, hands_on}
 use Rattle.ssh_session_vectors.specs.Moves.{Place, Made, Served, Said, Handed_on, Leads, coming}
 use Rattle.ssh_session_vectors.proofs.Behind.{told_first, owes_live, flush_comes}

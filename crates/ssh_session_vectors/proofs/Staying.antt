@@ -4,11 +4,11 @@ use Rattle.ssh_link.specs.declared.link.TraceEntry.TheVariants.{Noticed}
 use Rattle.ssh_auth.specs.Plan.{Follows}
 use Rattle.ssh_auth.specs.Publickey.{Acceptance}
 use Rattle.ssh_session.specs.Between.{flushed}
-use Rattle.ssh_session.specs.Outcome.{Goes}
-use Rattle.ssh_session.specs.Run.{hand_on}
-use Rattle.ssh_session.specs.World.{Settings}
-use Rattle.ssh_session.proofs.Acting.{EffectComes}
-use Rattle.ssh_session.proofs.Settled.{IsSet, effect_set, stays_set}
+use Rattle.ssh_rules.specs.Outcome.{Goes}
+use Rattle.ssh_rules.specs.Run.{hand_on}
+use Rattle.ssh_rules.specs.World.{Settings}
+use Rattle.ssh_rules.proofs.Acting.{EffectComes}
+use Rattle.ssh_rules.proofs.Settled.{IsSet, effect_set, stays_set}
 use Rattle.ssh_session_vectors.specs.Moves.{Place, Made, Served, Said, Handed_on, Leads, coming}
 use Rattle.ssh_session_vectors.proofs.Behind.{told_first, owes_live, flush_set}
 

@@ -2,9 +2,9 @@
 use Rattle.std.specs.Prelude.{◌≡◌, ℕ, false, List, [], ◌∷◌, ◌++◌}
 use Rattle.ssh_auth.specs.Plan.{Event}
 use Rattle.ssh_auth.specs.Publickey.{Acceptance}
-use Rattle.ssh_session.specs.Authorised.{NeedsUser, SomeoneIsIn}
-use Rattle.ssh_session.specs.Run.{Turn}
-use Rattle.ssh_session.specs.World.{Settings}
+use Rattle.ssh_rules.specs.Authorised.{NeedsUser, SomeoneIsIn}
+use Rattle.ssh_rules.specs.Run.{Turn}
+use Rattle.ssh_rules.specs.World.{Settings}
 use Rattle.ssh_session_vectors.specs.Moves.{Made, Served, Said, Handed_on, coming}
 
 -- a payload that was served, as an input of a run: nobody was asked for commands

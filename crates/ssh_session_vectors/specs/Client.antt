@@ -7,15 +7,15 @@ use Rattle.ssh_link.specs.declared.frame.InputKind.TheVariants as input
 use Rattle.ssh_auth.specs.Publickey.{Acceptance}
 use Rattle.ssh_channels.specs.Entry.{IsDue}
 use Rattle.ssh_channels.specs.Sent.{Each, Ledgered}
-use Rattle.ssh_session.specs.declared.error.Flow.{Flow}
-use Rattle.ssh_session.specs.declared.error.Flow.TheVariants.{Continue}
+use Rattle.ssh_rules.specs.declared.error.Flow.{Flow}
+use Rattle.ssh_rules.specs.declared.error.Flow.TheVariants.{Continue}
 use Rattle.ssh_session.specs.declared.session.Session.{Session}
-use Rattle.ssh_session.specs.Account.{Told}
+use Rattle.ssh_rules.specs.Account.{Told}
 use Rattle.ssh_session.specs.Between.{untold}
-use Rattle.ssh_session.specs.Exchanged.{ends_exchange}
-use Rattle.ssh_session.specs.Ledger.{SentSo, SentAll, is_kexinit}
+use Rattle.ssh_rules.specs.Exchanged.{ends_exchange}
+use Rattle.ssh_rules.specs.Ledger.{SentSo, SentAll, is_kexinit}
 use Rattle.ssh_session.specs.Serve.{Refines}
-use Rattle.ssh_session.specs.World.{Settings, in_exchange}
+use Rattle.ssh_rules.specs.World.{Settings, in_exchange}
 use Rattle.ssh_session_vectors.specs.declared.client.Move.{Move}
 use Rattle.ssh_session_vectors.specs.declared.client.MoveError.{MoveError}
 use Rattle.ssh_session_vectors.specs.Authorised.{AreAuthorised}

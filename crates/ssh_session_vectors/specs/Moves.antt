@@ -12,16 +12,16 @@ use Rattle.ssh_link.specs.declared.outcome.CommandOutcome.{CommandOutcome}
 use Rattle.ssh_auth.specs.declared.call.Call.{Call}
 use Rattle.ssh_auth.specs.Plan.{Plan, Event, Follows, calls_in, steps_in, told_in}
 use Rattle.ssh_auth.specs.Publickey.{Acceptance}
-use Rattle.ssh_session.specs.declared.error.FlushError.{FlushError}
-use Rattle.ssh_session.specs.declared.error.FlushError.TheVariants as flush
-use Rattle.ssh_session.specs.declared.error.Flow.{Flow}
-use Rattle.ssh_session.specs.declared.error.Flow.TheVariants.{Continue, Ended}
+use Rattle.ssh_rules.specs.declared.error.FlushError.{FlushError}
+use Rattle.ssh_rules.specs.declared.error.FlushError.TheVariants as flush
+use Rattle.ssh_rules.specs.declared.error.Flow.{Flow}
+use Rattle.ssh_rules.specs.declared.error.Flow.TheVariants.{Continue, Ended}
 use Rattle.ssh_session.specs.Between.{OwesBehind, OwesNotices, OwesFlush}
-use Rattle.ssh_session.specs.Effect.{Does, effect}
-use Rattle.ssh_session.specs.Outcome.{Outcome, Goes, Ends}
-use Rattle.ssh_session.specs.Serve.{Cause, Wants_memory, Link_failed, Broken_by, IsCaused}
-use Rattle.ssh_session.specs.Serve.{cause_of, is_refused}
-use Rattle.ssh_session.specs.World.{Settings, World, opening_world}
+use Rattle.ssh_rules.specs.Effect.{Does, effect}
+use Rattle.ssh_rules.specs.Outcome.{Outcome, Goes, Ends}
+use Rattle.ssh_rules.specs.Cause.{Cause, Wants_memory, Link_failed, Broken_by, IsCaused}
+use Rattle.ssh_rules.specs.Cause.{cause_of, is_refused}
+use Rattle.ssh_rules.specs.World.{Settings, World, opening_world}
 use Rattle.ssh_session_vectors.specs.declared.client.Move.{Move}
 use Rattle.ssh_session_vectors.specs.declared.client.Move.TheVariants.{Payload, Say, HandOn}
 use Rattle.ssh_session_vectors.specs.declared.client.MoveError.{MoveError}

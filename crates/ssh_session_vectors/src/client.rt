@@ -1,9 +1,9 @@
 // A small client of a session, which serves payloads, gives commands between them, and hands on.
 ghost use Rattle.std.specs.Prelude.{◌≡◌, ◌<◌, ◌^◌, [], false, length};
-ghost use Rattle.ssh_session.specs.Account.{told_by};
+ghost use Rattle.ssh_rules.specs.Account.{told_by};
 ghost use Rattle.ssh_session.specs.Between.{untold};
 ghost use Rattle.ssh_session.specs.Serve.{Refines, BeginsSuited, IsSuited, is_spent};
-ghost use Rattle.ssh_session.specs.World.{World, Settings, settings_of, opening_world};
+ghost use Rattle.ssh_rules.specs.World.{World, Settings, settings_of, opening_world};
 ghost use Rattle.ssh_session_vectors.specs.Client.{Driven, Makes};
 ghost use Rattle.ssh_session_vectors.specs.Moves.{placed};
 

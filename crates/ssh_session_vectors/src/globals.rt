@@ -8,43 +8,12 @@ mod own;
 mod refusals;
 mod ticks;
 
-use crate::deciding::{Deciding, Plan};
-use crate::sessions::{LOGIN, is_sent};
-use crate::wishes::{Wish, command};
-use bytes::Bytes;
+use crate::answering::{Plan, QUIET};
+use crate::sides::{Comes, Ends, Side, TICKET, give, is_logged_in, is_sent, kind, payload};
 use ssh_handler::Config;
-use ssh_keys::TableVerifier;
-use ssh_link::{
-    Calls, CommandOutcome, Frame, Input, InputKind, Inputs, MemoryLink, Notice, PlainKex,
-    TraceEntry,
-};
-use ssh_session::{Flow, RunError, Session};
+use ssh_link::{CommandOutcome, Frame, InputKind, MemoryLink, Notice, TraceEntry};
 use std::alloc::Global;
 use std::test::Fail;
-
-// What comes to a session.
-#[derive(Clone, Copy)]
-enum Comes {
-    Payload(&'static [u8]),
-    Command(Wish),
-    KeepaliveTick,
-    InactivityTick,
-    RekeyTick,
-}
-
-// How an input ends.
-#[derive(Clone, Copy, PartialEq, Eq)]
-enum Ends {
-    GoesOn,
-    Over,
-    Encoding,
-    Inconsistent,
-    KeepaliveTimeout,
-    InactivityTimeout,
-    Pending,
-    Kex,
-    Otherwise,
-}
 
 // What a link is told.
 #[derive(Clone, Copy, PartialEq, Eq)]
@@ -63,20 +32,10 @@ enum Tells {
     Pong(u64),
 }
 
-// The ticket of each command.
-const TICKET: u64 = 23;
-
 const ACCEPTED: Tells = Tells::Answers(CommandOutcome::Accepted);
 
 // The request for a sign of life.
 const KEEPALIVE: Tells = Tells::Sends(b"\x50\0\0\0\x15keepalive@openssh.com\x01");
-
-// A handler that grants nothing and records nothing.
-const QUIET: Plan = Plan {
-    grants: false,
-    port: None,
-    records: &[],
-};
 
 type Turn = (Comes, Ends, &'static [Tells]);
 
@@ -105,81 +64,11 @@ const STANDARD: Row = Row {
     done: &[],
 };
 
-// A session with its outside.
-#[derive(Drop)]
-struct Side {
-    alloc: Global,
-    session: Session,
-    handler: Deciding,
-    verifier: TableVerifier,
-    kex: PlainKex,
-    link: MemoryLink,
-}
-
+// A session before its first input, where so many keepalive ticks are allowed.
 fn not_begun(alloc: Global, allowed: usize, plan: Plan) -> Result<Side, Fail> {
-    let link = MemoryLink::new(alloc, Inputs::new(alloc), Calls::new(alloc))?;
     let mut config = Config::standard();
     config.keepalive_max = allowed;
-    Ok(Side {
-        alloc,
-        session: Session::new(alloc, &config, b"", b"")?,
-        handler: Deciding::new(alloc, plan),
-        verifier: TableVerifier::new(alloc),
-        kex: PlainKex::new(alloc, true),
-        link,
-    })
-}
-
-fn payload(alloc: Global, bytes: &[u8]) -> Result<InputKind, Fail> {
-    Ok(InputKind::Payload(Bytes::copy_from_slice(alloc, bytes)?))
-}
-
-fn kind(alloc: Global, comes: Comes) -> Result<InputKind, Fail> {
-    Ok(match comes {
-        Comes::Payload(bytes) => payload(alloc, bytes)?,
-        Comes::Command(wish) => InputKind::Command(TICKET, command(alloc, wish)?),
-        Comes::KeepaliveTick => InputKind::KeepaliveTick,
-        Comes::InactivityTick => InputKind::InactivityTick,
-        Comes::RekeyTick => InputKind::RekeyTick,
-    })
-}
-
-fn end_of<HE, KE>(answer: &Result<Flow, RunError<HE, KE>>) -> Ends {
-    match answer {
-        Ok(Flow::Continue) => Ends::GoesOn,
-        Ok(Flow::Ended) => Ends::Over,
-        Err(RunError::Encoding(_)) => Ends::Encoding,
-        Err(RunError::Inconsistent) => Ends::Inconsistent,
-        Err(RunError::KeepaliveTimeout) => Ends::KeepaliveTimeout,
-        Err(RunError::InactivityTimeout) => Ends::InactivityTimeout,
-        Err(RunError::Pending) => Ends::Pending,
-        Err(RunError::Kex(_)) => Ends::Kex,
-        Err(_) => Ends::Otherwise,
-    }
-}
-
-fn give(side: &mut Side, kind: InputKind) -> Ends {
-    let input = Input { moment: 0, kind };
-    let result = side.session.step(
-        &mut side.handler,
-        &side.verifier,
-        &mut side.kex,
-        &mut side.link,
-        input,
-    );
-    let answer = end_of(&result);
-    drop(result);
-    answer
-}
-
-fn is_logged_in(side: &mut Side) -> Result<bool, Fail> {
-    for bytes in LOGIN {
-        let request = payload(side.alloc, bytes)?;
-        if give(side, request) != Ends::GoesOn {
-            return Ok(false);
-        }
-    }
-    Ok(true)
+    Side::new(alloc, &config, true, plan)
 }
 
 // What a notice says, of a channel no more than which it is.
@@ -255,14 +144,34 @@ fn goes(side: &mut Side, turns: &[Turn]) -> Result<bool, Fail> {
     Ok(true)
 }
 
+// Whether the turns of the row go so, and the handler is asked and told so.
+fn goes_as(side: &mut Side, row: Row) -> Result<bool, Fail> {
+    if row.logged_in && !is_logged_in(side)? {
+        return Ok(false);
+    }
+    let goes = goes(side, row.turns)?;
+    Ok(goes && side.handler.asked() == row.asked && side.handler.done() == row.done)
+}
+
 // Whether the row is so.
 fn holds(alloc: Global, row: Row) -> Result<bool, Fail> {
     let mut side = not_begun(alloc, row.allowed, row.plan)?;
-    if row.logged_in && !is_logged_in(&mut side)? {
-        return Ok(false);
-    }
-    let goes = goes(&mut side, row.turns)?;
-    Ok(goes && side.handler.asked() == row.asked && side.handler.done() == row.done)
+    let holds = goes_as(&mut side, row);
+    drop(side);
+    holds
+}
+
+// Whether the turns go so behind a login, and the handler, which has this plan, is asked this.
+fn go_behind_login(alloc: Global, plan: Plan, turns: &[Turn], asked: &[u8]) -> Result<bool, Fail> {
+    let mut side = not_begun(alloc, 3, plan)?;
+    let go = log_in_and_go(&mut side, turns);
+    let is_asked = side.handler.asked() == asked;
+    drop(side);
+    Ok(go? && is_asked)
+}
+
+fn log_in_and_go(side: &mut Side, turns: &[Turn]) -> Result<bool, Fail> {
+    Ok(is_logged_in(side)? && goes(side, turns)?)
 }
 
 // What comes of an input: how it ends, what the link is told, and what the handler is asked.
@@ -281,12 +190,19 @@ const MISFIT: Outcome<'static> = Outcome {
 };
 
 // Whether this comes of a payload behind a login.
-fn comes_to(alloc: Global, plan: Plan, bytes: &[u8], wanted: Outcome<'_>) -> Result<bool, Fail> {
-    let mut side = not_begun(alloc, 3, plan)?;
-    if !is_logged_in(&mut side)? {
+fn comes_of(side: &mut Side, bytes: &[u8], wanted: Outcome<'_>) -> Result<bool, Fail> {
+    if !is_logged_in(side)? {
         return Ok(false);
     }
-    let request = payload(alloc, bytes)?;
-    let holds = ends_telling(&mut side, request, wanted.end, wanted.told)?;
+    let request = payload(side.alloc, bytes)?;
+    let holds = ends_telling(side, request, wanted.end, wanted.told)?;
     Ok(holds && side.handler.asked() == wanted.asked)
+}
+
+// Whether this comes of it where the handler has this plan.
+fn comes_to(alloc: Global, plan: Plan, bytes: &[u8], wanted: Outcome<'_>) -> Result<bool, Fail> {
+    let mut side = not_begun(alloc, 3, plan)?;
+    let comes = comes_of(&mut side, bytes, wanted);
+    drop(side);
+    comes
 }

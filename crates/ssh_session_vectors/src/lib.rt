@@ -4,14 +4,12 @@
 #![tactic(auto)]
 
 #[cfg(test)]
+mod answering;
+#[cfg(test)]
 mod callbacks;
 pub mod client;
 #[cfg(test)]
-mod deciding;
-#[cfg(test)]
 mod globals;
-#[cfg(test)]
-mod handlers;
 #[cfg(test)]
 mod runs;
 #[cfg(test)]
@@ -19,6 +17,6 @@ mod sending;
 #[cfg(test)]
 mod sessions;
 #[cfg(test)]
-mod taking;
+mod sides;
 #[cfg(test)]
 mod wishes;

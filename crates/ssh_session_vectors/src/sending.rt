@@ -1,12 +1,12 @@
 // A client that drives a session: what goes out by its moves.
+use crate::answering::{Answering, QUIET};
 use crate::client::{Move, drive};
-use crate::sessions::{LOGIN, Sent, is_sent};
-use crate::taking::{Habit, Taking};
+use crate::sides::{LOGIN, Sent, are_sent};
 use crate::wishes::{Wish, command};
 use bytes::Bytes;
 use ssh_handler::Config;
 use ssh_keys::TableVerifier;
-use ssh_link::{Calls, Inputs, MemoryLink, PlainKex, TraceEntry};
+use ssh_link::{Calls, Inputs, MemoryLink, PlainKex};
 use ssh_session::Flow;
 use std::alloc::Global;
 use std::test::Fail;
@@ -81,36 +81,20 @@ fn moves(alloc: Global, steps: &[Step]) -> Result<Vec<Move>, Fail> {
     Ok(moves)
 }
 
-// Whether the frames that the link was told behind the two answers to the login are these.
-fn are_sent(alloc: Global, link: &MemoryLink, wanted: &[Sent]) -> Result<bool, Fail> {
-    let mut count: usize = 0;
-    for entry in link.trace().iter().skip(2) {
-        if let TraceEntry::Sent(frame) = entry {
-            let Some(sent) = wanted.get(count) else {
-                return Ok(false);
-            };
-            if !is_sent(alloc, frame, *sent)? {
-                return Ok(false);
-            }
-            count = count.saturating_add(1);
-        }
-    }
-    Ok(count == wanted.len())
-}
-
-// Whether all moves are made, and these frames go out.
+// Whether all moves are made, and these frames go out behind the two answers to the login.
 fn holds(alloc: Global, row: Row) -> Result<bool, Fail> {
-    let mut handler = Taking::new(alloc, Habit::Quiet);
+    let mut handler = Answering::new(alloc, QUIET);
     let mut kex = PlainKex::new(alloc, false);
     let mut link = MemoryLink::new(alloc, Inputs::new(alloc), Calls::new(alloc))?;
     let verifier = TableVerifier::new(alloc);
     let config = Config::standard();
+    let name = b"SSH-2.0-test";
     let moves = moves(alloc, row.steps)?;
     let result = drive(
         alloc,
         &config,
         b"",
-        b"",
+        name,
         &mut handler,
         &verifier,
         &mut kex,
@@ -120,7 +104,10 @@ fn holds(alloc: Global, row: Row) -> Result<bool, Fail> {
     );
     let goes_on = matches!(result, Ok(Flow::Continue));
     drop(result);
-    Ok(goes_on && are_sent(alloc, &link, row.wanted)?)
+    drop(handler);
+    let sent = are_sent(alloc, &link, 2, row.wanted);
+    drop(link);
+    Ok(sent? && goes_on)
 }
 
 #[test]

@@ -1,5 +1,5 @@
 // Commands by plain values, as a command from outside and as a callback records it.
-use crate::handlers::Tired;
+use crate::answering::Tired;
 use bytes::Bytes;
 use ssh_handler::Commands;
 use ssh_link::Command;
@@ -21,6 +21,8 @@ pub(crate) enum Wish {
     Status(u32, u32),
     /// SIGHUP ended the program, without a core; the text for people and its language.
     HungUp(u32, &'static str, &'static str),
+    /// SIGKILL ended it, with a core; the text for people and its language.
+    Killed(u32, &'static str, &'static str),
     OpenSession,
     OpenAgent,
     /// A host and its port, and the originator's.
@@ -86,6 +88,13 @@ fn command_of_program(alloc: Global, wish: Wish) -> Result<Command, WireError> {
             channel: ChannelId(channel),
             signal: Sig::HUP,
             core_dumped: false,
+            error_message: Text::new(alloc, message)?,
+            language: Text::new(alloc, language)?,
+        },
+        Wish::Killed(channel, message, language) => Command::ExitSignal {
+            channel: ChannelId(channel),
+            signal: Sig::KILL,
+            core_dumped: true,
             error_message: Text::new(alloc, message)?,
             language: Text::new(alloc, language)?,
         },
@@ -197,6 +206,13 @@ fn record_of_program(alloc: Global, wish: Wish, session: &mut Commands<'_>) -> R
             let language = text(alloc, language)?;
             session
                 .exit_signal_request(ChannelId(channel), Sig::HUP, false, message, language)
+                .or(Err(Tired))
+        }
+        Wish::Killed(channel, message, language) => {
+            let message = text(alloc, message)?;
+            let language = text(alloc, language)?;
+            session
+                .exit_signal_request(ChannelId(channel), Sig::KILL, true, message, language)
                 .or(Err(Tired))
         }
         other => record_apart(alloc, other, session),

@@ -17,32 +17,34 @@ use Rattle.ssh_auth.specs.Plan.{Plan, Finish, Ask, Answer, Event, Reaches, calls
 use Rattle.ssh_auth.specs.Plan.{told_in}
 use Rattle.ssh_auth.specs.Publickey.{Acceptance}
 use Rattle.ssh_handler.specs.declared.config.Config.{Config}
-use Rattle.ssh_session.specs.declared.error.Flow.{Flow}
-use Rattle.ssh_session.specs.declared.error.Flow.TheVariants.{Continue, Ended}
-use Rattle.ssh_session.specs.declared.error.RunError.{RunError}
-use Rattle.ssh_session.specs.declared.error.RunError.TheVariants as error
+use Rattle.ssh_rules.specs.declared.error.Flow.{Flow}
+use Rattle.ssh_rules.specs.declared.error.Flow.TheVariants.{Continue, Ended}
+use Rattle.ssh_rules.specs.declared.error.RunError.{RunError}
+use Rattle.ssh_rules.specs.declared.error.RunError.TheVariants as error
 use Rattle.ssh_session.specs.declared.session.Session.{Session}
-use Rattle.ssh_session.specs.Account.{Told, Steps, Concludes, Closes}
+use Rattle.ssh_rules.specs.Account.{Told, Concludes, Closes}
+use Rattle.ssh_session.specs.Steps.{Steps}
 use Rattle.ssh_session.specs.Between.{untold, OwesBehind, OwesUnlessEnded, StepsAfter}
-use Rattle.ssh_session.specs.Outcome.{Fault, Outcome, Goes, Fails}
-use Rattle.ssh_session.specs.Run.{Owes, Turn, Turns, Run, calls_of, steps_of, wants_commands}
-use Rattle.ssh_session.specs.Serve.{Cause, Wants_memory, Link_failed, Limit_reached, Faulty}
-use Rattle.ssh_session.specs.Serve.{Refused_by, Broken_by}
-use Rattle.ssh_session.specs.Serve.{Refines, IsSuited, IsCaused, cause_of, may_stop}
-use Rattle.ssh_session.specs.World.{Settings, World, in_exchange, opening_world}
-use Rattle.ssh_session.proofs.Accepting.{authorised}
-use Rattle.ssh_session.proofs.Answered.{answered}
-use Rattle.ssh_session.proofs.Sums.{ledgered}
-use Rattle.ssh_session.proofs.Ended.{IsLive, run_live}
-use Rattle.ssh_session.proofs.Exchanged.{exchanged, last_exchanged}
-use Rattle.ssh_session.proofs.GlobalReplied.{globally_replied}
-use Rattle.ssh_session.proofs.InOrder.{in_order}
-use Rattle.ssh_session.proofs.LastLedger.{last_ledgered}
-use Rattle.ssh_session.proofs.LastWord.{last_word}
-use Rattle.ssh_session.proofs.Received.{received}
-use Rattle.ssh_session.proofs.Replied.{replied}
+use Rattle.ssh_rules.specs.Outcome.{Fault, Outcome, Goes, Fails}
+use Rattle.ssh_rules.specs.Run.{Owes, Turn, Turns, Run, calls_of, steps_of, wants_commands}
+use Rattle.ssh_rules.specs.Cause.{Cause, Wants_memory, Link_failed, Limit_reached, Faulty}
+use Rattle.ssh_rules.specs.Cause.{Refused_by, Broken_by}
+use Rattle.ssh_rules.specs.Cause.{IsCaused, cause_of, may_stop}
+use Rattle.ssh_session.specs.Serve.{Refines, IsSuited}
+use Rattle.ssh_rules.specs.World.{Settings, World, in_exchange, opening_world}
+use Rattle.ssh_rules.proofs.Accepting.{authorised}
+use Rattle.ssh_rules.proofs.Answered.{answered}
+use Rattle.ssh_rules.proofs.Sums.{ledgered}
+use Rattle.ssh_rules.proofs.Ended.{IsLive, run_live}
+use Rattle.ssh_rules.proofs.Exchanged.{exchanged, last_exchanged}
+use Rattle.ssh_rules.proofs.GlobalReplied.{globally_replied}
+use Rattle.ssh_rules.proofs.InOrder.{in_order}
+use Rattle.ssh_rules.proofs.LastLedger.{last_ledgered}
+use Rattle.ssh_rules.proofs.LastWord.{last_word}
+use Rattle.ssh_rules.proofs.Received.{received}
+use Rattle.ssh_rules.proofs.Replied.{replied}
 use Rattle.ssh_session.proofs.Serving.{told_then, told_none, caused_rose}
-use Rattle.ssh_session.proofs.Settled.{stays_set}
+use Rattle.ssh_rules.proofs.Settled.{stays_set}
 use Rattle.ssh_vectors.specs.Client.{kind_of, told_of, EndsSo, Served}
 
 -- these payloads were finished, and it goes on

@@ -9,24 +9,24 @@ use Rattle.ssh_link.specs.declared.frame.InputKind.TheVariants.{Payload}
 use Rattle.ssh_link.specs.declared.link.TraceEntry.{TraceEntry}
 use Rattle.ssh_auth.specs.Plan.{Plan, Follows, told_in}
 use Rattle.ssh_auth.specs.Publickey.{Acceptance}
-use Rattle.ssh_session.specs.declared.error.Flow.{Flow}
-use Rattle.ssh_session.specs.declared.error.Flow.TheVariants.{Continue, Ended}
-use Rattle.ssh_session.specs.declared.error.RunError.{RunError}
-use Rattle.ssh_session.specs.declared.error.RunError.TheVariants as error
-use Rattle.ssh_session.specs.Account.{Told}
-use Rattle.ssh_session.specs.Answered.{Answered}
-use Rattle.ssh_session.specs.Authorised.{Authorised}
-use Rattle.ssh_session.specs.Exchanged.{Exchanged, IsNextExchanged}
-use Rattle.ssh_session.specs.GlobalReplied.{GlobalReplied}
-use Rattle.ssh_session.specs.InOrder.{InOrder}
-use Rattle.ssh_session.specs.Ledger.{Ledgered_after, IsNextLedgered}
-use Rattle.ssh_session.specs.Outcome.{Outcome, Ends}
-use Rattle.ssh_session.specs.Parting.{IsLastWord}
-use Rattle.ssh_session.specs.Received.{Received}
-use Rattle.ssh_session.specs.Replied.{Replied}
-use Rattle.ssh_session.specs.Run.{Owes, Turn, Run, calls_of, steps_of}
-use Rattle.ssh_session.specs.Serve.{IsCaused, cause_of, may_stop}
-use Rattle.ssh_session.specs.World.{Settings, World, opening_world}
+use Rattle.ssh_rules.specs.declared.error.Flow.{Flow}
+use Rattle.ssh_rules.specs.declared.error.Flow.TheVariants.{Continue, Ended}
+use Rattle.ssh_rules.specs.declared.error.RunError.{RunError}
+use Rattle.ssh_rules.specs.declared.error.RunError.TheVariants as error
+use Rattle.ssh_rules.specs.Account.{Told}
+use Rattle.ssh_rules.specs.Answered.{Answered}
+use Rattle.ssh_rules.specs.Authorised.{Authorised}
+use Rattle.ssh_rules.specs.Exchanged.{Exchanged, IsNextExchanged}
+use Rattle.ssh_rules.specs.GlobalReplied.{GlobalReplied}
+use Rattle.ssh_rules.specs.InOrder.{InOrder}
+use Rattle.ssh_rules.specs.Ledger.{Ledgered_after, IsNextLedgered}
+use Rattle.ssh_rules.specs.Outcome.{Outcome, Ends}
+use Rattle.ssh_rules.specs.Parting.{IsLastWord}
+use Rattle.ssh_rules.specs.Received.{Received}
+use Rattle.ssh_rules.specs.Replied.{Replied}
+use Rattle.ssh_rules.specs.Run.{Owes, Turn, Run, calls_of, steps_of}
+use Rattle.ssh_rules.specs.Cause.{IsCaused, cause_of, may_stop}
+use Rattle.ssh_rules.specs.World.{Settings, World, opening_world}
 
 abbrev pub kind_of : {E F : Type 0} → Turn E F → InputKind
 kind_of turn = turn.input.kind

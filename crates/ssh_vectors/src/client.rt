@@ -1,9 +1,9 @@
 // A small client of a session, which drives it by `Session::step` alone.
 ghost use Rattle.std.specs.Prelude.{◌≡◌, ◌<◌, ◌^◌, [], length};
-ghost use Rattle.ssh_session.specs.Account.{told_by};
+ghost use Rattle.ssh_rules.specs.Account.{told_by};
 ghost use Rattle.ssh_session.specs.Between.{untold};
 ghost use Rattle.ssh_session.specs.Serve.{Refines, BeginsSuited};
-ghost use Rattle.ssh_session.specs.World.{Settings, settings_of, opening_world};
+ghost use Rattle.ssh_rules.specs.World.{Settings, settings_of, opening_world};
 ghost use Rattle.ssh_vectors.specs.Client.{Served};
 
 use bytes::Bytes;

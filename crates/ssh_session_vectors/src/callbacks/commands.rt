@@ -6,7 +6,7 @@ use ssh_wire::Disconnect;
 use std::alloc::Global;
 use std::test::Fail;
 
-static WISHES: [Wish; 24] = [
+static WISHES: [Wish; 25] = [
     Wish::Data(2, b"abc"),
     Wish::ExtendedData(2, 1, b"abc"),
     Wish::Eof(2),
@@ -16,6 +16,7 @@ static WISHES: [Wish; 24] = [
     Wish::FlowControl(2, true),
     Wish::Status(2, 3),
     Wish::HungUp(2, "hung up", "en"),
+    Wish::Killed(2, "out of memory", "en"),
     Wish::OpenSession,
     Wish::OpenAgent,
     Wish::OpenDirectTcpip("there", 80, "here", 1024),

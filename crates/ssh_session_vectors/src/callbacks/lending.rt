@@ -1,7 +1,7 @@
 // What a session lends to a callback, as a callback reads it.
 ghost use Rattle.std.specs.Prelude.{◌≡◌, []};
 
-use crate::taking::{Habit, Lent, Taking, Told};
+use crate::answering::{Answering, Lent, Plan, QUIET, Told};
 use bytes::Bytes;
 use ssh_channels::{ChannelParams, Encrypted, TableError};
 use ssh_handler::{Commands, Config, Handler};
@@ -220,7 +220,15 @@ fn set_up(alloc: Global, row: &Row) -> Result<Lender, Fail> {
 fn is_read(alloc: Global, row: &Row) -> Result<bool, Fail> {
     let lender = set_up(alloc, row)?;
     let mut session = lender.lend();
-    let mut handler = Taking::new(alloc, Habit::Reads);
+    let plan = Plan {
+        reads: true,
+        ..QUIET
+    };
+    let mut handler = Answering::new(alloc, plan);
+    // The handler counts on a line that is at least so long.
+    if session.remote_sshid().len() < 8 {
+        return Ok(false);
+    }
     let goes_on = handler.channel_eof(CHANNEL, &mut session).is_ok();
     let is_read = handler.told() == [Told::Eof(2), Told::Reads(2, row.reads)].as_slice();
     let is_room = session.sender_window_size(CHANNEL) == row.reads.window as usize;

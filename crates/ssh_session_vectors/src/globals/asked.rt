@@ -1,9 +1,8 @@
 // Global requests of the peer: how they are read, asked about and answered (RFC 4254 sections 4 and
 // 7.1, OpenSSH PROTOCOL section 2.4).
-use super::{
-    Comes, Ends, KEEPALIVE, MISFIT, Outcome, QUIET, Row, STANDARD, Tells, comes_to, holds,
-};
-use crate::deciding::Plan;
+use super::{KEEPALIVE, MISFIT, Outcome, Row, STANDARD, Tells, comes_to, holds};
+use crate::answering::{Plan, QUIET};
+use crate::sides::{Comes, Ends};
 use crate::wishes::Wish;
 use std::alloc::Global;
 use std::test::Fail;
@@ -66,8 +65,7 @@ const REFUSED: &[Tells] = &[Tells::Sends(b"\x52")];
 
 const GENEROUS: Plan = Plan {
     grants: true,
-    port: None,
-    records: &[],
+    ..QUIET
 };
 
 // A flag, what the callback does, and what goes out.
@@ -249,7 +247,7 @@ fn the_port_is_told_where_this_side_chose_it(rt: HostRuntime) -> Result<(), Fail
         let plan = Plan {
             grants: *grants,
             port: *port,
-            records: &[],
+            ..QUIET
         };
         assert!(rt;
             is_bound(rt.alloc(), *asked, plan, *frame)?,

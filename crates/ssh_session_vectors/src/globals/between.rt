@@ -1,6 +1,8 @@
 // Commands between two inputs: what they come to, and what the next input tells first.
 use super::disconnects::{BYE, GONE, OPEN, OPENED};
-use super::{Comes, Ends, KEEPALIVE, QUIET, Side, Tells, goes, is_logged_in, not_begun};
+use super::{KEEPALIVE, Tells, goes, not_begun};
+use crate::answering::QUIET;
+use crate::sides::{Comes, Ends, Side, is_logged_in};
 use crate::wishes::{Wish, command};
 use bytes::Bytes;
 use ssh_link::{ChannelOpenHandle, CommandOutcome, Refusal};
@@ -294,10 +296,10 @@ fn is_accepted(accepted: bool) -> CommandOutcome {
 
 // A command is applied.
 fn applied(side: &mut Side, wish: Wish) -> Result<Option<CommandOutcome>, Fail> {
-    let command = command(side.alloc, wish)?;
     if side.session.spent() {
         return Ok(None);
     }
+    let command = command(side.alloc, wish)?;
     Ok(Some(side.session.apply(command)?))
 }
 
@@ -312,10 +314,10 @@ fn sends(side: &mut Side, channel: u32, bytes: &[u8]) -> Result<Option<CommandOu
 
 // An open is answered.
 fn accepts(side: &mut Side, number: u32) -> Result<Option<CommandOutcome>, Fail> {
-    let answer = ChannelOpenHandle::new(ChannelId(number)).accept();
     if side.session.spent() {
         return Ok(None);
     }
+    let answer = ChannelOpenHandle::new(ChannelId(number)).accept();
     Ok(Some(side.session.answer_open(answer)?))
 }
 
@@ -346,14 +348,31 @@ fn steps(side: &mut Side, step: Step) -> Result<bool, Fail> {
     })
 }
 
+// Whether all steps go so behind a login.
+fn all_go(side: &mut Side, all: &[Step]) -> Result<bool, Fail> {
+    if !is_logged_in(side)? {
+        return Ok(false);
+    }
+    for step in all {
+        if !steps(side, *step)? {
+            return Ok(false);
+        }
+    }
+    Ok(true)
+}
+
+// Whether the row is so.
+fn holds(alloc: Global, row: Row) -> Result<bool, Fail> {
+    let mut side = not_begun(alloc, 3, QUIET)?;
+    let holds = all_go(&mut side, row.steps);
+    drop(side);
+    holds
+}
+
 #[test]
 fn commands_between_inputs(rt: HostRuntime) -> Result<(), Fail> {
     for row in &ROWS {
-        let mut side = not_begun(rt.alloc(), 3, QUIET)?;
-        assert!(rt; is_logged_in(&mut side)?);
-        for step in row.steps {
-            assert!(rt; steps(&mut side, *step)?, "{}", row.shows);
-        }
+        assert!(rt; holds(rt.alloc(), *row)?, "{}", row.shows);
     }
     Ok(())
 }

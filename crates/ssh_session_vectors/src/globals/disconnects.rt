@@ -1,16 +1,10 @@
 // The end of a connection by this side (RFC 4253 section 11.1): what goes out before it, and that
 // nothing does behind it.
-use super::{
-    ACCEPTED, Comes, Ends, KEEPALIVE, QUIET, Row, STANDARD, Tells, Turn, are_told, goes, holds,
-    is_logged_in, kind, not_begun, payload,
-};
-use crate::deciding::{Deciding, Plan};
-use crate::sessions::LOGIN;
+use super::{ACCEPTED, KEEPALIVE, Row, STANDARD, Tells, Turn, are_told, go_behind_login, holds};
+use crate::answering::{Answering, Plan, QUIET};
+use crate::sides::{Comes, Ends, inputs, run};
 use crate::wishes::Wish;
-use ssh_handler::Config;
-use ssh_keys::TableVerifier;
-use ssh_link::{Calls, CommandOutcome, Input, Inputs, MemoryLink, PlainKex, Refusal};
-use ssh_session::run_stream;
+use ssh_link::{Calls, CommandOutcome, MemoryLink, Refusal};
 use ssh_wire::Disconnect;
 use std::alloc::Global;
 use std::test::Fail;
@@ -125,43 +119,16 @@ static RUNS: [Run; 5] = [
     },
 ];
 
-// The login, and what comes behind it.
-fn inputs(alloc: Global, behind: &[Comes]) -> Result<Inputs, Fail> {
-    let mut inputs = Inputs::new(alloc);
-    for bytes in LOGIN {
-        let kind = payload(alloc, bytes)?;
-        inputs.push(Input { moment: 0, kind })?;
-    }
-    for comes in behind {
-        let kind = kind(alloc, *comes)?;
-        inputs.push(Input { moment: 0, kind })?;
-    }
-    Ok(inputs)
-}
-
 // Whether the run ends well and tells its link this, behind the four entries of the login.
-fn runs(alloc: Global, run: Run) -> Result<bool, Fail> {
-    let inputs = inputs(alloc, run.inputs)?;
-    let mut link = MemoryLink::new(alloc, inputs, Calls::new(alloc))?;
-    let mut handler = Deciding::new(alloc, run.plan);
-    let config = Config::standard();
-    let verifier = TableVerifier::new(alloc);
-    let mut kex = PlainKex::new(alloc, false);
-    let answer = run_stream(
-        alloc,
-        &config,
-        b"",
-        b"",
-        &mut handler,
-        &verifier,
-        &mut kex,
-        &mut link,
-        100,
-    );
-    let ended = answer.is_ok();
-    drop(answer);
-    let told = are_told(alloc, &link, 4, run.told)?;
-    Ok(ended && told && handler.done() == run.done)
+fn runs(alloc: Global, row: Run) -> Result<bool, Fail> {
+    let mut link = MemoryLink::new(alloc, inputs(alloc, row.inputs)?, Calls::new(alloc))?;
+    let mut handler = Answering::new(alloc, row.plan);
+    let ended = run(alloc, &mut handler, &mut link, 100) == Ends::Over;
+    let done = handler.done() == row.done;
+    drop(handler);
+    let told = are_told(alloc, &link, 4, row.told);
+    drop(link);
+    Ok(told? && ended && done)
 }
 
 #[test]
@@ -175,8 +142,8 @@ fn runs_that_this_side_ends(rt: HostRuntime) -> Result<(), Fail> {
 // It ends the connection where it is asked something.
 const LEAVING: Plan = Plan {
     grants: true,
-    port: None,
     records: &[BYE],
+    ..QUIET
 };
 
 // Requests behind which no reply goes out, each behind a session that was opened.
@@ -216,13 +183,12 @@ fn leaves(
     request: &'static [u8],
     (asked, wanted): (&'static [u8], &'static [Tells]),
 ) -> Result<bool, Fail> {
-    let mut side = not_begun(alloc, 3, plan)?;
     let turns: [Turn; 3] = [
         (Comes::Payload(OPEN), Ends::GoesOn, OPENED),
         (Comes::Payload(request), Ends::Over, wanted),
         (Comes::Payload(b"\x02"), Ends::Inconsistent, &[]),
     ];
-    Ok(is_logged_in(&mut side)? && goes(&mut side, &turns)? && side.handler.asked() == asked)
+    go_behind_login(alloc, plan, &turns, asked)
 }
 
 #[test]

@@ -1,7 +1,8 @@
 // Exchanges of keys (RFC 4253 section 7): what is held meanwhile, and what goes out at once.
 use super::disconnects::{BYE, GONE, OPEN, OPENED};
-use super::{ACCEPTED, Comes, Ends, KEEPALIVE, QUIET, Row, STANDARD, Tells, Turn, holds};
-use crate::deciding::Plan;
+use super::{ACCEPTED, KEEPALIVE, Row, STANDARD, Tells, Turn, holds};
+use crate::answering::{Plan, QUIET};
+use crate::sides::{Comes, Ends};
 use crate::wishes::Wish;
 use std::test::Fail;
 
@@ -13,7 +14,7 @@ const NEWKEYS: Tells = Tells::Sends(b"\x15");
 
 const DATA: &[u8] = b"\x5e\0\0\0\x02\0\0\0\x01a";
 
-static EXCHANGES: [Row; 6] = [
+static EXCHANGES: [Row; 7] = [
     Row {
         shows: "before the login a tick begins none, and the peer does at any time",
         logged_in: false,
@@ -41,7 +42,16 @@ static EXCHANGES: [Row; 6] = [
         ..STANDARD
     },
     Row {
-        shows: "behind the peer's KEXINIT nothing of a service comes, and a DISCONNECT does",
+        shows: "behind the peer's KEXINIT nothing of a service comes",
+        turns: &[
+            TICK,
+            KEXINIT,
+            (Comes::Payload(b"\x50"), Ends::Inconsistent, &[]),
+        ],
+        ..STANDARD
+    },
+    Row {
+        shows: "but a DISCONNECT ends the run there too",
         turns: &[TICK, KEXINIT, (Comes::Payload(b"\x01"), Ends::Over, &[])],
         ..STANDARD
     },

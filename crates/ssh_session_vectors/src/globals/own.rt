@@ -1,9 +1,8 @@
 // Messages of no channel that this side sends, and the peer's replies to them (RFC 4254 sections 4
 // and 7.1, RFC 4253 section 11.3).
-use super::{
-    ACCEPTED, Comes, Ends, KEEPALIVE, QUIET, Row, STANDARD, Tells, Turn, goes, holds, is_logged_in,
-    not_begun,
-};
+use super::{ACCEPTED, KEEPALIVE, Row, STANDARD, Tells, Turn, go_behind_login, holds};
+use crate::answering::QUIET;
+use crate::sides::{Comes, Ends};
 use crate::wishes::Wish;
 use std::alloc::Global;
 use std::test::Fail;
@@ -88,8 +87,7 @@ static SAID: [Turn; 12] = [
 
 // Whether the link is told so in a session of its own.
 fn is_said(alloc: Global, turn: Turn) -> Result<bool, Fail> {
-    let mut side = not_begun(alloc, 3, QUIET)?;
-    Ok(is_logged_in(&mut side)? && goes(&mut side, &[turn])?)
+    go_behind_login(alloc, QUIET, &[turn], b"")
 }
 
 #[test]
@@ -332,9 +330,8 @@ fn is_replied(
     asked: Turn,
     (reply, end, wanted): (&'static [u8], Ends, &'static [Tells]),
 ) -> Result<bool, Fail> {
-    let mut side = not_begun(alloc, 3, QUIET)?;
     let reply = (Comes::Payload(reply), end, wanted);
-    Ok(is_logged_in(&mut side)? && goes(&mut side, &[asked, reply])?)
+    go_behind_login(alloc, QUIET, &[asked, reply], b"")
 }
 
 #[test]

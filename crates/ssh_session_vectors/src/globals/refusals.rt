@@ -1,10 +1,8 @@
 // Commands that are refused, and the run goes on: before a user is let in, what a client alone may
 // say, and whatever is recorded behind the end of the connection.
-use super::{
-    ACCEPTED, Comes, Ends, KEEPALIVE, QUIET, Row, STANDARD, Side, TICKET, Tells, ends_telling,
-    holds, is_logged_in, not_begun,
-};
-use crate::deciding::Plan;
+use super::{ACCEPTED, KEEPALIVE, Row, STANDARD, Tells, ends_telling, holds, not_begun};
+use crate::answering::{Plan, QUIET};
+use crate::sides::{Comes, Ends, PASSWORD, SERVICE, Side, TICKET, is_logged_in};
 use crate::wishes::Wish;
 use bytes::Bytes;
 use ssh_link::{ChannelMsg, Command, CommandOutcome, InputKind, Refusal};
@@ -31,7 +29,7 @@ static BEFORE_LOGIN: Row = Row {
             NOT_AUTHENTICATED,
         ),
         (
-            Comes::Payload(b"\x05\0\0\0\x0cssh-userauth"),
+            Comes::Payload(SERVICE),
             Ends::GoesOn,
             &[Tells::Sends(b"\x06\0\0\0\x0cssh-userauth")],
         ),
@@ -70,7 +68,7 @@ static BEFORE_LOGIN: Row = Row {
         // Replies are not read before the login, and those that are refused wait for none.
         (Comes::Payload(b"\x51"), Ends::GoesOn, &[]),
         (
-            Comes::Payload(b"\x32\0\0\0\x05alice\0\0\0\x0essh-connection\0\0\0\x04none"),
+            Comes::Payload(PASSWORD),
             Ends::GoesOn,
             &[Tells::Sends(b"\x34")],
         ),
@@ -258,15 +256,17 @@ fn are_refused(side: &mut Side, alloc: Global) -> Result<bool, Fail> {
     Ok(true)
 }
 
+// Whether they are refused so before a login and behind it.
+fn are_always_refused(side: &mut Side, alloc: Global) -> Result<bool, Fail> {
+    Ok(are_refused(side, alloc)? && is_logged_in(side)? && are_refused(side, alloc)?)
+}
+
 #[test]
 fn what_a_client_alone_may_say(rt: HostRuntime) -> Result<(), Fail> {
     let mut side = not_begun(rt.alloc(), 3, QUIET)?;
-    let before = are_refused(&mut side, rt.alloc())?;
-    let logged_in = is_logged_in(&mut side)?;
-    let behind = are_refused(&mut side, rt.alloc())?;
+    let are_refused = are_always_refused(&mut side, rt.alloc());
     drop(side);
-    assert!(rt; before);
-    assert!(rt; logged_in && behind);
+    assert!(rt; are_refused?);
     Ok(())
 }
 
@@ -291,6 +291,7 @@ const OVER: Plan = Plan {
         Wish::Debug(true, "hi", "en"),
         Wish::Disconnect(Disconnect::ProtocolError, "again", "en"),
     ],
+    ..QUIET
 };
 
 const DISCONNECTED: CommandOutcome = CommandOutcome::Refused(Refusal::Disconnected);

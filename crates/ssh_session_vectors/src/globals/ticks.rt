@@ -1,8 +1,9 @@
 // Ticks of whoever keeps the time.
 use super::{
-    ACCEPTED, Comes, Ends, KEEPALIVE, QUIET, Row, STANDARD, Tells, Turn, goes, holds, is_logged_in,
-    not_begun,
+    ACCEPTED, KEEPALIVE, Row, STANDARD, Tells, Turn, go_behind_login, goes, holds, not_begun,
 };
+use crate::answering::QUIET;
+use crate::sides::{Comes, Ends, PASSWORD, SERVICE};
 use crate::wishes::Wish;
 use std::alloc::Global;
 use std::test::Fail;
@@ -83,12 +84,12 @@ static KEEPALIVES: [Row; 9] = [
             TICK,
             (Comes::Payload(b"\x52"), Ends::GoesOn, &[]),
             (
-                Comes::Payload(b"\x05\0\0\0\x0cssh-userauth"),
+                Comes::Payload(SERVICE),
                 Ends::GoesOn,
                 &[Tells::Sends(b"\x06\0\0\0\x0cssh-userauth")],
             ),
             (
-                Comes::Payload(b"\x32\0\0\0\x05alice\0\0\0\x0essh-connection\0\0\0\x04none"),
+                Comes::Payload(PASSWORD),
                 Ends::GoesOn,
                 &[Tells::Sends(b"\x34")],
             ),
@@ -125,9 +126,10 @@ const SILENCE: Turn = (Comes::InactivityTick, Ends::InactivityTimeout, &[]);
 
 // Whether it ends a run so before the login and behind it, and also behind a tick.
 fn ends_so(alloc: Global, turn: Turn) -> Result<bool, Fail> {
-    let mut new = not_begun(alloc, 3, QUIET)?;
-    let mut later = not_begun(alloc, 3, QUIET)?;
-    Ok(goes(&mut new, &[turn])? && is_logged_in(&mut later)? && goes(&mut later, &[TICK, turn])?)
+    let mut side = not_begun(alloc, 3, QUIET)?;
+    let ends = goes(&mut side, &[turn]);
+    drop(side);
+    Ok(ends? && go_behind_login(alloc, QUIET, &[TICK, turn], b"")?)
 }
 
 #[test]

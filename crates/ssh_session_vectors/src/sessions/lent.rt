@@ -1,6 +1,8 @@
 // What a session lends to its callbacks.
-use super::{Comes, Ends, Row, holds};
-use crate::taking::{Habit, Lent, Told};
+use super::{Row, holds};
+use crate::answering::{Lent, Plan, QUIET, Told};
+use crate::sides::{Comes, Ends};
+use crate::wishes::Wish;
 use std::test::Fail;
 
 // Of no channel, while commands and answers are taken.
@@ -26,7 +28,10 @@ const CHANNEL: Lent = Lent {
 static CALLBACKS: Row = Row {
     shows: "a callback reads the channels and what is taken from outside as they are at its call",
     window: 8,
-    habit: Habit::Reads,
+    plan: Plan {
+        reads: true,
+        ..QUIET
+    },
     turns: &[
         (
             Comes::Payload(b"\x5a\0\0\0\x07session\0\0\0\x2c\0\0\0\x03\0\0\x80\0"),
@@ -34,7 +39,7 @@ static CALLBACKS: Row = Row {
             &[(Some(2), b"\x5b\0\0\0\x2c\0\0\0\x02\0\0\0\x08\0\0\x80\0")],
         ),
         (
-            Comes::Data(2, b"hello"),
+            Comes::Command(Wish::Data(2, b"hello")),
             Ends::GoesOn,
             &[(Some(2), b"\x5e\0\0\0\x2c\0\0\0\x03hel")],
         ),
@@ -44,7 +49,11 @@ static CALLBACKS: Row = Row {
             Ends::GoesOn,
             &[(Some(2), b"\x5e\0\0\0\x2c\0\0\0\x02lo")],
         ),
-        (Comes::Eof(2), Ends::GoesOn, &[(Some(2), b"\x60\0\0\0\x2c")]),
+        (
+            Comes::Command(Wish::Eof(2)),
+            Ends::GoesOn,
+            &[(Some(2), b"\x60\0\0\0\x2c")],
+        ),
         (
             Comes::Payload(b"\x5e\0\0\0\x02\0\0\0\x03abc"),
             Ends::GoesOn,

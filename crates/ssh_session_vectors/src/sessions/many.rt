@@ -1,20 +1,22 @@
 // Several channels in one session.
-use super::{Comes, Ends, Row, Sent, Side, are_sent, give, holds, is_logged_in, not_begun};
-use crate::taking::{Habit, Taking, Told};
-use bytes::Bytes;
-use ssh_handler::Config;
-use ssh_keys::TableVerifier;
-use ssh_link::{Calls, Command, Input, InputKind, Inputs, MemoryLink, PlainKex, TraceEntry};
-use ssh_session::run_stream;
-use ssh_wire::ChannelId;
+use super::{Row, holds, not_begun, puts_out};
+use crate::answering::{Answering, Plan, QUIET, Told};
+use crate::sides::{Comes, Ends, Sent, Side, give, inputs, is_logged_in, payload, run};
+use crate::wishes::Wish;
+use ssh_link::{Calls, Inputs, MemoryLink, TraceEntry};
 use std::alloc::Global;
 use std::test::Fail;
+
+const ECHO: Plan = Plan {
+    echoes: true,
+    ..QUIET
+};
 
 static CHANNELS: [Row; 2] = [
     Row {
         shows: "two opens of one peer number are two channels",
         window: 2_097_152,
-        habit: Habit::Quiet,
+        plan: QUIET,
         turns: &[
             (
                 Comes::Payload(b"\x5a\0\0\0\x07session\0\0\0\x07\0\x10\0\0\0\0\x80\0"),
@@ -27,12 +29,12 @@ static CHANNELS: [Row; 2] = [
                 &[(Some(3), b"\x5b\0\0\0\x07\0\0\0\x03\0\x20\0\0\0\0\x80\0")],
             ),
             (
-                Comes::Data(2, b"a"),
+                Comes::Command(Wish::Data(2, b"a")),
                 Ends::GoesOn,
                 &[(Some(2), b"\x5e\0\0\0\x07\0\0\0\x01a")],
             ),
             (
-                Comes::Data(3, b"b"),
+                Comes::Command(Wish::Data(3, b"b")),
                 Ends::GoesOn,
                 &[(Some(3), b"\x5e\0\0\0\x07\0\0\0\x01b")],
             ),
@@ -42,7 +44,7 @@ static CHANNELS: [Row; 2] = [
     Row {
         shows: "each channel has its own credit, its own room and its own end",
         window: 8,
-        habit: Habit::Echo,
+        plan: ECHO,
         turns: &[
             (
                 Comes::Payload(b"\x5a\0\0\0\x07session\0\0\0\x2c\0\0\0\x01\0\0\x80\0"),
@@ -96,9 +98,10 @@ fn channels_side_by_side(rt: HostRuntime) -> Result<(), Fail> {
 
 // Whether a hundred channels are opened, which all have one number of the peer's and a window of 2.
 fn are_opened(side: &mut Side) -> Result<bool, Fail> {
+    let open = b"\x5a\0\0\0\x07session\0\0\0\x07\0\0\0\x02\0\0\x80\0";
     for _ in 0..100u32 {
-        let open = b"\x5a\0\0\0\x07session\0\0\0\x07\0\0\0\x02\0\0\x80\0";
-        if give(side, Comes::Payload(open))? != Ends::GoesOn {
+        let open = payload(side.alloc, open)?;
+        if give(side, open) != Ends::GoesOn {
             return Ok(false);
         }
     }
@@ -107,9 +110,7 @@ fn are_opened(side: &mut Side) -> Result<bool, Fail> {
 
 // Whether a byte that comes on the channel puts out these frames.
 fn byte_puts_out(side: &mut Side, channel: u32, byte: u8, wanted: &[Sent]) -> Result<bool, Fail> {
-    let skipped = side.link.trace().len();
-    let end = give(side, Comes::Bytes(channel, 1, byte))?;
-    Ok(end == Ends::GoesOn && are_sent(side, skipped, wanted)?)
+    puts_out(side, Comes::Bytes(channel, 1, byte), Ends::GoesOn, wanted)
 }
 
 // Whether bytes that come on the channel come back on it, in order and within its window.
@@ -141,46 +142,21 @@ fn hundred_echo(side: &mut Side) -> Result<bool, Fail> {
 
 #[test]
 fn a_hundred_echoes(rt: HostRuntime) -> Result<(), Fail> {
-    let mut side = not_begun(rt.alloc(), 2_097_152, Habit::Echo)?;
-    let echo = hundred_echo(&mut side)?;
+    let mut side = not_begun(rt.alloc(), 2_097_152, ECHO)?;
+    let echo = hundred_echo(&mut side);
     drop(side);
-    assert!(rt; echo);
+    assert!(rt; echo?);
     Ok(())
 }
 
-fn payload(alloc: Global, payload: &[u8]) -> Result<Input, Fail> {
-    Ok(Input {
-        moment: 0,
-        kind: InputKind::Payload(Bytes::copy_from_slice(alloc, payload)?),
-    })
-}
-
-fn data(alloc: Global, ticket: u64, channel: u32, bytes: &[u8]) -> Result<Input, Fail> {
-    let bytes = Bytes::copy_from_slice(alloc, bytes)?;
-    let channel = ChannelId(channel);
-    Ok(Input {
-        moment: 0,
-        kind: InputKind::Command(ticket, Command::Data { channel, bytes }),
-    })
-}
-
 // Channel 2 has a window of 3 and channel 3 one of 9; then come two commands and a grant.
-fn waiting_inputs(alloc: Global) -> Result<Inputs, Fail> {
-    let mut inputs = Inputs::new(alloc);
-    for login in super::LOGIN {
-        inputs.push(payload(alloc, login)?)?;
-    }
-    for open in [
-        b"\x5a\0\0\0\x07session\0\0\0\x2c\0\0\0\x03\0\0\x80\0",
-        b"\x5a\0\0\0\x07session\0\0\0\x2d\0\0\0\x09\0\0\x80\0",
-    ] {
-        inputs.push(payload(alloc, open)?)?;
-    }
-    inputs.push(data(alloc, 1, 2, b"hello")?)?;
-    inputs.push(data(alloc, 2, 3, b"next")?)?;
-    inputs.push(payload(alloc, b"\x5d\0\0\0\x02\0\0\0\x02")?)?;
-    Ok(inputs)
-}
+static WAITING: [Comes; 5] = [
+    Comes::Payload(b"\x5a\0\0\0\x07session\0\0\0\x2c\0\0\0\x03\0\0\x80\0"),
+    Comes::Payload(b"\x5a\0\0\0\x07session\0\0\0\x2d\0\0\0\x09\0\0\x80\0"),
+    Comes::Command(Wish::Data(2, b"hello")),
+    Comes::Command(Wish::Data(3, b"next")),
+    Comes::Payload(b"\x5d\0\0\0\x02\0\0\0\x02"),
+];
 
 // The payloads of the frames of a channel that go out, one after another.
 fn payloads_sent(alloc: Global, trace: &[TraceEntry]) -> Result<Vec<u8>, Fail> {
@@ -200,35 +176,20 @@ fn payloads_sent(alloc: Global, trace: &[TraceEntry]) -> Result<Vec<u8>, Fail> {
 // What goes out on channels in a run over these inputs; none where it does not end well.
 fn sent_in_all(alloc: Global, inputs: Inputs) -> Result<Option<Vec<u8>>, Fail> {
     let mut link = MemoryLink::new(alloc, inputs, Calls::new(alloc))?;
-    let mut handler = Taking::new(alloc, Habit::Quiet);
-    let config = Config::standard();
-    let verifier = TableVerifier::new(alloc);
-    let mut kex = PlainKex::new(alloc, false);
-    let run = run_stream(
-        alloc,
-        &config,
-        b"",
-        b"",
-        &mut handler,
-        &verifier,
-        &mut kex,
-        &mut link,
-        20,
-    );
-    let well = run.is_ok();
-    drop(run);
+    let mut handler = Answering::new(alloc, QUIET);
+    let end = run(alloc, &mut handler, &mut link, 20);
     drop(handler);
-    if !well {
-        return Ok(None);
-    }
-    Ok(Some(payloads_sent(alloc, link.trace())?))
+    let sent = payloads_sent(alloc, link.trace());
+    drop(link);
+    let sent = sent?;
+    Ok(if end == Ends::Over { Some(sent) } else { None })
 }
 
 // The command on channel 3 is set aside while data wait on channel 2.
 #[test]
 fn commands_wait_while_data_wait(rt: HostRuntime) -> Result<(), Fail> {
     let alloc = rt.alloc();
-    let sent = sent_in_all(alloc, waiting_inputs(alloc)?)?;
+    let sent = sent_in_all(alloc, inputs(alloc, &WAITING)?)?;
     let wanted: &[u8] = b"\
         \x5b\0\0\0\x2c\0\0\0\x02\0\x20\0\0\0\0\x80\0\
         \x5b\0\0\0\x2d\0\0\0\x03\0\x20\0\0\0\0\x80\0\

@@ -1,13 +1,43 @@
 // What callbacks of requests ask for (RFC 4254 section 6).
-use super::{Comes, Ends, Row, holds};
-use crate::taking::{Habit, Told};
+use super::{Row, holds};
+use crate::answering::{Plan, QUIET, Told};
+use crate::sides::{Comes, Ends};
+use crate::wishes::Wish;
 use std::test::Fail;
+
+const GENEROUS: Plan = Plan {
+    grants: true,
+    ..QUIET
+};
+
+const DYING: Plan = Plan {
+    records: &[
+        Wish::ChannelSuccess(2),
+        Wish::FlowControl(2, true),
+        Wish::Killed(2, "out of memory", "en"),
+        Wish::Eof(2),
+        Wish::FlowControl(2, false),
+        Wish::Close(2),
+        Wish::Status(2, 9),
+    ],
+    ..QUIET
+};
+
+const DOUBTING: Plan = Plan {
+    records: &[Wish::ChannelFailure(2)],
+    ..GENEROUS
+};
+
+const LEAVING: Plan = Plan {
+    records: &[Wish::Close(2)],
+    ..GENEROUS
+};
 
 static REQUESTS: [Row; 4] = [
     Row {
         shows: "flow control, and the signal that ended a program; nothing goes out behind a close",
         window: 2_097_152,
-        habit: Habit::Dying,
+        plan: DYING,
         turns: &[
             (
                 Comes::Payload(b"\x5a\0\0\0\x07session\0\0\0\x07\0\x10\0\0\0\0\x80\0"),
@@ -36,7 +66,7 @@ static REQUESTS: [Row; 4] = [
     Row {
         shows: "the agent is granted by the answer of its callback",
         window: 2_097_152,
-        habit: Habit::Quiet,
+        plan: GENEROUS,
         turns: &[
             (
                 Comes::Payload(b"\x5a\0\0\0\x07session\0\0\0\x07\0\x10\0\0\0\0\x80\0"),
@@ -54,7 +84,7 @@ static REQUESTS: [Row; 4] = [
     Row {
         shows: "a reply that the callback records is the only one",
         window: 2_097_152,
-        habit: Habit::Doubting,
+        plan: DOUBTING,
         turns: &[
             (
                 Comes::Payload(b"\x5a\0\0\0\x07session\0\0\0\x07\0\x10\0\0\0\0\x80\0"),
@@ -72,7 +102,7 @@ static REQUESTS: [Row; 4] = [
     Row {
         shows: "on a channel that the callback closes no reply goes out",
         window: 2_097_152,
-        habit: Habit::Leaving,
+        plan: LEAVING,
         turns: &[
             (
                 Comes::Payload(b"\x5a\0\0\0\x07session\0\0\0\x07\0\x10\0\0\0\0\x80\0"),

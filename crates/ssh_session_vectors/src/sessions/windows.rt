@@ -1,13 +1,15 @@
 // What each side grants the other, and the data within it.
-use super::{Comes, Ends, Row, holds};
-use crate::taking::{Habit, Told};
+use super::{Row, holds};
+use crate::answering::{Plan, QUIET, Told};
+use crate::sides::{Comes, Ends};
+use crate::wishes::Wish;
 use std::test::Fail;
 
 static WINDOWS: [Row; 6] = [
     Row {
         shows: "the room is filled up once less than half of it is left; larger data are dropped",
         window: 8,
-        habit: Habit::Quiet,
+        plan: QUIET,
         turns: &[
             (
                 Comes::Payload(b"\x5a\0\0\0\x07session\0\0\0\x07\0\x10\0\0\0\0\x80\0"),
@@ -40,7 +42,7 @@ static WINDOWS: [Row; 6] = [
     Row {
         shows: "a room of 1048576 of the usual 2097152 is left as it is, and 1048575 is filled up",
         window: 2_097_152,
-        habit: Habit::Quiet,
+        plan: QUIET,
         turns: &[
             (
                 Comes::Payload(b"\x5a\0\0\0\x07session\0\0\0\x07\0\x10\0\0\0\0\x80\0"),
@@ -64,7 +66,10 @@ static WINDOWS: [Row; 6] = [
     Row {
         shows: "the answer of adjust_window is what windows are filled up to from then on",
         window: 8,
-        habit: Habit::Aims(16),
+        plan: Plan {
+            aims: Some(16),
+            ..QUIET
+        },
         turns: &[
             (
                 Comes::Payload(b"\x5a\0\0\0\x07session\0\0\0\x07\0\x10\0\0\0\0\x80\0"),
@@ -94,7 +99,10 @@ static WINDOWS: [Row; 6] = [
     Row {
         shows: "the answer 0 of adjust_window leaves windows as they are",
         window: 8,
-        habit: Habit::Aims(0),
+        plan: Plan {
+            aims: Some(0),
+            ..QUIET
+        },
         turns: &[
             (
                 Comes::Payload(b"\x5a\0\0\0\x07session\0\0\0\x07\0\x10\0\0\0\0\x80\0"),
@@ -123,7 +131,7 @@ static WINDOWS: [Row; 6] = [
     Row {
         shows: "a credit stays at its end",
         window: 2_097_152,
-        habit: Habit::Quiet,
+        plan: QUIET,
         turns: &[
             (
                 Comes::Payload(b"\x5a\0\0\0\x07session\0\0\0\x07\xff\xff\xff\xff\0\0\x80\0"),
@@ -141,7 +149,7 @@ static WINDOWS: [Row; 6] = [
     Row {
         shows: "data and extended data share one window and keep their order",
         window: 2_097_152,
-        habit: Habit::Quiet,
+        plan: QUIET,
         turns: &[
             (
                 Comes::Payload(b"\x5a\0\0\0\x07session\0\0\0\x2c\0\0\0\x03\0\0\x80\0"),
@@ -149,16 +157,16 @@ static WINDOWS: [Row; 6] = [
                 &[(Some(2), b"\x5b\0\0\0\x2c\0\0\0\x02\0\x20\0\0\0\0\x80\0")],
             ),
             (
-                Comes::Data(2, b"ab"),
+                Comes::Command(Wish::Data(2, b"ab")),
                 Ends::GoesOn,
                 &[(Some(2), b"\x5e\0\0\0\x2c\0\0\0\x02ab")],
             ),
             (
-                Comes::Extended(2, 1, b"cd"),
+                Comes::Command(Wish::ExtendedData(2, 1, b"cd")),
                 Ends::GoesOn,
                 &[(Some(2), b"\x5f\0\0\0\x2c\0\0\0\x01\0\0\0\x01c")],
             ),
-            (Comes::Data(2, b"e"), Ends::GoesOn, &[]),
+            (Comes::Command(Wish::Data(2, b"e")), Ends::GoesOn, &[]),
             (
                 Comes::Payload(b"\x5d\0\0\0\x02\0\0\0\x04"),
                 Ends::GoesOn,

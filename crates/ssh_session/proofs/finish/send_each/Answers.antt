@@ -3,7 +3,7 @@ use Rattle.std.proofs.Common.{append_assoc}
 use Rattle.std.proofs.lemmas.List.{append-nil, nil_from_length}
 use Rattle.std.proofs.lemmas.Result.{err_from_is_err_and}
 use Rattle.ssh_link.specs.declared.link.TraceEntry.TheVariants.{Sent}
-use Rattle.ssh_session.specs.Failure.{error_of_link}
+use Rattle.ssh_rules.specs.Failure.{error_of_link}
 use Rattle.ssh_session.specs.Serve.{TellsEach}
 use Rattle.ssh_session.proofs.Finishing.{told_more, not_told, none_told}
 use Rattle.ssh_session.proofs.Serving.{same_as, same_both}

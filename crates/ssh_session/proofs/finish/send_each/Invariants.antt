@@ -1,6 +1,6 @@
 use Rattle.std.proofs.Common.{◌≡◌, ◌++◌, Ok}
 use Rattle.ssh_link.specs.declared.link.TraceEntry.TheVariants.{Sent}
-use Rattle.ssh_session.specs.Heard.{AreSame}
+use Rattle.ssh_rules.specs.Heard.{AreSame}
 use Rattle.ssh_session.specs.Serve.{TellsEach}
 use Rattle.ssh_session.proofs.finish.send_each.Given as goal
 

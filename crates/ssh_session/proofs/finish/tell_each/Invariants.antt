@@ -1,7 +1,7 @@
 use Rattle.std.proofs.Common.{◌≡◌, ◌++◌, ◌+◌, List, Ok, length}
 use Rattle.ssh_link.specs.declared.link.TraceEntry.TheVariants.{Noticed}
 use Rattle.ssh_link.specs.declared.notice.Notice.{Notice}
-use Rattle.ssh_session.specs.Heard.{AreSame}
+use Rattle.ssh_rules.specs.Heard.{AreSame}
 use Rattle.ssh_session.specs.Serve.{TellsEach}
 use Rattle.ssh_session.proofs.finish.tell_each.Given as goal
 

@@ -1,7 +1,7 @@
 use Rattle.std.proofs.Common.{◌≡◌, rules, refl, sym, ◌∙◌, ap, subst, Err}
 use Rattle.std.proofs.lemmas.Result.{err_from_is_err_and}
-use Rattle.ssh_session.specs.Account.{Ran}
-use Rattle.ssh_session.specs.World.{Settings}
+use Rattle.ssh_rules.specs.Account.{Ran}
+use Rattle.ssh_rules.specs.World.{Settings}
 use Rattle.ssh_session.proofs.Runs.{starts, goes_on, ends, stopped, link_left, limit_reached}
 use Rattle.ssh_session.proofs.Runs.{still_suits, repeating}
 use Rattle.ssh_session.proofs.run.run_inputs.Goals as goal

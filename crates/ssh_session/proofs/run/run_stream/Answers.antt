@@ -1,9 +1,9 @@
 use Rattle.std.proofs.Common.{◌≡◌, refl, sym, ◌∙◌, ap, subst, Err}
 use Rattle.std.proofs.lemmas.Result.{err_from_is_err_and}
-use Rattle.ssh_session.specs.declared.error.RunError.TheVariants as error
-use Rattle.ssh_session.specs.Account.{Laws}
-use Rattle.ssh_session.specs.Failure.{run_error_of}
-use Rattle.ssh_session.specs.World.{settings_of}
+use Rattle.ssh_rules.specs.declared.error.RunError.TheVariants as error
+use Rattle.ssh_rules.specs.Account.{Laws}
+use Rattle.ssh_rules.specs.Failure.{run_error_of}
+use Rattle.ssh_rules.specs.World.{settings_of}
 use Rattle.ssh_session.proofs.Runs.{not_begun, laws_of}
 use Rattle.ssh_session.proofs.run.run_stream.Goals as goal
 

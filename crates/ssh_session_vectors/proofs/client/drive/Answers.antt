@@ -1,6 +1,6 @@
 use Rattle.std.proofs.Common.{◌≡◌, refl, sym, ◌∙◌, ap, subst, Err}
 use Rattle.std.proofs.lemmas.Result.{err_from_is_err_and}
-use Rattle.ssh_session.specs.World.{settings_of}
+use Rattle.ssh_rules.specs.World.{settings_of}
 use Rattle.ssh_session_vectors.specs.Client.{Driven}
 use Rattle.ssh_session_vectors.specs.declared.client.MoveError.TheVariants as error
 use Rattle.ssh_session_vectors.proofs.Driving.{not_begun}

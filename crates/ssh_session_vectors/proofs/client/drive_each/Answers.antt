@@ -1,6 +1,6 @@
 use Rattle.std.proofs.Common.{rules, ◌++◌, ◌∷◌, [], refl, sym, ◌∙◌, ap, append_assoc}
 use Rattle.std.proofs.lemmas.List.{nil_from_length}
-use Rattle.ssh_session.specs.World.{Settings}
+use Rattle.ssh_rules.specs.World.{Settings}
 use Rattle.ssh_session.proofs.Runs.{repeating}
 use Rattle.ssh_session_vectors.proofs.Driving.{starts, still_suits, is_live, goes_on, all_made}
 use Rattle.ssh_session_vectors.proofs.Driving.{ended, stopped}

@@ -1,7 +1,7 @@
 use Rattle.std.proofs.Common.{◌≡◌, ◌++◌}
-use Rattle.ssh_session.specs.Account.{told_by}
+use Rattle.ssh_rules.specs.Account.{told_by}
 use Rattle.ssh_session.specs.Serve.{Refines}
-use Rattle.ssh_session.specs.World.{Settings, opening_world}
+use Rattle.ssh_rules.specs.World.{Settings, opening_world}
 use Rattle.ssh_vectors.proofs.Driving.{Going}
 use Rattle.ssh_vectors.proofs.client.serve_each.Given as goal
 

@@ -1,8 +1,8 @@
 use Rattle.std.proofs.Common.{◌≡◌, refl, sym, ◌∙◌, ap, subst, Err}
 use Rattle.std.proofs.lemmas.Result.{err_from_is_err_and}
-use Rattle.ssh_session.specs.declared.error.RunError.TheVariants as error
-use Rattle.ssh_session.specs.Failure.{run_error_of}
-use Rattle.ssh_session.specs.World.{settings_of}
+use Rattle.ssh_rules.specs.declared.error.RunError.TheVariants as error
+use Rattle.ssh_rules.specs.Failure.{run_error_of}
+use Rattle.ssh_rules.specs.World.{settings_of}
 use Rattle.ssh_vectors.specs.Client.{Served}
 use Rattle.ssh_vectors.proofs.Driving.{not_begun}
 use Rattle.ssh_vectors.proofs.client.serve_payloads.Goals as goal

@@ -1,10 +1,10 @@
 use Rattle.std.proofs.Common.{◌∷◌, [], ap, subst}
-use Rattle.ssh_session.specs.Acts.{acts}
-use Rattle.ssh_session.specs.Failure.{error_of_table, run_error_of}
-use Rattle.ssh_session.specs.Layout.{at_once}
-use Rattle.ssh_session.specs.Rows.{lets_in, finishes}
+use Rattle.ssh_rules.specs.Acts.{acts}
+use Rattle.ssh_rules.specs.Failure.{error_of_table, run_error_of}
+use Rattle.ssh_rules.specs.Layout.{at_once}
+use Rattle.ssh_rules.specs.Rows.{lets_in, finishes}
 use Rattle.ssh_session.specs.Serve.{Refines}
-use Rattle.ssh_session.specs.World.{writes}
+use Rattle.ssh_rules.specs.World.{writes}
 use Rattle.ssh_session.proofs.Requests.{let_in}
 use Rattle.ssh_session.proofs.Serving.{starved}
 use Rattle.ssh_session.proofs.session.Session.accept.Goals as goal

@@ -2,9 +2,9 @@ use Rattle.std.proofs.Common.{ℕ, Ok, Err, refl}
 use Rattle.ssh_auth.specs.declared.call.Call.TheVariants.{AdjustWindow}
 use Rattle.ssh_auth.specs.declared.question.Question.TheVariants.{Adjusts}
 use Rattle.ssh_auth.specs.Plan.{Plan, Ask}
-use Rattle.ssh_session.specs.Acts.{acts}
-use Rattle.ssh_session.specs.Outcome.{Outcome}
-use Rattle.ssh_session.specs.Rows.{aims}
+use Rattle.ssh_rules.specs.Acts.{acts}
+use Rattle.ssh_rules.specs.Outcome.{Outcome}
+use Rattle.ssh_rules.specs.Rows.{aims}
 use Rattle.ssh_session.proofs.Serving.{asked, asked_in_vain, served_both, serves_nothing}
 use Rattle.ssh_session.proofs.session.Session.aim.Goals as goal
 

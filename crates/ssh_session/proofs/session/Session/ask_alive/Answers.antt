@@ -1,6 +1,6 @@
 use Rattle.std.proofs.Common.{◌<◌, refl, arith}
 use Rattle.std.specs.Prelude.{◌^◌, length}
-use Rattle.ssh_session.specs.OwnMessages.{alive}
+use Rattle.ssh_rules.specs.OwnMessages.{alive}
 use Rattle.ssh_session.proofs.Effects.{kept_short, kept_unbuilt}
 use Rattle.ssh_session.proofs.session.Session.ask_alive.Goals as goal
 

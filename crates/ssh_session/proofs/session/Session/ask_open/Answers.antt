@@ -1,8 +1,8 @@
 use Rattle.std.proofs.Common.{◌++◌, refl, ap, Err}
 use Rattle.ssh_channels.specs.Lines.{next_number}
-use Rattle.ssh_session.specs.Acts.{acts}
-use Rattle.ssh_session.specs.Failure.{error_of_table}
-use Rattle.ssh_session.specs.Rows.{asks_first, waits}
+use Rattle.ssh_rules.specs.Acts.{acts}
+use Rattle.ssh_rules.specs.Failure.{error_of_table}
+use Rattle.ssh_rules.specs.Rows.{asks_first, waits}
 use Rattle.ssh_session.proofs.Rows.{not_drawn, not_inconsistent}
 use Rattle.ssh_session.proofs.Serving.{quiet}
 use Rattle.ssh_session.proofs.session.Session.ask_open.Goals as goal

@@ -6,12 +6,12 @@ use Rattle.ssh_auth.specs.declared.question.Judged.TheVariants.{AgentRequest}
 use Rattle.ssh_auth.specs.declared.question.Question.TheVariants.{Judges}
 use Rattle.ssh_auth.specs.Plan.{Plan, Ask, Tell, Judgement}
 use Rattle.ssh_channels.specs.Lines.{wants}
-use Rattle.ssh_session.specs.Acts.{acts, done_all}
-use Rattle.ssh_session.specs.Failure.{error_of_table}
-use Rattle.ssh_session.specs.Outcome.{Outcome}
-use Rattle.ssh_session.specs.Rows.{reply_of}
+use Rattle.ssh_rules.specs.Acts.{acts, done_all}
+use Rattle.ssh_rules.specs.Failure.{error_of_table}
+use Rattle.ssh_rules.specs.Outcome.{Outcome}
+use Rattle.ssh_rules.specs.Rows.{reply_of}
 use Rattle.ssh_session.specs.Serve.{Refines}
-use Rattle.ssh_session.specs.World.{World, lined, replies, unless_ended}
+use Rattle.ssh_rules.specs.World.{World, lined, replies, unless_ended}
 use Rattle.ssh_session.proofs.Serving.{serves_nothing, served_both, passed, passed_later, starved}
 use Rattle.ssh_session.proofs.session.Session.asked_for_agent.Goals as goal
 

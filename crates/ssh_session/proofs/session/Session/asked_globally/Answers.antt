@@ -1,11 +1,11 @@
 use Rattle.std.proofs.Common.{Bool, None}
 use Rattle.ssh_auth.specs.declared.question.Question.TheVariants.{Judges}
 use Rattle.ssh_auth.specs.Plan.{Plan, Ask, Judgement}
-use Rattle.ssh_session.specs.Acts.{acts, done_all}
-use Rattle.ssh_session.specs.Outcome.{Outcome}
-use Rattle.ssh_session.specs.Rows.{global_reply}
-use Rattle.ssh_session.specs.World.{World, wants_global, settles_global, unless_ended}
-use Rattle.ssh_session.proofs.Refining.{on_ok}
+use Rattle.ssh_rules.specs.Acts.{acts, done_all}
+use Rattle.ssh_rules.specs.Outcome.{Outcome}
+use Rattle.ssh_rules.specs.Rows.{global_reply}
+use Rattle.ssh_rules.specs.World.{World, wants_global, settles_global, unless_ended}
+use Rattle.ssh_rules.proofs.Results.{on_ok}
 use Rattle.ssh_session.proofs.Serving.{served_both, passed, turns_quietly}
 use Rattle.ssh_session.proofs.session.Session.asked_globally.Goals as goal
 

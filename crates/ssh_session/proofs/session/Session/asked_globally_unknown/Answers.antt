@@ -1,8 +1,8 @@
 use Rattle.std.proofs.Common.{None, false}
-use Rattle.ssh_session.specs.Acts.{acts}
-use Rattle.ssh_session.specs.Rows.{global_reply}
-use Rattle.ssh_session.specs.World.{wants_global, settles_global}
-use Rattle.ssh_session.proofs.Refining.{on_ok}
+use Rattle.ssh_rules.specs.Acts.{acts}
+use Rattle.ssh_rules.specs.Rows.{global_reply}
+use Rattle.ssh_rules.specs.World.{wants_global, settles_global}
+use Rattle.ssh_rules.proofs.Results.{on_ok}
 use Rattle.ssh_session.proofs.Serving.{turned_quietly}
 use Rattle.ssh_session.proofs.session.Session.asked_globally_unknown.Goals as goal
 

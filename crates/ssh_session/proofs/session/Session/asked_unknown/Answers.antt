@@ -1,6 +1,6 @@
 use Rattle.std.proofs.Common.{refl}
 use Rattle.ssh_channels.specs.Lines.{wants}
-use Rattle.ssh_session.specs.World.{lined}
+use Rattle.ssh_rules.specs.World.{lined}
 use Rattle.ssh_session.proofs.session.Session.asked_unknown.Goals as goal
 
 pub returns-clause-does : goal.returns-clause-does

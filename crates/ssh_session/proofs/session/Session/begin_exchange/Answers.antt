@@ -4,12 +4,12 @@ use Rattle.ssh_link.specs.Exchange.{IsOfTransport}
 use Rattle.ssh_link.specs.declared.kex.KexCall.TheVariants.{Begun}
 use Rattle.ssh_auth.specs.Plan.{Plan, Ask}
 use Rattle.ssh_auth.specs.declared.question.Question.TheVariants.{Begins}
-use Rattle.ssh_session.specs.Acts.{Beginning, acts, exchanged, frames_given, gives, moved}
-use Rattle.ssh_session.specs.Exchange.{begun}
-use Rattle.ssh_session.specs.Failure.{run_error_of}
-use Rattle.ssh_session.specs.Outcome.{Outcome}
+use Rattle.ssh_rules.specs.Acts.{Beginning, acts, exchanged, frames_given, gives, moved}
+use Rattle.ssh_rules.specs.Exchange.{begun}
+use Rattle.ssh_rules.specs.Failure.{run_error_of}
+use Rattle.ssh_rules.specs.Outcome.{Outcome}
 use Rattle.ssh_session.specs.Serve.{Refines}
-use Rattle.ssh_session.proofs.Exchanging.{kexinit_given}
+use Rattle.ssh_rules.proofs.Exchanging.{kexinit_given}
 use Rattle.ssh_session.proofs.Refining.{rekeyed}
 use Rattle.ssh_session.proofs.Serving.{exchange_asked, exchange_failed, passed, served_both}
 use Rattle.ssh_session.proofs.Serving.{serves_nothing, starved}

@@ -1,5 +1,5 @@
 use Rattle.std.proofs.Common.{sym, ◌∙◌}
-use Rattle.ssh_session.specs.Run.{is_due}
+use Rattle.ssh_rules.specs.Run.{is_due}
 use Rattle.ssh_session.proofs.Finishing.{none_begins, one_begins}
 use Rattle.ssh_session.proofs.session.Session.begin_where_due.Goals as goal
 

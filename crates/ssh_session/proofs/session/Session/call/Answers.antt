@@ -2,8 +2,8 @@ use Rattle.std.proofs.Common.{List}
 use Rattle.ssh_link.specs.declared.command.Command.{Command}
 use Rattle.ssh_auth.specs.declared.question.Question.TheVariants.{Lends}
 use Rattle.ssh_auth.specs.Plan.{Plan, Ask}
-use Rattle.ssh_session.specs.Acts.{acts, done_all}
-use Rattle.ssh_session.specs.Outcome.{Outcome}
+use Rattle.ssh_rules.specs.Acts.{acts, done_all}
+use Rattle.ssh_rules.specs.Outcome.{Outcome}
 use Rattle.ssh_session.proofs.Serving.{asked, asked_in_vain, served_both}
 use Rattle.ssh_session.proofs.session.Session.call.Goals as goal
 

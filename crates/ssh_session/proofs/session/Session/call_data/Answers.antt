@@ -1,6 +1,6 @@
 use Rattle.std.proofs.Common.{subst}
 use Rattle.ssh_auth.specs.declared.question.Lent.TheVariants.{Happened}
-use Rattle.ssh_session.specs.Acts.{acts, Calls}
+use Rattle.ssh_rules.specs.Acts.{acts, Calls}
 use Rattle.std.proofs.Common.{◌∷◌}
 use Rattle.ssh_session.specs.Serve.{Serves}
 use Rattle.ssh_session.proofs.session.Session.call_data.Goals as goal

@@ -1,5 +1,5 @@
 use Rattle.std.proofs.Common.{refl, sym}
-use Rattle.ssh_session.specs.OwnMessages.{cancel}
+use Rattle.ssh_rules.specs.OwnMessages.{cancel}
 use Rattle.ssh_session.proofs.session.Session.cancel_forward.Goals as goal
 
 pub returns-clause-does : goal.returns-clause-does

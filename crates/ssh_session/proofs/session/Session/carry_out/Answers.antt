@@ -1,6 +1,6 @@
 use Rattle.std.proofs.Common.{◌∙◌, Some, None, sym, subst}
 use Rattle.ssh_session.specs.Serve.{HasEffect}
-use Rattle.ssh_session.specs.Effect.{effect}
+use Rattle.ssh_rules.specs.Effect.{effect}
 use Rattle.ssh_session.proofs.Effects.{refused, refusing}
 use Rattle.ssh_session.proofs.session.Session.carry_out.Goals as goal
 

@@ -1,6 +1,6 @@
 use Rattle.std.proofs.Common.{◌&&◌, not, ap, sym, ◌∙◌}
 use Rattle.ssh_channels.specs.Table.{some_wait}
-use Rattle.ssh_session.specs.Run.{nothing_waits}
+use Rattle.ssh_rules.specs.Run.{nothing_waits}
 use Rattle.ssh_session.proofs.Refining.{asks}
 use Rattle.ssh_session.proofs.session.Session.commands_wanted.Goals as goal
 

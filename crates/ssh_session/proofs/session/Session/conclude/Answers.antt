@@ -1,9 +1,9 @@
 use Rattle.std.proofs.Common.{◌≡◌, ◌∷◌, [], None, Some, ◌∙◌, ap, subst}
 use Rattle.ssh_auth.specs.declared.auth_step.AuthVerdict.TheVariants as verdict
-use Rattle.ssh_session.specs.Acts.{Turns}
-use Rattle.ssh_session.specs.Rows.{replied, moment_after, rejection_hold, finishes}
+use Rattle.ssh_rules.specs.Acts.{Turns}
+use Rattle.ssh_rules.specs.Rows.{replied, moment_after, rejection_hold, finishes}
 use Rattle.ssh_session.specs.Serve.{Turned}
-use Rattle.ssh_session.specs.World.{writes}
+use Rattle.ssh_rules.specs.World.{writes}
 use Rattle.ssh_session.proofs.Serving.{turned}
 use Rattle.ssh_session.proofs.session.Session.conclude.Goals as goal
 

@@ -9,9 +9,9 @@ use Rattle.ssh_channels.specs.Lines.{write, adds}
 use Rattle.ssh_channels.specs.Numbers.{insert}
 use Rattle.ssh_channels.specs.Stands.{Stands}
 use Rattle.ssh_handler.specs.declared.config.Config.{Config}
-use Rattle.ssh_session.specs.Effect.{confirms}
-use Rattle.ssh_session.specs.Opens.{answered, confirmation_frame}
-use Rattle.ssh_session.specs.World.{lined, writes}
+use Rattle.ssh_rules.specs.Effect.{confirms}
+use Rattle.ssh_rules.specs.Opens.{answered, confirmation_frame}
+use Rattle.ssh_rules.specs.World.{lined, writes}
 use Rattle.ssh_session.proofs.Opened.{changed, confirms_stands}
 use Rattle.ssh_session.proofs.session.Session.confirm_open.Goals as goal
 

@@ -2,11 +2,11 @@ use Rattle.std.proofs.Common.{◌∷◌, [], ◌∙◌, inl, inr, refl, sym, sub
 use Rattle.ssh_wire.specs.Field.{Bytes, SpellsWhole}
 use Rattle.ssh_channels.specs.declared.chunk.DataKind.TheVariants.{Plain}
 use Rattle.ssh_channels.specs.Layout.{chunk}
-use Rattle.ssh_session.specs.declared.messages.Spoken.TheVariants.{Nothing, Data}
-use Rattle.ssh_session.specs.Messages.{plain_data, data_on}
-use Rattle.ssh_session.specs.World.{is_there}
-use Rattle.ssh_session.specs.Spelling.{Spells}
-use Rattle.ssh_session.proofs.Reading.{misread, unkept}
+use Rattle.ssh_rules.specs.declared.messages.Spoken.TheVariants.{Nothing, Data}
+use Rattle.ssh_rules.specs.Messages.{plain_data, data_on}
+use Rattle.ssh_rules.specs.World.{is_there}
+use Rattle.ssh_rules.specs.Spelling.{Spells}
+use Rattle.ssh_rules.proofs.Misread.{misread, unkept}
 use Rattle.ssh_session.proofs.session.Session.data_message.Goals as goal
 
 pub returns-in_err-channel : goal.returns-in_err-channel

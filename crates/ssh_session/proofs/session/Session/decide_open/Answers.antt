@@ -2,8 +2,8 @@ use Rattle.std.proofs.Common.{◌≡◌, ◌∙◌, Some, ap, subst, sym}
 use Rattle.std.specs.Ordering.{nat_cmp}
 use Rattle.std.specs.BTreeMap.{is_at}
 use Rattle.std.specs.Map.{lookup}
-use Rattle.ssh_session.specs.Effect.{answers, decides}
-use Rattle.ssh_session.specs.Opens.{opening_of}
+use Rattle.ssh_rules.specs.Effect.{answers, decides}
+use Rattle.ssh_rules.specs.Opens.{opening_of}
 use Rattle.ssh_session.specs.Serve.{HasEffect}
 use Rattle.ssh_session.proofs.session.Session.decide_open.Goals as goal
 

@@ -3,10 +3,10 @@ use Rattle.ssh_channels.specs.declared.chunk.DataKind.TheVariants.{Plain, Extend
 use Rattle.ssh_channels.specs.Calls.{Eof, Close}
 use Rattle.ssh_channels.specs.Layout.{chunk}
 use Rattle.ssh_channels.specs.Lines.{takes_data, takes_eof, takes_close}
-use Rattle.ssh_session.specs.Effect.{done_by}
-use Rattle.ssh_session.specs.Failure.{error_of_table}
+use Rattle.ssh_rules.specs.Effect.{done_by}
+use Rattle.ssh_rules.specs.Failure.{error_of_table}
 use Rattle.ssh_session.specs.Serve.{HasEffect}
-use Rattle.ssh_session.specs.World.{in_exchange, lined}
+use Rattle.ssh_rules.specs.World.{in_exchange, lined}
 use Rattle.ssh_session.proofs.Effects.{accepted, starved_effect, done_other}
 use Rattle.ssh_session.proofs.Refining.{called, data_taken}
 use Rattle.ssh_session.proofs.session.Session.do_command.Goals as goal

@@ -1,7 +1,7 @@
 use Rattle.ssh_auth.specs.Plan.{Finish}
-use Rattle.ssh_session.specs.declared.error.Flow.TheVariants.{Ended}
-use Rattle.ssh_session.specs.Run.{hand_on, handed_on, is_over}
-use Rattle.ssh_session.specs.Serve.{comes}
+use Rattle.ssh_rules.specs.declared.error.Flow.TheVariants.{Ended}
+use Rattle.ssh_rules.specs.Run.{hand_on, handed_on, is_over}
+use Rattle.ssh_rules.specs.Cause.{comes}
 use Rattle.ssh_session.proofs.Serving.{passed, settled}
 use Rattle.ssh_session.proofs.session.Session.end_run.Goals as goal
 

@@ -1,7 +1,7 @@
 use Rattle.std.proofs.Common.{◌∙◌, ◌++◌, ap, subst}
 use Rattle.std.specs.Prelude.{codes}
-use Rattle.ssh_session.specs.Effect.{requests}
-use Rattle.ssh_session.specs.OwnRequests.{exit_signal}
+use Rattle.ssh_rules.specs.Effect.{requests}
+use Rattle.ssh_rules.specs.OwnRequests.{exit_signal}
 use Rattle.ssh_session.specs.Serve.{HasEffect}
 use Rattle.ssh_session.proofs.session.Session.exit_signal.Goals as goal
 

@@ -1,6 +1,6 @@
 use Rattle.std.proofs.Common.{subst}
 use Rattle.std.specs.Prelude.{codes}
-use Rattle.ssh_session.specs.Effect.{requests}
+use Rattle.ssh_rules.specs.Effect.{requests}
 use Rattle.ssh_session.specs.Serve.{HasEffect}
 use Rattle.ssh_session.proofs.session.Session.exit_status.Goals as goal
 

@@ -2,11 +2,11 @@ use Rattle.std.proofs.Common.{◌∷◌, [], ◌∙◌, inl, inr, refl, sym, sub
 use Rattle.ssh_wire.specs.Field.{Bytes, Number, SpellsWhole}
 use Rattle.ssh_channels.specs.declared.chunk.DataKind.TheVariants.{Extended}
 use Rattle.ssh_channels.specs.Layout.{chunk}
-use Rattle.ssh_session.specs.declared.messages.Spoken.TheVariants.{Nothing, Data}
-use Rattle.ssh_session.specs.Messages.{extended_data, extended_on}
-use Rattle.ssh_session.specs.World.{is_there}
-use Rattle.ssh_session.specs.Spelling.{Spells}
-use Rattle.ssh_session.proofs.Reading.{misread, unkept}
+use Rattle.ssh_rules.specs.declared.messages.Spoken.TheVariants.{Nothing, Data}
+use Rattle.ssh_rules.specs.Messages.{extended_data, extended_on}
+use Rattle.ssh_rules.specs.World.{is_there}
+use Rattle.ssh_rules.specs.Spelling.{Spells}
+use Rattle.ssh_rules.proofs.Misread.{misread, unkept}
 use Rattle.ssh_session.proofs.session.Session.extended_data_message.Goals as goal
 
 pub returns-in_err-channel : goal.returns-in_err-channel

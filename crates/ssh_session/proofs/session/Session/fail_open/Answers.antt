@@ -9,10 +9,10 @@ use Rattle.ssh_channels.specs.Lines.{write, drops_pending}
 use Rattle.ssh_channels.specs.Numbers.{drop_pending}
 use Rattle.ssh_channels.specs.Stands.{Stands}
 use Rattle.ssh_session.specs.declared.apply.Done.{Done}
-use Rattle.ssh_session.specs.Effect.{Does, fails_open}
-use Rattle.ssh_session.specs.Opening.{Opening}
-use Rattle.ssh_session.specs.Opens.{answered, failure_frame}
-use Rattle.ssh_session.specs.World.{lined, writes}
+use Rattle.ssh_rules.specs.Effect.{Does, fails_open}
+use Rattle.ssh_rules.specs.Opening.{Opening}
+use Rattle.ssh_rules.specs.Opens.{answered, failure_frame}
+use Rattle.ssh_rules.specs.World.{lined, writes}
 use Rattle.ssh_session.proofs.Effects.{short}
 use Rattle.ssh_session.proofs.Opened.{changed, fails_stands}
 use Rattle.ssh_session.proofs.session.Session.fail_open.Goals as goal

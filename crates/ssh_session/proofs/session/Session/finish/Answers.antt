@@ -1,8 +1,8 @@
 use Rattle.std.proofs.Common.{◌∙◌, sym}
 use Rattle.ssh_auth.specs.Plan.{Finish}
-use Rattle.ssh_session.specs.declared.error.Flow.TheVariants.{Ended}
-use Rattle.ssh_session.specs.Run.{goes_unless_ended, hand_on, handed_on, is_over}
-use Rattle.ssh_session.specs.Serve.{comes, ends_by_flow}
+use Rattle.ssh_rules.specs.declared.error.Flow.TheVariants.{Ended}
+use Rattle.ssh_rules.specs.Run.{goes_unless_ended, hand_on, handed_on, is_over}
+use Rattle.ssh_rules.specs.Cause.{comes, ends_by_flow}
 use Rattle.ssh_session.proofs.Serving.{passed, served_both, settled}
 use Rattle.ssh_session.proofs.session.Session.finish.Goals as goal
 

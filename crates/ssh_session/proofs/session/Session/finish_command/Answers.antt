@@ -2,10 +2,10 @@ use Rattle.std.proofs.Common.{◌+◌, ◌∷◌}
 use Rattle.ssh_link.specs.declared.outcome.CommandOutcome.{CommandOutcome}
 use Rattle.ssh_auth.specs.Plan.{Plan}
 use Rattle.ssh_session.specs.declared.apply.Done.{Done}
-use Rattle.ssh_session.specs.Acts.{done_all, tell_done}
-use Rattle.ssh_session.specs.Effect.{effect}
-use Rattle.ssh_session.specs.Outcome.{Outcome}
-use Rattle.ssh_session.specs.World.{World}
+use Rattle.ssh_rules.specs.Acts.{done_all, tell_done}
+use Rattle.ssh_rules.specs.Effect.{effect}
+use Rattle.ssh_rules.specs.Outcome.{Outcome}
+use Rattle.ssh_rules.specs.World.{World}
 use Rattle.ssh_session.proofs.Commanding.{commanded, not_noticed, not_done}
 use Rattle.ssh_session.proofs.Serving.{settled_by, passed}
 use Rattle.ssh_session.proofs.session.Session.finish_command.Goals as goal

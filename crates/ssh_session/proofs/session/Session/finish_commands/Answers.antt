@@ -1,9 +1,9 @@
 use Rattle.std.proofs.Common.{◌≡◌, ◌+◌, [], Ok, Err, length, arith, ap, subst, sym, refl, ◌∙◌}
 use Rattle.ssh_auth.specs.Plan.{Plan, Reaches}
-use Rattle.ssh_session.specs.World.{World}
+use Rattle.ssh_rules.specs.World.{World}
 use Rattle.ssh_session.specs.Serve.{Serves}
-use Rattle.ssh_session.specs.Acts.{done_all}
-use Rattle.ssh_session.specs.Outcome.{Outcome}
+use Rattle.ssh_rules.specs.Acts.{done_all}
+use Rattle.ssh_rules.specs.Outcome.{Outcome}
 use Rattle.ssh_session.proofs.Serving.{serves_nothing, served_both, served_then_error, same_as}
 use Rattle.ssh_session.proofs.Serving.{same_both}
 use Rattle.ssh_session.proofs.Finishing.{none_left}

@@ -1,9 +1,9 @@
 use Rattle.std.proofs.Common.{◌≡◌, ◌+◌, Ok, length}
 use Rattle.ssh_auth.specs.Plan.{Plan}
-use Rattle.ssh_session.specs.World.{World}
-use Rattle.ssh_session.specs.Acts.{done_all}
-use Rattle.ssh_session.specs.Heard.{AreSame}
-use Rattle.ssh_session.specs.Outcome.{Outcome}
+use Rattle.ssh_rules.specs.World.{World}
+use Rattle.ssh_rules.specs.Acts.{done_all}
+use Rattle.ssh_rules.specs.Heard.{AreSame}
+use Rattle.ssh_rules.specs.Outcome.{Outcome}
 use Rattle.ssh_session.specs.Serve.{Refines, Serves, IsSameSession}
 use Rattle.ssh_session.proofs.session.Session.finish_commands.Given as goal
 

@@ -1,10 +1,10 @@
 use Rattle.std.proofs.Common.{map, sym, ◌∙◌}
 use Rattle.ssh_link.specs.declared.link.TraceEntry.TheVariants.{Noticed}
 use Rattle.ssh_auth.specs.Plan.{Finish}
-use Rattle.ssh_session.specs.Acts.{tell_all}
+use Rattle.ssh_rules.specs.Acts.{tell_all}
 use Rattle.ssh_session.specs.Between.{flushed}
-use Rattle.ssh_session.specs.Outcome.{Goes}
-use Rattle.ssh_session.specs.Run.{hand_on, handed_on}
+use Rattle.ssh_rules.specs.Outcome.{Goes}
+use Rattle.ssh_rules.specs.Run.{hand_on, handed_on}
 use Rattle.ssh_session.proofs.Serving.{passed, served_both}
 use Rattle.ssh_session.proofs.session.Session.flush_over.Goals as goal
 

@@ -1,11 +1,12 @@
 use Rattle.std.proofs.Common.{◌≡◌, ap, map, ◌∙◌}
-use Rattle.ssh_session.specs.Acts.{frames_given, gives}
-use Rattle.ssh_session.specs.Exchange.{given}
-use Rattle.ssh_session.specs.Failure.{run_error_of}
-use Rattle.ssh_session.specs.Layout.{at_once}
-use Rattle.ssh_session.proofs.Exchanging.{all_given}
+use Rattle.ssh_rules.specs.Acts.{frames_given, gives}
+use Rattle.ssh_rules.specs.Exchange.{given}
+use Rattle.ssh_rules.specs.Failure.{run_error_of}
+use Rattle.ssh_rules.specs.Layout.{at_once}
+use Rattle.ssh_rules.proofs.Exchanging.{all_given}
 use Rattle.ssh_session.proofs.Finishing.{told_all}
-use Rattle.ssh_session.proofs.Refining.{in_any_case, rekeyed}
+use Rattle.ssh_rules.proofs.Results.{in_any_case}
+use Rattle.ssh_session.proofs.Refining.{rekeyed}
 use Rattle.ssh_session.proofs.Serving.{starved}
 use Rattle.ssh_session.proofs.session.Session.give_payloads.Goals as goal
 

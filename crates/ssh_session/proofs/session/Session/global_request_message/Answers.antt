@@ -1,7 +1,7 @@
 use Rattle.std.proofs.Common.{◌∷◌, []}
 use Rattle.ssh_wire.specs.Field.{Text, Flag}
-use Rattle.ssh_session.specs.Globals.{globally_asked_by, global_named}
-use Rattle.ssh_session.proofs.Requesting.{fields_then}
+use Rattle.ssh_rules.specs.Globals.{globally_asked_by, global_named}
+use Rattle.ssh_rules.proofs.Requesting.{fields_then}
 use Rattle.ssh_session.proofs.session.Session.global_request_message.Goals as goal
 
 pub returns : goal.returns

@@ -1,7 +1,7 @@
 use Rattle.std.proofs.Common.{sym, ◌∙◌}
 use Rattle.ssh_auth.specs.Plan.{Finish}
-use Rattle.ssh_session.specs.Run.{goes_unless_ended}
-use Rattle.ssh_session.specs.Serve.{comes}
+use Rattle.ssh_rules.specs.Run.{goes_unless_ended}
+use Rattle.ssh_rules.specs.Cause.{comes}
 use Rattle.ssh_session.proofs.Finishing.{is_ended, begun_due, not_begun_due}
 use Rattle.ssh_session.proofs.Serving.{passed}
 use Rattle.ssh_session.proofs.session.Session.go_on.Goals as goal

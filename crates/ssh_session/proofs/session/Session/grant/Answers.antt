@@ -5,11 +5,11 @@ use Rattle.ssh_link.specs.declared.notice.Notice.TheVariants.{Granted}
 use Rattle.ssh_auth.specs.declared.question.Happening.TheVariants as what
 use Rattle.ssh_auth.specs.Plan.{Tell}
 use Rattle.ssh_channels.specs.Lines.{takes_grant}
-use Rattle.ssh_session.specs.Acts.{acts}
-use Rattle.ssh_session.specs.Failure.{error_of_table}
-use Rattle.ssh_session.specs.Opens.{own}
-use Rattle.ssh_session.specs.Rows.{told, grant_acts, credit_left}
-use Rattle.ssh_session.specs.World.{lined}
+use Rattle.ssh_rules.specs.Acts.{acts}
+use Rattle.ssh_rules.specs.Failure.{error_of_table}
+use Rattle.ssh_rules.specs.Opens.{own}
+use Rattle.ssh_rules.specs.Rows.{told, grant_acts, credit_left}
+use Rattle.ssh_rules.specs.World.{lined}
 use Rattle.ssh_session.proofs.Rows.{nothing_on, granted_on, ungranted_on, not_granted}
 use Rattle.ssh_session.proofs.Serving.{serves_nothing, served_both, passed, starved}
 use Rattle.ssh_session.proofs.session.Session.grant.Goals as goal

@@ -1,5 +1,5 @@
 use Rattle.std.proofs.Common.{Some, subst}
-use Rattle.ssh_session.specs.Rows.{greets}
+use Rattle.ssh_rules.specs.Rows.{greets}
 use Rattle.ssh_session.specs.Serve.{Turned}
 use Rattle.ssh_session.proofs.session.Session.greet.Goals as goal
 

@@ -1,9 +1,9 @@
 use Rattle.std.proofs.Common.{◌∷◌, ◌++◌, [], None, ap, refl, subst}
-use Rattle.ssh_session.specs.Acts.{acts}
-use Rattle.ssh_session.specs.Failure.{error_of_table, run_error_of}
-use Rattle.ssh_session.specs.Rows.{greets, greeting, served}
+use Rattle.ssh_rules.specs.Acts.{acts}
+use Rattle.ssh_rules.specs.Failure.{error_of_table, run_error_of}
+use Rattle.ssh_rules.specs.Rows.{greets, greeting, served}
 use Rattle.ssh_session.specs.Serve.{Refines}
-use Rattle.ssh_session.specs.World.{writes}
+use Rattle.ssh_rules.specs.World.{writes}
 use Rattle.ssh_session.proofs.Serving.{starved_quietly}
 use Rattle.ssh_session.proofs.session.Session.greet_alone.Goals as goal
 

@@ -1,11 +1,11 @@
 use Rattle.std.proofs.Common.{◌∷◌, ◌++◌, [], Some, Err, ap, subst, sym, ◌∙◌}
 use Rattle.std.proofs.lemmas.Result.{err_from_is_err_and}
-use Rattle.ssh_session.specs.Acts.{acts}
-use Rattle.ssh_session.specs.Failure.{error_of_table, run_error_of}
-use Rattle.ssh_session.specs.Layout.{at_once, banner}
-use Rattle.ssh_session.specs.Rows.{greets, greeting, served}
+use Rattle.ssh_rules.specs.Acts.{acts}
+use Rattle.ssh_rules.specs.Failure.{error_of_table, run_error_of}
+use Rattle.ssh_rules.specs.Layout.{at_once, banner}
+use Rattle.ssh_rules.specs.Rows.{greets, greeting, served}
 use Rattle.ssh_session.specs.Serve.{Refines, Answers}
-use Rattle.ssh_session.specs.World.{writes}
+use Rattle.ssh_rules.specs.World.{writes}
 use Rattle.ssh_session.proofs.Greeting.{both_written, greeted, not_greeted}
 use Rattle.ssh_session.proofs.Serving.{starved_quietly}
 use Rattle.ssh_session.proofs.session.Session.greet_with.Goals as goal

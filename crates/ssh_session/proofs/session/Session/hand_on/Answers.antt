@@ -1,10 +1,11 @@
 use Rattle.std.proofs.Common.{◌≡◌, ◌++◌, ap, ◌∙◌}
 use Rattle.ssh_channels.specs.Calls as calls
-use Rattle.ssh_session.specs.Exchange.{given}
-use Rattle.ssh_session.specs.Failure.{error_of_table}
-use Rattle.ssh_session.specs.Run.{going_out, handed_on}
+use Rattle.ssh_rules.specs.Exchange.{given}
+use Rattle.ssh_rules.specs.Failure.{error_of_table}
+use Rattle.ssh_rules.specs.Run.{going_out, handed_on}
 use Rattle.ssh_session.proofs.Finishing.{told_all}
-use Rattle.ssh_session.proofs.Refining.{handed_out, handed_to, in_any_case}
+use Rattle.ssh_rules.proofs.Results.{in_any_case}
+use Rattle.ssh_session.proofs.Refining.{handed_out, handed_to}
 use Rattle.ssh_session.proofs.Serving.{starved}
 use Rattle.ssh_session.proofs.session.Session.hand_on.Goals as goal
 

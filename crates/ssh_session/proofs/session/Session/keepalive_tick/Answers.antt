@@ -1,9 +1,9 @@
 use Rattle.std.proofs.Common.{◌≡◌, ◌∙◌, true, false, refl, subst, sym, Some}
-use Rattle.ssh_session.specs.declared.outstanding.Outstanding.TheVariants.{Keepalive}
-use Rattle.ssh_session.specs.Effect.{said}
-use Rattle.ssh_session.specs.OwnMessages.{keepalive}
+use Rattle.ssh_rules.specs.declared.outstanding.Outstanding.TheVariants.{Keepalive}
+use Rattle.ssh_rules.specs.Effect.{said}
+use Rattle.ssh_rules.specs.OwnMessages.{keepalive}
 use Rattle.ssh_session.specs.Serve.{Refines}
-use Rattle.ssh_session.specs.Ticks.{is_too_many, one_more, ticked}
+use Rattle.ssh_rules.specs.Ticks.{is_too_many, one_more, ticked}
 use Rattle.ssh_session.proofs.session.Session.keepalive_tick.Goals as goal
 
 pub returns-then-is_timed_out-clause-does : goal.returns-then-is_timed_out-clause-does

@@ -1,8 +1,8 @@
 use Rattle.std.proofs.Common.{Ok, Err, Bool, ℕ}
 use Rattle.ssh_auth.specs.declared.question.Question.TheVariants.{Listens}
 use Rattle.ssh_auth.specs.Plan.{Plan, Ask, Listening}
-use Rattle.ssh_session.specs.Acts.{done_all}
-use Rattle.ssh_session.specs.Outcome.{Outcome}
+use Rattle.ssh_rules.specs.Acts.{done_all}
+use Rattle.ssh_rules.specs.Outcome.{Outcome}
 use Rattle.ssh_session.proofs.Serving.{asked, asked_in_vain, served_both, of_value}
 use Rattle.ssh_session.proofs.session.Session.listen.Goals as goal
 

@@ -2,7 +2,7 @@ use Rattle.std.proofs.Common.{refl, ap, subst, ◌∙◌}
 use Rattle.ssh_link.specs.declared.link.TraceEntry.TheVariants.{Noticed}
 use Rattle.ssh_link.specs.declared.notice.Notice.TheVariants.{Channel}
 use Rattle.ssh_auth.specs.Plan.{Tell}
-use Rattle.ssh_session.specs.Rows.{data_notice}
+use Rattle.ssh_rules.specs.Rows.{data_notice}
 use Rattle.ssh_session.specs.Serve.{Serves}
 use Rattle.ssh_session.proofs.Serving.{starved}
 use Rattle.ssh_session.proofs.session.Session.note_data.Goals as goal

@@ -1,6 +1,6 @@
 use Rattle.std.proofs.Common.{sym, ◌∙◌}
-use Rattle.ssh_session.specs.Rows.{turns_first}
-use Rattle.ssh_session.specs.Types.{unsupported, unknown}
+use Rattle.ssh_rules.specs.Rows.{turns_first}
+use Rattle.ssh_rules.specs.Types.{unsupported, unknown}
 use Rattle.ssh_session.proofs.Serving.{turned}
 use Rattle.ssh_channels.specs.Lines.{next_number}
 use Rattle.ssh_session.proofs.session.Session.open.Goals as goal

@@ -2,8 +2,8 @@ use Rattle.std.proofs.Common.{◌≡◌, ◌∙◌, refl, sym, subst, Some, None
 use Rattle.ssh_link.specs.declared.outcome.Refusal.TheVariants.{NumbersFull}
 use Rattle.ssh_channels.specs.Calls.{Open_next, Stage}
 use Rattle.ssh_channels.specs.Numbers.{open_next}
-use Rattle.ssh_session.specs.Effect.{opens}
-use Rattle.ssh_session.specs.OwnOpens.{OwnOpen, open_frame}
+use Rattle.ssh_rules.specs.Effect.{opens}
+use Rattle.ssh_rules.specs.OwnOpens.{OwnOpen, open_frame}
 use Rattle.ssh_session.proofs.Effects.{refused}
 use Rattle.ssh_session.proofs.OwnOpens.{opens_short, opened_own}
 use Rattle.ssh_session.proofs.Refining.{called, next_same}

@@ -2,11 +2,11 @@ use Rattle.std.proofs.Common.{◌∷◌, sym, ◌∙◌, ap}
 use Rattle.ssh_link.specs.declared.notice.ChannelMsg.TheVariants as msg
 use Rattle.ssh_auth.specs.declared.question.Happening.TheVariants as what
 use Rattle.ssh_channels.specs.Lines.{peer_closes}
-use Rattle.ssh_session.specs.Acts.{acts, Turns}
-use Rattle.ssh_session.specs.Failure.{error_of_table}
-use Rattle.ssh_session.specs.Opens.{own}
-use Rattle.ssh_session.specs.Rows.{told}
-use Rattle.ssh_session.specs.World.{lined}
+use Rattle.ssh_rules.specs.Acts.{acts, Turns}
+use Rattle.ssh_rules.specs.Failure.{error_of_table}
+use Rattle.ssh_rules.specs.Opens.{own}
+use Rattle.ssh_rules.specs.Rows.{told}
+use Rattle.ssh_rules.specs.World.{lined}
 use Rattle.ssh_session.proofs.Rows.{nothing_on, all_on, not_closed}
 use Rattle.ssh_session.proofs.Serving.{serves_nothing, starved}
 use Rattle.ssh_session.proofs.session.Session.peer_close.Goals as goal

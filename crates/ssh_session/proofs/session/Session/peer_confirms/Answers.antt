@@ -4,10 +4,10 @@ use Rattle.ssh_link.specs.declared.notice.ChannelMsg.TheVariants as msg
 use Rattle.ssh_link.specs.declared.notice.Notice.TheVariants.{Ready}
 use Rattle.ssh_auth.specs.declared.question.Happening.TheVariants as what
 use Rattle.ssh_auth.specs.Plan.{Tell}
-use Rattle.ssh_session.specs.Acts.{acts}
-use Rattle.ssh_session.specs.Opens.{own}
-use Rattle.ssh_session.specs.Rows.{told}
-use Rattle.ssh_session.specs.World.{lined}
+use Rattle.ssh_rules.specs.Acts.{acts}
+use Rattle.ssh_rules.specs.Opens.{own}
+use Rattle.ssh_rules.specs.Rows.{told}
+use Rattle.ssh_rules.specs.World.{lined}
 use Rattle.ssh_channels.specs.Lines.{confirms}
 use Rattle.ssh_session.proofs.Opened.{confirmed_as}
 use Rattle.ssh_session.proofs.Rows.{waiting_same}

@@ -4,11 +4,11 @@ use Rattle.ssh_link.specs.declared.notice.Notice.TheVariants.{Channel}
 use Rattle.ssh_auth.specs.Plan.{Tell}
 use Rattle.ssh_channels.specs.declared.adjusted.Adjusted.TheVariants.{Dropped, Kept, Granted}
 use Rattle.ssh_channels.specs.Lines.{takes_in}
-use Rattle.ssh_session.specs.Acts.{acts, Adjusts_by}
-use Rattle.ssh_session.specs.Failure.{error_of_table}
-use Rattle.ssh_session.specs.Rows.{aims, called, data_notice}
+use Rattle.ssh_rules.specs.Acts.{acts, Adjusts_by}
+use Rattle.ssh_rules.specs.Failure.{error_of_table}
+use Rattle.ssh_rules.specs.Rows.{aims, called, data_notice}
 use Rattle.ssh_session.specs.Serve.{Serves}
-use Rattle.ssh_session.specs.World.{lined}
+use Rattle.ssh_rules.specs.World.{lined}
 use Rattle.ssh_session.proofs.Rows.{arrives}
 use Rattle.ssh_session.proofs.Serving.{serves_nothing, served_both, passed, passed_later, starved}
 use Rattle.ssh_session.proofs.session.Session.peer_data.Goals as goal

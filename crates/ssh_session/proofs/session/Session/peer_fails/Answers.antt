@@ -5,8 +5,8 @@ use Rattle.ssh_link.specs.declared.notice.Notice.TheVariants.{Channel}
 use Rattle.ssh_auth.specs.Plan.{Tell}
 use Rattle.ssh_channels.specs.Calls.{Fail_open}
 use Rattle.ssh_channels.specs.Lines.{fails}
-use Rattle.ssh_session.specs.Acts.{acts}
-use Rattle.ssh_session.specs.World.{lined}
+use Rattle.ssh_rules.specs.Acts.{acts}
+use Rattle.ssh_rules.specs.World.{lined}
 use Rattle.ssh_session.proofs.Refining.{called}
 use Rattle.ssh_session.proofs.Rows.{failure_by, open_waits_not, waiting_same, not_failed}
 use Rattle.ssh_session.proofs.Serving.{hears_nothing, serves_nothing, settled_by}

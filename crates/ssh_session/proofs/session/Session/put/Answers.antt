@@ -1,6 +1,6 @@
 use Rattle.std.proofs.Common.{Ok, Err, refl, sym, subst}
 use Rattle.ssh_auth.specs.Calls.{lent_call}
-use Rattle.ssh_session.specs.Heard.{Calls}
+use Rattle.ssh_rules.specs.Heard.{Calls}
 use Rattle.ssh_session.proofs.session.Session.put.Goals as goal
 
 pub returns-in-Ok : goal.returns-in-Ok

@@ -1,10 +1,10 @@
 use Rattle.std.proofs.Common.{◌∷◌, [], None, ap, refl, subst}
 use Rattle.ssh_link.specs.Frames.{Frame}
-use Rattle.ssh_session.specs.Acts.{acts, Turns}
-use Rattle.ssh_session.specs.Failure.{error_of_table}
-use Rattle.ssh_session.specs.Rows.{finishes}
+use Rattle.ssh_rules.specs.Acts.{acts, Turns}
+use Rattle.ssh_rules.specs.Failure.{error_of_table}
+use Rattle.ssh_rules.specs.Rows.{finishes}
 use Rattle.ssh_session.specs.Serve.{Refines}
-use Rattle.ssh_session.specs.World.{writes}
+use Rattle.ssh_rules.specs.World.{writes}
 use Rattle.ssh_session.proofs.Requests.{noted_as}
 use Rattle.ssh_session.proofs.Serving.{starved_quietly}
 use Rattle.ssh_session.proofs.session.Session.reply.Goals as goal

@@ -1,10 +1,10 @@
 use Rattle.std.proofs.Common.{◌∷◌, [], ◌∙◌, Some, None, ap, sym, subst, arith}
 use Rattle.std.specs.Option.{option_copied}
 use Rattle.ssh_link.specs.declared.outcome.Refusal.TheVariants.{TooLong}
-use Rattle.ssh_session.specs.Effect.{requests}
-use Rattle.ssh_session.specs.OwnRequests.{OwnRequest}
+use Rattle.ssh_rules.specs.Effect.{requests}
+use Rattle.ssh_rules.specs.OwnRequests.{OwnRequest}
 use Rattle.ssh_session.specs.Serve.{Refines}
-use Rattle.ssh_session.specs.World.{writes}
+use Rattle.ssh_rules.specs.World.{writes}
 use Rattle.ssh_session.proofs.Effects.{accepted, refused}
 use Rattle.ssh_session.proofs.Established.{short_request, long_request}
 use Rattle.ssh_session.proofs.session.Session.request.Goals as goal

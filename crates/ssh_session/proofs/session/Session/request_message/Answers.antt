@@ -1,10 +1,10 @@
 use Rattle.std.proofs.Common.{◌∙◌, inl, inr, refl, sym, subst, Ok}
-use Rattle.ssh_session.specs.declared.messages.Spoken.TheVariants.{Wants}
-use Rattle.ssh_session.specs.Messages.{request, request_on}
-use Rattle.ssh_session.specs.World.{is_there}
-use Rattle.ssh_session.specs.Spelling.{Spells}
-use Rattle.ssh_session.proofs.Reading.{misread}
-use Rattle.ssh_session.proofs.Requesting.{read_behind}
+use Rattle.ssh_rules.specs.declared.messages.Spoken.TheVariants.{Wants}
+use Rattle.ssh_rules.specs.Messages.{request, request_on}
+use Rattle.ssh_rules.specs.World.{is_there}
+use Rattle.ssh_rules.specs.Spelling.{Spells}
+use Rattle.ssh_rules.proofs.Misread.{misread}
+use Rattle.ssh_rules.proofs.Requesting.{read_behind}
 use Rattle.ssh_session.proofs.session.Session.request_message.Goals as goal
 
 pub returns-in_err-asked : goal.returns-in_err-asked

@@ -1,7 +1,7 @@
 use Rattle.std.proofs.Common.{◌∷◌, [], subst}
 use Rattle.ssh_channels.specs.Calls.{Stage}
 use Rattle.ssh_session.specs.Serve.{Refines}
-use Rattle.ssh_session.specs.World.{awaits, ends_by, writes}
+use Rattle.ssh_rules.specs.World.{awaits, ends_by, writes}
 use Rattle.ssh_session.proofs.Refining.{called}
 use Rattle.ssh_session.proofs.Unchanged.{made_room}
 use Rattle.ssh_session.proofs.session.Session.say.Goals as goal

@@ -1,5 +1,5 @@
 use Rattle.std.proofs.Common.{refl}
-use Rattle.ssh_session.specs.OwnMessages.{debug}
+use Rattle.ssh_rules.specs.OwnMessages.{debug}
 use Rattle.ssh_session.proofs.session.Session.say_debug.Goals as goal
 
 pub returns-clause-does : goal.returns-clause-does

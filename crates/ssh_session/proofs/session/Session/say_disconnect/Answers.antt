@@ -1,5 +1,5 @@
 use Rattle.std.proofs.Common.{refl}
-use Rattle.ssh_session.specs.OwnMessages.{disconnect}
+use Rattle.ssh_rules.specs.OwnMessages.{disconnect}
 use Rattle.ssh_session.proofs.session.Session.say_disconnect.Goals as goal
 
 pub returns-clause-does : goal.returns-clause-does

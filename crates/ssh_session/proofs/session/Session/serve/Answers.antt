@@ -1,14 +1,14 @@
 use Rattle.std.proofs.Common.{refl, Ok, Err}
 use Rattle.ssh_link.specs.declared.command.Command.TheVariants.{Answer}
 use Rattle.ssh_auth.specs.Plan.{Finish}
-use Rattle.ssh_session.specs.declared.error.Flow.{Flow}
-use Rattle.ssh_session.specs.declared.error.Flow.TheVariants.{Continue, Ended}
-use Rattle.ssh_session.specs.Acts.{acts}
-use Rattle.ssh_session.specs.Outcome.{Goes, Ends}
-use Rattle.ssh_session.specs.Run.{command_row}
-use Rattle.ssh_session.specs.Serve.{comes}
-use Rattle.ssh_session.specs.Ticks.{keepalive_acts, inactivity_acts}
-use Rattle.ssh_session.specs.World.{hears}
+use Rattle.ssh_rules.specs.declared.error.Flow.{Flow}
+use Rattle.ssh_rules.specs.declared.error.Flow.TheVariants.{Continue, Ended}
+use Rattle.ssh_rules.specs.Acts.{acts}
+use Rattle.ssh_rules.specs.Outcome.{Goes, Ends}
+use Rattle.ssh_rules.specs.Run.{command_row}
+use Rattle.ssh_rules.specs.Cause.{comes}
+use Rattle.ssh_rules.specs.Ticks.{keepalive_acts, inactivity_acts}
+use Rattle.ssh_rules.specs.World.{hears}
 use Rattle.ssh_session.proofs.Serving.{serves_nothing, completes}
 use Rattle.ssh_session.proofs.Stopping.{inactive_input}
 use Rattle.ssh_session.proofs.Serving.{goes_on, turned, passed}

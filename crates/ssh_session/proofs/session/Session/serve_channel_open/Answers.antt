@@ -3,9 +3,9 @@ use Rattle.ssh_wire.specs.declared.error.LayoutError.TheVariants.{Wire}
 use Rattle.ssh_wire.specs.declared.error.WireError.TheVariants.{NoMemory}
 use Rattle.ssh_wire.specs.Open.{MisfitsOpen}
 use Rattle.ssh_auth.specs.Plan.{Finish}
-use Rattle.ssh_session.specs.Outcome.{Goes}
-use Rattle.ssh_session.specs.Reading.{Open}
-use Rattle.ssh_session.specs.Rows.{row, owed}
+use Rattle.ssh_rules.specs.Outcome.{Goes}
+use Rattle.ssh_rules.specs.Reading.{Open}
+use Rattle.ssh_rules.specs.Rows.{row, owed}
 use Rattle.ssh_session.proofs.Rows.{unread_open, opened_by, finish}
 use Rattle.ssh_session.proofs.Serving.{passed, goes_on, completes}
 use Rattle.ssh_session.proofs.session.Session.serve_channel_open.Goals as goal

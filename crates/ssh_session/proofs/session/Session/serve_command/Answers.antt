@@ -3,13 +3,13 @@ use Rattle.ssh_link.specs.declared.link.TraceEntry.TheVariants.{Answered}
 use Rattle.ssh_link.specs.declared.outcome.CommandOutcome.{CommandOutcome}
 use Rattle.ssh_auth.specs.Plan.{Plan, Finish, Tell}
 use Rattle.ssh_session.specs.declared.apply.Done.{Done}
-use Rattle.ssh_session.specs.declared.error.Flow.{Flow}
-use Rattle.ssh_session.specs.declared.error.Flow.TheVariants.{Continue}
-use Rattle.ssh_session.specs.Effect.{effect}
-use Rattle.ssh_session.specs.Outcome.{Outcome, Goes}
-use Rattle.ssh_session.specs.Run.{command_row}
-use Rattle.ssh_session.specs.Serve.{comes}
-use Rattle.ssh_session.specs.World.{World}
+use Rattle.ssh_rules.specs.declared.error.Flow.{Flow}
+use Rattle.ssh_rules.specs.declared.error.Flow.TheVariants.{Continue}
+use Rattle.ssh_rules.specs.Effect.{effect}
+use Rattle.ssh_rules.specs.Outcome.{Outcome, Goes}
+use Rattle.ssh_rules.specs.Run.{command_row}
+use Rattle.ssh_rules.specs.Cause.{comes}
+use Rattle.ssh_rules.specs.World.{World}
 use Rattle.ssh_session.proofs.Commanding.{commanded, not_noticed, not_done}
 use Rattle.ssh_session.proofs.Serving.{settled, passed, given, not_given}
 use Rattle.ssh_session.proofs.session.Session.serve_command.Goals as goal

@@ -1,11 +1,11 @@
 use Rattle.std.proofs.Common.{Ok, Err, refl}
 use Rattle.ssh_auth.specs.Plan.{Finish}
-use Rattle.ssh_session.specs.declared.error.Flow.{Flow}
-use Rattle.ssh_session.specs.Messages.{message_layout}
-use Rattle.ssh_session.specs.Outcome.{Goes}
-use Rattle.ssh_session.specs.Reading.{Connection}
-use Rattle.ssh_session.specs.Rows.{row, spoken_acts}
-use Rattle.ssh_session.specs.Serve.{comes}
+use Rattle.ssh_rules.specs.declared.error.Flow.{Flow}
+use Rattle.ssh_rules.specs.Messages.{message_layout}
+use Rattle.ssh_rules.specs.Outcome.{Goes}
+use Rattle.ssh_rules.specs.Reading.{Connection}
+use Rattle.ssh_rules.specs.Rows.{row, spoken_acts}
+use Rattle.ssh_rules.specs.Cause.{comes}
 use Rattle.ssh_session.proofs.Reading.{unserved}
 use Rattle.ssh_session.proofs.Serving.{passed, goes_on, completes}
 use Rattle.ssh_session.proofs.session.Session.serve_connection_message.Goals as goal

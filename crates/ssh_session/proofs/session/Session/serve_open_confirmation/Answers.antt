@@ -1,8 +1,8 @@
 use Rattle.std.proofs.Common.{Err, refl}
 use Rattle.ssh_auth.specs.Plan.{Finish}
-use Rattle.ssh_session.specs.Outcome.{Goes}
-use Rattle.ssh_session.specs.Reading.{Agreed, Unfit}
-use Rattle.ssh_session.specs.Rows.{row, owed}
+use Rattle.ssh_rules.specs.Outcome.{Goes}
+use Rattle.ssh_rules.specs.Reading.{Agreed, Unfit}
+use Rattle.ssh_rules.specs.Rows.{row, owed}
 use Rattle.ssh_session.proofs.Reading.{unfit_confirmation, ended_confirmation, agreed_by, finish}
 use Rattle.ssh_session.proofs.Serving.{passed, unfit, goes_on, completes}
 use Rattle.ssh_session.proofs.session.Session.serve_open_confirmation.Goals as goal

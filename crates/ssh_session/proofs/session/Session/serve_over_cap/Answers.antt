@@ -1,12 +1,13 @@
 use Rattle.std.proofs.Common.{◌∷◌, [], ap, subst, refl}
 use Rattle.ssh_auth.specs.Plan.{Finish}
-use Rattle.ssh_session.specs.declared.error.Flow.{Flow}
-use Rattle.ssh_session.specs.Failure.{error_of_table, run_error_of}
-use Rattle.ssh_session.specs.Layout.{at_once, too_many_attempts}
-use Rattle.ssh_session.specs.Reading.{Over_cap}
-use Rattle.ssh_session.specs.Rows.{row}
-use Rattle.ssh_session.specs.Serve.{Refines, comes}
-use Rattle.ssh_session.specs.World.{writes}
+use Rattle.ssh_rules.specs.declared.error.Flow.{Flow}
+use Rattle.ssh_rules.specs.Failure.{error_of_table, run_error_of}
+use Rattle.ssh_rules.specs.Layout.{at_once, too_many_attempts}
+use Rattle.ssh_rules.specs.Reading.{Over_cap}
+use Rattle.ssh_rules.specs.Rows.{row}
+use Rattle.ssh_rules.specs.Cause.{comes}
+use Rattle.ssh_session.specs.Serve.{Refines}
+use Rattle.ssh_rules.specs.World.{writes}
 use Rattle.ssh_session.proofs.Serving.{starved_quietly}
 use Rattle.ssh_session.proofs.session.Session.serve_over_cap.Goals as goal
 

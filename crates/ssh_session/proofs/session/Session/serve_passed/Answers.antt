@@ -1,11 +1,11 @@
 use Rattle.std.proofs.Common.{drop, refl, subst}
 use Rattle.ssh_auth.specs.Plan.{Finish}
-use Rattle.ssh_session.specs.declared.error.Flow.TheVariants.{Continue, Ended}
-use Rattle.ssh_session.specs.Reading.{Says, Nothing, Disconnect, Over_cap}
-use Rattle.ssh_session.specs.Reading.{Service, Connection, said_of}
-use Rattle.ssh_session.specs.Rows.{row}
-use Rattle.ssh_session.specs.Serve.{comes}
-use Rattle.ssh_session.specs.World.{circumstances}
+use Rattle.ssh_rules.specs.declared.error.Flow.TheVariants.{Continue, Ended}
+use Rattle.ssh_rules.specs.Reading.{Says, Nothing, Disconnect, Over_cap}
+use Rattle.ssh_rules.specs.Reading.{Service, Connection, said_of}
+use Rattle.ssh_rules.specs.Rows.{row}
+use Rattle.ssh_rules.specs.Cause.{comes}
+use Rattle.ssh_rules.specs.World.{circumstances}
 use Rattle.ssh_session.proofs.Serving.{serves_nothing, quiet}
 use Rattle.ssh_session.proofs.session.Session.serve_passed.Goals as goal
 

@@ -1,13 +1,13 @@
 use Rattle.std.proofs.Common.{◌∷◌, [], Ok, Err, refl, subst}
 use Rattle.ssh_auth.specs.Plan.{Finish}
-use Rattle.ssh_session.specs.declared.error.Flow.{Flow}
-use Rattle.ssh_session.specs.declared.error.Flow.TheVariants.{Continue}
-use Rattle.ssh_session.specs.declared.exchange.Passage.TheVariants as passage
-use Rattle.ssh_session.specs.Acts.{Exchanges, Stepping, acts}
-use Rattle.ssh_session.specs.Outcome.{Goes}
-use Rattle.ssh_session.specs.Rows.{exchange_acts, row}
-use Rattle.ssh_session.specs.Run.{OwesPassed}
-use Rattle.ssh_session.specs.Serve.{comes}
+use Rattle.ssh_rules.specs.declared.error.Flow.{Flow}
+use Rattle.ssh_rules.specs.declared.error.Flow.TheVariants.{Continue}
+use Rattle.ssh_rules.specs.declared.exchange.Passage.TheVariants as passage
+use Rattle.ssh_rules.specs.Acts.{Exchanges, Stepping, acts}
+use Rattle.ssh_rules.specs.Outcome.{Goes}
+use Rattle.ssh_rules.specs.Rows.{exchange_acts, row}
+use Rattle.ssh_rules.specs.Run.{OwesPassed}
+use Rattle.ssh_rules.specs.Cause.{comes}
 use Rattle.ssh_session.proofs.Serving.{completes, goes_on, passed}
 use Rattle.ssh_session.proofs.Stopping.{barred_input, late_input}
 use Rattle.ssh_session.proofs.Serving.{served_both}

@@ -3,9 +3,9 @@ use Rattle.std.specs.Prelude.{bytes_eq, codes}
 use Rattle.ssh_auth.specs.declared.call.Call.TheVariants.{AuthenticationBanner}
 use Rattle.ssh_auth.specs.declared.question.Question.TheVariants.{Banner}
 use Rattle.ssh_auth.specs.Plan.{Plan, Finish, Ask}
-use Rattle.ssh_session.specs.Acts.{acts}
-use Rattle.ssh_session.specs.Outcome.{Outcome, Goes}
-use Rattle.ssh_session.specs.Rows.{greets}
+use Rattle.ssh_rules.specs.Acts.{acts}
+use Rattle.ssh_rules.specs.Outcome.{Outcome, Goes}
+use Rattle.ssh_rules.specs.Rows.{greets}
 use Rattle.ssh_session.proofs.Serving.{serves_nothing, served_both, asked, asked_in_vain, completes}
 use Rattle.ssh_session.proofs.Serving.{turned}
 use Rattle.ssh_session.proofs.session.Session.serve_service.Goals as goal

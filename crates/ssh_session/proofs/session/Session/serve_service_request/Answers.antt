@@ -1,11 +1,11 @@
 use Rattle.std.proofs.Common.{Ok, Err, inl, inr, refl}
 use Rattle.ssh_auth.specs.Plan.{Plan, Finish}
-use Rattle.ssh_session.specs.declared.error.Flow.{Flow}
-use Rattle.ssh_session.specs.Outcome.{Outcome, Goes}
-use Rattle.ssh_session.specs.Reading.{Unfit}
-use Rattle.ssh_session.specs.Rows.{row, service_row}
-use Rattle.ssh_session.specs.Serve.{comes}
-use Rattle.ssh_session.specs.World.{World}
+use Rattle.ssh_rules.specs.declared.error.Flow.{Flow}
+use Rattle.ssh_rules.specs.Outcome.{Outcome, Goes}
+use Rattle.ssh_rules.specs.Reading.{Unfit}
+use Rattle.ssh_rules.specs.Rows.{row, service_row}
+use Rattle.ssh_rules.specs.Cause.{comes}
+use Rattle.ssh_rules.specs.World.{World}
 use Rattle.ssh_session.proofs.Serving.{passed, unfit, goes_on_plan}
 use Rattle.ssh_session.proofs.session.Session.serve_service_request.Goals as goal
 

@@ -1,10 +1,10 @@
 use Rattle.std.proofs.Common.{[], false, refl}
 use Rattle.ssh_channels.specs.Lines.{wants}
-use Rattle.ssh_session.specs.Acts.{acts}
-use Rattle.ssh_session.specs.World.{lined}
-use Rattle.ssh_session.specs.declared.messages.Spoken.TheVariants.{AsksUnknown}
-use Rattle.ssh_session.specs.declared.messages.Spoken.TheVariants.{AsksGloballyUnknown}
-use Rattle.ssh_session.specs.Rows.{spoken_acts}
+use Rattle.ssh_rules.specs.Acts.{acts}
+use Rattle.ssh_rules.specs.World.{lined}
+use Rattle.ssh_rules.specs.declared.messages.Spoken.TheVariants.{AsksUnknown}
+use Rattle.ssh_rules.specs.declared.messages.Spoken.TheVariants.{AsksGloballyUnknown}
+use Rattle.ssh_rules.specs.Rows.{spoken_acts}
 use Rattle.ssh_session.proofs.Serving.{serves_nothing, turned, hears_nothing}
 use Rattle.ssh_session.proofs.session.Session.serve_spoken.Goals as goal
 

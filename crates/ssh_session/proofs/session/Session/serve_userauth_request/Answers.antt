@@ -1,12 +1,12 @@
 use Rattle.std.proofs.Common.{◌∙◌, sym, refl, drop, Ok, Err}
 use Rattle.ssh_auth.specs.Plan.{Plan, Finish}
-use Rattle.ssh_session.specs.declared.error.Flow.{Flow}
-use Rattle.ssh_session.specs.declared.state.EncryptedState.TheVariants.{WaitingAuthRequest}
-use Rattle.ssh_session.specs.Outcome.{Outcome, Goes}
-use Rattle.ssh_session.specs.Reading.{Request}
-use Rattle.ssh_session.specs.Rows.{request_row}
-use Rattle.ssh_session.specs.Serve.{comes}
-use Rattle.ssh_session.specs.World.{World, waits_for}
+use Rattle.ssh_rules.specs.declared.error.Flow.{Flow}
+use Rattle.ssh_rules.specs.declared.state.EncryptedState.TheVariants.{WaitingAuthRequest}
+use Rattle.ssh_rules.specs.Outcome.{Outcome, Goes}
+use Rattle.ssh_rules.specs.Reading.{Request}
+use Rattle.ssh_rules.specs.Rows.{request_row}
+use Rattle.ssh_rules.specs.Cause.{comes}
+use Rattle.ssh_rules.specs.World.{World, waits_for}
 use Rattle.ssh_session.proofs.Requests.{request_answered, request_unanswered, asked_again}
 use Rattle.ssh_session.proofs.Serving.{passed, goes_on_plan}
 use Rattle.ssh_session.proofs.session.Session.serve_userauth_request.Goals as goal

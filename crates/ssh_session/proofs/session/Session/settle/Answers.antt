@@ -1,8 +1,8 @@
 use Rattle.std.proofs.Common.{map}
 use Rattle.std.specs.Prelude.{option_to_list}
 use Rattle.ssh_link.specs.declared.link.TraceEntry.TheVariants.{Noticed}
-use Rattle.ssh_session.specs.Acts.{acts, tell_all}
-use Rattle.ssh_session.specs.World.{settled_first}
+use Rattle.ssh_rules.specs.Acts.{acts, tell_all}
+use Rattle.ssh_rules.specs.World.{settled_first}
 use Rattle.ssh_session.proofs.Rows.{noted_as}
 use Rattle.ssh_session.proofs.Serving.{settled_by}
 use Rattle.ssh_session.proofs.session.Session.settle.Goals as goal

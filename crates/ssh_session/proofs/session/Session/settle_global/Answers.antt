@@ -1,8 +1,8 @@
 use Rattle.std.proofs.Common.{◌∙◌, ◌∷◌, [], ap, cond, false, subst, sym}
-use Rattle.ssh_session.specs.Layout.{at_once}
-use Rattle.ssh_session.specs.Rows.{global_reply}
+use Rattle.ssh_rules.specs.Layout.{at_once}
+use Rattle.ssh_rules.specs.Rows.{global_reply}
 use Rattle.ssh_session.specs.Serve.{Refines}
-use Rattle.ssh_session.specs.World.{wants_global, writes}
+use Rattle.ssh_rules.specs.World.{wants_global, writes}
 use Rattle.ssh_session.proofs.session.Session.settle_global.Goals as goal
 
 pub returns-clause-world : goal.returns-clause-world

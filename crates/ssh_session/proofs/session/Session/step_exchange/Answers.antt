@@ -3,9 +3,9 @@ use Rattle.ssh_link.specs.declared.kex.KexCall.TheVariants.{Stepped}
 use Rattle.ssh_link.specs.declared.kex.KexStep.{KexStep}
 use Rattle.ssh_auth.specs.Plan.{Plan, Ask}
 use Rattle.ssh_auth.specs.declared.question.Question.TheVariants.{Steps}
-use Rattle.ssh_session.specs.Acts.{Stepping, acts, exchanged, frames_given, gives, moved}
-use Rattle.ssh_session.specs.Failure.{error_of_table}
-use Rattle.ssh_session.specs.Outcome.{Outcome}
+use Rattle.ssh_rules.specs.Acts.{Stepping, acts, exchanged, frames_given, gives, moved}
+use Rattle.ssh_rules.specs.Failure.{error_of_table}
+use Rattle.ssh_rules.specs.Outcome.{Outcome}
 use Rattle.ssh_session.proofs.Serving.{exchange_asked, exchange_failed, passed, served_both}
 use Rattle.ssh_session.proofs.Serving.{serves_nothing, starved}
 use Rattle.ssh_session.proofs.session.Session.step_exchange.Goals as goal

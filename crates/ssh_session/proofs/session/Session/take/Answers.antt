@@ -1,9 +1,9 @@
 use Rattle.std.proofs.Common.{◌≡◌, ◌∙◌, ap, refl, sym, subst}
 use Rattle.ssh_auth.specs.Plan.{Finish, after}
-use Rattle.ssh_session.specs.Run.{finish_input}
-use Rattle.ssh_session.specs.Serve.{comes}
+use Rattle.ssh_rules.specs.Run.{finish_input}
+use Rattle.ssh_rules.specs.Cause.{comes}
 use Rattle.ssh_session.proofs.Serving.{passed}
-use Rattle.ssh_session.proofs.Settled.{kind_stays_set}
+use Rattle.ssh_rules.proofs.Settled.{kind_stays_set}
 use Rattle.ssh_session.proofs.Finishing.{unfinished, finished}
 use Rattle.ssh_session.proofs.session.Session.take.Goals as goal
 

@@ -2,9 +2,9 @@ use Rattle.std.proofs.Common.{map, refl, sym, ◌∙◌, inl, inr}
 use Rattle.std.proofs.lemmas.Result.{err_from_is_err_and}
 use Rattle.ssh_link.specs.declared.link.TraceEntry.TheVariants.{Noticed}
 use Rattle.ssh_auth.specs.Plan.{Finish}
-use Rattle.ssh_session.specs.Acts.{tell_all}
-use Rattle.ssh_session.specs.Outcome.{Goes}
-use Rattle.ssh_session.specs.Serve.{comes}
+use Rattle.ssh_rules.specs.Acts.{tell_all}
+use Rattle.ssh_rules.specs.Outcome.{Goes}
+use Rattle.ssh_rules.specs.Cause.{comes}
 use Rattle.ssh_session.proofs.Serving.{passed, served_both}
 use Rattle.ssh_session.proofs.session.Session.take_behind.Goals as goal
 

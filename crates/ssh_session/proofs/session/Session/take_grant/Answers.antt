@@ -3,7 +3,8 @@ use Rattle.ssh_channels.specs.Calls.{Grant, grant}
 use Rattle.ssh_channels.specs.Calls as calls
 use Rattle.ssh_channels.specs.Does.{credit_after}
 use Rattle.ssh_channels.specs.Lines.{find}
-use Rattle.ssh_session.proofs.Refining.{called, credit_same, on_ok, if_ok}
+use Rattle.ssh_rules.proofs.Results.{on_ok, if_ok}
+use Rattle.ssh_session.proofs.Refining.{called, credit_same}
 use Rattle.ssh_session.proofs.session.Session.take_grant.Goals as goal
 
 pub returns-clause-credit : goal.returns-clause-credit

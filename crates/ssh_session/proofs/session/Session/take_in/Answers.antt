@@ -2,7 +2,8 @@ use Rattle.std.proofs.Common.{◌≡◌, ◌∙◌, length, ap}
 use Rattle.ssh_channels.specs.Calls.{adjust, adjusting_at}
 use Rattle.ssh_channels.specs.Does.{coming_of}
 use Rattle.ssh_channels.specs.Lines.{find}
-use Rattle.ssh_session.proofs.Refining.{taken_in, coming_same, on_ok, if_ok}
+use Rattle.ssh_rules.proofs.Results.{on_ok, if_ok}
+use Rattle.ssh_session.proofs.Refining.{taken_in, coming_same}
 use Rattle.ssh_session.proofs.session.Session.take_in.Goals as goal
 
 pub returns-clause-coming : goal.returns-clause-coming

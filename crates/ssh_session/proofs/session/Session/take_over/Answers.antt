@@ -1,4 +1,4 @@
-use Rattle.ssh_session.specs.Run.{Owes}
+use Rattle.ssh_rules.specs.Run.{Owes}
 use Rattle.ssh_session.proofs.Stepping.{noted, unchanged_by}
 use Rattle.ssh_session.proofs.session.Session.take_over.Goals as goal
 

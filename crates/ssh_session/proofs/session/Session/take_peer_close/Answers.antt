@@ -2,8 +2,9 @@ use Rattle.std.proofs.Common.{◌≡◌, ◌∙◌}
 use Rattle.ssh_channels.specs.Calls.{Peer_close, peer_close}
 use Rattle.ssh_channels.specs.Line.{is_established}
 use Rattle.ssh_channels.specs.Table.{has}
-use Rattle.ssh_session.specs.World.{is_there}
-use Rattle.ssh_session.proofs.Refining.{called, there_same, on_ok, if_ok}
+use Rattle.ssh_rules.specs.World.{is_there}
+use Rattle.ssh_rules.proofs.Results.{on_ok, if_ok}
+use Rattle.ssh_session.proofs.Refining.{called, there_same}
 use Rattle.ssh_session.proofs.session.Session.take_peer_close.Goals as goal
 
 pub returns-clause-there : goal.returns-clause-there

@@ -2,7 +2,7 @@ use Rattle.std.proofs.Common.{◌∙◌, sym, subst}
 use Rattle.ssh_channels.specs.Calls.{Byte}
 use Rattle.ssh_channels.specs.Lines.{says}
 use Rattle.ssh_session.specs.Serve.{Refines}
-use Rattle.ssh_session.specs.World.{lined}
+use Rattle.ssh_rules.specs.World.{lined}
 use Rattle.ssh_session.proofs.Established.{replied, unreplied}
 use Rattle.ssh_session.proofs.Refining.{called}
 use Rattle.ssh_session.proofs.session.Session.take_reply.Goals as goal

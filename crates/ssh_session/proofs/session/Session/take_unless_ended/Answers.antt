@@ -1,6 +1,6 @@
 use Rattle.std.proofs.Common.{sym, ◌∙◌, subst, refl}
 use Rattle.ssh_session.specs.Between.{OwesUnlessEnded}
-use Rattle.ssh_session.specs.Run.{hand_on, is_over}
+use Rattle.ssh_rules.specs.Run.{hand_on, is_over}
 use Rattle.ssh_session.proofs.session.Session.take_unless_ended.Goals as goal
 
 pub returns-then-self-clause-does : goal.returns-then-self-clause-does

@@ -3,7 +3,7 @@ use Rattle.ssh_link.specs.declared.link.TraceEntry.TheVariants.{Noticed}
 use Rattle.ssh_link.specs.declared.notice.Notice.TheVariants.{Channel}
 use Rattle.ssh_auth.specs.declared.question.Lent.TheVariants.{Happened}
 use Rattle.ssh_auth.specs.Plan.{Tell}
-use Rattle.ssh_session.specs.Acts.{acts, Calls}
+use Rattle.ssh_rules.specs.Acts.{acts, Calls}
 use Rattle.ssh_session.proofs.Serving.{served_both, passed}
 use Rattle.ssh_session.proofs.session.Session.tell.Goals as goal
 

@@ -2,8 +2,8 @@ use Rattle.std.proofs.Common.{◌∷◌}
 use Rattle.ssh_link.specs.declared.link.TraceEntry.TheVariants.{Noticed}
 use Rattle.ssh_link.specs.declared.notice.Notice.TheVariants.{Channel}
 use Rattle.ssh_auth.specs.Plan.{Tell}
-use Rattle.ssh_session.specs.Acts.{acts}
-use Rattle.ssh_session.specs.Rows.{data_notice, called}
+use Rattle.ssh_rules.specs.Acts.{acts}
+use Rattle.ssh_rules.specs.Rows.{data_notice, called}
 use Rattle.ssh_session.proofs.Serving.{served_both, passed}
 use Rattle.ssh_session.proofs.session.Session.tell_data.Goals as goal
 

@@ -1,6 +1,6 @@
 use Rattle.std.proofs.Common.{sym, ◌∙◌}
-use Rattle.ssh_session.specs.Acts.{acts}
-use Rattle.ssh_session.specs.Rows.{told}
+use Rattle.ssh_rules.specs.Acts.{acts}
+use Rattle.ssh_rules.specs.Rows.{told}
 use Rattle.ssh_session.proofs.Rows.{nothing_on, all_on}
 use Rattle.ssh_session.proofs.Serving.{serves_nothing}
 use Rattle.ssh_session.proofs.session.Session.tell_on.Goals as goal

@@ -1,7 +1,7 @@
 use Rattle.std.proofs.Common.{◌∙◌, refl, sym, ap, Err}
 use Rattle.ssh_channels.specs.Calls.{Draw, Drop_pending, Stage}
-use Rattle.ssh_session.specs.Rows.{turns_first, turns_away}
-use Rattle.ssh_session.specs.Types.{type_refusal}
+use Rattle.ssh_rules.specs.Rows.{turns_first, turns_away}
+use Rattle.ssh_rules.specs.Types.{type_refusal}
 use Rattle.ssh_session.proofs.Opened.{went_away}
 use Rattle.ssh_session.proofs.Refining.{called, next_same}
 use Rattle.ssh_session.proofs.Rows.{undrawn, not_inconsistent}

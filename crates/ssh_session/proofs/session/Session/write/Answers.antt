@@ -1,6 +1,7 @@
 use Rattle.std.proofs.Common.{◌≡◌}
 use Rattle.ssh_channels.specs.Calls.{Stage, stage}
-use Rattle.ssh_session.proofs.Refining.{called, on_ok}
+use Rattle.ssh_rules.proofs.Results.{on_ok}
+use Rattle.ssh_session.proofs.Refining.{called}
 use Rattle.ssh_session.proofs.session.Session.write.Goals as goal
 
 pub returns-clause-world : goal.returns-clause-world

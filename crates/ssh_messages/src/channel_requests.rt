@@ -1,0 +1,341 @@
+// Requests of the peer on a channel, as they are read (RFC 4254 section 6).
+ghost use Rattle.std.specs.Prelude.{◌≡◌, true, Some, IfOk, IfErr};
+ghost use Rattle.ssh_wire.specs.declared.error.WireError.TheVariants.{NoMemory};
+ghost use Rattle.ssh_link.specs.declared.notice.ChannelMsg.TheVariants as msg;
+ghost use Rattle.ssh_auth.specs.declared.question.Happening.TheVariants as what;
+ghost use Rattle.ssh_rules.specs.Spelling.{IsRead};
+ghost use Rattle.ssh_rules.specs.ChannelRequests.{asked_by, request_named, signal_named};
+ghost use Rattle.ssh_rules.specs.ChannelRequests.{to_the_end, terminal_asked, asks_so};
+ghost use Rattle.ssh_rules.specs.ChannelRequests as known;
+
+use crate::message::{
+    Terminal, read_data, read_end, read_size, read_terminal, read_text, read_texts, read_x11,
+};
+use crate::terminal::read_modes;
+use bytes::Bytes;
+use ssh_auth::Happening;
+use ssh_link::ChannelMsg;
+use ssh_rules::Spoken;
+use ssh_wire::{ChannelId, Modes, Sig, Text, WireError};
+use std::alloc::Global;
+
+/// A request as far as all are alike: its channel, and whether a reply is wanted.
+#[derive(Clone, Copy)]
+pub struct Asking {
+    /// Where memory is taken.
+    pub alloc: Global,
+    /// This side's number of the channel.
+    pub channel: ChannelId,
+    /// Whether a reply is wanted.
+    pub wanted: bool,
+}
+
+/// What the user of the channel and the handler are told of a request. A notice says that a reply
+/// is wanted, whether one is or not.
+type Told = (ChannelMsg, Happening);
+
+/// The request says what is told of it, where there was memory for that.
+fn asks(asking: Asking, told: Result<Told, WireError>) -> Result<Spoken, WireError>
+    ensures { result ≡ asks_so asking.channel asking.wanted told }
+{
+    match told {
+        Ok((message, happening)) => Ok(Spoken::Asks(
+            asking.channel,
+            asking.wanted,
+            message,
+            happening,
+        )),
+        Err(e) => Err(e),
+    }
+}
+
+/// A terminal is asked for (section 6.2).
+fn terminal_told(alloc: Global, terminal: Terminal<'_>, modes: Modes) -> Result<Told, WireError>
+    ensures ok { IfOk result (λ told. told ≡ (
+      msg.RequestPty true terminal.entry.term.now terminal.entry.col_width
+          terminal.entry.row_height terminal.entry.pix_width terminal.entry.pix_height modes,
+      what.PtyRequest terminal.entry.term.now terminal.entry.col_width terminal.entry.row_height
+          terminal.entry.pix_width terminal.entry.pix_height modes,
+    )) }
+    ensures memory { IfErr result (λ e. e ≡ NoMemory) }
+{
+    let term = Text::new(alloc, terminal.term)?;
+    let message = ChannelMsg::RequestPty {
+        want_reply: true,
+        term: term.copy()?,
+        col_width: terminal.col_width,
+        row_height: terminal.row_height,
+        pix_width: terminal.pix_width,
+        pix_height: terminal.pix_height,
+        terminal_modes: modes.copy()?,
+    };
+    let happening = Happening::PtyRequest {
+        term,
+        col_width: terminal.col_width,
+        row_height: terminal.row_height,
+        pix_width: terminal.pix_width,
+        pix_height: terminal.pix_height,
+        modes,
+    };
+    Ok((message, happening))
+}
+
+/// X11 is to be forwarded (section 6.3.1).
+fn x11_told(
+    alloc: Global,
+    single: bool,
+    protocol: &str,
+    cookie: &str,
+    screen: u32,
+) -> Result<Told, WireError>
+    ensures ok { IfOk result (λ told. told ≡ (
+      msg.RequestX11 true single protocol.now cookie.now screen,
+      what.X11Request single protocol.now cookie.now screen,
+    )) }
+    ensures memory { IfErr result (λ e. e ≡ NoMemory) }
+{
+    let x11_auth_protocol = Text::new(alloc, protocol)?;
+    let x11_auth_cookie = Text::new(alloc, cookie)?;
+    let message = ChannelMsg::RequestX11 {
+        want_reply: true,
+        single_connection: single,
+        x11_authentication_protocol: x11_auth_protocol.copy()?,
+        x11_authentication_cookie: x11_auth_cookie.copy()?,
+        x11_screen_number: screen,
+    };
+    let happening = Happening::X11Request {
+        single_connection: single,
+        x11_auth_protocol,
+        x11_auth_cookie,
+        x11_screen_number: screen,
+    };
+    Ok((message, happening))
+}
+
+/// A variable of the environment is set (section 6.4).
+fn environment_told(alloc: Global, name: &str, value: &str) -> Result<Told, WireError>
+    ensures ok { IfOk result (λ told. told ≡ (
+      msg.SetEnv true name.now value.now,
+      what.EnvRequest name.now value.now,
+    )) }
+    ensures memory { IfErr result (λ e. e ≡ NoMemory) }
+{
+    let variable_name = Text::new(alloc, name)?;
+    let variable_value = Text::new(alloc, value)?;
+    let message = ChannelMsg::SetEnv {
+        want_reply: true,
+        variable_name: variable_name.copy()?,
+        variable_value: variable_value.copy()?,
+    };
+    let happening = Happening::EnvRequest {
+        variable_name,
+        variable_value,
+    };
+    Ok((message, happening))
+}
+
+/// A program is to be run (section 6.5).
+fn exec_told(alloc: Global, command: &[u8]) -> Result<Told, WireError>
+    ensures ok { IfOk result (λ told. told
+        ≡ (msg.Exec true command.now, what.ExecRequest command.now)) }
+    ensures memory { IfErr result (λ e. e ≡ NoMemory) }
+{
+    let bytes = Bytes::copy_from_slice(alloc, command)?;
+    let message = ChannelMsg::Exec {
+        want_reply: true,
+        command: bytes.clone()?,
+    };
+    Ok((message, Happening::ExecRequest { bytes }))
+}
+
+/// A subsystem is asked for (section 6.5).
+fn subsystem_told(alloc: Global, name: &str) -> Result<Told, WireError>
+    ensures ok { IfOk result (λ told. told
+        ≡ (msg.RequestSubsystem true name.now, what.SubsystemRequest name.now)) }
+    ensures memory { IfErr result (λ e. e ≡ NoMemory) }
+{
+    let name = Text::new(alloc, name)?;
+    let message = ChannelMsg::RequestSubsystem {
+        want_reply: true,
+        name: name.copy()?,
+    };
+    Ok((message, Happening::SubsystemRequest { name }))
+}
+
+/// The program is sent a signal (section 6.9).
+fn signal_told(alloc: Global, name: &str) -> Result<Told, WireError>
+    ensures ok { IfOk result (λ told. told
+        ≡ (msg.Signal (signal_named name.now), what.Signal (signal_named name.now))) }
+    ensures memory { IfErr result (λ e. e ≡ NoMemory) }
+{
+    let signal = Sig::from_name(alloc, name)?;
+    let message = ChannelMsg::Signal {
+        signal: signal.copy()?,
+    };
+    Ok((message, Happening::Signal { signal }))
+}
+
+fn ask_terminal(asking: Asking, rest: &[u8]) -> Result<Spoken, WireError>
+    ensures { IsRead (asked_by (Some known.terminal) asking.channel asking.wanted) rest.now result }
+{
+    match read_terminal(rest) {
+        Ok((terminal, after)) => match read_modes(asking.alloc, terminal.modes) {
+            Ok(modes) => ask_with_modes(asking, terminal, modes, after),
+            Err(e) => Err(e),
+        },
+        Err(e) => Err(e),
+    }
+}
+
+/// Modes that are none are found before the end of the message is.
+fn ask_with_modes(
+    asking: Asking,
+    terminal: Terminal<'_>,
+    modes: Option<Modes>,
+    after: &[u8],
+) -> Result<Spoken, WireError>
+    ensures { IsRead (to_the_end (terminal_asked asking.channel asking.wanted
+        terminal.entry.term.now terminal.entry.col_width terminal.entry.row_height
+        terminal.entry.pix_width terminal.entry.pix_height modes)) after.now result }
+{
+    match modes {
+        Some(modes) => ask_at_end(asking, terminal, modes, after),
+        None => Ok(Spoken::Inconsistent),
+    }
+}
+
+fn ask_at_end(
+    asking: Asking,
+    terminal: Terminal<'_>,
+    modes: Modes,
+    after: &[u8],
+) -> Result<Spoken, WireError>
+    ensures { IsRead (to_the_end (terminal_asked asking.channel asking.wanted
+        terminal.entry.term.now terminal.entry.col_width terminal.entry.row_height
+        terminal.entry.pix_width terminal.entry.pix_height (Some modes))) after.now result }
+{
+    match read_end(after) {
+        Ok(()) => asks(asking, terminal_told(asking.alloc, terminal, modes)),
+        Err(e) => {
+            drop(modes);
+            Err(e)
+        }
+    }
+}
+
+fn ask_x11(asking: Asking, rest: &[u8]) -> Result<Spoken, WireError>
+    ensures { IsRead (asked_by (Some known.x11) asking.channel asking.wanted) rest.now result }
+{
+    match read_x11(rest) {
+        Ok((single, protocol, cookie, screen)) => {
+            asks(
+                asking,
+                x11_told(asking.alloc, single, protocol, cookie, screen),
+            )
+        }
+        Err(e) => Err(e),
+    }
+}
+
+fn ask_environment(asking: Asking, rest: &[u8]) -> Result<Spoken, WireError>
+    ensures { IsRead (asked_by (Some known.environment) asking.channel asking.wanted) rest.now
+        result }
+{
+    match read_texts(rest) {
+        Ok((name, value)) => asks(asking, environment_told(asking.alloc, name, value)),
+        Err(e) => Err(e),
+    }
+}
+
+fn ask_shell(asking: Asking, rest: &[u8]) -> Result<Spoken, WireError>
+    ensures { IsRead (asked_by (Some known.shell) asking.channel asking.wanted) rest.now result }
+{
+    let message = ChannelMsg::RequestShell { want_reply: true };
+    match read_end(rest) {
+        Ok(()) => asks(asking, Ok((message, Happening::ShellRequest))),
+        Err(e) => {
+            drop(message);
+            Err(e)
+        }
+    }
+}
+
+fn ask_exec(asking: Asking, rest: &[u8]) -> Result<Spoken, WireError>
+    ensures { IsRead (asked_by (Some known.exec) asking.channel asking.wanted) rest.now result }
+{
+    match read_data(rest) {
+        Ok(command) => asks(asking, exec_told(asking.alloc, command)),
+        Err(e) => Err(e),
+    }
+}
+
+fn ask_subsystem(asking: Asking, rest: &[u8]) -> Result<Spoken, WireError>
+    ensures { IsRead (asked_by (Some known.subsystem) asking.channel asking.wanted) rest.now
+        result }
+{
+    match read_text(rest) {
+        Ok(name) => asks(asking, subsystem_told(asking.alloc, name)),
+        Err(e) => Err(e),
+    }
+}
+
+fn ask_window_change(asking: Asking, rest: &[u8]) -> Result<Spoken, WireError>
+    ensures { IsRead (asked_by (Some known.window_change) asking.channel asking.wanted) rest.now
+        result }
+{
+    match read_size(rest) {
+        Ok((col_width, row_height, pix_width, pix_height)) => {
+            let message = ChannelMsg::WindowChange {
+                col_width,
+                row_height,
+                pix_width,
+                pix_height,
+            };
+            let happening = Happening::WindowChangeRequest {
+                col_width,
+                row_height,
+                pix_width,
+                pix_height,
+            };
+            asks(asking, Ok((message, happening)))
+        }
+        Err(e) => Err(e),
+    }
+}
+
+fn ask_signal(asking: Asking, rest: &[u8]) -> Result<Spoken, WireError>
+    ensures { IsRead (asked_by (Some known.signal) asking.channel asking.wanted) rest.now result }
+{
+    match read_text(rest) {
+        Ok(name) => asks(asking, signal_told(asking.alloc, name)),
+        Err(e) => Err(e),
+    }
+}
+
+fn ask_agent(asking: Asking, rest: &[u8]) -> Result<Spoken, WireError>
+    ensures { IsRead (asked_by (Some known.agent) asking.channel asking.wanted) rest.now result }
+{
+    match read_end(rest) {
+        Ok(()) => Ok(Spoken::AsksForAgent(asking.channel, asking.wanted)),
+        Err(e) => Err(e),
+    }
+}
+
+/// What a request of this name says: one line a request. Of one that is not known nothing is read.
+pub fn ask(asking: Asking, name: &str, rest: &[u8]) -> Result<Spoken, WireError>
+    ensures { IsRead (asked_by (request_named name.now) asking.channel asking.wanted) rest.now
+        result }
+{
+    match name {
+        "pty-req" => ask_terminal(asking, rest),
+        "x11-req" => ask_x11(asking, rest),
+        "env" => ask_environment(asking, rest),
+        "shell" => ask_shell(asking, rest),
+        "exec" => ask_exec(asking, rest),
+        "subsystem" => ask_subsystem(asking, rest),
+        "window-change" => ask_window_change(asking, rest),
+        "signal" => ask_signal(asking, rest),
+        "auth-agent-req@openssh.com" => ask_agent(asking, rest),
+        _ => Ok(Spoken::AsksUnknown(asking.channel, asking.wanted)),
+    }
+}

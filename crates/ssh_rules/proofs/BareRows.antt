@@ -1,0 +1,234 @@
+-- Rows with which no data come make no room and take none (RFC 4254 section 5.2).
+use Rattle.std.proofs.Common.{◌≡◌, ◌==◌, ◌<◌, ◌-◌, ◌^◌, ℕ, List, [], ◌∷◌, Bool, true, false, cond}
+use Rattle.std.proofs.Common.{Option, Some, None, refl, arith}
+use Rattle.std.specs.Prelude.{min}
+use Rattle.ssh_wire.specs.declared.channel_id.ChannelId.{ChannelId}
+use Rattle.ssh_wire.specs.declared.open.OpenChannelMessage.{OpenChannelMessage}
+use Rattle.ssh_wire.specs.declared.open.ChannelOpenConfirmation.{ChannelOpenConfirmation}
+use Rattle.ssh_wire.specs.declared.open_failure.ChannelOpenFailure.{ChannelOpenFailure}
+use Rattle.ssh_wire.specs.Messages.{channel_success, channel_failure}
+use Rattle.ssh_link.specs.declared.notice.Notice.{Notice}
+use Rattle.ssh_channels.specs.Entry.{Entry}
+use Rattle.ssh_channels.specs.Lines.{find, wants, next_number, drawn, drops_pending}
+use Rattle.ssh_channels.specs.Sent.{is_opening}
+use Rattle.ssh_rules.specs.declared.messages.Spoken.{Spoken}
+use Rattle.ssh_rules.specs.declared.messages.Spoken.TheVariants as spoken
+use Rattle.ssh_rules.specs.declared.opens.Handling.{Handling}
+use Rattle.ssh_rules.specs.declared.opens.Handling.TheVariants.{Asks, Unsupported, Unknown}
+use Rattle.ssh_rules.specs.Acts.{Act}
+use Rattle.ssh_rules.specs.Layout.{at_once, too_many_attempts}
+use Rattle.ssh_rules.specs.Opens.{failure_frame}
+use Rattle.ssh_rules.specs.Reading.{Said, Disconnect, Over_cap, Open, Agreed, Connection, Unread}
+use Rattle.ssh_rules.specs.Reading.{Unfit, Without_packets}
+use Rattle.ssh_rules.specs.Rows.{owed, greeting, spoken_acts, on_entry, on_confirmed, aims}
+use Rattle.ssh_rules.specs.Rows.{failure_acts, confirmation_acts, open_acts, turns_first, notes}
+use Rattle.ssh_rules.specs.Rows.{reply_of, global_reply, bound_to}
+use Rattle.ssh_rules.specs.Types.{handling, unsupported, unknown}
+use Rattle.ssh_rules.specs.World.{World, lined, replies, settles_global, unless_ended, is_there}
+use Rattle.ssh_rules.specs.World.{is_waiting}
+use Rattle.ssh_rules.proofs.Apart.{either}
+use Rattle.ssh_rules.proofs.Carried.{IsBareSpoken, IsBareSaid}
+use Rattle.ssh_rules.proofs.Fitting.{KeepsRoom, AreBare}
+use Rattle.ssh_rules.proofs.Granting.{opens_on, written_room, grant_room, peer_close_room}
+use Rattle.ssh_rules.proofs.Granting.{wants_room, replies_room, confirmed_room, failed_room}
+use Rattle.ssh_rules.proofs.Measures.{AreSilent}
+use Rattle.ssh_rules.proofs.Roomed.{InRoom, writes_room, settles_room}
+
+-- ---- turns of the world
+
+-- a reply to a request
+reply_keeps : (channel : ℕ) (granted : Bool) →
+    KeepsRoom (lined (replies channel (reply_of granted)))
+reply_keeps channel true n window passed grew w h = (
+  h.0,
+  h.1,
+  replies_room n passed window grew channel channel_success.number w.channels.lines (λ e. refl)
+      h.2,
+)
+reply_keeps channel false n window passed grew w h = (
+  h.0,
+  h.1,
+  replies_room n passed window grew channel channel_failure.number w.channels.lines (λ e. refl)
+      h.2,
+)
+
+wants_keeps : (channel : ℕ) (wanted : Bool) → KeepsRoom (lined (wants channel wanted))
+wants_keeps channel wanted n window passed grew w h =
+    (h.0, h.1, wants_room n passed window grew channel wanted w.channels.lines h.2)
+
+settles_keeps : (payload : List ℕ) → KeepsRoom (settles_global payload)
+settles_keeps payload n window passed grew w h = settles_room n window passed grew payload w h
+
+-- .. where the connection was not ended
+ended_keeps : (by : World → World) → KeepsRoom by → KeepsRoom (unless_ended by)
+ended_keeps by keeps n window passed grew w h =
+    either (InRoom n window passed grew) w.disconnected w (by w) h
+    (keeps n window passed grew w h)
+
+-- frames of no channel
+pub plain_silent : (n : ℕ) (message : Option (List ℕ)) → AreSilent (opens_on n) (greeting message)
+plain_silent n None = (refl, tt)
+plain_silent n (Some message) = (refl, (refl, tt))
+
+-- the window that rooms are filled up to is a number of four bytes
+aimed : (b : Bool) (aim target : ℕ) → target < 2 ^ 32 →
+    cond b target (min aim (2 ^ 32 - 1)) < 2 ^ 32
+aimed true aim target h = h
+aimed false aim target h = omega arith
+
+pub aims_keeps : (aim : ℕ) → KeepsRoom (aims aim)
+aims_keeps aim n window passed grew w h =
+    (h.0, aimed (aim == 0) aim w.channels.target h.1, h.2)
+
+-- ---- rows with which no data come
+
+confirmed_bare : (confirmed : Bool) (owes : List Act) → AreBare owes →
+    AreBare (on_confirmed confirmed owes)
+confirmed_bare true owes h = h
+confirmed_bare false owes h = tt
+
+entry_bare : (e : Option Entry) (owes : Entry → List Act) →
+    ((e : Entry) → AreBare (owes e)) → AreBare (on_entry e owes)
+entry_bare None owes h = tt
+entry_bare (Some e) owes h = confirmed_bare e.confirmed (owes e) (h e)
+
+failure_bare : (there waiting : Bool) (channel : ChannelId) (why : ChannelOpenFailure) →
+    AreBare (failure_acts there waiting channel why)
+failure_bare there true channel why = (
+  λ n window passed grew w h. (
+    h.0,
+    h.1,
+    failed_room n passed window grew channel.0 w.channels.lines h.2,
+  ),
+  tt,
+)
+failure_bare true false channel why = tt
+failure_bare false false channel why = tt
+
+confirmation_bare : (waiting : Bool) (message : ChannelOpenConfirmation) →
+    AreBare (confirmation_acts waiting message)
+confirmation_bare true message = (
+  λ n window passed grew w h. (
+    h.0,
+    h.1,
+    confirmed_room n passed window grew message.recipient_channel message.sender_channel
+        message.maximum_packet_size message.initial_window_size w.channels.lines h.2,
+  ),
+  (refl, tt),
+)
+confirmation_bare false message = tt
+
+away_bare : (number : Option ℕ) (payload : List ℕ) → is_opening payload ≡ false →
+    AreBare (turns_first number payload)
+away_bare None payload unlike = tt
+away_bare (Some number) payload unlike = (
+  λ n window passed grew w h. writes_room n window passed grew (failure_frame number payload)
+      (lined (λ l. drops_pending number (drawn (Some number) l)) w) unlike h,
+  tt,
+)
+
+open_bare : (number : Option ℕ) (message : OpenChannelMessage) (does : Handling) →
+    AreBare (open_acts number message does)
+open_bare None message (Asks type) = tt
+open_bare (Some number) message (Asks type) = (λ n window passed grew w h. h, (tt, tt))
+open_bare number message Unsupported =
+    away_bare number (unsupported message.recipient_channel) refl
+open_bare number message Unknown = away_bare number (unknown message.recipient_channel) refl
+
+notes_bare : (told : Option Notice) → AreBare (notes told)
+notes_bare None = tt
+notes_bare (Some notice) = tt
+
+-- it brings no data
+abbrev pub IsNoData : Spoken → Type 0
+IsNoData (spoken.Data channel piece) = ⊥
+IsNoData _ = Unit {0}
+
+spoken_bare : (w : World) (said : Spoken) → IsBareSpoken said → IsNoData said →
+    AreBare (spoken_acts w said)
+spoken_bare w spoken.Nothing is none = tt
+spoken_bare w (spoken.Grant channel amount) is none =
+    entry_bare (find channel.0 w.channels.lines.entries) _
+    (λ e. (
+      λ n window passed grew v h. (
+        h.0,
+        h.1,
+        grant_room n passed window grew channel.0 amount v.channels.lines h.2,
+      ),
+      (refl, tt),
+    ))
+spoken_bare w (spoken.Data channel piece) is none = absurd none
+spoken_bare w (spoken.Tells channel message happening) is none =
+    entry_bare (find channel.0 w.channels.lines.entries) _ (λ e. (is, tt))
+spoken_bare w (spoken.Close channel) is none =
+    entry_bare (find channel.0 w.channels.lines.entries) _
+    (λ e. (
+      λ n window passed grew v h. (
+        h.0,
+        h.1,
+        peer_close_room n passed window grew channel.0 v.channels.lines h.2,
+      ),
+      (refl, tt),
+    ))
+spoken_bare w (spoken.Failed channel reason) is none =
+    failure_bare (is_there w channel.0) (is_waiting w channel.0) channel reason
+spoken_bare w (spoken.Wants channel wanted) is none = (wants_keeps channel.0 wanted, tt)
+spoken_bare w (spoken.Asks channel wanted message happening) is none =
+    (wants_keeps channel.0 wanted, (is, tt))
+spoken_bare w (spoken.AsksForAgent channel wanted) is none = (
+  wants_keeps channel.0 wanted,
+  (
+    λ granted. ended_keeps (lined (replies channel.0 (reply_of granted)))
+        (reply_keeps channel.0 granted),
+    tt,
+  ),
+)
+spoken_bare w (spoken.AsksUnknown channel wanted) is none =
+    (wants_keeps channel.0 wanted, (reply_keeps channel.0 false, tt))
+spoken_bare w (spoken.AsksToForward wanted address port) is none = (
+  λ n window passed grew v h. h,
+  (
+    λ granted bound. ended_keeps (settles_global (global_reply granted (bound_to port bound)))
+        (settles_keeps (global_reply granted (bound_to port bound))),
+    tt,
+  ),
+)
+spoken_bare w (spoken.AsksGlobally wanted judged) is none = (
+  λ n window passed grew v h. h,
+  (
+    λ granted. ended_keeps (settles_global (global_reply granted None))
+        (settles_keeps (global_reply granted None)),
+    tt,
+  ),
+)
+spoken_bare w (spoken.AsksGloballyUnknown wanted) is none =
+    (λ n window passed grew v h. h, (settles_keeps (global_reply false None), tt))
+spoken_bare w (spoken.Settles told) is none = (λ n window passed grew v h. h, notes_bare told)
+spoken_bare w spoken.Inconsistent is none = tt
+
+-- .. and of what is read apart
+abbrev pub BringsNoData : Said → Type 0
+BringsNoData (Connection said) = IsNoData said
+BringsNoData _ = Unit {0}
+
+pub owed_bare : (w : World) (said : Said) → IsBareSaid said → BringsNoData said →
+    AreBare (owed w said)
+owed_bare w (Open message) is none =
+    open_bare (next_number w.channels.lines) message (handling message.typ)
+owed_bare w (Agreed message) is none =
+    confirmation_bare (is_waiting w message.recipient_channel) message
+owed_bare w (Connection said) is none = spoken_bare w said is none
+owed_bare w Unread is none = tt
+owed_bare w Disconnect is none = tt
+owed_bare w Over_cap is none = (
+  λ n window passed grew v h. (
+    h.0,
+    h.1,
+    written_room n passed window grew (at_once too_many_attempts ∷ []) v.channels.lines (refl, tt)
+        h.2,
+  ),
+  tt,
+)
+owed_bare w (Unfit why) is none = tt
+owed_bare w Without_packets is none = tt
+owed_bare w _ is none = tt
