@@ -19,7 +19,8 @@ use Rattle.ssh_auth.specs.Plan.{Plan, Finish, Ask, Answer, Answered, Refused, Ha
 use Rattle.ssh_auth.specs.Request.{bound_to, begun}
 use Rattle.ssh_auth.specs.Publickey.{Circumstances}
 use Rattle.ssh_auth.specs.Requested.{head_fields, Method, Other_method, Unfit_method, Requested}
-use Rattle.ssh_auth.specs.Requested.{Request, Unread, Is_other, named_by, SaysMethod, SaysRequest}
+use Rattle.ssh_auth.specs.Requested.{Request, Unread, Named, Is_none, Is_password, Is_publickey}
+use Rattle.ssh_auth.specs.Requested.{Is_interactive, Is_other, named_by, SaysMethod, SaysRequest}
 use Rattle.ssh_auth.specs.Verdict.{AuthOutcome, Replies, Fails, Encoding, refused, verdict}
 use Rattle.ssh_auth.specs.Serve.{may_stop, calls_alone, Concludes, CarriesOut, CarriesOutMethod}
 use Rattle.ssh_auth.proofs.Plans.{breaks_first, breaks_more}
@@ -180,6 +181,34 @@ as_it_says given fields user name rest auth a b auth' result spelled (inl h) =
 as_it_says given fields user name rest auth a b auth' result spelled (inr h) = (Unread, tt, h)
 
 -- ---- the names of methods
+
+-- a method of this name
+pub of_named : {E : Type 0} (given : Circumstances) (all fields : List ℕ) (named other : Named)
+    (auth : AuthRequest) (user : List ℕ) (a b : Option (List (Call E))) (auth' : AuthRequest)
+    (result : Result AuthStep (AuthError E)) → other ≡ named →
+    CarriesOutMethod (SaysMethod given all named fields) auth user a b auth' result →
+    CarriesOutMethod (SaysMethod given all other fields) auth user a b auth' result
+of_named given all fields named other auth user a b auth' result is h =
+    subst (λ n. CarriesOutMethod (SaysMethod given all n fields) auth user a b auth' result) (sym is)
+    h
+
+pub named_none : (name : List ℕ) → bytes_eq name (codes "none") ≡ true → named_by name ≡ Is_none
+named_none name none = rw none refl
+
+pub named_password : (name : List ℕ) → bytes_eq name (codes "none") ≡ false
+    → bytes_eq name (codes "password") ≡ true → named_by name ≡ Is_password
+named_password name none password = rw (none, password) refl
+
+pub named_publickey : (name : List ℕ) → bytes_eq name (codes "none") ≡ false
+    → bytes_eq name (codes "password") ≡ false → bytes_eq name (codes "publickey") ≡ true →
+    named_by name ≡ Is_publickey
+named_publickey name none password publickey = rw (none, password, publickey) refl
+
+pub named_interactive : (name : List ℕ) → bytes_eq name (codes "none") ≡ false
+    → bytes_eq name (codes "password") ≡ false → bytes_eq name (codes "publickey") ≡ false →
+    bytes_eq name (codes "keyboard-interactive") ≡ true → named_by name ≡ Is_interactive
+named_interactive name none password publickey interactive =
+    rw (none, password, publickey, interactive) refl
 
 named_other : (name : List ℕ) → bytes_eq name (codes "none") ≡ false
     → bytes_eq name (codes "password") ≡ false → bytes_eq name (codes "publickey") ≡ false →

@@ -13,6 +13,8 @@ use Rattle.ssh_keys.specs.declared.signature.Signature.{Signature}
 use Rattle.ssh_keys.specs.Algorithms.{algorithm_name}
 use Rattle.ssh_keys.specs.Offers.{FailsOffer, offered_key}
 use Rattle.ssh_keys.specs.Signatures.{EndsInSignature}
+use Rattle.ssh_auth.specs.declared.auth.Auth.{Auth}
+use Rattle.ssh_auth.specs.declared.auth.Auth.TheVariants.{Accept}
 use Rattle.ssh_auth.specs.declared.auth_request.AuthRequest.{AuthRequest}
 use Rattle.ssh_auth.specs.declared.auth_step.AuthStep.{AuthStep}
 use Rattle.ssh_auth.specs.declared.call.Call.{Call}
@@ -22,7 +24,7 @@ use Rattle.ssh_auth.specs.Failure.{auth_error_of, auth_error_of_key}
 use Rattle.ssh_auth.specs.declared.question.Admission.TheVariants as by
 use Rattle.ssh_auth.specs.declared.question.Question.{Question}
 use Rattle.ssh_auth.specs.declared.question.Question.TheVariants.{Admits}
-use Rattle.ssh_auth.specs.Plan.{Finish, Ask, Answer, Answered, Called}
+use Rattle.ssh_auth.specs.Plan.{Plan, Finish, Ask, Answer, Answered, Called}
 use Rattle.ssh_auth.specs.Publickey.{Circumstances, Offer, offer_fields, Offers, IsAnswer}
 use Rattle.ssh_auth.specs.Read.{SignatureFails}
 use Rattle.ssh_auth.specs.Request.{is_probed}
@@ -79,6 +81,14 @@ pub unprobed : {E : Type 0} (auth : AuthRequest) (user : List ℕ) (offer : Offe
     (λ answer. permitted auth answer (signed auth user offer accepted))) a b auth' result →
     CarriesOut (signed_verdict auth user offer accepted) a b auth' result
 unprobed auth user offer accepted a b auth' result is h = rw is h
+
+-- a key that may sign
+pub permitted_by : {E : Type 0} (auth : AuthRequest) (answer : Auth) (next : Plan AuthOutcome)
+    (a b : Option (List (Call E))) (auth' : AuthRequest) (result : Result AuthStep (AuthError E))
+    → answer ≡ Accept → CarriesOut next a b auth' result →
+    CarriesOut (permitted auth answer next) a b auth' result
+permitted_by auth answer next a b auth' result is h =
+    subst (λ x. CarriesOut (permitted auth x next) a b auth' result) (sym is) h
 
 -- a signature that was not read
 pub unsigned_request : {E : Type 0} (given : Circumstances) (all fields rest : List ℕ)

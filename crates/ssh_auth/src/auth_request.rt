@@ -1,9 +1,10 @@
 // The state of authentication between requests.
-ghost use Rattle.std.specs.Prelude.{◌≡◌, None, true, false, not, IfOk, IfErr, OnOk, OnErr};
+ghost use Rattle.std.specs.Prelude.{◌≡◌, Some, None, true, false, not, IfOk, IfErr, OnOk, OnErr};
 ghost use Rattle.ssh_wire.specs.declared.error.WireError.TheVariants.{NoMemory};
 ghost use Rattle.ssh_auth.specs.Request.{server_request, client_request, principal_of, pair_of};
-ghost use Rattle.ssh_auth.specs.Request.{initial_of, is_bound, bound_to, is_probed, prompt_of};
+ghost use Rattle.ssh_auth.specs.Request.{initial_of, is_bound, bound_to, bound_anew, is_probed, prompt_of};
 ghost use Rattle.ssh_auth.specs.Request.{count_after};
+ghost use Rattle.ssh_auth.specs.declared.auth_request.CurrentRequest.TheVariants.{KeyboardInteractive};
 
 use crate::Method;
 use bytes::Bytes;
@@ -17,6 +18,24 @@ pub struct Principal {
     pub user: Text,
     /// The service that is to start once the user is authenticated.
     pub service: Text,
+}
+
+impl Principal {
+    /// This user and this service. `NoMemory` is the only error.
+    fn new(alloc: Global, user: &str, service: &str) -> Result<Principal, WireError>
+        ensures ok { IfOk result (λ principal. (principal.user ≡ user.now)
+            × (principal.service ≡ service.now)) }
+        ensures memory { IfErr result (λ e. e ≡ NoMemory) }
+    {
+        let user = Text::new(alloc, user)?;
+        match Text::new(alloc, service) {
+            Ok(service) => Ok(Principal { user, service }),
+            Err(e) => {
+                drop(user);
+                Err(e)
+            }
+        }
+    }
 }
 
 /// What was begun and is gone on with by a later request.
@@ -134,14 +153,26 @@ impl AuthRequest {
         if self.is_bound(user, service) {
             return Ok(false);
         }
-        self.bound = Some(Principal {
-            user: Text::new(alloc, user)?,
-            service: Text::new(alloc, service)?,
-        });
+        let principal = Principal::new(alloc, user, service)?;
+        self.bind(principal);
+        Ok(true)
+    }
+
+    /// Binds them in place of the old ones, and begins anew.
+    fn bind(&mut self, principal: Principal)
+        ensures { self.new ≡ bound_anew self.old principal.user principal.service }
+    {
+        self.bound = Some(principal);
         self.methods = self.initial;
         self.partial_success = false;
         self.current = None;
-        Ok(true)
+    }
+
+    /// A round of prompts begins, with these submethods.
+    pub(crate) fn begin_prompts(&mut self, submethods: Text)
+        ensures { self.new ≡ record self.old { current = Some (KeyboardInteractive submethods) } }
+    {
+        self.current = Some(CurrentRequest::KeyboardInteractive { submethods });
     }
 
     /// Whether the round is the accepted probe of this blob under this name of an algorithm.

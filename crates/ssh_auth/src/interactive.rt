@@ -38,11 +38,14 @@ fn begin_round<H: AuthHandler>(
     ensures { CarriesOut (method_verdict auth.old user.now (Interactive_method submethods.now))
         (H.told handler.old) (H.told handler.new) auth.new result }
 {
-    auth.current = Some(CurrentRequest::KeyboardInteractive {
-        submethods: Text::new(alloc, submethods)?,
-    });
+    let submethods_kept = Text::new(alloc, submethods)?;
+    auth.begin_prompts(submethods_kept);
     match handler.auth_keyboard_interactive(user, submethods, None) {
-        Ok(verdict) => answer_prompted(alloc, auth, &verdict),
+        Ok(verdict) => {
+            let answered = answer_prompted(alloc, auth, &verdict);
+            drop(verdict);
+            answered
+        }
         Err(e) => Err(AuthError::Handler(e)),
     }
 }
@@ -68,8 +71,14 @@ pub fn serve_response<H: AuthHandler>(
     };
     let responses = read_responses(alloc, fields_of(payload))?;
     let response = Response::new(responses.as_slice());
-    match handler.auth_keyboard_interactive(user, submethods, Some(response)) {
-        Ok(verdict) => answer_prompted(alloc, auth, &verdict),
+    let answer = handler.auth_keyboard_interactive(user, submethods, Some(response));
+    drop(responses);
+    match answer {
+        Ok(verdict) => {
+            let answered = answer_prompted(alloc, auth, &verdict);
+            drop(verdict);
+            answered
+        }
         Err(e) => Err(AuthError::Handler(e)),
     }
 }

@@ -1,7 +1,7 @@
 // The fields of a request by a key or a certificate, one after another.
-ghost use Rattle.std.specs.Prelude.{◌≡◌, ◌⊎◌, ◌↔◌, ◌<◌, ◌^◌, ◌++◌, length, IsTrue, IfOk, IfErr};
-ghost use Rattle.std.specs.Prelude.{MatchOption, MatchResult};
-ghost use Rattle.ssh_wire.specs.Field.{SpellsAll, MisfitsAll, string};
+ghost use Rattle.std.specs.Prelude.{◌≡◌, ◌⊎◌, ◌↔◌, ◌<◌, ◌^◌, [], ◌++◌, length, IsTrue, IfOk};
+ghost use Rattle.std.specs.Prelude.{IfErr, MatchOption, MatchResult};
+ghost use Rattle.ssh_wire.specs.Field.{SpellsAll, MisfitsAll, MisfitsWhole, string};
 ghost use Rattle.ssh_wire.specs.declared.error.WireError.TheVariants.{NoMemory as NoWireMemory};
 ghost use Rattle.ssh_keys.specs.Algorithms.{algorithm_name, certificate_name, NamesNone};
 ghost use Rattle.ssh_keys.specs.Offers.{FailsOffer, offered_key};
@@ -134,13 +134,16 @@ pub(crate) fn read_offer<'a, V: Verifier>(
         return Ok(None);
     };
     match PublicKeyOrCertificate::decode(alloc, name, blob) {
-        Ok(key) if is_usable(verifier, moment, &key) => Ok(Some(Offer {
-            name,
-            blob,
-            key,
-            algorithm,
-        })),
-        Ok(_) => Ok(None),
+        Ok(key) => {
+            let usable = is_usable(verifier, moment, &key);
+            let offer = Offer {
+                name,
+                blob,
+                key,
+                algorithm,
+            };
+            Ok(usable.then_some(offer))
+        }
         Err(KeyError::NoMemory) => Err(KeyError::NoMemory),
         Err(KeyError::Blob) => Err(KeyError::Blob),
         Err(KeyError::Unknown | KeyError::CertificateValidation | KeyError::Time) => Ok(None),
@@ -156,9 +159,23 @@ pub(crate) fn read_signature<E>(alloc: Global, fields: &[u8]) -> Result<Signatur
     let field = reader.bytes()?;
     let mut inside = Reader::new(field);
     let signature = Signature::decode(alloc, &mut inside)?;
-    inside.end()?;
-    reader.end()?;
-    Ok(signature)
+    match both_end(&inside, &reader) {
+        Ok(()) => Ok(signature),
+        Err(e) => {
+            drop(signature);
+            Err(AuthError::from(e))
+        }
+    }
+}
+
+/// Ok exactly where nothing is left in either, the inner one first.
+fn both_end(inner: &Reader<'_>, outer: &Reader<'_>) -> Result<(), WireError>
+    ensures { MatchResult result (λ _. (inner.now.left ≡ []) × (outer.now.left ≡ []))
+        (λ why. MisfitsWhole [] inner.now.left why
+        ⊎ ((inner.now.left ≡ []) × MisfitsWhole [] outer.now.left why)) }
+{
+    inner.end()?;
+    outer.end()
 }
 
 /// What the signature of a request covers: the session id, and the payload up to the signature

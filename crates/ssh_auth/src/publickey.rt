@@ -1,8 +1,9 @@
 // Requests by a key or a certificate.
-ghost use Rattle.std.specs.Prelude.{◌<◌, ◌^◌, ◌++◌, length, true, Bool, Option};
+ghost use Rattle.std.specs.Prelude.{◌≡◌, ◌↔◌, ◌<◌, ◌^◌, ◌++◌, length, true, Bool, IsTrue, Option};
 ghost use Rattle.ssh_wire.specs.Field.{string};
 ghost use Rattle.ssh_link.specs.Told.{Tells};
 ghost use Rattle.ssh_keys.specs.Offers.{offered_key};
+ghost use Rattle.ssh_auth.specs.declared.auth.Auth.TheVariants.{Accept};
 ghost use Rattle.ssh_auth.specs.declared.call.Call.TheVariants.{AuthPublickeyOffered};
 ghost use Rattle.ssh_auth.specs.declared.question.Admission.TheVariants as by;
 ghost use Rattle.ssh_auth.specs.declared.question.Question.TheVariants.{Admits};
@@ -41,8 +42,15 @@ pub(crate) fn serve_publickey<H: AuthHandler, V: Verifier>(
 {
     let asked = read_offer_fields(request.fields)?;
     match read_offer(alloc, verifier, request.moment, asked.name, asked.blob) {
-        Ok(Some(offer)) => go_on_with_offer(alloc, auth, handler, verifier, request, asked, &offer),
-        Ok(None) => Ok(refuse(alloc, auth)?),
+        Ok(offered) => {
+            let Some(offer) = &offered else {
+                drop(offered);
+                return Ok(refuse(alloc, auth)?);
+            };
+            let served = go_on_with_offer(alloc, auth, handler, verifier, request, asked, offer);
+            drop(offered);
+            served
+        }
         Err(e) => Err(AuthError::from(e)),
     }
 }
@@ -101,7 +109,11 @@ fn ask_probe<H: AuthHandler>(
         (H.told handler.old) (H.told handler.new) auth.new result }
 {
     match ask_offered(handler, user, offer) {
-        Ok(verdict) => Ok(answer_offer(alloc, auth, offer, &verdict)?),
+        Ok(verdict) => {
+            let answered = answer_offer(alloc, auth, offer, &verdict);
+            drop(verdict);
+            Ok(answered?)
+        }
         Err(e) => Err(AuthError::Handler(e)),
     }
 }
@@ -128,6 +140,7 @@ fn read_signed<H: AuthHandler, V: Verifier>(
         Err(e) => return Err(e),
     };
     if signature.name.as_str() != offer.algorithm.as_str() {
+        drop(signature);
         return Ok(refuse(alloc, auth)?);
     }
     let signed = SignedRequest {
@@ -135,7 +148,18 @@ fn read_signed<H: AuthHandler, V: Verifier>(
         unsigned: &request.payload[..request.payload.len() - rest.len()],
         signature,
     };
-    permit_signed(alloc, auth, handler, verifier, request.user, offer, &signed)
+    let served = permit_signed(alloc, auth, handler, verifier, request.user, offer, &signed);
+    drop(signed);
+    served
+}
+
+/// Whether the answer on a key lets it sign.
+fn lets_sign(answer: Auth) -> bool
+    ensures { IsTrue result ↔ (answer ≡ Accept) }
+{
+    let lets = matches!(answer, Auth::Accept);
+    drop(answer);
+    lets
 }
 
 /// A request that is signed by the algorithm that it names. A key without its probe is asked about
@@ -161,8 +185,12 @@ fn permit_signed<H: AuthHandler, V: Verifier>(
         return verify_signed(alloc, auth, handler, verifier, user, offer, signed);
     }
     match ask_offered(handler, user, offer) {
-        Ok(Auth::Accept) => verify_signed(alloc, auth, handler, verifier, user, offer, signed),
-        Ok(_) => Ok(refuse(alloc, auth)?),
+        Ok(verdict) => {
+            if !lets_sign(verdict) {
+                return Ok(refuse(alloc, auth)?);
+            }
+            verify_signed(alloc, auth, handler, verifier, user, offer, signed)
+        }
         Err(e) => Err(AuthError::Handler(e)),
     }
 }
@@ -230,7 +258,11 @@ fn let_in_by_key<H: AuthHandler>(
         algorithm,
     };
     match handler.auth_publickey(user, key) {
-        Ok(verdict) => Ok(answer_proof(alloc, auth, &verdict)?),
+        Ok(verdict) => {
+            let answered = answer_proof(alloc, auth, &verdict);
+            drop(verdict);
+            Ok(answered?)
+        }
         Err(e) => Err(AuthError::Handler(e)),
     }
 }
@@ -248,7 +280,11 @@ fn let_in_by_certificate<H: AuthHandler>(
         auth.new result }
 {
     match handler.auth_openssh_certificate(user, certificate) {
-        Ok(verdict) => Ok(answer_proof(alloc, auth, &verdict)?),
+        Ok(verdict) => {
+            let answered = answer_proof(alloc, auth, &verdict);
+            drop(verdict);
+            Ok(answered?)
+        }
         Err(e) => Err(AuthError::Handler(e)),
     }
 }

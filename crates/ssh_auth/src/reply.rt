@@ -1,14 +1,18 @@
 // The replies that are written, and the state after them.
-ghost use Rattle.std.specs.Prelude.{◌≡◌, ◌≤◌, ◌<◌, ◌^◌, ◌⊎◌, ◌++◌, [], length, OnOk, IfOk, IfErr};
+ghost use Rattle.std.specs.Prelude.{◌≡◌, ◌≤◌, ◌<◌, ◌^◌, ◌⊎◌, ◌∷◌, ◌++◌, [], length, true, OnOk};
+ghost use Rattle.std.specs.Prelude.{IfOk, IfErr};
 ghost use Rattle.ssh_wire.specs.declared.error.WireError.TheVariants.{NoMemory, TooLong};
 ghost use Rattle.ssh_wire.specs.Methods.{without};
-ghost use Rattle.ssh_auth.specs.Layout.{failure, success, pk_ok, prompts_fields, info_request};
+ghost use Rattle.ssh_wire.specs.Field.{string};
+ghost use Rattle.ssh_wire.specs.Methods.{names_text};
+ghost use Rattle.ssh_auth.specs.Layout.{flag, failure, success, pk_ok, prompts_fields, info_request};
 ghost use Rattle.ssh_auth.specs.Plan.{Finish};
 ghost use Rattle.ssh_auth.specs.Serve.{Concludes};
 ghost use Rattle.ssh_auth.specs.Verdict.{Replies, Fails, Encoding, rejected, rejected_naming};
 ghost use Rattle.ssh_auth.specs.Verdict.{taken_away, refused, is_none, after_method, after_offer};
 ghost use Rattle.ssh_auth.specs.Verdict.{after_proof, after_prompts};
 ghost use Rattle.ssh_auth.specs.declared.auth.Auth.TheVariants.{Accept};
+ghost use Rattle.ssh_auth.specs.declared.auth_request.CurrentRequest.TheVariants.{PublicKey};
 
 use crate::auth_request::count_after_rejection;
 use crate::key_request::Offer;
@@ -29,11 +33,49 @@ fn failure_payload(
     ensures ok { IfOk result (λ payload. payload ≡ failure methods.now partial_success) }
     ensures memory { IfErr result (λ e. e ≡ NoMemory) }
 {
-    let names = methods.to_names(alloc)?.to_text()?;
+    let names = names_of(alloc, methods)?;
     let mut payload = Vec::new(alloc);
-    put_u8(&mut payload, USERAUTH_FAILURE)?;
-    put_text(&mut payload, names.as_str())?;
-    put_u8(&mut payload, u8::from(partial_success))?;
+    let put = put_failure(&mut payload, names.as_str(), partial_success);
+    drop(names);
+    put?;
+    Ok(Bytes::from_vec(payload)?)
+}
+
+/// The names of the methods, as they stand on the wire.
+fn names_of(alloc: Global, methods: &MethodSet) -> Result<Text, WireError>
+    ensures ok { IfOk result (λ names. names ≡ names_text methods.now) }
+    ensures short { IfOk result (λ names. length names < 2 ^ 32) }
+    ensures memory { IfErr result (λ e. e ≡ NoMemory) }
+{
+    let names = methods.to_names(alloc)?;
+    let text = names.to_text();
+    drop(names);
+    text
+}
+
+/// The fields of USERAUTH_FAILURE. `NoMemory` is the only error.
+fn put_failure(out: &mut Vec<u8>, names: &str, partial_success: bool) -> Result<(), WireError>
+    requires { length names.now < 2 ^ 32 }
+    ensures ok { OnOk result (out.new.items
+        ≡ out.old.items ++ 51 ∷ string names.now ++ flag partial_success ∷ []) }
+    ensures memory { IfErr result (λ e. e ≡ NoMemory) }
+{
+    put_u8(out, USERAUTH_FAILURE)?;
+    put_text(out, names)?;
+    put_u8(out, u8::from(partial_success))
+}
+
+/// The payload that was written. `TooLong` exactly where it has more than 2^32 - 1 bytes, and no
+/// other error but `NoMemory`.
+fn fitting(payload: Vec<u8>) -> Result<Bytes, WireError>
+    ensures ok { IfOk result (λ bytes. (bytes ≡ payload.items) × (length bytes < 2 ^ 32)) }
+    ensures refused { IfErr result (λ e. (e ≡ NoMemory)
+        ⊎ ((e ≡ TooLong) × (2 ^ 32 ≤ length payload.items))) }
+{
+    if u32::try_from(payload.len()).is_err() {
+        drop(payload);
+        return Err(WireError::TooLong);
+    }
     Ok(Bytes::from_vec(payload)?)
 }
 
@@ -56,13 +98,25 @@ fn pk_ok_payload(alloc: Global, name: &str, blob: &[u8]) -> Result<Bytes, WireEr
         ⊎ ((e ≡ TooLong) × (2 ^ 32 ≤ length (pk_ok name.now blob.now)))) }
 {
     let mut payload = Vec::new(alloc);
-    put_u8(&mut payload, USERAUTH_PK_OK)?;
-    put_text(&mut payload, name)?;
-    put_bytes(&mut payload, blob)?;
-    if u32::try_from(payload.len()).is_err() {
-        return Err(WireError::TooLong);
+    match put_pk_ok(&mut payload, name, blob) {
+        Ok(()) => fitting(payload),
+        Err(e) => {
+            drop(payload);
+            Err(e)
+        }
     }
-    Ok(Bytes::from_vec(payload)?)
+}
+
+/// The fields of PK_OK. `TooLong` only where they have more than 2^32 - 1 bytes, and no other error
+/// but `NoMemory`.
+fn put_pk_ok(out: &mut Vec<u8>, name: &str, blob: &[u8]) -> Result<(), WireError>
+    ensures ok { OnOk result (out.new.items ≡ out.old.items ++ pk_ok name.now blob.now) }
+    ensures refused { IfErr result (λ e. (e ≡ NoMemory)
+        ⊎ ((e ≡ TooLong) × (2 ^ 32 ≤ length (pk_ok name.now blob.now)))) }
+{
+    put_u8(out, USERAUTH_PK_OK)?;
+    put_text(out, name)?;
+    put_bytes(out, blob)
 }
 
 /// What a rejection says, and of what.
@@ -139,15 +193,39 @@ fn permit(alloc: Global, auth: &mut AuthRequest, offer: &Offer<'_>) -> Result<Au
         ⊎ ((e ≡ TooLong) × (after_offer auth.old offer.now Accept ≡ Fails (Encoding TooLong)))) }
 {
     let reply = pk_ok_payload(alloc, offer.name, offer.blob)?;
-    auth.current = Some(CurrentRequest::PublicKey {
-        key: Bytes::copy_from_slice(alloc, offer.blob)?,
-        algo: Text::new(alloc, offer.name)?,
-        sent_pk_ok: true,
-    });
-    Ok(AuthStep {
-        reply,
-        verdict: AuthVerdict::Continued,
-    })
+    match probe_of(alloc, offer) {
+        Ok(probe) => {
+            auth.current = Some(probe);
+            Ok(AuthStep {
+                reply,
+                verdict: AuthVerdict::Continued,
+            })
+        }
+        Err(e) => {
+            drop(reply);
+            Err(e)
+        }
+    }
+}
+
+/// The round of a key that may sign.
+fn probe_of(alloc: Global, offer: &Offer<'_>) -> Result<CurrentRequest, WireError>
+    ensures ok { IfOk result (λ round. round
+        ≡ PublicKey offer.now.blob offer.now.name true) }
+    ensures memory { IfErr result (λ e. e ≡ NoMemory) }
+{
+    let key = Bytes::copy_from_slice(alloc, offer.blob)?;
+    match Text::new(alloc, offer.name) {
+        Ok(algo) => Ok(CurrentRequest::PublicKey {
+            key,
+            algo,
+            sent_pk_ok: true,
+        }),
+        Err(e) => {
+            drop(key);
+            Err(e)
+        }
+    }
 }
 
 /// What the answer on a key that may sign means. Where PK_OK has more than 2^32 - 1 bytes, it is
@@ -299,15 +377,34 @@ fn info_request_payload(
         ≤ length (info_request name.now instructions.now prompts.now)))) }
 {
     let mut payload = Vec::new(alloc);
-    put_u8(&mut payload, USERAUTH_INFO_REQUEST)?;
-    put_text(&mut payload, name)?;
-    put_text(&mut payload, instructions)?;
-    put_text(&mut payload, "")?;
-    put_prompts(&mut payload, prompts.as_slice())?;
-    if u32::try_from(payload.len()).is_err() {
-        return Err(WireError::TooLong);
+    match put_info_request(&mut payload, name, instructions, prompts) {
+        Ok(()) => fitting(payload),
+        Err(e) => {
+            drop(payload);
+            Err(e)
+        }
     }
-    Ok(Bytes::from_vec(payload)?)
+}
+
+/// The fields of USERAUTH_INFO_REQUEST. `TooLong` only where they have more than 2^32 - 1 bytes,
+/// and no other error but `NoMemory`.
+fn put_info_request(
+    out: &mut Vec<u8>,
+    name: &str,
+    instructions: &str,
+    prompts: &Prompts,
+) -> Result<(), WireError>
+    ensures ok { OnOk result (out.new.items
+        ≡ out.old.items ++ info_request name.now instructions.now prompts.now) }
+    ensures refused { IfErr result (λ e. (e ≡ NoMemory)
+        ⊎ ((e ≡ TooLong) × (2 ^ 32
+        ≤ length (info_request name.now instructions.now prompts.now)))) }
+{
+    put_u8(out, USERAUTH_INFO_REQUEST)?;
+    put_text(out, name)?;
+    put_text(out, instructions)?;
+    put_text(out, "")?;
+    put_prompts(out, prompts.as_slice())
 }
 
 /// What the answer in a round of keyboard-interactive means: prompts keep the round.

@@ -128,7 +128,11 @@ fn ask_none<H: AuthHandler>(
         (H.told handler.new) auth.new result }
 {
     match handler.auth_none(user) {
-        Ok(verdict) => Ok(answer(alloc, auth, MethodKind::None, &verdict)?),
+        Ok(verdict) => {
+            let answered = answer(alloc, auth, MethodKind::None, &verdict);
+            drop(verdict);
+            Ok(answered?)
+        }
         Err(e) => Err(AuthError::Handler(e)),
     }
 }
@@ -179,7 +183,11 @@ fn ask_password<H: AuthHandler>(
         (H.told handler.old) (H.told handler.new) auth.new result }
 {
     match handler.auth_password(user, password) {
-        Ok(verdict) => Ok(answer(alloc, auth, MethodKind::Password, &verdict)?),
+        Ok(verdict) => {
+            let answered = answer(alloc, auth, MethodKind::Password, &verdict);
+            drop(verdict);
+            Ok(answered?)
+        }
         Err(e) => Err(AuthError::Handler(e)),
     }
 }

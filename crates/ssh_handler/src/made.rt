@@ -1,5 +1,5 @@
 // The calls as they are recorded.
-ghost use Rattle.std.specs.Prelude.{◌≡◌, IfOk};
+ghost use Rattle.std.specs.Prelude.{◌≡◌, Ok, IfOk};
 ghost use Rattle.ssh_auth.specs.declared.call.Call.TheVariants.{AuthenticationBanner, AuthNone};
 ghost use Rattle.ssh_auth.specs.declared.call.Call.TheVariants.{AuthPassword, AuthPublickeyOffered};
 ghost use Rattle.ssh_auth.specs.declared.call.Call.TheVariants.{AuthPublickey};
@@ -13,10 +13,41 @@ pub(crate) mod opens;
 pub(crate) mod requests;
 
 use crate::RecordError;
+use bytes::Bytes;
 use ssh_auth::{Auth, Call, Response, copied_response};
 use ssh_keys::{Algorithm, Certificate, PublicKey};
 use ssh_wire::{Text, WireError};
 use std::alloc::Global;
+
+// Both, or the error of the first that is one. What goes into a call is copied so, since a value
+// that is dropped on some ways through a function only is dear to prove.
+pub(crate) fn both<A: Drop, B: Drop>(
+    first: Result<A, WireError>,
+    second: Result<B, WireError>,
+) -> Result<(A, B), WireError>
+    ensures { IfOk result (λ values. (first ≡ Ok values.0) × (second ≡ Ok values.1)) }
+{
+    match first {
+        Ok(one) => match second {
+            Ok(other) => Ok((one, other)),
+            Err(e) => {
+                drop(one);
+                Err(e)
+            }
+        },
+        Err(e) => {
+            drop(second);
+            Err(e)
+        }
+    }
+}
+
+// A copy of these bytes.
+pub(crate) fn copied_bytes(alloc: Global, bytes: &[u8]) -> Result<Bytes, WireError>
+    ensures { IfOk result (λ copied. copied ≡ bytes.now) }
+{
+    Ok(Bytes::copy_from_slice(alloc, bytes)?)
+}
 
 // A copy of an answer to a request of authentication, as it is passed on.
 fn copied_auth<E: Copy>(
@@ -51,10 +82,8 @@ pub(crate) fn made_auth_none<E: Copy>(
 ) -> Result<Call<RecordError<E>>, WireError>
     ensures { IfOk result (λ call. call ≡ AuthNone user.now (passed_on answer.now)) }
 {
-    Ok(Call::AuthNone {
-        user: Text::new(alloc, user)?,
-        answer: copied_auth(alloc, answer)?,
-    })
+    let (user, answer) = both(Text::new(alloc, user), copied_auth(alloc, answer))?;
+    Ok(Call::AuthNone { user, answer })
 }
 
 pub(crate) fn made_auth_password<E: Copy>(
@@ -66,10 +95,12 @@ pub(crate) fn made_auth_password<E: Copy>(
     ensures { IfOk result (λ call. call ≡ AuthPassword user.now password.now
         (passed_on answer.now)) }
 {
+    let named = both(Text::new(alloc, user), Text::new(alloc, password));
+    let ((user, password), answer) = both(named, copied_auth(alloc, answer))?;
     Ok(Call::AuthPassword {
-        user: Text::new(alloc, user)?,
-        password: Text::new(alloc, password)?,
-        answer: copied_auth(alloc, answer)?,
+        user,
+        password,
+        answer,
     })
 }
 
@@ -83,11 +114,13 @@ pub(crate) fn made_auth_publickey_offered<E: Copy>(
     ensures { IfOk result (λ call. call ≡ AuthPublickeyOffered user.now public_key.now algorithm
         (passed_on answer.now)) }
 {
+    let named = both(Text::new(alloc, user), public_key.copy());
+    let ((user, public_key), answer) = both(named, copied_auth(alloc, answer))?;
     Ok(Call::AuthPublickeyOffered {
-        user: Text::new(alloc, user)?,
-        public_key: public_key.copy()?,
+        user,
+        public_key,
         algorithm,
-        answer: copied_auth(alloc, answer)?,
+        answer,
     })
 }
 
@@ -101,11 +134,13 @@ pub(crate) fn made_auth_publickey<E: Copy>(
     ensures { IfOk result (λ call. call ≡ AuthPublickey user.now public_key.now algorithm
         (passed_on answer.now)) }
 {
+    let named = both(Text::new(alloc, user), public_key.copy());
+    let ((user, public_key), answer) = both(named, copied_auth(alloc, answer))?;
     Ok(Call::AuthPublickey {
-        user: Text::new(alloc, user)?,
-        public_key: public_key.copy()?,
+        user,
+        public_key,
         algorithm,
-        answer: copied_auth(alloc, answer)?,
+        answer,
     })
 }
 
@@ -118,10 +153,12 @@ pub(crate) fn made_auth_openssh_certificate<E: Copy>(
     ensures { IfOk result (λ call. call ≡ AuthOpensshCertificate user.now certificate.now
         (passed_on answer.now)) }
 {
+    let named = both(Text::new(alloc, user), certificate.copy());
+    let ((user, certificate), answer) = both(named, copied_auth(alloc, answer))?;
     Ok(Call::AuthOpensshCertificate {
-        user: Text::new(alloc, user)?,
-        certificate: certificate.copy()?,
-        answer: copied_auth(alloc, answer)?,
+        user,
+        certificate,
+        answer,
     })
 }
 
@@ -135,10 +172,13 @@ pub(crate) fn made_auth_keyboard_interactive<E: Copy>(
     ensures { IfOk result (λ call. call ≡ AuthKeyboardInteractive user.now submethods.now
         response.entry (passed_on answer.now)) }
 {
+    let named = both(Text::new(alloc, user), Text::new(alloc, submethods));
+    let answered = both(copied_response(alloc, response), copied_auth(alloc, answer));
+    let ((user, submethods), (response, answer)) = both(named, answered)?;
     Ok(Call::AuthKeyboardInteractive {
-        user: Text::new(alloc, user)?,
-        submethods: Text::new(alloc, submethods)?,
-        response: copied_response(alloc, response)?,
-        answer: copied_auth(alloc, answer)?,
+        user,
+        submethods,
+        response,
+        answer,
     })
 }

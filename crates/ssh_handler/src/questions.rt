@@ -45,43 +45,64 @@ fn ask_opened<H: Handler>(
         OpenType::X11 {
             originator_address,
             originator_port,
-        } => handler.channel_open_x11(
-            channel,
-            originator_address.as_str(),
-            originator_port,
-            reply,
-            session,
-        ),
+        } => {
+            let told = handler.channel_open_x11(
+                channel,
+                originator_address.as_str(),
+                originator_port,
+                reply,
+                session,
+            );
+            drop(originator_address);
+            told
+        }
         OpenType::DirectTcpip {
             host_to_connect,
             port_to_connect,
             originator_address,
             originator_port,
-        } => handler.channel_open_direct_tcpip(
-            channel,
-            host_to_connect.as_str(),
-            port_to_connect,
-            originator_address.as_str(),
-            originator_port,
-            reply,
-            session,
-        ),
+        } => {
+            let told = handler.channel_open_direct_tcpip(
+                channel,
+                host_to_connect.as_str(),
+                port_to_connect,
+                originator_address.as_str(),
+                originator_port,
+                reply,
+                session,
+            );
+            drop(host_to_connect);
+            drop(originator_address);
+            told
+        }
         OpenType::ForwardedTcpip {
             host_to_connect,
             port_to_connect,
             originator_address,
             originator_port,
-        } => handler.channel_open_forwarded_tcpip(
-            channel,
-            host_to_connect.as_str(),
-            port_to_connect,
-            originator_address.as_str(),
-            originator_port,
-            reply,
-            session,
-        ),
+        } => {
+            let told = handler.channel_open_forwarded_tcpip(
+                channel,
+                host_to_connect.as_str(),
+                port_to_connect,
+                originator_address.as_str(),
+                originator_port,
+                reply,
+                session,
+            );
+            drop(host_to_connect);
+            drop(originator_address);
+            told
+        }
         OpenType::DirectStreamlocal { socket_path } => {
-            handler.channel_open_direct_streamlocal(channel, socket_path.as_str(), reply, session)
+            let told = handler.channel_open_direct_streamlocal(
+                channel,
+                socket_path.as_str(),
+                reply,
+                session,
+            );
+            drop(socket_path);
+            told
         }
     }
 }
@@ -103,9 +124,15 @@ fn ask_happened<H: Handler>(
             max_packet_size,
             window_size,
         } => handler.channel_open_confirmation(channel, max_packet_size, window_size, session),
-        Happening::Data { bytes } => handler.data(channel, bytes.as_slice(), session),
+        Happening::Data { bytes } => {
+            let told = handler.data(channel, bytes.as_slice(), session);
+            drop(bytes);
+            told
+        }
         Happening::ExtendedData { code, bytes } => {
-            handler.extended_data(channel, code, bytes.as_slice(), session)
+            let told = handler.extended_data(channel, code, bytes.as_slice(), session);
+            drop(bytes);
+            told
         }
         Happening::Eof => handler.channel_eof(channel, session),
         Happening::Close => handler.channel_close(channel, session),
@@ -119,44 +146,63 @@ fn ask_happened<H: Handler>(
             pix_width,
             pix_height,
             modes,
-        } => handler.pty_request(
-            channel,
-            term.as_str(),
-            col_width,
-            row_height,
-            pix_width,
-            pix_height,
-            modes.as_slice(),
-            session,
-        ),
+        } => {
+            let told = handler.pty_request(
+                channel,
+                term.as_str(),
+                col_width,
+                row_height,
+                pix_width,
+                pix_height,
+                modes.as_slice(),
+                session,
+            );
+            drop(term);
+            drop(modes);
+            told
+        }
         Happening::X11Request {
             single_connection,
             x11_auth_protocol,
             x11_auth_cookie,
             x11_screen_number,
-        } => handler.x11_request(
-            channel,
-            single_connection,
-            x11_auth_protocol.as_str(),
-            x11_auth_cookie.as_str(),
-            x11_screen_number,
-            session,
-        ),
+        } => {
+            let told = handler.x11_request(
+                channel,
+                single_connection,
+                x11_auth_protocol.as_str(),
+                x11_auth_cookie.as_str(),
+                x11_screen_number,
+                session,
+            );
+            drop(x11_auth_protocol);
+            drop(x11_auth_cookie);
+            told
+        }
         Happening::EnvRequest {
             variable_name,
             variable_value,
-        } => handler.env_request(
-            channel,
-            variable_name.as_str(),
-            variable_value.as_str(),
-            session,
-        ),
+        } => {
+            let told = handler.env_request(
+                channel,
+                variable_name.as_str(),
+                variable_value.as_str(),
+                session,
+            );
+            drop(variable_name);
+            drop(variable_value);
+            told
+        }
         Happening::ShellRequest => handler.shell_request(channel, session),
         Happening::ExecRequest { bytes } => {
-            handler.exec_request(channel, bytes.as_slice(), session)
+            let told = handler.exec_request(channel, bytes.as_slice(), session);
+            drop(bytes);
+            told
         }
         Happening::SubsystemRequest { name } => {
-            handler.subsystem_request(channel, name.as_str(), session)
+            let told = handler.subsystem_request(channel, name.as_str(), session);
+            drop(name);
+            told
         }
         Happening::WindowChangeRequest {
             col_width,
@@ -185,13 +231,19 @@ pub fn judge<H: Handler>(
     match judged {
         Judged::AgentRequest { channel } => handler.agent_request(channel, session),
         Judged::CancelTcpipForward { address, port } => {
-            handler.cancel_tcpip_forward(address.as_str(), port, session)
+            let answer = handler.cancel_tcpip_forward(address.as_str(), port, session);
+            drop(address);
+            answer
         }
         Judged::StreamlocalForward { socket_path } => {
-            handler.streamlocal_forward(socket_path.as_str(), session)
+            let answer = handler.streamlocal_forward(socket_path.as_str(), session);
+            drop(socket_path);
+            answer
         }
         Judged::CancelStreamlocalForward { socket_path } => {
-            handler.cancel_streamlocal_forward(socket_path.as_str(), session)
+            let answer = handler.cancel_streamlocal_forward(socket_path.as_str(), session);
+            drop(socket_path);
+            answer
         }
     }
 }

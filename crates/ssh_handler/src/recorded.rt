@@ -22,10 +22,13 @@ macro_rules! pass {
     ($told:expr, $session:expr, $inner:expr, $call:ident $(, $field:ident: $value:expr)*) => {{
         let given = $inner;
         let answer = crate::recorded::passed(given);
-        let copy = $session.copy_recorded();
-        let call =
-            copy.map(|commands| ssh_auth::Call::$call { $($field: $value,)* answer, commands });
-        $told.pass(given, call)
+        match $session.copy_recorded() {
+            Ok(commands) => {
+                let call = ssh_auth::Call::$call { $($field: $value,)* answer, commands };
+                $told.pass(given, Ok(call))
+            }
+            Err(e) => $told.pass(given, Err(e)),
+        }
     }};
 }
 

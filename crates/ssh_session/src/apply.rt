@@ -194,7 +194,19 @@ impl Session {
                 core_dumped,
                 error_message,
                 language,
-            } => self.exit_signal(channel, &signal, core_dumped, &error_message, &language),
+            } => {
+                let done = self.exit_signal(
+                    channel,
+                    &signal,
+                    core_dumped,
+                    &error_message,
+                    &language,
+                );
+                drop(signal);
+                drop(error_message);
+                drop(language);
+                done
+            }
             Command::Answer(answer) => self.decide_open(answer),
             other => {
                 let done = self.do_apart(&other);
@@ -253,10 +265,14 @@ impl Session {
             texts,
         } = answer;
         let Some(opening) = self.opens.get(&channel.0).copied() else {
+            drop(texts);
             return Ok(Done::accepted());
         };
         match rejection {
-            None => self.confirm_open(channel, opening),
+            None => {
+                drop(texts);
+                self.confirm_open(channel, opening)
+            }
             Some(reason) => self.refuse_open(channel, opening, reason, texts),
         }
     }
@@ -311,13 +327,16 @@ impl Session {
     {
         match texts {
             Some((description, language)) => {
-                self.fail_open(
+                let done = self.fail_open(
                     number,
                     said,
                     reason,
                     description.as_str(),
                     language.as_str(),
-                )
+                );
+                drop(description);
+                drop(language);
+                done
             }
             None => self.fail_open(number, said, reason, reason.description(), "en"),
         }

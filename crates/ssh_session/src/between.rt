@@ -57,13 +57,19 @@ impl Session {
         ensures kept { OnErr result (notices.new.items ≡ notices.old.items) }
         ensures session { IsSameSession self.old self.new }
     {
-        notices.reserve(1)?;
+        if notices.reserve(1).is_err() {
+            drop(command);
+            return Err(WireError::NoMemory);
+        }
         match self.carry_out::<(), ()>(command) {
             Ok(Done { notice, outcome }) => {
                 add(notices, notice);
                 Ok(outcome)
             }
-            Err(_) => Err(WireError::NoMemory),
+            Err(e) => {
+                drop(e);
+                Err(WireError::NoMemory)
+            }
         }
     }
 

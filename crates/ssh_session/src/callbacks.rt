@@ -43,7 +43,10 @@ impl Session {
         let mut commands = self.lend();
         match outside.ask(lent, &mut commands) {
             Ok(()) => Ok(commands.into_list()),
-            Err(e) => Err(e),
+            Err(e) => {
+                drop(commands);
+                Err(e)
+            }
         }
     }
 
@@ -64,7 +67,10 @@ impl Session {
         let mut commands = self.lend();
         match outside.judge(judged, &mut commands) {
             Ok(granted) => Ok((granted, commands.into_list())),
-            Err(e) => Err(e),
+            Err(e) => {
+                drop(commands);
+                Err(e)
+            }
         }
     }
 
@@ -88,7 +94,10 @@ impl Session {
         let mut bound = port;
         match outside.listen(address, &mut bound, &mut commands) {
             Ok(granted) => Ok((granted, bound, commands.into_list())),
-            Err(e) => Err(e),
+            Err(e) => {
+                drop(commands);
+                Err(e)
+            }
         }
     }
 
@@ -192,8 +201,13 @@ impl Session {
         ensures session { IsSameSession self.old self.new }
         ensures same { AreSame (O.Transport.heard outside.old) (O.Transport.heard outside.new) }
     {
-        self.note(outside, Notice::Channel(channel, message))?;
-        self.call(outside, Lent::Happened(channel, happening))
+        match self.note(outside, Notice::Channel(channel, message)) {
+            Ok(()) => self.call(outside, Lent::Happened(channel, happening)),
+            Err(e) => {
+                drop(happening);
+                Err(e)
+            }
+        }
     }
 
     /// Asks how large windows are from now on.

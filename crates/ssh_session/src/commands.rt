@@ -47,12 +47,15 @@ impl Session {
     {
         for place in 0..commands.len() {
             let Some(command) = commands.take_first() else {
+                drop(commands);
                 return Ok(());
             };
             if let Err(e) = self.finish_command(outside, place, command) {
+                drop(commands);
                 return Err(e);
             }
         }
+        drop(commands);
         Ok(())
     }
 

@@ -61,7 +61,11 @@ impl Session {
         ensures { (w : World) → Refines self.old w → Turned (greets banner) w self.new result }
     {
         match banner {
-            Some(message) => self.greet_with(message.as_str()),
+            Some(message) => {
+                let greeted = self.greet_with(message.as_str());
+                drop(message);
+                greeted
+            }
             None => self.greet_alone(),
         }
     }

@@ -64,6 +64,7 @@ impl Session {
             × (kex.new ≡ kex.old) × (link.new ≡ link.old) }
     {
         if self.spent {
+            drop(input);
             return Err(RunError::Inconsistent);
         }
         let mut sides = Sides::new(handler, kex, link);
@@ -136,8 +137,13 @@ impl Session {
         ensures told { OnOk result (notices.new.items ≡ []) }
         ensures same { AreSame (O.Transport.heard outside.old) (O.Transport.heard outside.new) }
     {
-        tell_each(outside, notices)?;
-        self.take_unless_ended(outside, verifier, input)
+        match tell_each(outside, notices) {
+            Ok(()) => self.take_unless_ended(outside, verifier, input),
+            Err(e) => {
+                drop(input);
+                Err(e)
+            }
+        }
     }
 
     /// An input, which is looked at unless a command ended the connection since the last one.
@@ -157,6 +163,7 @@ impl Session {
         ensures same { AreSame (O.Transport.heard outside.old) (O.Transport.heard outside.new) }
     {
         if self.common.disconnected {
+            drop(input);
             return self.end_run(outside);
         }
         self.take(outside, verifier, input)
@@ -238,7 +245,9 @@ impl Session {
         match kind {
             InputKind::Payload(payload) => {
                 self.hear(payload.as_slice());
-                self.serve_payload(outside, verifier, moment, payload.as_slice())
+                let flow = self.serve_payload(outside, verifier, moment, payload.as_slice());
+                drop(payload);
+                flow
             }
             InputKind::Command(ticket, command) => self.serve_command(outside, ticket, command),
             InputKind::OpenReply(ticket, answer) => {

@@ -171,7 +171,12 @@ impl Session {
             (O.Transport.heard outside.old) (O.Transport.heard outside.new) self.new result }
         ensures same { AreSame (O.Transport.heard outside.old) (O.Transport.heard outside.new) }
     {
-        self.note_data(outside, channel, &piece)?;
-        self.call_data(outside, channel, piece)
+        match self.note_data(outside, channel, &piece) {
+            Ok(()) => self.call_data(outside, channel, piece),
+            Err(e) => {
+                drop(piece);
+                Err(e)
+            }
+        }
     }
 }

@@ -3,9 +3,9 @@ ghost use Rattle.std.specs.Prelude.{◌≡◌, IfOk};
 ghost use Rattle.ssh_auth.specs.declared.call.Call.TheVariants as call;
 ghost use Rattle.ssh_handler.specs.Recording.{passed_on};
 
+use crate::made::{both, copied_bytes};
 use crate::recorded::passed;
 use crate::{Commands, RecordError};
-use bytes::Bytes;
 use ssh_auth::Call;
 use ssh_wire::{ChannelId, WireError};
 use std::alloc::Global;
@@ -20,11 +20,12 @@ pub(crate) fn plain_data<E: Copy>(
     ensures { IfOk result (λ made. made ≡ call.Data channel bytes.now (passed_on answer)
         session.now.recorded) }
 {
+    let (bytes, commands) = both(copied_bytes(alloc, bytes), session.copy_recorded())?;
     Ok(Call::Data {
         channel,
-        bytes: Bytes::copy_from_slice(alloc, bytes)?,
+        bytes,
         answer: passed(answer),
-        commands: session.copy_recorded()?,
+        commands,
     })
 }
 
@@ -39,11 +40,12 @@ pub(crate) fn extended_data<E: Copy>(
     ensures { IfOk result (λ made. made ≡ call.ExtendedData channel code bytes.now
         (passed_on answer) session.now.recorded) }
 {
+    let (bytes, commands) = both(copied_bytes(alloc, bytes), session.copy_recorded())?;
     Ok(Call::ExtendedData {
         channel,
         code,
-        bytes: Bytes::copy_from_slice(alloc, bytes)?,
+        bytes,
         answer: passed(answer),
-        commands: session.copy_recorded()?,
+        commands,
     })
 }

@@ -3,6 +3,7 @@ ghost use Rattle.std.specs.Prelude.{◌≡◌, IfOk};
 ghost use Rattle.ssh_auth.specs.declared.call.Call.TheVariants as call;
 ghost use Rattle.ssh_handler.specs.Recording.{passed_on};
 
+use crate::made::both;
 use crate::recorded::passed;
 use crate::{Commands, RecordError};
 use ssh_auth::Call;
@@ -20,12 +21,13 @@ pub(crate) fn tcpip<E: Copy>(
     ensures { IfOk result (λ made. made ≡ call.TcpipForward address.now port port_after
         (passed_on answer) session.now.recorded) }
 {
+    let (address, commands) = both(Text::new(alloc, address), session.copy_recorded())?;
     Ok(Call::TcpipForward {
-        address: Text::new(alloc, address)?,
+        address,
         port,
         port_after,
         answer: passed(answer),
-        commands: session.copy_recorded()?,
+        commands,
     })
 }
 
@@ -39,11 +41,12 @@ pub(crate) fn cancel_tcpip<E: Copy>(
     ensures { IfOk result (λ made. made ≡ call.CancelTcpipForward address.now port
         (passed_on answer) session.now.recorded) }
 {
+    let (address, commands) = both(Text::new(alloc, address), session.copy_recorded())?;
     Ok(Call::CancelTcpipForward {
-        address: Text::new(alloc, address)?,
+        address,
         port,
         answer: passed(answer),
-        commands: session.copy_recorded()?,
+        commands,
     })
 }
 
@@ -56,10 +59,11 @@ pub(crate) fn streamlocal<E: Copy>(
     ensures { IfOk result (λ made. made ≡ call.StreamlocalForward socket_path.now (passed_on answer)
         session.now.recorded) }
 {
+    let (socket_path, commands) = both(Text::new(alloc, socket_path), session.copy_recorded())?;
     Ok(Call::StreamlocalForward {
-        socket_path: Text::new(alloc, socket_path)?,
+        socket_path,
         answer: passed(answer),
-        commands: session.copy_recorded()?,
+        commands,
     })
 }
 
@@ -72,9 +76,10 @@ pub(crate) fn cancel_streamlocal<E: Copy>(
     ensures { IfOk result (λ made. made ≡ call.CancelStreamlocalForward socket_path.now
         (passed_on answer) session.now.recorded) }
 {
+    let (socket_path, commands) = both(Text::new(alloc, socket_path), session.copy_recorded())?;
     Ok(Call::CancelStreamlocalForward {
-        socket_path: Text::new(alloc, socket_path)?,
+        socket_path,
         answer: passed(answer),
-        commands: session.copy_recorded()?,
+        commands,
     })
 }

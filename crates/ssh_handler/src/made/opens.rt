@@ -3,6 +3,7 @@ ghost use Rattle.std.specs.Prelude.{◌≡◌, IfOk};
 ghost use Rattle.ssh_auth.specs.declared.call.Call.TheVariants as call;
 ghost use Rattle.ssh_handler.specs.Recording.{passed_on};
 
+use crate::made::both;
 use crate::recorded::passed;
 use crate::{Commands, RecordError};
 use ssh_auth::Call;
@@ -20,12 +21,14 @@ pub(crate) fn x11<E: Copy>(
     ensures { IfOk result (λ made. made ≡ call.ChannelOpenX11 channel originator_address.now
         originator_port (passed_on answer) session.now.recorded) }
 {
+    let text = Text::new(alloc, originator_address);
+    let (originator_address, commands) = both(text, session.copy_recorded())?;
     Ok(Call::ChannelOpenX11 {
         channel,
-        originator_address: Text::new(alloc, originator_address)?,
+        originator_address,
         originator_port,
         answer: passed(answer),
-        commands: session.copy_recorded()?,
+        commands,
     })
 }
 
@@ -43,14 +46,19 @@ pub(crate) fn direct_tcpip<E: Copy>(
         port_to_connect originator_address.now originator_port (passed_on answer)
         session.now.recorded) }
 {
+    let ends = both(
+        Text::new(alloc, host_to_connect),
+        Text::new(alloc, originator_address),
+    );
+    let ((host_to_connect, originator_address), commands) = both(ends, session.copy_recorded())?;
     Ok(Call::ChannelOpenDirectTcpip {
         channel,
-        host_to_connect: Text::new(alloc, host_to_connect)?,
+        host_to_connect,
         port_to_connect,
-        originator_address: Text::new(alloc, originator_address)?,
+        originator_address,
         originator_port,
         answer: passed(answer),
-        commands: session.copy_recorded()?,
+        commands,
     })
 }
 
@@ -68,14 +76,19 @@ pub(crate) fn forwarded_tcpip<E: Copy>(
         port_to_connect originator_address.now originator_port (passed_on answer)
         session.now.recorded) }
 {
+    let ends = both(
+        Text::new(alloc, host_to_connect),
+        Text::new(alloc, originator_address),
+    );
+    let ((host_to_connect, originator_address), commands) = both(ends, session.copy_recorded())?;
     Ok(Call::ChannelOpenForwardedTcpip {
         channel,
-        host_to_connect: Text::new(alloc, host_to_connect)?,
+        host_to_connect,
         port_to_connect,
-        originator_address: Text::new(alloc, originator_address)?,
+        originator_address,
         originator_port,
         answer: passed(answer),
-        commands: session.copy_recorded()?,
+        commands,
     })
 }
 
@@ -89,10 +102,11 @@ pub(crate) fn direct_streamlocal<E: Copy>(
     ensures { IfOk result (λ made. made ≡ call.ChannelOpenDirectStreamlocal channel socket_path.now
         (passed_on answer) session.now.recorded) }
 {
+    let (socket_path, commands) = both(Text::new(alloc, socket_path), session.copy_recorded())?;
     Ok(Call::ChannelOpenDirectStreamlocal {
         channel,
-        socket_path: Text::new(alloc, socket_path)?,
+        socket_path,
         answer: passed(answer),
-        commands: session.copy_recorded()?,
+        commands,
     })
 }

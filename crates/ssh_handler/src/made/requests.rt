@@ -3,9 +3,9 @@ ghost use Rattle.std.specs.Prelude.{◌≡◌, IfOk, IsOk};
 ghost use Rattle.ssh_auth.specs.declared.call.Call.TheVariants as call;
 ghost use Rattle.ssh_handler.specs.Recording.{passed_on};
 
+use crate::made::{both, copied_bytes};
 use crate::recorded::passed;
 use crate::{Commands, RecordError};
-use bytes::Bytes;
 use ssh_auth::Call;
 use ssh_wire::{ChannelId, Modes, Pty, Sig, Text, WireError};
 use std::alloc::Global;
@@ -36,16 +36,18 @@ pub(crate) fn pty<E: Copy>(
     ensures { IfOk result (λ made. made ≡ call.PtyRequest channel term.now col_width row_height
         pix_width pix_height modes.now (passed_on answer) session.now.recorded) }
 {
+    let asked = both(Text::new(alloc, term), copied_modes(alloc, modes));
+    let ((term, modes), commands) = both(asked, session.copy_recorded())?;
     Ok(Call::PtyRequest {
         channel,
-        term: Text::new(alloc, term)?,
+        term,
         col_width,
         row_height,
         pix_width,
         pix_height,
-        modes: copied_modes(alloc, modes)?,
+        modes,
         answer: passed(answer),
-        commands: session.copy_recorded()?,
+        commands,
     })
 }
 
@@ -63,14 +65,19 @@ pub(crate) fn x11<E: Copy>(
         x11_auth_protocol.now x11_auth_cookie.now x11_screen_number (passed_on answer)
         session.now.recorded) }
 {
+    let asked = both(
+        Text::new(alloc, x11_auth_protocol),
+        Text::new(alloc, x11_auth_cookie),
+    );
+    let ((x11_auth_protocol, x11_auth_cookie), commands) = both(asked, session.copy_recorded())?;
     Ok(Call::X11Request {
         channel,
         single_connection,
-        x11_auth_protocol: Text::new(alloc, x11_auth_protocol)?,
-        x11_auth_cookie: Text::new(alloc, x11_auth_cookie)?,
+        x11_auth_protocol,
+        x11_auth_cookie,
         x11_screen_number,
         answer: passed(answer),
-        commands: session.copy_recorded()?,
+        commands,
     })
 }
 
@@ -85,12 +92,17 @@ pub(crate) fn env<E: Copy>(
     ensures { IfOk result (λ made. made ≡ call.EnvRequest channel variable_name.now
         variable_value.now (passed_on answer) session.now.recorded) }
 {
+    let asked = both(
+        Text::new(alloc, variable_name),
+        Text::new(alloc, variable_value),
+    );
+    let ((variable_name, variable_value), commands) = both(asked, session.copy_recorded())?;
     Ok(Call::EnvRequest {
         channel,
-        variable_name: Text::new(alloc, variable_name)?,
-        variable_value: Text::new(alloc, variable_value)?,
+        variable_name,
+        variable_value,
         answer: passed(answer),
-        commands: session.copy_recorded()?,
+        commands,
     })
 }
 
@@ -104,11 +116,12 @@ pub(crate) fn exec<E: Copy>(
     ensures { IfOk result (λ made. made ≡ call.ExecRequest channel bytes.now (passed_on answer)
         session.now.recorded) }
 {
+    let (bytes, commands) = both(copied_bytes(alloc, bytes), session.copy_recorded())?;
     Ok(Call::ExecRequest {
         channel,
-        bytes: Bytes::copy_from_slice(alloc, bytes)?,
+        bytes,
         answer: passed(answer),
-        commands: session.copy_recorded()?,
+        commands,
     })
 }
 
@@ -122,11 +135,12 @@ pub(crate) fn subsystem<E: Copy>(
     ensures { IfOk result (λ made. made ≡ call.SubsystemRequest channel name.now (passed_on answer)
         session.now.recorded) }
 {
+    let (name, commands) = both(Text::new(alloc, name), session.copy_recorded())?;
     Ok(Call::SubsystemRequest {
         channel,
-        name: Text::new(alloc, name)?,
+        name,
         answer: passed(answer),
-        commands: session.copy_recorded()?,
+        commands,
     })
 }
 
@@ -140,10 +154,11 @@ pub(crate) fn signal<E: Copy>(
         (passed_on answer) session.now.recorded)) }
     ensures made { IfOk result (λ made. IsOk signal) }
 {
+    let (signal, commands) = both(signal, session.copy_recorded())?;
     Ok(Call::Signal {
         channel,
-        signal: signal?,
+        signal,
         answer: passed(answer),
-        commands: session.copy_recorded()?,
+        commands,
     })
 }

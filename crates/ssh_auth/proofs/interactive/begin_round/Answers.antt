@@ -17,15 +17,16 @@ returns-in-Ok g c =
     asked_once (Admits (by.KeyboardInteractive user submethods None))
     (λ answer. after_prompts state answer) c.in-Ok.verdict
     (AuthKeyboardInteractive user submethods None (Ok c.in-Ok.verdict)) _ _
-    c.answer_prompted.new.auth c.answer_prompted.result refl c.in-Ok.ensures
-    (rw c.in_ok-new.ensures.ok at c.answer_prompted.ensures)
+    c.answer_prompted-answered.new.auth c.answer_prompted-answered.result refl c.in-Ok.ensures
+    (rw c.in_ok-submethods_kept.ensures.ok at (rw c.begin_prompts.ensures at
+    c.answer_prompted-answered.ensures))
 
-pub returns-in_err-new : goal.returns-in_err-new
-returns-in_err-new g c =
+pub returns-in_err-submethods_kept : goal.returns-in_err-submethods_kept
+returns-in_err-submethods_kept g c =
     starved (method_verdict c.args.auth.now c.args.user.now
     (Interactive_method c.args.submethods.now)) (g.H.AuthHandler.told c.args.handler.now)
-    c.args.auth.now c.in_err-new.field-0.0
-    c.from_residual.result c.from_residual.ensures.1 c.in_err-new.ensures.memory
+    c.args.auth.now c.in_err-submethods_kept.field-0.0
+    c.from_residual.result c.from_residual.ensures.1 c.in_err-submethods_kept.ensures.memory
 
 pub returns-in-Err : goal.returns-in-Err
 returns-in-Err g c =

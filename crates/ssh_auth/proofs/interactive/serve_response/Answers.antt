@@ -55,20 +55,20 @@ returns-in-Ok g c =
         subst (λ fields. SaysResponses fields (Responses texts)) c.fields_of.ensures
             (subst (λ t. SaysResponses c.fields_of.result.now (Responses t)) (sym are)
             c.in_ok-responses.ensures),
-        prompted_response auth user submethods (Responses texts) _ _ c.answer_prompted.new.auth
-            c.answer_prompted.result c.in-Some.ensures
+        prompted_response auth user submethods (Responses texts) _ _ c.answer_prompted-answered.new.auth
+            c.answer_prompted-answered.result c.in-Some.ensures
             (asked_once (Admits (by.KeyboardInteractive user submethods (Some texts)))
             (λ answer. after_prompts (record auth { partial_success = false }) answer)
             c.in-Ok.verdict
-            call _ _ c.answer_prompted.new.auth c.answer_prompted.result refl c.in-Ok.ensures
-            c.answer_prompted.ensures),
+            call _ _ c.answer_prompted-answered.new.auth c.answer_prompted-answered.result refl c.in-Ok.ensures
+            c.answer_prompted-answered.ensures),
       );
       prompts = one_prompt false _ _ user submethods (Some texts) (Ok c.in-Ok.verdict)
           c.in-Ok.ensures;
     }
 
-pub returns : goal.returns
-returns g c =
+pub returns-in-Err : goal.returns-in-Err
+returns-in-Err g c =
     let auth = c.args.auth.now in
     let user = c.in-Some.user.now in
     let submethods = c.in-Some.submethods.now in

@@ -9,15 +9,15 @@ use Rattle.ssh_auth.proofs.Asks.{asked_in_vain}
 use Rattle.ssh_auth.proofs.Keys.{no_permit}
 use Rattle.ssh_auth.proofs.publickey.ask_probe.Goals as goal
 
-pub returns-in_err-answer_offer-in-Ok : goal.returns-in_err-answer_offer-in-Ok
-returns-in_err-answer_offer-in-Ok g c =
+pub returns-in_err-answered-in-Ok : goal.returns-in_err-answered-in-Ok
+returns-in_err-answered-in-Ok g c =
     let user = c.args.user.now in
     let offer = c.args.offer.now in
     no_permit (Admits (by.PublickeyOffered user (offered_key offer.key) offer.algorithm))
     (λ answer. after_offer c.args.auth.now offer answer) c.in-Ok.verdict
     (AuthPublickeyOffered user (offered_key offer.key) offer.algorithm (Ok c.in-Ok.verdict)) _ _
-    c.answer_offer.new.auth c.in_err-answer_offer-in-Ok.field-0.0 c.from_residual.result
-    c.from_residual.ensures.1 c.in_err-answer_offer-in-Ok.ensures.refused refl c.in-Ok.ensures
+    c.answer_offer-answered.new.auth c.in_err-answered-in-Ok.field-0.0 c.from_residual.result
+    c.from_residual.ensures.1 (rw c.in_err-answered-in-Ok.was at c.answer_offer-answered.ensures.refused) refl c.in-Ok.ensures
 
 pub returns-in-Err : goal.returns-in-Err
 returns-in-Err g c =

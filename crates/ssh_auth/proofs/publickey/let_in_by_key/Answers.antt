@@ -7,15 +7,15 @@ use Rattle.ssh_auth.specs.Verdict.{after_proof}
 use Rattle.ssh_auth.proofs.Asks.{asked_in_vain, starved_after}
 use Rattle.ssh_auth.proofs.publickey.let_in_by_key.Goals as goal
 
-pub returns-in_err-answer_proof-in-Ok : goal.returns-in_err-answer_proof-in-Ok
-returns-in_err-answer_proof-in-Ok g c =
+pub returns-in_err-answered-in-Ok : goal.returns-in_err-answered-in-Ok
+returns-in_err-answered-in-Ok g c =
     let user = c.args.user.now in
     let key = c.args.public_key.now in
     starved_after (Admits (by.Publickey user key c.args.algorithm))
     (λ answer. Finish (after_proof c.args.auth.now answer)) c.in-Ok.verdict
-    (AuthPublickey user key c.args.algorithm (Ok c.in-Ok.verdict)) _ _ c.answer_proof.new.auth
-    c.in_err-answer_proof-in-Ok.field-0.0 c.from_residual.result
-    c.from_residual.ensures.1 c.in_err-answer_proof-in-Ok.ensures.memory refl c.in-Ok.ensures
+    (AuthPublickey user key c.args.algorithm (Ok c.in-Ok.verdict)) _ _ c.answer_proof-answered.new.auth
+    c.in_err-answered-in-Ok.field-0.0 c.from_residual.result
+    c.from_residual.ensures.1 (rw c.in_err-answered-in-Ok.was at c.answer_proof-answered.ensures.memory) refl c.in-Ok.ensures
 
 pub returns-in-Err : goal.returns-in-Err
 returns-in-Err g c =

@@ -8,7 +8,7 @@ use Rattle.ssh_auth.specs.declared.question.Question.TheVariants.{Admits}
 use Rattle.ssh_auth.specs.Request.{is_probed}
 use Rattle.ssh_auth.specs.Verdict.{permitted, signed}
 use Rattle.ssh_auth.proofs.Asks.{asked, asked_in_vain, starved_after}
-use Rattle.ssh_auth.proofs.Keys.{unprobed}
+use Rattle.ssh_auth.proofs.Keys.{unprobed, permitted_by}
 use Rattle.ssh_auth.proofs.publickey.permit_signed.Goals as goal
 
 pub returns-in_err-refuse-in-Ok : goal.returns-in_err-refuse-in-Ok
@@ -21,32 +21,35 @@ returns-in_err-refuse-in-Ok g c =
       tt,
       unprobed auth user offer None _ _ c.refuse.new.auth c.from_residual.result fresh
           (starved_after (Admits (by.PublickeyOffered user (offered_key offer.key) offer.algorithm))
-          (λ answer. permitted auth answer (signed auth user offer None)) c.in-Ok.field-0
-          (AuthPublickeyOffered user (offered_key offer.key) offer.algorithm (Ok c.in-Ok.field-0)) _
+          (λ answer. permitted auth answer (signed auth user offer None)) c.in-Ok.verdict
+          (AuthPublickeyOffered user (offered_key offer.key) offer.algorithm (Ok c.in-Ok.verdict)) _
           _ c.refuse.new.auth c.in_err-refuse-in-Ok.field-0.0 c.from_residual.result
           c.from_residual.ensures.1 c.in_err-refuse-in-Ok.ensures.memory refl c.in-Ok.ensures),
     )
 
-pub returns-in-Ok-Accept : goal.returns-in-Ok-Accept
-returns-in-Ok-Accept g c =
+pub returns-else-not-lets_sign : goal.returns-else-not-lets_sign
+returns-else-not-lets_sign g c =
     let auth = c.args.auth.now in
     let user = c.args.user.now in
     let offer = c.args.offer.now in
-    let rest = c.verify_signed-in-Ok-Accept.ensures in
-    let fresh : is_probed auth.current offer.name offer.blob ≡ false = search rules in (
+    let rest = c.verify_signed-in-Ok.ensures in
+    let fresh : is_probed auth.current offer.name offer.blob ≡ false = search rules in
+    let lets : c.in-Ok.verdict ≡ Accept = search rules in (
       rest.0,
       rest.1,
-      unprobed auth user offer rest.0 _ _ c.verify_signed-in-Ok-Accept.new.auth
-          c.verify_signed-in-Ok-Accept.result fresh
+      unprobed auth user offer rest.0 _ _ c.verify_signed-in-Ok.new.auth
+          c.verify_signed-in-Ok.result fresh
           (asked (Admits (by.PublickeyOffered user (offered_key offer.key) offer.algorithm))
-          (λ answer. permitted auth answer (signed auth user offer rest.0)) Accept
-          (AuthPublickeyOffered user (offered_key offer.key) offer.algorithm (Ok Accept)) _ _ _
-          c.verify_signed-in-Ok-Accept.new.auth c.verify_signed-in-Ok-Accept.result
-          refl (rw c.in-Ok-Accept.field-0-is at c.in-Ok-Accept.ensures) rest.2),
+          (λ answer. permitted auth answer (signed auth user offer rest.0)) c.in-Ok.verdict
+          (AuthPublickeyOffered user (offered_key offer.key) offer.algorithm (Ok c.in-Ok.verdict)) _
+          _ _
+          c.verify_signed-in-Ok.new.auth c.verify_signed-in-Ok.result
+          refl c.in-Ok.ensures
+          (permitted_by auth c.in-Ok.verdict (signed auth user offer rest.0) _ _ _ _ lets rest.2)),
     )
 
-pub returns : goal.returns
-returns g c =
+pub returns-in-Err : goal.returns-in-Err
+returns-in-Err g c =
     let auth = c.args.auth.now in
     let user = c.args.user.now in
     let offer = c.args.offer.now in

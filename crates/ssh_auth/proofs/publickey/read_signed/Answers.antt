@@ -35,10 +35,10 @@ returns g c =
     signed_request (circumstances (g.V.Verifier.accepts c.args.verifier.now) request)
     request.payload.now c.requires.whole.1.0 request.fields.now c.args.rest.now _
     c.args.offer.now
-    c.in-Ok.signature c.args.auth.now request.user.now _ _ c.permit_signed.new.auth
-    c.permit_signed.result c.requires.offered c.in-Ok.ensures
+    c.in-Ok.signature c.args.auth.now request.user.now _ _ c.permit_signed-served.new.auth
+    c.permit_signed-served.result c.requires.offered c.in-Ok.ensures
     (same_text name (algorithm_name c.args.offer.now.algorithm) same) c.requires.whole.1.1
-    (search rules) c.permit_signed.ensures
+    (search rules) c.permit_signed-served.ensures
 
 pub returns-in_err-refuse : goal.returns-in_err-refuse
 returns-in_err-refuse g c = inr (

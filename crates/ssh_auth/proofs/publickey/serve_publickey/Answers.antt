@@ -18,8 +18,8 @@ returns-in_err-asked g c =
     c.from_residual.result c.from_residual.ensures.1 (all_error g.row.H-Error.Denot offer_fields
     request.fields.now why c.in_err-asked.ensures) (inl c.in_err-asked.ensures)
 
-pub returns-in_ok-refuse-in-Ok-None : goal.returns-in_ok-refuse-in-Ok-None
-returns-in_ok-refuse-in-Ok-None g c =
+pub returns-in_default : goal.returns-in_default
+returns-in_default g c =
     let asked = c.in_ok-asked.asked in
     inl (
       Unusable_method,
@@ -29,10 +29,10 @@ returns-in_ok-refuse-in-Ok-None g c =
         asked.blob.now,
         asked.rest.now,
         c.in_ok-asked.ensures,
-        rw c.in-Ok-None.field-0-is at c.in-Ok-None.ensures.ok,
+        rw c.in_default.is at c.in-Ok.ensures.ok,
       ),
       finished (refused c.args.auth.now) (g.H.AuthHandler.told c.args.handler.now) c.refuse.new.auth
-          c.in_ok-refuse-in-Ok-None.field-0 c.in_ok-refuse-in-Ok-None.ensures.ok,
+          c.in_ok-refuse-in-Ok.field-0 c.in_ok-refuse-in-Ok.ensures.ok,
     )
 
 pub returns-in-Err : goal.returns-in-Err

@@ -99,9 +99,9 @@ returns-in-ExitStatus-clause-does g c = λ w r.
 
 pub returns-in-ExitSignal-clause-does : goal.returns-in-ExitSignal-clause-does
 returns-in-ExitSignal-clause-does g c = λ w r.
-    subst (λ d. HasEffect d c.exit_signal.new.self c.exit_signal.result)
+    subst (λ d. HasEffect d c.exit_signal-done.new.self c.exit_signal-done.result)
     (sym (ap (done_by w) c.in-ExitSignal.is))
-    (c.exit_signal.ensures.does w r)
+    (c.exit_signal-done.ensures.does w r)
 
 pub returns-in-Answer-clause-does : goal.returns-in-Answer-clause-does
 returns-in-Answer-clause-does g c = λ w r.

@@ -18,7 +18,7 @@ pub returns-in-Payload-clause-does : goal.returns-in-Payload-clause-does
 returns-in-Payload-clause-does g c = λ w r.
     let v = hears c.in-Payload.payload w in
     let q = rw c.as_slice.ensures at (c.hear.ensures.world w r) in
-    let s = rw c.as_slice-in-Payload.ensures at (c.serve_payload.ensures.does v q) in
+    let s = rw c.as_slice-in-Payload.ensures at (c.serve_payload-flow.ensures.does v q) in
     (s.0, rw c.in-Payload.is s.1, s.2)
 
 pub returns-in-Command-clause-does : goal.returns-in-Command-clause-does
