@@ -1,8 +1,9 @@
 // The state of authentication between requests (RFC 4252 section 5).
+use crate::values::are_equal;
 use bytes::Bytes;
 use ssh_auth::{AuthRequest, CurrentRequest, Method};
 use ssh_keys::{CertType, Certificate, HashAlg, PublicKey, Signature};
-use ssh_wire::{Blobs, MethodKind, MethodSet, Text};
+use ssh_wire::{Blobs, MethodKind, MethodSet, Text, WireError};
 use std::alloc::Global;
 use std::test::*;
 
@@ -36,8 +37,11 @@ fn certificate(alloc: Global) -> Result<Certificate, Fail> {
     })
 }
 
+// The name of a user and that of a service, or of a round and what it is about.
+type Pair = (&'static str, &'static str);
+
 // The fields, with the submethods of the prompts that were begun, and the name of any other round.
-#[derive(Clone, Copy, Debug, PartialEq, Eq)]
+#[derive(Clone, Copy, PartialEq)]
 struct Fields<'a> {
     methods: MethodSet,
     partial_success: bool,
@@ -67,7 +71,7 @@ fn fields_of(auth: &AuthRequest) -> Fields<'_> {
 }
 
 // Whether a client that would go on with this method begins with all methods and this round.
-fn begins(method: Method, round: Option<(&'static str, &'static str)>) -> bool {
+fn begins(method: Method, round: Option<Pair>) -> bool {
     let all = MethodSet::client_supported();
     let wanted = Fields {
         methods: all,
@@ -133,14 +137,6 @@ fn a_client_that_is_prompted_or_goes_by_gss_api_begins(rt: HostRuntime) -> Resul
     Ok(())
 }
 
-// Whether both are equal in all fields.
-fn are_equal(one: AuthRequest, other: AuthRequest) -> bool {
-    let are_equal = one == other;
-    drop(one);
-    drop(other);
-    are_equal
-}
-
 // Whether a server with these methods begins with them, and with no round and nobody bound.
 fn serves(methods: MethodSet) -> bool {
     let wanted = Fields {
@@ -175,36 +171,28 @@ fn a_server_begins_with_its_methods_and_nobody_bound(rt: HostRuntime) {
     }
 }
 
-// After a request by this user for this service, if any.
-fn bound(alloc: Global, pair: Option<(&str, &str)>) -> Result<AuthRequest, Fail> {
-    let methods = [MethodKind::PublicKey, MethodKind::Password];
-    let mut auth = AuthRequest::server(MethodSet::from_slice(&methods));
+// Brings a server to where some requests by this user for this service leave it, if any.
+fn serve(alloc: Global, auth: &mut AuthRequest, pair: Option<Pair>) -> Result<(), WireError> {
+    let submethods = Text::new(alloc, "pam")?;
     if let Some((user, service)) = pair {
         auth.bind_or_reset_principal(alloc, user, service)?;
     }
-    Ok(auth)
-}
-
-// After some requests by this user for this service.
-fn underway(alloc: Global, pair: Option<(&str, &str)>) -> Result<AuthRequest, Fail> {
-    let submethods = Text::new(alloc, "pam")?;
-    let mut auth = bound(alloc, pair)?;
     auth.methods = MethodSet::from_slice(&[MethodKind::Password]);
     auth.partial_success = true;
     auth.current = Some(CurrentRequest::KeyboardInteractive { submethods });
     auth.rejection_count = 3;
-    Ok(auth)
+    Ok(())
 }
 
 // Whether the next request, by this pair, begins anew just where that differs from the bound one.
 fn goes_on(
     alloc: Global,
-    mut auth: AuthRequest,
-    bound: Option<(&'static str, &'static str)>,
-    named: (&'static str, &'static str),
+    auth: &mut AuthRequest,
+    bound: Option<Pair>,
+    named: Pair,
     differs: bool,
 ) -> bool {
-    let before = fields_of(&auth);
+    let before = fields_of(auth);
     let was_bound = before.principal == bound;
     let (methods, initial) = (before.methods, before.initial);
     let answer = auth.bind_or_reset_principal(alloc, named.0, named.1);
@@ -220,15 +208,23 @@ fn goes_on(
         principal: Some(named),
         initial,
     };
-    let is_wanted = fields_of(&auth) == wanted;
-    drop(auth);
+    let is_wanted = fields_of(auth) == wanted;
     was_bound && answer == Ok(differs) && is_wanted
 }
 
-const ADA: (&str, &str) = ("ada", "ssh-connection");
+fn is_so(alloc: Global, bound: Option<Pair>, named: Pair, differs: bool) -> bool {
+    let methods = [MethodKind::PublicKey, MethodKind::Password];
+    let mut auth = AuthRequest::server(MethodSet::from_slice(&methods));
+    let is_served = serve(alloc, &mut auth, bound) == Ok(());
+    let goes_on = goes_on(alloc, &mut auth, bound, named, differs);
+    drop(auth);
+    is_served && goes_on
+}
 
-// Who was bound, whom the next request names, and whether they differ.
-const PAIRS: [(&str, Option<(&str, &str)>, (&str, &str), bool); 9] = [
+const ADA: Pair = ("ada", "ssh-connection");
+
+// The pair that was bound, the one that the next request names, and whether they differ.
+const PAIRS: [(&str, Option<Pair>, Pair, bool); 9] = [
     ("the first request binds its pair", None, ADA, true),
     ("the same pair changes nothing", Some(ADA), ADA, false),
     ("another user", Some(ADA), ("bob", "ssh-connection"), true),
@@ -266,11 +262,8 @@ const PAIRS: [(&str, Option<(&str, &str)>, (&str, &str), bool); 9] = [
 ];
 
 #[test]
-fn another_user_or_service_begins_anew(rt: HostRuntime) -> Result<(), Fail> {
-    let alloc = rt.alloc();
+fn another_user_or_service_begins_anew(rt: HostRuntime) {
     for (shows, bound, named, differs) in PAIRS {
-        let auth = underway(alloc, bound)?;
-        assert!(rt; goes_on(alloc, auth, bound, named, differs), "{shows}");
+        assert!(rt; is_so(rt.alloc(), bound, named, differs), "{shows}");
     }
-    Ok(())
 }

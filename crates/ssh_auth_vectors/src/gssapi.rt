@@ -1,15 +1,10 @@
 // Steps and errors of GSS-API are equal where all of their fields are.
+use crate::values::are_equal;
 use bytes::Bytes;
 use ssh_auth::{GssapiError, GssapiStep};
-use ssh_wire::Text;
+use ssh_wire::{Text, WireError};
+use std::alloc::Global;
 use std::test::*;
-
-fn are_equal<T: PartialEq + Drop>(one: T, other: T) -> bool {
-    let are_equal = one == other;
-    drop(one);
-    drop(other);
-    are_equal
-}
 
 // What a step is made of.
 #[derive(Clone, Copy)]
@@ -37,36 +32,34 @@ fn step(parts: Parts) -> GssapiStep {
     }
 }
 
+const STEPS: [(&str, Parts); 7] = [
+    ("a token for the peer", Parts::Continue(b"one")),
+    ("another token for the peer", Parts::Continue(b"two")),
+    ("an end with nothing to send", Parts::Complete(None, None)),
+    (
+        "an end with a last token",
+        Parts::Complete(Some(b"one"), None),
+    ),
+    (
+        "an end with an empty last token",
+        Parts::Complete(Some(b""), None),
+    ),
+    (
+        "an end with a check of the request",
+        Parts::Complete(None, Some(b"one")),
+    ),
+    (
+        "an end with both",
+        Parts::Complete(Some(b"one"), Some(b"mic")),
+    ),
+];
+
 #[test]
 fn steps_are_equal_where_their_fields_are(rt: HostRuntime) {
-    let rows = [
-        ("a token for the peer", Parts::Continue(b"one")),
-        ("another token for the peer", Parts::Continue(b"two")),
-        ("an end with nothing to send", Parts::Complete(None, None)),
-        (
-            "an end with a last token",
-            Parts::Complete(Some(b"one"), None),
-        ),
-        (
-            "an end with an empty last token",
-            Parts::Complete(Some(b""), None),
-        ),
-        (
-            "an end with a check of the request",
-            Parts::Complete(None, Some(b"one")),
-        ),
-        (
-            "an end with both",
-            Parts::Complete(Some(b"one"), Some(b"mic")),
-        ),
-    ];
-    for (place, (shows, parts)) in rows.iter().enumerate() {
-        for (other, (against, others)) in rows.iter().enumerate() {
-            assert_eq!(rt;
-                are_equal(step(*parts), step(*others)),
-                place == other,
-                "{shows}, and {against}"
-            );
+    for (place, (shows, parts)) in STEPS.iter().enumerate() {
+        for (other, (against, others)) in STEPS.iter().enumerate() {
+            let is_so = are_equal(step(*parts), step(*others)) == (place == other);
+            assert!(rt; is_so, "{shows}, and {against}");
         }
     }
 }
@@ -79,27 +72,38 @@ fn status(major_status: u32, minor_status: u32, message: Text) -> GssapiError {
     }
 }
 
+// What a status is, its two codes and its message.
+type Status = (&'static str, u32, u32, &'static str);
+
+const STATUSES: [Status; 4] = [
+    ("a status with its message", 1, 2, "no credentials"),
+    ("another error of the GSS-API", 3, 2, "no credentials"),
+    ("another code of the mechanism", 1, 3, "no credentials"),
+    ("another message", 1, 2, "expired"),
+];
+
+fn are_equal_statuses(alloc: Global, one: Status, other: Status) -> Result<bool, WireError> {
+    let text = Text::new(alloc, one.3)?;
+    let message = Text::new(alloc, other.3)?;
+    Ok(are_equal(
+        status(one.1, one.2, text),
+        status(other.1, other.2, message),
+    ))
+}
+
 #[test]
-fn statuses_are_equal_where_their_fields_are(rt: HostRuntime) -> Result<(), Fail> {
-    let rows = [
-        ("a status with its message", 1, 2, "no credentials"),
-        ("another error of the GSS-API", 3, 2, "no credentials"),
-        ("another code of the mechanism", 1, 3, "no credentials"),
-        ("another message", 1, 2, "expired"),
-    ];
-    for (place, (shows, major, minor, text)) in rows.iter().enumerate() {
-        for (other, (against, others, code, message)) in rows.iter().enumerate() {
-            let text = Text::new(rt.alloc(), text)?;
-            let message = Text::new(rt.alloc(), message)?;
-            let one = status(*major, *minor, text);
-            assert_eq!(rt;
-                are_equal(one, status(*others, *code, message)),
-                place == other,
-                "{shows}, and {against}"
+fn statuses_are_equal_where_their_fields_are(rt: HostRuntime) {
+    for (place, one) in STATUSES.iter().enumerate() {
+        for (other, against) in STATUSES.iter().enumerate() {
+            let are_equal = are_equal_statuses(rt.alloc(), *one, *against);
+            assert!(rt;
+                are_equal == Ok(place == other),
+                "{}, and {}",
+                one.0,
+                against.0
             );
         }
     }
-    Ok(())
 }
 
 fn error_token(bytes: &'static [u8]) -> GssapiError {
@@ -108,10 +112,9 @@ fn error_token(bytes: &'static [u8]) -> GssapiError {
 
 #[test]
 fn tokens_that_tell_of_an_error_are_equal_where_they_are(rt: HostRuntime) -> Result<(), Fail> {
+    let message = Text::new(rt.alloc(), "one")?;
+    assert!(rt; !are_equal(error_token(b"one"), status(1, 2, message)));
     assert!(rt; are_equal(error_token(b"one"), error_token(b"one")));
     assert!(rt; !are_equal(error_token(b"one"), error_token(b"two")));
-    let message = Text::new(rt.alloc(), "one")?;
-    let no_token = status(1, 2, message);
-    assert!(rt; !are_equal(error_token(b"one"), no_token));
     Ok(())
 }

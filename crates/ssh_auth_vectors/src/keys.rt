@@ -1,6 +1,7 @@
 // What OpenSSH makes is read as what it says, and written as it was.
 mod vectors;
 
+use crate::values::is_this;
 use bytes::Bytes;
 use ssh_keys::{
     Algorithm, CertType, Certificate, EcdsaCurve, HashAlg, KeyError, PublicKey,
@@ -8,7 +9,7 @@ use ssh_keys::{
 };
 use ssh_wire::{Reader, Text};
 use std::alloc::Global;
-use std::test::Fail;
+use std::test::*;
 
 fn unhex(alloc: Global, digits: &str) -> Result<Bytes, Fail> {
     Ok(Bytes::from_vec(hex::decode(alloc, digits)?)?)
@@ -92,16 +93,22 @@ const ROWS: [Row; 5] = [
     },
 ];
 
+// Whether the row's blob is its key, and the key is copied, and written as the blob.
+fn is_key(alloc: Global, row: Row) -> Result<bool, Fail> {
+    let blob = unhex(alloc, row.blob)?;
+    let key = key_of(row.key);
+    let is_key = is_this(PublicKey::decode(alloc, blob.as_slice()), &key)
+        && is_this(key.copy(), &key)
+        && is_this(key.blob(alloc), &blob);
+    drop(key);
+    drop(blob);
+    Ok(is_key)
+}
+
 #[test]
 fn a_key_is_read_as_its_parts_and_written_as_its_blob(rt: HostRuntime) -> Result<(), Fail> {
-    let alloc = rt.alloc();
     for row in ROWS {
-        let wanted = key_of(row.key);
-        let blob = unhex(alloc, row.blob)?;
-        let key = PublicKey::decode(alloc, blob.as_slice())?;
-        assert!(rt; key == wanted);
-        assert!(rt; key.copy()? == wanted);
-        assert_eq!(rt; key.blob(alloc)?, blob);
+        assert!(rt; is_key(rt.alloc(), row)?, "{}", row.blob);
     }
     Ok(())
 }
@@ -138,43 +145,19 @@ fn certified(alloc: Global, row: Row, blob: &[u8]) -> Result<Certificate, Fail> 
     })
 }
 
-fn are_equal(one: Certificate, other: Certificate) -> bool {
-    let equal = one == other;
-    drop(one);
-    drop(other);
-    equal
-}
-
-// Whether a certificate was made, and is the one that is wanted.
-fn is_made<E: Drop>(made: Result<Certificate, E>, wanted: Certificate) -> bool {
-    match made {
-        Ok(certificate) => are_equal(certificate, wanted),
-        Err(e) => {
-            drop(e);
-            drop(wanted);
-            false
-        }
-    }
-}
-
-fn is_read_so(alloc: Global, row: Row, blob: &[u8]) -> Result<bool, Fail> {
-    let wanted = certified(alloc, row, blob)?;
-    Ok(is_made(Certificate::decode(alloc, blob), wanted))
-}
-
-fn is_copied_so(alloc: Global, row: Row, blob: &[u8]) -> Result<bool, Fail> {
-    let wanted = certified(alloc, row, blob)?;
-    let copied = wanted.copy();
-    Ok(is_made(copied, wanted))
+fn is_certificate(alloc: Global, row: Row) -> Result<bool, Fail> {
+    let blob = unhex(alloc, row.certificate)?;
+    let wanted = certified(alloc, row, blob.as_slice())?;
+    let is_certificate = is_this(Certificate::decode(alloc, blob.as_slice()), &wanted)
+        && is_this(wanted.copy(), &wanted);
+    drop(wanted);
+    Ok(is_certificate)
 }
 
 #[test]
 fn a_certificate_says_what_was_certified(rt: HostRuntime) -> Result<(), Fail> {
-    let alloc = rt.alloc();
     for row in ROWS {
-        let blob = unhex(alloc, row.certificate)?;
-        assert!(rt; is_read_so(alloc, row, blob.as_slice())?);
-        assert!(rt; is_copied_so(alloc, row, blob.as_slice())?);
+        assert!(rt; is_certificate(rt.alloc(), row)?, "{}", row.certificate);
     }
     Ok(())
 }
@@ -184,75 +167,77 @@ fn decoded(alloc: Global, digits: &str) -> Result<Certificate, Fail> {
     Ok(Certificate::decode(alloc, blob.as_slice())?)
 }
 
-// A verifier that accepts this certificate's signature.
-fn verifier_of(alloc: Global, certificate: &Certificate) -> Result<TableVerifier, Fail> {
-    let mut table = TableVerifier::new(alloc);
-    table.add(
-        certificate.signature_key.copy()?,
-        Algorithm::Ed25519,
-        certificate.signed.clone()?,
-        certificate.signature.blob.clone()?,
-    )?;
-    Ok(table)
+// Lets the verifier accept this certificate's signature.
+fn accept(table: &mut TableVerifier, certificate: &Certificate) -> Result<(), KeyError> {
+    let signed = certificate.signed.clone()?;
+    let signature = certificate.signature.blob.clone()?;
+    let key = certificate.signature_key.copy()?;
+    table.add(key, Algorithm::Ed25519, signed, signature)
 }
+
+const LATE: Result<(), KeyError> = Err(KeyError::Time);
+
+// From, up to, a moment in milliseconds, and the answer.
+const MOMENTS: [(u64, u64, u64, Result<(), KeyError>); 8] = [
+    (1704067200, 1893456000, 1704067199999, LATE),
+    (1704067200, 1893456000, 1704067200000, Ok(())),
+    (1704067200, 1893456000, 1893456000000, Ok(())),
+    (1704067200, 1893456000, 1893456000001, LATE),
+    (0, 10, 10000, Ok(())),
+    (0, 10, 10001, LATE),
+    (0, u64::MAX, 0, Ok(())),
+    (0, u64::MAX, u64::MAX, Ok(())),
+];
 
 #[test]
 fn a_certificate_holds_from_its_first_second_to_its_last(rt: HostRuntime) -> Result<(), Fail> {
-    let alloc = rt.alloc();
-    let mut certificate = decoded(alloc, vectors::ED25519_CERTIFICATE)?;
-    let table = verifier_of(alloc, &certificate)?;
-    let late = Err(KeyError::Time);
-    // From, up to, and a moment in milliseconds.
-    let rows = [
-        (1704067200, 1893456000, 1704067199999, late),
-        (1704067200, 1893456000, 1704067200000, Ok(())),
-        (1704067200, 1893456000, 1893456000000, Ok(())),
-        (1704067200, 1893456000, 1893456000001, late),
-        (0, 10, 10000, Ok(())),
-        (0, 10, 10001, late),
-        (0, u64::MAX, 0, Ok(())),
-        (0, u64::MAX, u64::MAX, Ok(())),
-    ];
-    for (valid_after, valid_before, moment, answer) in rows {
+    let mut certificate = decoded(rt.alloc(), vectors::ED25519_CERTIFICATE)?;
+    let mut table = TableVerifier::new(rt.alloc());
+    assert!(rt; accept(&mut table, &certificate) == Ok(()));
+    for (valid_after, valid_before, moment, answer) in MOMENTS {
         certificate.valid_after = valid_after;
         certificate.valid_before = valid_before;
-        assert_eq!(rt; certificate.check(moment, &table), answer);
+        assert!(rt; certificate.check(moment, &table) == answer, "{moment}");
     }
     Ok(())
 }
 
 #[test]
 fn a_certificate_whose_signature_is_not_accepted_is_refused(rt: HostRuntime) -> Result<(), Fail> {
-    let alloc = rt.alloc();
-    let certificate = decoded(alloc, vectors::ED25519_CERTIFICATE)?;
-    let empty = TableVerifier::new(alloc);
+    let certificate = decoded(rt.alloc(), vectors::ED25519_CERTIFICATE)?;
+    let empty = TableVerifier::new(rt.alloc());
     let answer = certificate.check(1704067200000, &empty);
-    assert_eq!(rt; answer, Err(KeyError::CertificateValidation));
+    assert!(rt; answer == Err(KeyError::CertificateValidation));
     Ok(())
+}
+
+// The name of the algorithm, and how many bytes of the signature's own come last.
+const SIGNATURES: [(&str, &str, usize); 5] = [
+    (vectors::ED25519_SIGNATURE, "ssh-ed25519", 64),
+    (vectors::P256_SIGNATURE, "ecdsa-sha2-nistp256", 74),
+    (vectors::P384_SIGNATURE, "ecdsa-sha2-nistp384", 105),
+    (vectors::P521_SIGNATURE, "ecdsa-sha2-nistp521", 140),
+    (vectors::RSA_SIGNATURE, "rsa-sha2-512", 128),
+];
+
+// Whether these bytes are such a signature to their end, and it is copied.
+fn is_signature(alloc: Global, bytes: &[u8], name: &str, length: usize) -> Result<bool, Fail> {
+    let (_, own) = bytes.split_at(bytes.len().saturating_sub(length));
+    let wanted = signature_of(alloc, name, Bytes::copy_from_slice(alloc, own)?)?;
+    let mut r = Reader::new(bytes);
+    let is_read = is_this(Signature::decode(alloc, &mut r), &wanted);
+    let is_copied = is_this(wanted.copy(), &wanted);
+    Ok(is_read && is_copied && r.end() == Ok(()))
 }
 
 #[test]
 fn a_signature_is_read_to_its_end(rt: HostRuntime) -> Result<(), Fail> {
-    let alloc = rt.alloc();
-    // The name of the algorithm, and how many bytes of the signature's own come last.
-    let rows = [
-        (vectors::ED25519_SIGNATURE, "ssh-ed25519", 64),
-        (vectors::P256_SIGNATURE, "ecdsa-sha2-nistp256", 74),
-        (vectors::P384_SIGNATURE, "ecdsa-sha2-nistp384", 105),
-        (vectors::P521_SIGNATURE, "ecdsa-sha2-nistp521", 140),
-        (vectors::RSA_SIGNATURE, "rsa-sha2-512", 128),
-    ];
-    for (digits, name, length) in rows {
-        let bytes = unhex(alloc, digits)?;
-        let (_, own) = bytes
-            .as_slice()
-            .split_at(bytes.len().saturating_sub(length));
-        let wanted = signature_of(alloc, name, Bytes::copy_from_slice(alloc, own)?)?;
-        let mut r = Reader::new(bytes.as_slice());
-        let signature = Signature::decode(alloc, &mut r)?;
-        assert!(rt; signature == wanted);
-        assert!(rt; signature.copy()? == wanted);
-        assert_eq!(rt; r.end(), Ok(()));
+    for (digits, name, length) in SIGNATURES {
+        let bytes = unhex(rt.alloc(), digits)?;
+        assert!(rt;
+            is_signature(rt.alloc(), bytes.as_slice(), name, length)?,
+            "{name}"
+        );
     }
     Ok(())
 }
@@ -264,81 +249,80 @@ fn shown(offer: &PublicKeyOrCertificate, key: &PublicKey) -> (Option<HashAlg>, b
         PublicKeyOrCertificate::PublicKey { hash_alg, .. } => *hash_alg,
         PublicKeyOrCertificate::Certificate(_) => None,
     };
-    (
-        hash,
-        offer.certificate().is_some(),
-        *offer.public_key() == *key,
-    )
+    let is_certificate = offer.certificate().is_some();
+    (hash, is_certificate, *offer.public_key() == *key)
 }
 
-fn offered(alloc: Global, name: &str, digits: &str) -> Result<PublicKeyOrCertificate, Fail> {
+// What an offer by this name shows beside the key of these parts.
+fn offered(
+    alloc: Global,
+    name: &str,
+    digits: &str,
+    parts: Parts,
+) -> Result<(Option<HashAlg>, bool, bool), Fail> {
     let blob = unhex(alloc, digits)?;
-    Ok(PublicKeyOrCertificate::decode(alloc, name, blob.as_slice())?)
+    let offer = PublicKeyOrCertificate::decode(alloc, name, blob.as_slice())?;
+    let key = key_of(parts);
+    let shown = shown(&offer, &key);
+    drop(offer);
+    drop(key);
+    Ok(shown)
 }
 
 #[test]
 fn a_plain_key_is_offered_with_the_hash_of_the_name(rt: HostRuntime) -> Result<(), Fail> {
-    let key = key_of(Parts::Rsa);
-    let offer = offered(rt.alloc(), "rsa-sha2-256", vectors::RSA_BLOB)?;
-    let shown = shown(&offer, &key);
-    drop(offer);
-    assert_eq!(rt; shown, (Some(HashAlg::Sha256), false, true));
+    let shown = offered(rt.alloc(), "rsa-sha2-256", vectors::RSA_BLOB, Parts::Rsa)?;
+    assert!(rt; shown == (Some(HashAlg::Sha256), false, true));
     Ok(())
 }
 
 #[test]
 fn a_certificate_is_offered_by_the_name_of_certificates(rt: HostRuntime) -> Result<(), Fail> {
-    let key = key_of(Parts::Ecdsa(EcdsaCurve::NistP256, vectors::P256_POINT));
+    let key = Parts::Ecdsa(EcdsaCurve::NistP256, vectors::P256_POINT);
     let name = "ecdsa-sha2-nistp256-cert-v01@openssh.com";
-    let offer = offered(rt.alloc(), name, vectors::P256_CERTIFICATE)?;
-    let shown = shown(&offer, &key);
-    drop(offer);
-    assert_eq!(rt; shown, (None, true, true));
+    let shown = offered(rt.alloc(), name, vectors::P256_CERTIFICATE, key)?;
+    assert!(rt; shown == (None, true, true));
     Ok(())
 }
 
-fn refusal(alloc: Global, name: &str, blob: &[u8]) -> Option<KeyError> {
-    match PublicKeyOrCertificate::decode(alloc, name, blob) {
-        Ok(offer) => {
-            drop(offer);
-            None
-        }
-        Err(e) => Some(e),
-    }
+fn refusal(alloc: Global, name: &str, digits: &str) -> Result<Option<KeyError>, Fail> {
+    let blob = unhex(alloc, digits)?;
+    Ok(PublicKeyOrCertificate::decode(alloc, name, blob.as_slice()).err())
 }
+
+const REFUSED: [(&str, &str, KeyError); 6] = [
+    ("ssh-dss", vectors::ED25519_BLOB, KeyError::Unknown),
+    (
+        "ssh-rsa-cert-v01@openssh.com",
+        vectors::RSA_BLOB,
+        KeyError::Unknown,
+    ),
+    ("ssh-rsa", vectors::RSA_CERTIFICATE, KeyError::Unknown),
+    (
+        "ssh-ed25519",
+        "0000000b7373682d65643235353139000000030102",
+        KeyError::Blob,
+    ),
+    // The curve of another type, and a byte after the last field.
+    (
+        "ecdsa-sha2-nistp256",
+        "0000001365636473612d736861322d6e69737470323536000000086e697374703338340000000101",
+        KeyError::Blob,
+    ),
+    (
+        "ssh-ed25519",
+        "0000000b7373682d65643235353139000000020102ff",
+        KeyError::Blob,
+    ),
+];
 
 #[test]
 fn an_offer_that_does_not_fit_is_refused(rt: HostRuntime) -> Result<(), Fail> {
-    let alloc = rt.alloc();
-    let refused = [
-        ("ssh-dss", vectors::ED25519_BLOB, KeyError::Unknown),
-        (
-            "ssh-rsa-cert-v01@openssh.com",
-            vectors::RSA_BLOB,
-            KeyError::Unknown,
-        ),
-        ("ssh-rsa", vectors::RSA_CERTIFICATE, KeyError::Unknown),
-        (
-            "ssh-ed25519",
-            "0000000b7373682d65643235353139000000030102",
-            KeyError::Blob,
-        ),
-        // The curve of another type, and a byte after the last field.
-        (
-            "ecdsa-sha2-nistp256",
-            "0000001365636473612d736861322d6e69737470323536000000086e697374703338340000000101",
-            KeyError::Blob,
-        ),
-        (
-            "ssh-ed25519",
-            "0000000b7373682d65643235353139000000020102ff",
-            KeyError::Blob,
-        ),
-    ];
-    for (algorithm, digits, error) in refused {
-        let blob = unhex(alloc, digits)?;
-        let answer = refusal(alloc, algorithm, blob.as_slice());
-        assert_eq!(rt; answer, Some(error), "{algorithm}");
+    for (algorithm, digits, error) in REFUSED {
+        assert!(rt;
+            refusal(rt.alloc(), algorithm, digits)? == Some(error),
+            "{algorithm}"
+        );
     }
     Ok(())
 }
@@ -395,9 +379,9 @@ const NAMES: [(Algorithm, &str, &str); 7] = [
 #[test]
 fn an_algorithm_has_the_names_of_the_standards(rt: HostRuntime) {
     for (algorithm, plain, certificate) in NAMES {
-        assert_eq!(rt; algorithm.as_str(), plain);
-        assert_eq!(rt; Algorithm::new(plain), Some(algorithm));
-        assert_eq!(rt; Algorithm::new_certificate(certificate), Some(algorithm));
+        assert!(rt; algorithm.as_str() == plain);
+        assert!(rt; Algorithm::new(plain) == Some(algorithm));
+        assert!(rt; Algorithm::new_certificate(certificate) == Some(algorithm));
     }
-    assert_eq!(rt; Algorithm::new("ssh-dss"), None);
+    assert!(rt; Algorithm::new("ssh-dss") == None);
 }

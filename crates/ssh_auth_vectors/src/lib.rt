@@ -12,3 +12,5 @@ mod gssapi;
 mod keys;
 #[cfg(test)]
 mod response;
+#[cfg(test)]
+mod values;

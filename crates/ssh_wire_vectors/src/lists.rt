@@ -1,57 +1,79 @@
 // Lists of names are their text (RFC 4251 section 5), and lists of byte strings keep their order.
 use bytes::Bytes;
-use ssh_wire::{Blobs, NameList, Text};
+use ssh_wire::{Blobs, NameList, Text, WireError};
+use std::alloc::Global;
 use std::test::*;
 
-#[test]
-fn a_text_is_cut_at_its_commas_and_joined_again(rt: HostRuntime) -> Result<(), Fail> {
-    let rows: [(&str, &[&str]); 5] = [
-        ("", &[]),
-        (",", &["", ""]),
-        ("none", &["none"]),
-        ("a,,b", &["a", "", "b"]),
-        ("password,publickey", &["password", "publickey"]),
-    ];
-    for (text, wanted) in rows {
-        let mut pushed = NameList::new(rt.alloc());
-        for name in wanted {
-            pushed.push(Text::new(rt.alloc(), name)?)?;
+fn are_names(names: &[Text], wanted: &[&str]) -> bool {
+    for (name, text) in names.iter().zip(wanted) {
+        if name.as_str() != *text {
+            return false;
         }
-        let names = NameList::parse(rt.alloc(), text)?;
-        assert_eq!(rt; names.as_slice(), pushed.as_slice(), "{text}");
-        assert_eq!(rt; names.to_text()?, Text::new(rt.alloc(), text)?);
+    }
+    names.len() == wanted.len()
+}
+
+// Whether the list has these names, and they are joined to this text.
+fn is_list(names: &NameList, wanted: &[&str], text: &str) -> Result<bool, WireError> {
+    Ok(are_names(names.as_slice(), wanted) && names.to_text()?.as_str() == text)
+}
+
+fn is_cut(alloc: Global, text: &str, wanted: &[&str]) -> Result<bool, WireError> {
+    is_list(&NameList::parse(alloc, text)?, wanted, text)
+}
+
+fn push(alloc: Global, names: &mut NameList, more: &[&str]) -> Result<(), WireError> {
+    for name in more {
+        names.push(Text::new(alloc, name)?)?;
     }
     Ok(())
+}
+
+const TEXTS: [(&str, &[&str]); 5] = [
+    ("", &[]),
+    (",", &["", ""]),
+    ("none", &["none"]),
+    ("a,,b", &["a", "", "b"]),
+    ("password,publickey", &["password", "publickey"]),
+];
+
+#[test]
+fn a_text_is_cut_at_its_commas_and_joined_again(rt: HostRuntime) {
+    for (text, wanted) in TEXTS {
+        assert!(rt; is_cut(rt.alloc(), text, wanted) == Ok(true), "{text}");
+        let mut pushed = NameList::new(rt.alloc());
+        assert!(rt; push(rt.alloc(), &mut pushed, wanted) == Ok(()));
+        assert!(rt; is_list(&pushed, wanted, text) == Ok(true), "{text}");
+    }
 }
 
 #[test]
 fn a_pushed_name_stands_last_and_may_hold_a_comma(rt: HostRuntime) -> Result<(), Fail> {
-    let alloc = rt.alloc();
-    let mut names = NameList::parse(alloc, "a")?;
-    names.push(Text::new(alloc, "b,c")?)?;
-    names.push(Text::new(alloc, "")?)?;
-    let wanted = [
-        Text::new(alloc, "a")?,
-        Text::new(alloc, "b,c")?,
-        Text::new(alloc, "")?,
-    ];
-    assert_eq!(rt; names.as_slice(), wanted.as_slice());
-    assert_eq!(rt; names.to_text()?, Text::new(alloc, "a,b,c,")?);
+    let mut names = NameList::parse(rt.alloc(), "a")?;
+    assert!(rt; push(rt.alloc(), &mut names, &["b,c", ""]) == Ok(()));
+    assert!(rt; is_list(&names, &["a", "b,c", ""], "a,b,c,") == Ok(true));
     Ok(())
 }
 
+fn are_kept(blobs: &[Bytes]) -> bool {
+    matches!(blobs, [one, none, other]
+        if one.as_slice() == b"one".as_slice() && none.is_empty() && other.as_slice() == b"\xff".as_slice())
+}
+
+fn push_three(alloc: Global, blobs: &mut Blobs) -> Result<(), WireError> {
+    blobs.push(Bytes::copy_from_slice(alloc, b"one")?)?;
+    blobs.push(Bytes::copy_from_slice(alloc, b"")?)?;
+    blobs.push(Bytes::copy_from_slice(alloc, b"\xff")?)
+}
+
+fn is_copied(blobs: &Blobs) -> Result<bool, WireError> {
+    Ok(are_kept(blobs.copy()?.as_slice()))
+}
+
 #[test]
-fn byte_strings_are_kept_and_copied_in_order(rt: HostRuntime) -> Result<(), Fail> {
-    let wanted = [
-        Bytes::copy_from_slice(rt.alloc(), b"one")?,
-        Bytes::copy_from_slice(rt.alloc(), b"")?,
-        Bytes::copy_from_slice(rt.alloc(), b"\xff")?,
-    ];
+fn byte_strings_are_kept_and_copied_in_order(rt: HostRuntime) {
     let mut blobs = Blobs::new(rt.alloc());
-    for blob in &wanted {
-        blobs.push(blob.clone()?)?;
-    }
-    assert_eq!(rt; blobs.as_slice(), wanted.as_slice());
-    assert_eq!(rt; blobs.copy()?.as_slice(), wanted.as_slice());
-    Ok(())
+    assert!(rt; push_three(rt.alloc(), &mut blobs) == Ok(()));
+    assert!(rt; are_kept(blobs.as_slice()));
+    assert!(rt; is_copied(&blobs) == Ok(true));
 }

@@ -15,8 +15,6 @@ const SHORT: LayoutError = LayoutError::Wire(WireError::Short);
 
 const NOT_UTF8: LayoutError = LayoutError::Wire(WireError::NotUtf8);
 
-const ONE_MORE: LayoutError = LayoutError::Wire(WireError::Trailing { left: 1 });
-
 /// The types of channels.
 #[derive(Clone, Copy)]
 enum Kind {
@@ -30,68 +28,32 @@ enum Kind {
     Unknown,
 }
 
-/// An open: its type's name with its length, the numbers above, then the type's own fields.
-#[derive(Clone, Copy)]
-struct Row {
-    kind: Kind,
-    name: &'static [u8],
-    own: &'static [u8],
-    /// What is left unread.
-    rest: &'static [u8],
-}
-
-/// Both ends of a connection, as `tcpip` has them.
+// Both ends of a connection, as `tcpip` has them.
 const ENDS: &[u8] = b"\0\0\0\x03far\0\0\0\x50\0\0\0\x04here\0\0\x01\0";
 
+// One end of it.
+const HERE: &[u8] = b"\0\0\0\x04here\0\0\x17\x70";
+
+// Of an open: its type's name with its length, and behind the numbers above the type's own fields.
+type Row = (Kind, &'static [u8], &'static [u8]);
+
 const ROWS: [Row; 8] = [
-    Row {
-        kind: Kind::Session,
-        name: b"\0\0\0\x07session",
-        own: b"",
-        rest: b"",
-    },
-    Row {
-        kind: Kind::X11,
-        name: b"\0\0\0\x03x11",
-        own: b"\0\0\0\x04here\0\0\x17\x70",
-        rest: b"",
-    },
-    Row {
-        kind: Kind::Direct,
-        name: b"\0\0\0\x0cdirect-tcpip",
-        own: ENDS,
-        rest: b"",
-    },
-    Row {
-        kind: Kind::Forwarded,
-        name: b"\0\0\0\x0fforwarded-tcpip",
-        own: ENDS,
-        rest: b"",
-    },
-    Row {
-        kind: Kind::DirectSocket,
-        name: b"\0\0\0\x1edirect-streamlocal@openssh.com",
-        own: b"\0\0\0\x02/s\0\0\0\0\0\0\0\0",
-        rest: b"",
-    },
-    Row {
-        kind: Kind::ForwardedSocket,
-        name: b"\0\0\0\x21forwarded-streamlocal@openssh.com",
-        own: b"\0\0\0\x02/s\0\0\0\0",
-        rest: b"",
-    },
-    Row {
-        kind: Kind::Agent,
-        name: b"\0\0\0\x16auth-agent@openssh.com",
-        own: b"",
-        rest: b"",
-    },
-    Row {
-        kind: Kind::Unknown,
-        name: b"\0\0\0\x13unknown@example.com",
-        own: b"opaque",
-        rest: b"opaque",
-    },
+    (Kind::Session, b"\0\0\0\x07session", b""),
+    (Kind::X11, b"\0\0\0\x03x11", HERE),
+    (Kind::Direct, b"\0\0\0\x0cdirect-tcpip", ENDS),
+    (Kind::Forwarded, b"\0\0\0\x0fforwarded-tcpip", ENDS),
+    (
+        Kind::DirectSocket,
+        b"\0\0\0\x1edirect-streamlocal@openssh.com",
+        b"\0\0\0\x02/s\0\0\0\0\0\0\0\0",
+    ),
+    (
+        Kind::ForwardedSocket,
+        b"\0\0\0\x21forwarded-streamlocal@openssh.com",
+        b"\0\0\0\x02/s\0\0\0\0",
+    ),
+    (Kind::Agent, b"\0\0\0\x16auth-agent@openssh.com", b""),
+    (Kind::Unknown, b"\0\0\0\x13unknown@example.com", b"opaque"),
 ];
 
 fn tcpip(alloc: Global) -> Result<TcpChannelInfo, Fail> {
@@ -127,19 +89,20 @@ fn type_of(alloc: Global, kind: Kind) -> Result<ChannelType, Fail> {
     })
 }
 
-fn bytes_of(alloc: Global, row: &Row) -> Result<Vec<u8>, Fail> {
+fn bytes_of(alloc: Global, row: Row) -> Result<Vec<u8>, Fail> {
     let mut bytes = Vec::new(alloc);
-    bytes.extend_from_slice(row.name)?;
+    bytes.extend_from_slice(row.1)?;
     bytes.extend_from_slice(NUMBERS)?;
-    bytes.extend_from_slice(row.own)?;
+    bytes.extend_from_slice(row.2)?;
     Ok(bytes)
 }
 
-/// Whether the open of the row is read as what it is, and this is left unread.
-fn is_read(alloc: Global, row: &Row) -> Result<bool, Fail> {
+// Whether the open is read as what it is; of one of no known type its own fields are left.
+fn is_read(alloc: Global, row: Row) -> Result<bool, Fail> {
+    let (kind, _, own) = row;
     let bytes = bytes_of(alloc, row)?;
     let wanted = OpenChannelMessage {
-        typ: type_of(alloc, row.kind)?,
+        typ: type_of(alloc, kind)?,
         recipient_channel: 7,
         recipient_window_size: 1048576,
         recipient_maximum_packet_size: 32768,
@@ -152,29 +115,23 @@ fn is_read(alloc: Global, row: &Row) -> Result<bool, Fail> {
     };
     drop(read);
     drop(wanted);
-    Ok(same && r.rest() == row.rest)
+    let rest = match kind {
+        Kind::Unknown => own,
+        _ => b"",
+    };
+    Ok(same && r.rest() == rest)
 }
 
 #[test]
 fn each_known_type_is_read_whole_and_of_another_the_numbers(rt: HostRuntime) -> Result<(), Fail> {
-    for row in &ROWS {
+    for row in ROWS {
         assert!(rt; is_read(rt.alloc(), row)?);
     }
     Ok(())
 }
 
 // What an open is not, its bytes, and why it is refused.
-const REFUSED: [(&str, &[u8], LayoutError); 7] = [
-    (
-        "a byte after a session",
-        b"\0\0\0\x07session\0\0\0\0\0\x10\0\0\0\0\x80\0\0",
-        ONE_MORE,
-    ),
-    (
-        "a packet size of 0",
-        b"\0\0\0\x07session\0\0\0\0\0\x10\0\0\0\0\0\0",
-        INCONSISTENT,
-    ),
+const REFUSED: [(&str, &[u8], LayoutError); 5] = [
     (
         "a packet size of 0 before fields cut short",
         b"\0\0\0\x03x11\0\0\0\0\0\x10\0\0\0\0\0\0\xff",
@@ -202,16 +159,17 @@ const REFUSED: [(&str, &[u8], LayoutError); 7] = [
     ),
 ];
 
+// Why these are no open, and how many bytes are read.
+fn refused(alloc: Global, bytes: &[u8]) -> (Option<LayoutError>, usize) {
+    let mut r = Reader::new(bytes);
+    let why = OpenChannelMessage::parse(alloc, &mut r).err();
+    (why, r.position())
+}
+
 #[test]
 fn what_is_no_open_is_refused_at_the_first_field_that_does_not_fit(rt: HostRuntime) {
     for (shows, bytes, why) in REFUSED {
-        let mut r = Reader::new(bytes);
-        assert_eq!(rt;
-            OpenChannelMessage::parse(rt.alloc(), &mut r),
-            Err(why),
-            "{shows}"
-        );
-        assert_eq!(rt; r.position(), 0, "{shows}: nothing is read");
+        assert!(rt; refused(rt.alloc(), bytes) == (Some(why), 0), "{shows}");
     }
 }
 
@@ -222,63 +180,72 @@ const CONFIRMATION: ChannelOpenConfirmation = ChannelOpenConfirmation {
     maximum_packet_size: 32768,
 };
 
-// What bytes are, the bytes, why they are refused where they are no confirmation, and how many of
-// them are read.
-const CONFIRMED: [(&str, &[u8], Option<LayoutError>, usize); 4] = [
+// What bytes are, the bytes, what is read of them, and how many of them are read.
+const CONFIRMED: [(
+    &str,
+    &[u8],
+    Result<ChannelOpenConfirmation, LayoutError>,
+    usize,
+); 3] = [
     (
         "four numbers",
         b"\0\0\0\0\0\0\0\x01\0\x10\0\0\0\0\x80\0",
-        None,
+        Ok(CONFIRMATION),
         16,
     ),
     (
         "a byte after them",
         b"\0\0\0\0\0\0\0\x01\0\x10\0\0\0\0\x80\0\xff",
-        None,
+        Ok(CONFIRMATION),
         16,
-    ),
-    (
-        "a packet size of 0",
-        b"\0\0\0\0\0\0\0\x01\0\x10\0\0\0\0\0\0",
-        Some(INCONSISTENT),
-        0,
     ),
     (
         "a packet size cut short",
         b"\0\0\0\0\0\0\0\x01\0\x10\0\0\0\0\x80",
-        Some(SHORT),
+        Err(SHORT),
         0,
     ),
 ];
 
-#[test]
-fn a_confirmation_has_a_packet_size_and_its_end_is_not_tested(rt: HostRuntime) {
-    for (shows, bytes, refused, position) in CONFIRMED {
-        let wanted = match refused {
-            Some(why) => Err(why),
-            None => Ok(CONFIRMATION),
-        };
-        let mut r = Reader::new(bytes);
-        assert_eq!(rt; ChannelOpenConfirmation::parse(&mut r), wanted, "{shows}");
-        assert_eq!(rt; r.position(), position, "{shows}: what is read");
-    }
+fn confirmed(bytes: &[u8]) -> (Result<ChannelOpenConfirmation, LayoutError>, usize) {
+    let mut r = Reader::new(bytes);
+    let read = ChannelOpenConfirmation::parse(&mut r);
+    (read, r.position())
 }
 
 #[test]
-fn a_refusal_goes_to_the_channel_of_the_peer(rt: HostRuntime) -> Result<(), Fail> {
+fn a_confirmation_has_a_packet_size_and_its_end_is_not_tested(rt: HostRuntime) {
+    for (shows, bytes, read, position) in CONFIRMED {
+        assert!(rt; confirmed(bytes) == (read, position), "{shows}");
+    }
+}
+
+// Puts the refusal of an open of the peer's channel 7, with a text or for its type.
+fn put_refusal(out: &mut Vec<u8>, text: Option<&[u8]>) -> Result<(), WireError> {
     let open = OpenChannelMessage {
         typ: ChannelType::Session,
         recipient_channel: 7,
         recipient_window_size: 0,
         recipient_maximum_packet_size: 1,
     };
-    let mut out = Vec::new(rt.alloc());
-    open.fail(&mut out, 1, b"not now")?;
+    let put = match text {
+        Some(text) => open.fail(out, 1, text),
+        None => open.unknown_type(out),
+    };
+    drop(open);
+    put
+}
+
+fn is_put(alloc: Global, text: Option<&[u8]>, wanted: &[u8]) -> bool {
+    let mut out = Vec::new(alloc);
+    let put = put_refusal(&mut out, text);
+    put == Ok(()) && out.as_slice() == wanted
+}
+
+#[test]
+fn a_refusal_goes_to_the_channel_of_the_peer(rt: HostRuntime) {
     let wanted = b"\x5c\0\0\0\x07\0\0\0\x01\0\0\0\x07not now\0\0\0\x02en";
-    assert_eq!(rt; out.as_slice(), wanted.as_slice());
-    out.clear();
-    open.unknown_type(&mut out)?;
+    assert!(rt; is_put(rt.alloc(), Some(b"not now"), wanted));
     let wanted = b"\x5c\0\0\0\x07\0\0\0\x03\0\0\0\x14Unknown channel type\0\0\0\x02en";
-    assert_eq!(rt; out.as_slice(), wanted.as_slice());
-    Ok(())
+    assert!(rt; is_put(rt.alloc(), None, wanted));
 }

@@ -3,56 +3,60 @@
 use ssh_wire::{ChannelOpenFailure, Disconnect};
 use std::test::*;
 
+const REASONS: [(ChannelOpenFailure, u32, &str); 4] = [
+    (
+        ChannelOpenFailure::AdministrativelyProhibited,
+        1,
+        "administratively prohibited",
+    ),
+    (ChannelOpenFailure::ConnectFailed, 2, "connect failed"),
+    (
+        ChannelOpenFailure::UnknownChannelType,
+        3,
+        "unknown channel type",
+    ),
+    (ChannelOpenFailure::ResourceShortage, 4, "resource shortage"),
+];
+
+fn is_so(reason: ChannelOpenFailure, code: u32, words: &str) -> bool {
+    (reason.code(), reason.description()) == (code, words)
+        && ChannelOpenFailure::from_u32(code) == Some(reason)
+}
+
 #[test]
 fn a_reason_has_its_code_and_its_words(rt: HostRuntime) {
-    let rows = [
-        (
-            ChannelOpenFailure::AdministrativelyProhibited,
-            1,
-            "administratively prohibited",
-        ),
-        (ChannelOpenFailure::ConnectFailed, 2, "connect failed"),
-        (
-            ChannelOpenFailure::UnknownChannelType,
-            3,
-            "unknown channel type",
-        ),
-        (ChannelOpenFailure::ResourceShortage, 4, "resource shortage"),
-    ];
-    for (reason, code, words) in rows {
-        assert_eq!(rt; reason.code(), code);
-        assert_eq!(rt; reason.description(), words);
-        assert_eq!(rt; ChannelOpenFailure::from_u32(code), Some(reason));
+    for (reason, code, words) in REASONS {
+        assert!(rt; is_so(reason, code, words), "{words}");
     }
     for code in [0, 5, u32::MAX] {
-        assert_eq!(rt;
-            ChannelOpenFailure::from_u32(code),
-            None,
+        assert!(rt;
+            ChannelOpenFailure::from_u32(code) == None,
             "{code} is no reason's"
         );
     }
 }
 
+const CODES: [(Disconnect, u32); 15] = [
+    (Disconnect::HostNotAllowedToConnect, 1),
+    (Disconnect::ProtocolError, 2),
+    (Disconnect::KeyExchangeFailed, 3),
+    (Disconnect::Reserved, 4),
+    (Disconnect::MACError, 5),
+    (Disconnect::CompressionError, 6),
+    (Disconnect::ServiceNotAvailable, 7),
+    (Disconnect::ProtocolVersionNotSupported, 8),
+    (Disconnect::HostKeyNotVerifiable, 9),
+    (Disconnect::ConnectionLost, 10),
+    (Disconnect::ByApplication, 11),
+    (Disconnect::TooManyConnections, 12),
+    (Disconnect::AuthCancelledByUser, 13),
+    (Disconnect::NoMoreAuthMethodsAvailable, 14),
+    (Disconnect::IllegalUserName, 15),
+];
+
 #[test]
 fn a_reason_has_the_code_that_the_standard_gives_it(rt: HostRuntime) {
-    let rows = [
-        (Disconnect::HostNotAllowedToConnect, 1),
-        (Disconnect::ProtocolError, 2),
-        (Disconnect::KeyExchangeFailed, 3),
-        (Disconnect::Reserved, 4),
-        (Disconnect::MACError, 5),
-        (Disconnect::CompressionError, 6),
-        (Disconnect::ServiceNotAvailable, 7),
-        (Disconnect::ProtocolVersionNotSupported, 8),
-        (Disconnect::HostKeyNotVerifiable, 9),
-        (Disconnect::ConnectionLost, 10),
-        (Disconnect::ByApplication, 11),
-        (Disconnect::TooManyConnections, 12),
-        (Disconnect::AuthCancelledByUser, 13),
-        (Disconnect::NoMoreAuthMethodsAvailable, 14),
-        (Disconnect::IllegalUserName, 15),
-    ];
-    for (reason, code) in rows {
-        assert_eq!(rt; reason.code(), code);
+    for (reason, code) in CODES {
+        assert!(rt; reason.code() == code, "{code}");
     }
 }
