@@ -1,9 +1,9 @@
 // A client that drives a session: what goes out by its moves.
 use crate::answering::{Answering, QUIET};
-use crate::client::{Move, drive};
 use crate::sides::{LOGIN, Sent, are_sent};
 use crate::wishes::{Wish, command};
 use bytes::Bytes;
+use ssh_drive::{Move, drive};
 use ssh_handler::Config;
 use ssh_keys::TableVerifier;
 use ssh_link::{Calls, Inputs, MemoryLink, PlainKex};
