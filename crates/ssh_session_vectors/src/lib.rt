@@ -1,21 +1,13 @@
-//! Worked examples of sessions, as tests: sessions that are driven input by input and by commands
-//! between inputs, by hand and by `drive`, runs over links and handlers that fail, and what a
-//! callback is lent.
+//! Worked examples of sessions of channels, as tests: sessions that are driven input by input, by
+//! `drive` and by `serve_payloads`, runs over links and handlers that fail, and what a callback
+//! records and is lent. Those of messages of no channel stand in `ssh_globals_vectors`.
 #![tactic(auto)]
 
 #[cfg(test)]
-mod answering;
-#[cfg(test)]
 mod callbacks;
-#[cfg(test)]
-mod globals;
 #[cfg(test)]
 mod runs;
 #[cfg(test)]
 mod sending;
 #[cfg(test)]
 mod sessions;
-#[cfg(test)]
-mod sides;
-#[cfg(test)]
-mod wishes;

@@ -1,7 +1,7 @@
 // The handler of the tests: it answers by a plan, and keeps what it is told, asked and lent.
 ghost use Rattle.std.specs.Prelude.{◌≤◌, length};
 
-use crate::wishes::{Wish, record};
+use crate::wishes::{Wish, copied, record};
 use bytes::Bytes;
 use ssh_auth::{Auth, AuthHandler, Unwritten};
 use ssh_handler::{Commands, Handler};
@@ -11,11 +11,11 @@ use std::alloc::Global;
 
 /// Why a handler of the tests fails.
 #[derive(Clone, Copy, Drop)]
-pub(crate) struct Tired;
+pub struct Tired;
 
 /// What a handler was told, the channel first. Of data their number of bytes and the first of them.
 #[derive(Clone, Copy, PartialEq, Eq)]
-pub(crate) enum Told {
+pub enum Told {
     Open(u32),
     Data(u32, usize, Option<u8>),
     /// With the data type code before the bytes.
@@ -34,14 +34,14 @@ pub(crate) enum Told {
 
 /// What a session that is lent to a callback says of a channel, and of what it takes from outside.
 #[derive(Clone, Copy, PartialEq, Eq)]
-pub(crate) struct Lent {
-    pub(crate) window: u32,
-    pub(crate) packet: u32,
-    pub(crate) writable: u32,
-    pub(crate) data_wait: bool,
-    pub(crate) can_send: bool,
-    pub(crate) commands: bool,
-    pub(crate) replies: bool,
+pub struct Lent {
+    pub window: u32,
+    pub packet: u32,
+    pub writable: u32,
+    pub data_wait: bool,
+    pub can_send: bool,
+    pub commands: bool,
+    pub replies: bool,
 }
 
 fn read_lent(channel: ChannelId, session: &Commands<'_>) -> Lent {
@@ -58,28 +58,28 @@ fn read_lent(channel: ChannelId, session: &Commands<'_>) -> Lent {
 
 /// What a handler does of its own.
 #[derive(Clone, Copy)]
-pub(crate) struct Plan {
+pub struct Plan {
     /// Whether it fails where a callback is called that it does not write.
-    pub(crate) fails: bool,
+    pub fails: bool,
     /// Whether it grants what it is asked.
-    pub(crate) grants: bool,
+    pub grants: bool,
     /// The port that it binds; none leaves the one that was asked for.
-    pub(crate) port: Option<u32>,
+    pub port: Option<u32>,
     /// What it records behind its answer to an open, in order.
-    pub(crate) opening: &'static [Wish],
+    pub opening: &'static [Wish],
     /// What it records where it is asked for a forward, the agent or a program, or is told of
     /// data, in order.
-    pub(crate) records: &'static [Wish],
+    pub records: &'static [Wish],
     /// Whether it sends data back as they came, extended data too.
-    pub(crate) echoes: bool,
+    pub echoes: bool,
     /// Up to how many bytes it fills windows from now on; none leaves that as it is.
-    pub(crate) aims: Option<u32>,
+    pub aims: Option<u32>,
     /// Whether it reads what it is lent in each callback of a channel.
-    pub(crate) reads: bool,
+    pub reads: bool,
 }
 
 /// Of a handler that grants nothing and records nothing.
-pub(crate) const QUIET: Plan = Plan {
+pub const QUIET: Plan = Plan {
     fails: false,
     grants: false,
     port: None,
@@ -94,7 +94,7 @@ pub(crate) const QUIET: Plan = Plan {
 /// software; of authentication it writes no other callback. It accepts sessions, and leaves opens
 /// of paths to others.
 #[derive(Drop)]
-pub(crate) struct Answering {
+pub struct Answering {
     alloc: Global,
     plan: Plan,
     calls: usize,
@@ -105,7 +105,7 @@ pub(crate) struct Answering {
 }
 
 impl Answering {
-    pub(crate) fn new(alloc: Global, plan: Plan) -> Answering {
+    pub fn new(alloc: Global, plan: Plan) -> Answering {
         Answering {
             alloc,
             plan,
@@ -118,28 +118,28 @@ impl Answering {
     }
 
     /// How many of its callbacks were called, those too that it does not write.
-    pub(crate) fn calls(&self) -> usize {
+    pub fn calls(&self) -> usize {
         self.calls
     }
 
     /// The name of the peer's software that it was lent when its user was let in.
-    pub(crate) fn software(&self) -> &[u8] {
+    pub fn software(&self) -> &[u8] {
         self.software.as_slice()
     }
 
     /// What it was told of channels, in order.
-    pub(crate) fn told(&self) -> &[Told] {
+    pub fn told(&self) -> &[Told] {
         self.told.as_slice()
     }
 
     /// What it was asked, and that data came: a line for each, of the callback, a space and its
     /// text, and for a port another space and the four bytes of the port.
-    pub(crate) fn asked(&self) -> &[u8] {
+    pub fn asked(&self) -> &[u8] {
         self.asked.as_slice()
     }
 
     /// The places of its commands that were refused or opened a channel, and what came of them.
-    pub(crate) fn done(&self) -> &[(usize, CommandOutcome)] {
+    pub fn done(&self) -> &[(usize, CommandOutcome)] {
         self.done.as_slice()
     }
 
@@ -204,10 +204,6 @@ impl Answering {
         let _number = reply.into_channel();
         Err(Tired)
     }
-}
-
-fn copied(alloc: Global, bytes: &[u8]) -> Result<Bytes, Tired> {
-    Bytes::copy_from_slice(alloc, bytes).or(Err(Tired))
 }
 
 impl AuthHandler for Answering {

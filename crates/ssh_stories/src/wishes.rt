@@ -8,7 +8,7 @@ use std::alloc::Global;
 
 /// What is asked of a session. Channels go by this side's numbers.
 #[derive(Clone, Copy)]
-pub(crate) enum Wish {
+pub enum Wish {
     Data(u32, &'static [u8]),
     /// With the data type code before the bytes.
     ExtendedData(u32, u32, &'static [u8]),
@@ -46,7 +46,7 @@ pub(crate) enum Wish {
 }
 
 /// The command. `NoMemory` is the only error.
-pub(crate) fn command(alloc: Global, wish: Wish) -> Result<Command, WireError> {
+pub fn command(alloc: Global, wish: Wish) -> Result<Command, WireError> {
     Ok(match wish {
         Wish::Data(channel, bytes) => Command::Data {
             channel: ChannelId(channel),
@@ -171,96 +171,86 @@ fn text(alloc: Global, text: &str) -> Result<Text, Tired> {
     Text::new(alloc, text).or(Err(Tired))
 }
 
-/// A callback records the command.
-pub(crate) fn record(alloc: Global, wish: Wish, session: &mut Commands<'_>) -> Result<(), Tired> {
-    match wish {
-        Wish::Data(channel, bytes) => {
-            let bytes = Bytes::copy_from_slice(alloc, bytes).or(Err(Tired))?;
-            session.data(ChannelId(channel), bytes).or(Err(Tired))
-        }
-        Wish::Eof(channel) => session.eof(ChannelId(channel)).or(Err(Tired)),
-        Wish::Close(channel) => session.close(ChannelId(channel)).or(Err(Tired)),
-        Wish::ChannelSuccess(channel) => session.channel_success(ChannelId(channel)).or(Err(Tired)),
-        Wish::ChannelFailure(channel) => session.channel_failure(ChannelId(channel)).or(Err(Tired)),
-        Wish::Status(channel, status) => session
-            .exit_status_request(ChannelId(channel), status)
-            .or(Err(Tired)),
-        other => record_of_program(alloc, other, session),
-    }
+/// A copy, as a callback makes it.
+pub(crate) fn copied(alloc: Global, bytes: &[u8]) -> Result<Bytes, Tired> {
+    Bytes::copy_from_slice(alloc, bytes).or(Err(Tired))
 }
 
-// More that a program on a channel is behind.
-fn record_of_program(alloc: Global, wish: Wish, session: &mut Commands<'_>) -> Result<(), Tired> {
-    match wish {
+/// A callback records the command.
+pub fn record(alloc: Global, wish: Wish, session: &mut Commands<'_>) -> Result<(), Tired> {
+    let recorded = match wish {
+        Wish::Data(channel, bytes) => session.data(ChannelId(channel), copied(alloc, bytes)?),
         Wish::ExtendedData(channel, ext, bytes) => {
-            let bytes = Bytes::copy_from_slice(alloc, bytes).or(Err(Tired))?;
-            session
-                .extended_data(ChannelId(channel), ext, bytes)
-                .or(Err(Tired))
+            session.extended_data(ChannelId(channel), ext, copied(alloc, bytes)?)
         }
-        Wish::FlowControl(channel, client_can_do) => session
-            .xon_xoff_request(ChannelId(channel), client_can_do)
-            .or(Err(Tired)),
+        Wish::Eof(channel) => session.eof(ChannelId(channel)),
+        Wish::Close(channel) => session.close(ChannelId(channel)),
+        Wish::ChannelSuccess(channel) => session.channel_success(ChannelId(channel)),
+        Wish::ChannelFailure(channel) => session.channel_failure(ChannelId(channel)),
+        Wish::FlowControl(channel, can_do) => session.xon_xoff_request(ChannelId(channel), can_do),
+        Wish::Status(channel, status) => session.exit_status_request(ChannelId(channel), status),
         Wish::HungUp(channel, message, language) => {
-            let message = text(alloc, message)?;
-            let language = text(alloc, language)?;
-            session
-                .exit_signal_request(ChannelId(channel), Sig::HUP, false, message, language)
-                .or(Err(Tired))
+            let (message, language) = (text(alloc, message)?, text(alloc, language)?);
+            session.exit_signal_request(ChannelId(channel), Sig::HUP, false, message, language)
         }
         Wish::Killed(channel, message, language) => {
-            let message = text(alloc, message)?;
-            let language = text(alloc, language)?;
-            session
-                .exit_signal_request(ChannelId(channel), Sig::KILL, true, message, language)
-                .or(Err(Tired))
+            let (message, language) = (text(alloc, message)?, text(alloc, language)?);
+            session.exit_signal_request(ChannelId(channel), Sig::KILL, true, message, language)
         }
-        other => record_apart(alloc, other, session),
-    }
+        other => return record_apart(alloc, other, session),
+    };
+    recorded.or(Err(Tired))
 }
 
-// One that concerns no channel that is there.
+// One of no channel that is there.
 fn record_apart(alloc: Global, wish: Wish, session: &mut Commands<'_>) -> Result<(), Tired> {
-    match wish {
-        Wish::Forward(address, port, slot) => session
-            .tcpip_forward(text(alloc, address)?, port, slot)
-            .or(Err(Tired)),
-        Wish::Cancel(address, port, slot) => session
-            .cancel_tcpip_forward(text(alloc, address)?, port, slot)
-            .or(Err(Tired)),
-        Wish::Keepalive => session.keepalive_request().or(Err(Tired)),
-        Wish::Ping(slot) => session.send_ping(slot).or(Err(Tired)),
-        Wish::Success => session.request_success().or(Err(Tired)),
-        Wish::Failure => session.request_failure().or(Err(Tired)),
-        Wish::Debug(always, message, language) => session
-            .debug(always, text(alloc, message)?, text(alloc, language)?)
-            .or(Err(Tired)),
-        Wish::Disconnect(reason, description, language) => session
-            .disconnect(reason, text(alloc, description)?, text(alloc, language)?)
-            .or(Err(Tired)),
-        other => record_to_open(alloc, other, session),
-    }
+    let recorded = match wish {
+        Wish::Forward(address, port, slot) => {
+            session.tcpip_forward(text(alloc, address)?, port, slot)
+        }
+        Wish::Cancel(address, port, slot) => {
+            session.cancel_tcpip_forward(text(alloc, address)?, port, slot)
+        }
+        Wish::Keepalive => session.keepalive_request(),
+        Wish::Ping(slot) => session.send_ping(slot),
+        Wish::Success => session.request_success(),
+        Wish::Failure => session.request_failure(),
+        Wish::Debug(always, message, language) => {
+            session.debug(always, text(alloc, message)?, text(alloc, language)?)
+        }
+        Wish::Disconnect(reason, description, language) => {
+            session.disconnect(reason, text(alloc, description)?, text(alloc, language)?)
+        }
+        other => return record_to_open(alloc, other, session),
+    };
+    recorded.or(Err(Tired))
 }
 
 // One that opens a channel.
 fn record_to_open(alloc: Global, wish: Wish, session: &mut Commands<'_>) -> Result<(), Tired> {
-    match wish {
-        Wish::OpenDirectTcpip(host, port, from, from_port) => session
-            .channel_open_direct_tcpip(text(alloc, host)?, port, text(alloc, from)?, from_port)
-            .or(Err(Tired)),
-        Wish::OpenForwardedTcpip(host, port, from, from_port) => session
-            .channel_open_forwarded_tcpip(text(alloc, host)?, port, text(alloc, from)?, from_port)
-            .or(Err(Tired)),
-        Wish::OpenDirectStreamlocal(path) => session
-            .channel_open_direct_streamlocal(text(alloc, path)?)
-            .or(Err(Tired)),
-        Wish::OpenForwardedStreamlocal(path) => session
-            .channel_open_forwarded_streamlocal(text(alloc, path)?)
-            .or(Err(Tired)),
-        Wish::OpenX11(from, from_port) => session
-            .channel_open_x11(text(alloc, from)?, from_port)
-            .or(Err(Tired)),
-        Wish::OpenAgent => session.channel_open_agent().or(Err(Tired)),
-        _ => session.channel_open_session().or(Err(Tired)),
-    }
+    let recorded = match wish {
+        Wish::OpenDirectTcpip(host, port, from, from_port) => session.channel_open_direct_tcpip(
+            text(alloc, host)?,
+            port,
+            text(alloc, from)?,
+            from_port,
+        ),
+        Wish::OpenForwardedTcpip(host, port, from, from_port) =>
+            session.channel_open_forwarded_tcpip(
+                text(alloc, host)?,
+                port,
+                text(alloc, from)?,
+                from_port,
+            ),
+        Wish::OpenDirectStreamlocal(path) => {
+            session.channel_open_direct_streamlocal(text(alloc, path)?)
+        }
+        Wish::OpenForwardedStreamlocal(path) => {
+            session.channel_open_forwarded_streamlocal(text(alloc, path)?)
+        }
+        Wish::OpenX11(from, from_port) => session.channel_open_x11(text(alloc, from)?, from_port),
+        Wish::OpenAgent => session.channel_open_agent(),
+        _ => session.channel_open_session(),
+    };
+    recorded.or(Err(Tired))
 }

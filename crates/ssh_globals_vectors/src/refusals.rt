@@ -1,94 +1,55 @@
 // Commands that are refused, and the run goes on: before a user is let in, what a client alone may
 // say, and whatever is recorded behind the end of the connection.
-use super::{ACCEPTED, KEEPALIVE, Row, STANDARD, Tells, ends_telling, holds, not_begun};
-use crate::answering::{Plan, QUIET};
-use crate::sides::{Comes, Ends, PASSWORD, SERVICE, Side, TICKET, is_logged_in};
-use crate::wishes::Wish;
 use bytes::Bytes;
-use ssh_link::{ChannelMsg, Command, CommandOutcome, InputKind, Refusal};
+use ssh_handler::Config;
+use ssh_link::{ChannelMsg, Command, CommandOutcome, InputKind, Refusal, TraceEntry};
+use ssh_stories::Line::{Asks, Done, Ends, In, Noted, Out, Pong};
+use ssh_stories::{
+    ACCEPT, ACCEPTED, ALIVE, CONFIRMED, End, Line, OPEN, PASSWORD, Plan, QUIET, SERVICE, STANDARD,
+    Side, Story, Wish, give, is_logged_in,
+};
 use ssh_wire::{ChannelId, ChannelOpenFailure, Disconnect, Modes, Sig, Text};
 use std::alloc::Global;
 use std::test::Fail;
 
-const NOT_AUTHENTICATED: &[Tells] = &[Tells::Answers(CommandOutcome::Refused(
-    Refusal::NotAuthenticated,
-))];
+const NOT_IN: Line<'static> = Done(CommandOutcome::Refused(Refusal::NotAuthenticated));
 
-static BEFORE_LOGIN: Row = Row {
+static BEFORE_LOGIN: Story = Story {
     shows: "nobody forwards before a user is let in, and all else of no channel is done",
     logged_in: false,
     turns: &[
-        (
-            Comes::Command(Wish::Forward("a", 0, Some(5))),
-            Ends::GoesOn,
-            NOT_AUTHENTICATED,
-        ),
-        (
-            Comes::Command(Wish::Cancel("a", 0, None)),
-            Ends::GoesOn,
-            NOT_AUTHENTICATED,
-        ),
-        (
-            Comes::Payload(SERVICE),
-            Ends::GoesOn,
-            &[Tells::Sends(b"\x06\0\0\0\x0cssh-userauth")],
-        ),
-        (
-            Comes::Command(Wish::Forward("a", 0, None)),
-            Ends::GoesOn,
-            NOT_AUTHENTICATED,
-        ),
-        (
-            Comes::Command(Wish::Cancel("a", 0, Some(6))),
-            Ends::GoesOn,
-            NOT_AUTHENTICATED,
-        ),
-        (
-            Comes::Command(Wish::OpenSession),
-            Ends::GoesOn,
-            NOT_AUTHENTICATED,
-        ),
-        (Comes::Command(Wish::Success), Ends::GoesOn, &[ACCEPTED]),
-        (Comes::Command(Wish::Failure), Ends::GoesOn, &[ACCEPTED]),
-        (
-            Comes::Command(Wish::Debug(true, "hi", "en")),
-            Ends::GoesOn,
-            &[ACCEPTED, Tells::Sends(b"\x04\x01\0\0\0\x02hi\0\0\0\x02en")],
-        ),
-        (
-            Comes::Command(Wish::Keepalive),
-            Ends::GoesOn,
-            &[ACCEPTED, KEEPALIVE],
-        ),
-        (
-            Comes::Command(Wish::Ping(7)),
-            Ends::GoesOn,
-            &[ACCEPTED, KEEPALIVE],
-        ),
+        &[Asks(Wish::Forward("a", 0, Some(5))), NOT_IN],
+        &[Asks(Wish::Cancel("a", 0, None)), NOT_IN],
+        &[In(SERVICE), Out(ACCEPT)],
+        &[Asks(Wish::Forward("a", 0, None)), NOT_IN],
+        &[Asks(Wish::Cancel("a", 0, Some(6))), NOT_IN],
+        &[Asks(Wish::OpenSession), NOT_IN],
+        &[Asks(Wish::Success), ACCEPTED],
+        &[Asks(Wish::Failure), ACCEPTED],
+        &[
+            Asks(Wish::Debug(true, "hi", "en")),
+            ACCEPTED,
+            Out(b"\x04\x01\0\0\0\x02hi\0\0\0\x02en"),
+        ],
+        &[Asks(Wish::Keepalive), ACCEPTED, ALIVE],
+        &[Asks(Wish::Ping(7)), ACCEPTED, ALIVE],
         // Replies are not read before the login, and those that are refused wait for none.
-        (Comes::Payload(b"\x51"), Ends::GoesOn, &[]),
-        (
-            Comes::Payload(PASSWORD),
-            Ends::GoesOn,
-            &[Tells::Sends(b"\x34")],
-        ),
-        (Comes::Payload(b"\x51"), Ends::GoesOn, &[]),
-        (Comes::Payload(b"\x51"), Ends::GoesOn, &[Tells::Pong(7)]),
-        (
-            Comes::Command(Wish::Forward("a", 0, Some(5))),
-            Ends::GoesOn,
-            &[
-                ACCEPTED,
-                Tells::Sends(b"\x50\0\0\0\x0dtcpip-forward\x01\0\0\0\x01a\0\0\0\0"),
-            ],
-        ),
+        &[In(b"\x51")],
+        &[In(PASSWORD), Out(b"\x34")],
+        &[In(b"\x51")],
+        &[In(b"\x51"), Pong(7)],
+        &[
+            Asks(Wish::Forward("a", 0, Some(5))),
+            ACCEPTED,
+            Out(b"\x50\0\0\0\x0dtcpip-forward\x01\0\0\0\x01a\0\0\0\0"),
+        ],
     ],
     ..STANDARD
 };
 
 #[test]
 fn nobody_forwards_before_a_user_is_let_in(rt: HostRuntime) -> Result<(), Fail> {
-    assert!(rt; holds(rt.alloc(), BEFORE_LOGIN)?, "{}", BEFORE_LOGIN.shows);
+    assert!(rt; BEFORE_LOGIN.holds(rt.alloc())?, "{}", BEFORE_LOGIN.shows);
     Ok(())
 }
 
@@ -119,6 +80,8 @@ enum Message {
 }
 
 const CHANNEL: ChannelId = ChannelId(9);
+
+const TICKET: u64 = 5;
 
 fn made(alloc: Global, message: Message) -> Result<ChannelMsg, Fail> {
     Ok(match message {
@@ -230,26 +193,25 @@ static MESSAGES: [(Message, Refusal); 21] = [
 ];
 
 // Whether a command is refused so, nothing goes out, and the run goes on.
-fn is_refused(side: &mut Side, command: Command, why: Refusal) -> Result<bool, Fail> {
-    let wanted = [Tells::Answers(CommandOutcome::Refused(why))];
-    ends_telling(
-        side,
-        InputKind::Command(TICKET, command),
-        Ends::GoesOn,
-        &wanted,
-    )
+fn is_refused(side: &mut Side, command: Command, why: Refusal) -> bool {
+    let looked = side.link.trace().len();
+    let goes_on = give(side, InputKind::Command(TICKET, command)) == End::GoesOn;
+    let mut told = side.link.trace().iter().skip(looked);
+    let is_refused = matches!(told.next(), Some(TraceEntry::Answered(TICKET, outcome))
+        if *outcome == CommandOutcome::Refused(why));
+    goes_on && is_refused && told.next().is_none()
 }
 
 // Whether each message is refused so, by the command that it means and as one of a client.
 fn are_refused(side: &mut Side, alloc: Global) -> Result<bool, Fail> {
     for (name, why) in &MESSAGES {
         let meant = Command::from((CHANNEL, made(alloc, *name)?));
-        let meant_is = is_refused(side, meant, *why)?;
+        let meant_is = is_refused(side, meant, *why);
         let of_client = Command::ClientOnly {
             channel: CHANNEL,
             msg: made(alloc, *name)?,
         };
-        if !is_refused(side, of_client, Refusal::ClientOnly)? || !meant_is {
+        if !is_refused(side, of_client, Refusal::ClientOnly) || !meant_is {
             return Ok(false);
         }
     }
@@ -263,7 +225,7 @@ fn are_always_refused(side: &mut Side, alloc: Global) -> Result<bool, Fail> {
 
 #[test]
 fn what_a_client_alone_may_say(rt: HostRuntime) -> Result<(), Fail> {
-    let mut side = not_begun(rt.alloc(), 3, QUIET)?;
+    let mut side = Side::new(rt.alloc(), &Config::standard(), true, QUIET)?;
     let are_refused = are_always_refused(&mut side, rt.alloc());
     drop(side);
     assert!(rt; are_refused?);
@@ -296,27 +258,20 @@ const OVER: Plan = Plan {
 
 const DISCONNECTED: CommandOutcome = CommandOutcome::Refused(Refusal::Disconnected);
 
-static BEHIND_THE_END: Row = Row {
+static BEHIND_THE_END: Story = Story {
     shows: "whatever a callback records behind the end of the connection is refused",
     plan: OVER,
     turns: &[
-        (
-            Comes::Payload(b"\x5a\0\0\0\x07session\0\0\0\x07\0\x10\0\0\0\0\x80\0"),
-            Ends::GoesOn,
-            &[
-                Tells::Notes(2),
-                Tells::SendsOn(2, b"\x5b\0\0\0\x07\0\0\0\x02\0\x20\0\0\0\0\x80\0"),
-            ],
-        ),
-        (
-            Comes::Payload(b"\x50\0\0\0\x0dtcpip-forward\x01\0\0\0\x01a\0\0\0\0"),
-            Ends::Over,
-            &[Tells::Sends(b"\x01\0\0\0\x0b\0\0\0\x03bye\0\0\0\0")],
-        ),
-        (Comes::Payload(b"\x51"), Ends::Inconsistent, &[]),
+        &[OPEN, Noted(2), CONFIRMED],
+        &[
+            In(b"\x50\0\0\0\x0dtcpip-forward\x01\0\0\0\x01a\0\0\0\0"),
+            Out(b"\x01\0\0\0\x0b\0\0\0\x03bye\0\0\0\0"),
+            Ends(End::Over),
+        ],
+        &[In(b"\x51"), Ends(End::Inconsistent)],
     ],
-    asked: b"tcpip_forward a \0\0\0\0\n",
-    done: &[
+    asked: Some(b"tcpip_forward a \0\0\0\0\n"),
+    done: Some(&[
         (1, DISCONNECTED),
         (2, DISCONNECTED),
         (3, DISCONNECTED),
@@ -332,14 +287,14 @@ static BEHIND_THE_END: Row = Row {
         (13, DISCONNECTED),
         (14, DISCONNECTED),
         (15, DISCONNECTED),
-    ],
+    ]),
     ..STANDARD
 };
 
 #[test]
 fn what_is_recorded_behind_the_end(rt: HostRuntime) -> Result<(), Fail> {
     assert!(rt;
-        holds(rt.alloc(), BEHIND_THE_END)?,
+        BEHIND_THE_END.holds(rt.alloc())?,
         "{}",
         BEHIND_THE_END.shows
     );
