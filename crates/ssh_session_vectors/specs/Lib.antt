@@ -1,3 +1,0 @@
-pub mod Authorised
-pub mod Client
-pub mod Moves

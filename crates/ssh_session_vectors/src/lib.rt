@@ -1,22 +1,13 @@
-//! Worked examples of sessions, as tests: sessions that are driven input by input and by commands
-//! between inputs, runs over links and handlers that fail, and what a callback is lent; and a small
-//! client that serves payloads, gives commands between them and hands on what these wrote.
+//! Worked examples of sessions of channels, as tests: sessions that are driven input by input, by
+//! `drive` and by `serve_payloads`, runs over links and handlers that fail, and what a callback
+//! records and is lent. Those of messages of no channel stand in `ssh_globals_vectors`.
 #![tactic(auto)]
 
 #[cfg(test)]
-mod answering;
-#[cfg(test)]
 mod callbacks;
-pub mod client;
-#[cfg(test)]
-mod globals;
 #[cfg(test)]
 mod runs;
 #[cfg(test)]
 mod sending;
 #[cfg(test)]
 mod sessions;
-#[cfg(test)]
-mod sides;
-#[cfg(test)]
-mod wishes;

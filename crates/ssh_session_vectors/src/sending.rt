@@ -1,59 +1,55 @@
-// A client that drives a session: what goes out by its moves.
-use crate::answering::{Answering, QUIET};
-use crate::client::{Move, drive};
-use crate::sides::{LOGIN, Sent, are_sent};
-use crate::wishes::{Wish, command};
+// Clients that drive a session: what goes out by their moves.
 use bytes::Bytes;
+use ssh_drive::{Move, drive, serve_payloads};
 use ssh_handler::Config;
 use ssh_keys::TableVerifier;
-use ssh_link::{Calls, Inputs, MemoryLink, PlainKex};
+use ssh_link::{Calls, CommandOutcome, Inputs, MemoryLink, PlainKex};
 use ssh_session::Flow;
+use ssh_stories::Line::{Applies, HandsOn, In, On};
+use ssh_stories::{
+    Answering, Line, OPEN_SMALL, PASSWORD, Place, QUIET, SERVICE, SMALL, SMALL_CONFIRMED, Turn,
+    Wish, command,
+};
 use std::alloc::Global;
 use std::test::Fail;
 
-#[derive(Clone, Copy)]
-enum Step {
-    Payload(&'static [u8]),
-    Say(Wish),
-    HandOn,
-}
+const HELLO: Line<'static> = Applies(Wish::Data(2, b"hello"), CommandOutcome::Accepted);
 
-// What a client does behind a login, and all frames that go out for that.
+const FIRST: Line<'static> = On(2, b"\x5e\0\0\0\x2c\0\0\0\x03hel");
+
+// The peer grants two bytes more than the three of the open.
+const GRANT: Line<'static> = In(b"\x5d\0\0\0\x02\0\0\0\x02");
+
+const REST: Line<'static> = On(2, b"\x5e\0\0\0\x2c\0\0\0\x02lo");
+
+// What a client does behind a login, and the frames that go out for that.
 #[derive(Clone, Copy)]
 struct Row {
     shows: &'static str,
-    steps: &'static [Step],
-    wanted: &'static [Sent],
+    lines: Turn,
 }
 
-// The peer opens a session, with a window of three bytes, and grants two more.
-const OPEN: Step = Step::Payload(b"\x5a\0\0\0\x07session\0\0\0\x2c\0\0\0\x03\0\0\x80\0");
-
-const GRANT: Step = Step::Payload(b"\x5d\0\0\0\x02\0\0\0\x02");
-
-const HELLO: Step = Step::Say(Wish::Data(2, b"hello"));
-
-const CONFIRMED: Sent = (Some(2), b"\x5b\0\0\0\x2c\0\0\0\x02\0\x20\0\0\0\0\x80\0");
-
-const FIRST: Sent = (Some(2), b"\x5e\0\0\0\x2c\0\0\0\x03hel");
-
-const REST: Sent = (Some(2), b"\x5e\0\0\0\x2c\0\0\0\x02lo");
-
-static ROWS: [Row; 3] = [
+static MOVES: [Row; 3] = [
     Row {
         shows: "data are written by a command, and do not go out with it",
-        steps: &[OPEN, HELLO],
-        wanted: &[CONFIRMED],
+        lines: &[OPEN_SMALL, SMALL_CONFIRMED, HELLO],
     },
     Row {
         shows: "handed on, they go out as far as the window goes",
-        steps: &[OPEN, HELLO, Step::HandOn],
-        wanted: &[CONFIRMED, FIRST],
+        lines: &[OPEN_SMALL, SMALL_CONFIRMED, HELLO, HandsOn, FIRST],
     },
     Row {
         shows: "and the rest with the peer's grant",
-        steps: &[OPEN, HELLO, Step::HandOn, GRANT, Step::HandOn],
-        wanted: &[CONFIRMED, FIRST, REST],
+        lines: &[
+            OPEN_SMALL,
+            SMALL_CONFIRMED,
+            HELLO,
+            HandsOn,
+            FIRST,
+            GRANT,
+            REST,
+            HandsOn,
+        ],
     },
 ];
 
@@ -61,59 +57,112 @@ fn payload(alloc: Global, payload: &[u8]) -> Result<Move, Fail> {
     Ok(Move::Payload(Bytes::copy_from_slice(alloc, payload)?))
 }
 
-fn next(alloc: Global, step: Step) -> Result<Move, Fail> {
-    Ok(match step {
-        Step::Payload(bytes) => payload(alloc, bytes)?,
-        Step::Say(wish) => Move::Say(command(alloc, wish)?),
-        Step::HandOn => Move::HandOn,
-    })
+// The move of this line; none where it says what goes out.
+fn next(alloc: Global, line: Line<'_>) -> Result<Option<Move>, Fail> {
+    Ok(Some(match line {
+        In(bytes) => payload(alloc, bytes)?,
+        Applies(wish, _) => Move::Say(command(alloc, wish)?),
+        HandsOn => Move::HandOn,
+        _ => return Ok(None),
+    }))
 }
 
-// The login, and these behind it.
-fn moves(alloc: Global, steps: &[Step]) -> Result<Vec<Move>, Fail> {
-    let mut moves = Vec::new(alloc);
-    for request in LOGIN {
-        moves.push(payload(alloc, request)?)?;
+// The login, and the moves of these lines behind it.
+fn add_moves(alloc: Global, lines: &[Line<'_>], moves: &mut Vec<Move>) -> Result<(), Fail> {
+    moves.push(payload(alloc, SERVICE)?)?;
+    moves.push(payload(alloc, PASSWORD)?)?;
+    for line in lines {
+        match next(alloc, *line)? {
+            Some(next) => moves.push(next)?,
+            None => {}
+        }
     }
-    for step in steps {
-        moves.push(next(alloc, *step)?)?;
-    }
-    Ok(moves)
+    Ok(())
 }
 
-// Whether all moves are made, and these frames go out behind the two answers to the login.
-fn holds(alloc: Global, row: Row) -> Result<bool, Fail> {
+// Whether the frames that go out behind the two answers to the login are these.
+fn are_sent(link: &MemoryLink, lines: &[Line<'_>]) -> bool {
+    let mut place = Place::behind(2, true);
+    for line in lines {
+        if matches!(line, On(_, _)) && !place.tells(link, *line) {
+            return false;
+        }
+    }
+    place.is_at_the_end(link)
+}
+
+// Whether all moves are made.
+fn drives(alloc: Global, link: &mut MemoryLink, moves: Vec<Move>) -> bool {
     let mut handler = Answering::new(alloc, QUIET);
     let mut kex = PlainKex::new(alloc, false);
-    let mut link = MemoryLink::new(alloc, Inputs::new(alloc), Calls::new(alloc))?;
     let verifier = TableVerifier::new(alloc);
     let config = Config::standard();
-    let name = b"SSH-2.0-test";
-    let moves = moves(alloc, row.steps)?;
+    let (own, line) = (&mut handler, b"SSH-2.0-test");
     let result = drive(
-        alloc,
-        &config,
-        b"",
-        name,
-        &mut handler,
-        &verifier,
-        &mut kex,
-        &mut link,
-        0,
-        moves,
+        alloc, &config, b"", line, own, &verifier, &mut kex, link, 0, moves,
     );
     let goes_on = matches!(result, Ok(Flow::Continue));
     drop(result);
     drop(handler);
-    let sent = are_sent(alloc, &link, 2, row.wanted);
+    goes_on
+}
+
+// Whether all payloads are served.
+fn serves(alloc: Global, link: &mut MemoryLink, payloads: Vec<Bytes>) -> bool {
+    let mut handler = Answering::new(alloc, QUIET);
+    let mut kex = PlainKex::new(alloc, false);
+    let verifier = TableVerifier::new(alloc);
+    let config = Config::standard();
+    let (own, line) = (&mut handler, b"SSH-2.0-test");
+    let result = serve_payloads(
+        alloc, &config, b"", line, own, &verifier, &mut kex, link, 0, payloads,
+    );
+    let goes_on = matches!(result, Ok(Flow::Continue));
+    drop(result);
+    drop(handler);
+    goes_on
+}
+
+// Whether the moves of these lines are made behind a login, and these frames go out.
+fn moves_hold(alloc: Global, lines: &[Line<'_>]) -> Result<bool, Fail> {
+    let mut link = MemoryLink::new(alloc, Inputs::new(alloc), Calls::new(alloc))?;
+    let mut moves = Vec::new(alloc);
+    let added = add_moves(alloc, lines, &mut moves);
+    let goes_on = drives(alloc, &mut link, moves);
+    let are_sent = are_sent(&link, lines);
     drop(link);
-    Ok(sent? && goes_on)
+    added?;
+    Ok(goes_on && are_sent)
 }
 
 #[test]
 fn moves_send(rt: HostRuntime) -> Result<(), Fail> {
-    for row in &ROWS {
-        assert!(rt; holds(rt.alloc(), *row)?, "{}", row.shows);
+    for row in &MOVES {
+        assert!(rt; moves_hold(rt.alloc(), row.lines)?, "{}", row.shows);
     }
+    Ok(())
+}
+
+fn payloads(alloc: Global) -> Result<Vec<Bytes>, Fail> {
+    let mut payloads = Vec::new(alloc);
+    for payload in [SERVICE, PASSWORD, SMALL] {
+        payloads.push(Bytes::copy_from_slice(alloc, payload)?)?;
+    }
+    Ok(payloads)
+}
+
+// Whether the login and an open are served, and the open is confirmed.
+fn payloads_hold(alloc: Global) -> Result<bool, Fail> {
+    let payloads = payloads(alloc)?;
+    let mut link = MemoryLink::new(alloc, Inputs::new(alloc), Calls::new(alloc))?;
+    let goes_on = serves(alloc, &mut link, payloads);
+    let is_confirmed = are_sent(&link, &[SMALL_CONFIRMED]);
+    drop(link);
+    Ok(goes_on && is_confirmed)
+}
+
+#[test]
+fn payloads_are_served(rt: HostRuntime) -> Result<(), Fail> {
+    assert!(rt; payloads_hold(rt.alloc())?);
     Ok(())
 }

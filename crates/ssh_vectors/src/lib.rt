@@ -1,6 +1,6 @@
 //! Worked examples across the crates, as tests: whole scripts with the bytes that they print, and
-//! single calls of the wire; and a small client that drives a session itself. Examples of sessions
-//! that no script drives stand in `ssh_session_vectors`, of handlers in `ssh_handler_vectors`.
+//! single calls of the wire. Examples of sessions that no script drives stand in
+//! `ssh_session_vectors`, of handlers in `ssh_handler_vectors`.
 #![tactic(auto)]
 
 #[cfg(test)]
@@ -9,7 +9,6 @@ mod bad_lines;
 mod calls;
 #[cfg(test)]
 mod channels;
-pub mod client;
 #[cfg(test)]
 mod documented;
 #[cfg(test)]

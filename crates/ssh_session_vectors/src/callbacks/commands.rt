@@ -1,7 +1,7 @@
 // Each command is recorded, behind the others.
 use super::lending::Lender;
-use crate::wishes::{Wish, command, record};
 use ssh_link::CommandList;
+use ssh_stories::{Wish, command, record};
 use ssh_wire::Disconnect;
 use std::alloc::Global;
 use std::test::Fail;

@@ -1,10 +1,10 @@
 // What a session lends to a callback, as a callback reads it.
 ghost use Rattle.std.specs.Prelude.{◌≡◌, []};
 
-use crate::answering::{Answering, Lent, Plan, QUIET, Told};
 use bytes::Bytes;
 use ssh_channels::{ChannelParams, Encrypted, TableError};
 use ssh_handler::{Commands, Config, Handler};
+use ssh_stories::{Answering, Lent, Plan, QUIET, Told};
 use ssh_wire::ChannelId;
 use std::alloc::Global;
 use std::test::Fail;
@@ -69,21 +69,20 @@ fn table(alloc: Global, (number, room, packet, before): Channel) -> Result<Encry
     let channel = ChannelId(number);
     let mut table = Encrypted::new(alloc);
     let params = ChannelParams::new(alloc, 7, channel, 2, room, 32_768, packet);
-    let _ = table.insert(params)?;
-    let _ = match before {
-        Before::Nothing => true,
-        Before::Data => table.data(channel, Bytes::from_static(b"abc"), false)?,
-        Before::Eof => table.eof(channel)?,
+    let inserted = table.insert(params);
+    let done = match before {
+        Before::Nothing => Ok(true),
+        Before::Data => table.data(channel, Bytes::from_static(b"abc"), false),
+        Before::Eof => table.eof(channel),
     };
-    Ok(table)
+    inserted.and(done).and(Ok(table))
 }
 
-// What a callback of channel 2 reads where a session lends this.
+// What a callback of channel 2 reads where a session lends this, and takes commands and answers as
+// it reads.
 struct Row {
     shows: &'static str,
     channel: Option<Channel>,
-    commands: bool,
-    replies: bool,
     reads: Lent,
 }
 
@@ -111,15 +110,11 @@ static ROWS: [Row; 10] = [
     Row {
         shows: "no channel, and everything is taken",
         channel: None,
-        commands: true,
-        replies: true,
         reads: NOTHING,
     },
     Row {
         shows: "no answers to opens are taken",
         channel: None,
-        commands: true,
-        replies: false,
         reads: Lent {
             replies: false,
             ..NOTHING
@@ -128,8 +123,6 @@ static ROWS: [Row; 10] = [
     Row {
         shows: "no commands are taken",
         channel: None,
-        commands: false,
-        replies: true,
         reads: Lent {
             commands: false,
             ..NOTHING
@@ -138,8 +131,6 @@ static ROWS: [Row; 10] = [
     Row {
         shows: "nothing is taken",
         channel: None,
-        commands: false,
-        replies: false,
         reads: Lent {
             commands: false,
             replies: false,
@@ -149,8 +140,6 @@ static ROWS: [Row; 10] = [
     Row {
         shows: "a small room",
         channel: Some((2, 5, 9, Before::Nothing)),
-        commands: true,
-        replies: true,
         reads: Lent {
             window: 5,
             packet: 9,
@@ -160,15 +149,11 @@ static ROWS: [Row; 10] = [
     Row {
         shows: "small packets",
         channel: Some((2, 9, 5, Before::Nothing)),
-        commands: true,
-        replies: true,
         reads: ROOM,
     },
     Row {
         shows: "no room",
         channel: Some((2, 0, 5, Before::Nothing)),
-        commands: true,
-        replies: true,
         reads: Lent {
             window: 0,
             writable: 0,
@@ -178,8 +163,6 @@ static ROWS: [Row; 10] = [
     Row {
         shows: "data that wait",
         channel: Some((2, 9, 5, Before::Data)),
-        commands: true,
-        replies: true,
         reads: Lent {
             data_wait: true,
             ..ROOM
@@ -188,8 +171,6 @@ static ROWS: [Row; 10] = [
     Row {
         shows: "an end of file",
         channel: Some((2, 9, 5, Before::Eof)),
-        commands: true,
-        replies: true,
         reads: Lent {
             can_send: false,
             ..ROOM
@@ -198,21 +179,23 @@ static ROWS: [Row; 10] = [
     Row {
         shows: "another channel",
         channel: Some((3, 9, 5, Before::Data)),
-        commands: true,
-        replies: true,
         reads: NOTHING,
     },
 ];
 
 // The session that lends it, of a config that is the standard one.
 fn set_up(alloc: Global, row: &Row) -> Result<Lender, Fail> {
-    let mut lender = Lender::new(alloc);
-    lender.commands_wanted = row.commands;
-    lender.replies_wanted = row.replies;
-    if let Some(channel) = row.channel {
-        lender.table = table(alloc, channel)?;
-    }
-    Ok(lender)
+    let table = match row.channel {
+        Some(channel) => table(alloc, channel)?,
+        None => Encrypted::new(alloc),
+    };
+    Ok(Lender {
+        alloc,
+        table,
+        config: Config::standard(),
+        commands_wanted: row.reads.commands,
+        replies_wanted: row.reads.replies,
+    })
 }
 
 // Whether the callback of an end of file reads it so, and the room as a count too, and the config
@@ -226,10 +209,8 @@ fn is_read(alloc: Global, row: &Row) -> Result<bool, Fail> {
     };
     let mut handler = Answering::new(alloc, plan);
     // The handler counts on a line that is at least so long.
-    if session.remote_sshid().len() < 8 {
-        return Ok(false);
-    }
-    let goes_on = handler.channel_eof(CHANNEL, &mut session).is_ok();
+    let goes_on = session.remote_sshid().len() >= 8
+        && handler.channel_eof(CHANNEL, &mut session).is_ok();
     let is_read = handler.told() == [Told::Eof(2), Told::Reads(2, row.reads)].as_slice();
     let is_room = session.sender_window_size(CHANNEL) == row.reads.window as usize;
     let is_set_up = session.config().window_size == 2_097_152;

@@ -1,8 +1,6 @@
 // What a session lends to its callbacks.
-use super::{Row, holds};
-use crate::answering::{Lent, Plan, QUIET, Told};
-use crate::sides::{Comes, Ends};
-use crate::wishes::Wish;
+use ssh_stories::Line::{Asks, In, On};
+use ssh_stories::{CHANNELS, Lent, OPEN_SMALL, Plan, QUIET, Story, Told, Wish};
 use std::test::Fail;
 
 // Of no channel, while commands and answers are taken.
@@ -25,77 +23,61 @@ const CHANNEL: Lent = Lent {
     ..NO_CHANNEL
 };
 
-static CALLBACKS: Row = Row {
+const WAITING: Lent = Lent {
+    data_wait: true,
+    commands: false,
+    ..CHANNEL
+};
+
+const ENDED: Lent = Lent {
+    window: 5,
+    writable: 5,
+    can_send: false,
+    ..CHANNEL
+};
+
+static CALLBACKS: Story = Story {
     shows: "a callback reads the channels and what is taken from outside as they are at its call",
-    window: 8,
+    window: Some(8),
     plan: Plan {
         reads: true,
         ..QUIET
     },
     turns: &[
-        (
-            Comes::Payload(b"\x5a\0\0\0\x07session\0\0\0\x2c\0\0\0\x03\0\0\x80\0"),
-            Ends::GoesOn,
-            &[(Some(2), b"\x5b\0\0\0\x2c\0\0\0\x02\0\0\0\x08\0\0\x80\0")],
-        ),
-        (
-            Comes::Command(Wish::Data(2, b"hello")),
-            Ends::GoesOn,
-            &[(Some(2), b"\x5e\0\0\0\x2c\0\0\0\x03hel")],
-        ),
-        (Comes::Payload(b"\x60\0\0\0\x02"), Ends::GoesOn, &[]),
-        (
-            Comes::Payload(b"\x5d\0\0\0\x02\0\0\0\x02"),
-            Ends::GoesOn,
-            &[(Some(2), b"\x5e\0\0\0\x2c\0\0\0\x02lo")],
-        ),
-        (
-            Comes::Command(Wish::Eof(2)),
-            Ends::GoesOn,
-            &[(Some(2), b"\x60\0\0\0\x2c")],
-        ),
-        (
-            Comes::Payload(b"\x5e\0\0\0\x02\0\0\0\x03abc"),
-            Ends::GoesOn,
-            &[],
-        ),
-        (
-            Comes::Payload(b"\x61\0\0\0\x02"),
-            Ends::GoesOn,
-            &[(Some(2), b"\x61\0\0\0\x2c")],
-        ),
+        &[
+            OPEN_SMALL,
+            On(2, b"\x5b\0\0\0\x2c\0\0\0\x02\0\0\0\x08\0\0\x80\0"),
+        ],
+        &[
+            Asks(Wish::Data(2, b"hello")),
+            On(2, b"\x5e\0\0\0\x2c\0\0\0\x03hel"),
+        ],
+        &[In(b"\x60\0\0\0\x02")],
+        &[
+            In(b"\x5d\0\0\0\x02\0\0\0\x02"),
+            On(2, b"\x5e\0\0\0\x2c\0\0\0\x02lo"),
+        ],
+        &[Asks(Wish::Eof(2)), On(2, b"\x60\0\0\0\x2c")],
+        &[In(b"\x5e\0\0\0\x02\0\0\0\x03abc")],
+        &[In(b"\x61\0\0\0\x02"), On(2, b"\x61\0\0\0\x2c")],
     ],
-    told: &[
+    told: Some(&[
         Told::Open(2),
         Told::Reads(2, NO_CHANNEL),
         Told::Eof(2),
-        Told::Reads(
-            2,
-            Lent {
-                data_wait: true,
-                commands: false,
-                ..CHANNEL
-            },
-        ),
+        Told::Reads(2, WAITING),
         Told::Granted(2, 0),
         Told::Reads(2, CHANNEL),
         Told::Data(2, 3, Some(b'a')),
-        Told::Reads(
-            2,
-            Lent {
-                window: 5,
-                writable: 5,
-                can_send: false,
-                ..CHANNEL
-            },
-        ),
+        Told::Reads(2, ENDED),
         Told::Close(2),
         Told::Reads(2, NO_CHANNEL),
-    ],
+    ]),
+    ..CHANNELS
 };
 
 #[test]
 fn what_callbacks_are_lent(rt: HostRuntime) -> Result<(), Fail> {
-    assert!(rt; holds(rt.alloc(), CALLBACKS)?, "{}", CALLBACKS.shows);
+    assert!(rt; CALLBACKS.holds(rt.alloc())?, "{}", CALLBACKS.shows);
     Ok(())
 }

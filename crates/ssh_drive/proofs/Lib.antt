@@ -1,0 +1,12 @@
+pub mod Going
+pub mod Behind
+pub mod Staying
+pub mod Keeping
+pub mod Outside
+pub mod Accounting
+pub mod Entering
+pub mod Guarding
+pub mod Authorising
+pub mod Moving
+pub mod Driving
+pub mod Serving

@@ -1,0 +1,30 @@
+-- What is fixed in a run stays so, move by move.
+use Rattle.std.proofs.Common.{◌≡◌, ℕ, map, subst}
+use Rattle.ssh_link.specs.declared.link.TraceEntry.TheVariants.{Noticed}
+use Rattle.ssh_auth.specs.Plan.{Follows}
+use Rattle.ssh_auth.specs.Publickey.{Acceptance}
+use Rattle.ssh_session.specs.Between.{flushed}
+use Rattle.ssh_rules.specs.Outcome.{Goes}
+use Rattle.ssh_rules.specs.Run.{hand_on}
+use Rattle.ssh_rules.specs.World.{Settings}
+use Rattle.ssh_rules.proofs.Acting.{EffectComes}
+use Rattle.ssh_rules.proofs.Settled.{IsSet, effect_set, stays_set}
+use Rattle.ssh_drive.specs.Moves.{Place, Made, Served, Said, Handed_on, Leads, coming}
+use Rattle.ssh_drive.proofs.Behind.{told_first, owes_live, flush_set}
+
+pub lead_set : {E F : Type 0} (accepts : Acceptance) (settings : Settings) (moment : ℕ)
+    (before : Place) (made : Made E F) (to : Place) → Leads accepts moment before made to
+    → before.world.settings ≡ settings → to.world.settings ≡ settings
+lead_set accepts settings moment before (Served payload events) to (plan, owes, follows, none) set =
+    let w = before.world in
+    let told = told_first (map Noticed before.untold) owes.0 events (Goes to.world)
+    (subst (λ p. Follows p events (Goes to.world)) owes.2 follows) in
+    stays_set accepts settings w (coming moment payload) owes.0 told.0 to.world
+    (owes_live w.disconnected accepts w (coming moment payload) owes.0 told.0 to.world owes.1
+    told.2) told.2 set
+lead_set accepts settings moment before (Said command outcome) to leads set =
+    subst (EffectComes (IsSet settings)) leads.1 (effect_set settings before.world command set)
+lead_set accepts settings moment before (Handed_on events) to (plan, owes, follows, none) set =
+    let told = told_first (map Noticed before.untold) (hand_on before.world flushed) events
+    (Goes to.world) (subst (λ p. Follows p events (Goes to.world)) owes follows) in
+    flush_set settings before.world told.0 to.world told.2 set

@@ -1,0 +1,4 @@
+pub mod Authorised
+pub mod Driven
+pub mod Moves
+pub mod Served

@@ -1,0 +1,20 @@
+//! Stories of sessions, for tests: what comes to a session, what is done with it between its inputs,
+//! and what its link is told, by lines of plain values, which are played on a session with a handler
+//! that answers by a plan.
+#![tactic(auto)]
+
+mod answering;
+mod calls;
+mod runs;
+mod sides;
+mod stories;
+mod wishes;
+
+pub use answering::{Answering, Lent, Plan, QUIET, Tired, Told};
+pub use runs::{BEHIND_LOGIN, Run};
+pub use sides::{ACCEPT, End, PASSWORD, SERVICE, Side, give, is_logged_in, payload};
+pub use stories::{
+    ACCEPTED, ALIVE, CHANNELS, CONFIRMED, Line, OPEN, OPEN_SMALL, Place, SMALL, SMALL_CONFIRMED,
+    STANDARD, Story, Turn, play,
+};
+pub use wishes::{Wish, command, record};
