@@ -1,5 +1,5 @@
 // Lines that are no lines of a script.
-use crate::scripts::writes;
+use ssh_scripted::writes;
 use std::test::Fail;
 
 static BAD_LINES: [&[u8]; 113] = [

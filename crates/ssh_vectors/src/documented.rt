@@ -1,5 +1,5 @@
 // The examples of README.md and of docs/SCRIPT.md, as they stand there.
-use crate::scripts::{Case, run};
+use ssh_scripted::{Case, run};
 use std::alloc::Global;
 use std::test::Fail;
 

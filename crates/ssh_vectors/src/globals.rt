@@ -1,5 +1,5 @@
 // Scripts with global requests, ticks and the end of a connection, and what the program writes.
-use crate::scripts::{Case, Row};
+use ssh_scripted::{Case, Row};
 use std::test::Fail;
 
 static BEFORE_LOGIN: [Case; 4] = [

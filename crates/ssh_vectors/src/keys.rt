@@ -1,7 +1,7 @@
 // Requests by keys and certificates: scripts, and what the program writes for them.
 mod certificates;
 
-use crate::scripts::Case;
+use ssh_scripted::Case;
 use std::test::Fail;
 
 static KEYS: [Case; 18] = [

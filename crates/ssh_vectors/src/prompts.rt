@@ -1,5 +1,5 @@
 // Banners and rounds of keyboard-interactive: scripts, and what the program writes for them.
-use crate::scripts::Case;
+use ssh_scripted::Case;
 use std::test::Fail;
 
 static ROUNDS: [Case; 14] = [

@@ -1,10 +1,10 @@
 // Runs of the service, of authentication and of their end: scripts, and what the program writes.
 ghost use Rattle.std.specs.Prelude.{None};
 
-use crate::scripts::{Case, run, writes};
 use bytes::Bytes;
 use ssh_link::{Calls, IoFailed, MemorySource, Sink};
 use ssh_script::run_script;
+use ssh_scripted::{Case, run, writes};
 use std::alloc::Global;
 use std::test::Fail;
 
@@ -335,7 +335,8 @@ fn wrong_passwords(alloc: Global, setting: &[u8]) -> Result<Vec<u8>, Fail> {
 fn are_read(alloc: Global, setting: &[u8], read: usize) -> Result<bool, Fail> {
     let script = wrong_passwords(alloc, setting)?;
     let written = refusals(alloc, read)?;
-    writes(alloc, &["run"], script.as_slice(), 0, written.as_slice())
+    let is_written = writes(alloc, &["run"], script.as_slice(), 0, written.as_slice())?;
+    Ok(is_written)
 }
 
 #[test]

@@ -1,5 +1,5 @@
 // Requests by certificates: scripts, and what the program writes for them.
-use crate::scripts::Case;
+use ssh_scripted::Case;
 use std::test::Fail;
 
 static CERTIFICATES: [Case; 5] = [

@@ -1,6 +1,6 @@
 // Each request of a client: how it is told, read and answered.
 use super::{FAILURE, NO_ENCODING, OVER, Outcome, SUCCESS, comes_to, ends_by, request};
-use crate::scripts::joined;
+use ssh_scripted::joined;
 use std::alloc::Global;
 use std::test::Fail;
 

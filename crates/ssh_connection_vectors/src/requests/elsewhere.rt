@@ -1,5 +1,5 @@
 // Requests on numbers that are no channel, or not one yet.
-use crate::scripts::Row;
+use ssh_scripted::Row;
 use std::test::Fail;
 
 static ELSEWHERE: [Row; 6] = [

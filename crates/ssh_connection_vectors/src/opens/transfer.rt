@@ -1,5 +1,5 @@
 // Data and closes on channels that this side opens.
-use crate::scripts::Row;
+use ssh_scripted::Row;
 use std::test::Fail;
 
 static TRANSFERS: [Row; 5] = [

@@ -1,6 +1,6 @@
 // The modes of a terminal (RFC 4254 section 8).
 use super::{INCONSISTENT, OVER, Outcome, SUCCESS, comes_to, ends_by, request};
-use crate::scripts::joined;
+use ssh_scripted::joined;
 use std::alloc::Global;
 use std::test::Fail;
 

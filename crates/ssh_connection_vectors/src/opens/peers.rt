@@ -1,5 +1,5 @@
 // Channels of each type that the peer opens.
-use crate::scripts::Row;
+use ssh_scripted::Row;
 use std::test::Fail;
 
 static OPENS: [Row; 9] = [

@@ -1,5 +1,5 @@
 // Opens of the peer that end the run: the handler hears nothing of them.
-use crate::scripts::Row;
+use ssh_scripted::Row;
 use std::alloc::Global;
 use std::test::Fail;
 
@@ -151,7 +151,7 @@ fn ends(alloc: Global, inputs: &'static [u8], trace: &'static [u8]) -> Result<bo
         calls: b"",
         trace,
     };
-    row.holds(alloc)
+    Ok(row.holds(alloc)?)
 }
 
 #[test]

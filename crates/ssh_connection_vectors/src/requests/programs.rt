@@ -1,5 +1,5 @@
 // Programs that a client asks for, from their first request to their end (RFC 4254 section 6).
-use crate::scripts::{Case, Row};
+use ssh_scripted::{Case, Row};
 use std::test::Fail;
 
 static PROGRAMS: [Row; 3] = [

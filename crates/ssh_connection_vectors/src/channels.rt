@@ -1,5 +1,5 @@
 // Scripts of one session channel that the peer opens, and what the program writes for them.
-use crate::scripts::{Case, Row};
+use ssh_scripted::{Case, Row};
 use std::test::Fail;
 
 static CHANNELS: [Row; 10] = [

@@ -5,7 +5,7 @@ mod modes;
 mod programs;
 mod replies;
 
-use crate::scripts::{LOGIN, LOGIN_CALLS, LOGIN_TRACE, SETTINGS, joined, writes};
+use ssh_scripted::{LOGIN, LOGIN_CALLS, LOGIN_TRACE, SETTINGS, joined, writes};
 use std::alloc::Global;
 use std::test::Fail;
 
@@ -73,11 +73,12 @@ fn comes_to(
         alloc,
         &[calls.as_slice(), LOGIN_TRACE, OPEN_TRACE, wanted.trace],
     )?;
-    writes(
+    let is_written = writes(
         alloc,
         &["run"],
         script.as_slice(),
         wanted.status,
         written.as_slice(),
-    )
+    )?;
+    Ok(is_written)
 }

@@ -1,5 +1,5 @@
 // Channels that this side opens: what the peer answers (RFC 4254 section 5.1).
-use crate::scripts::{Case, Row};
+use ssh_scripted::{Case, Row};
 use std::test::Fail;
 
 static OPENS: [Row; 16] = [

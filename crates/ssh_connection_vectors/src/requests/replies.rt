@@ -1,5 +1,5 @@
 // Replies to requests (RFC 4254 section 5.4): at most one for each request that wants one.
-use crate::scripts::Row;
+use ssh_scripted::Row;
 use std::test::Fail;
 
 static REPLIES: [Row; 13] = [

@@ -1,0 +1,11 @@
+//! Worked examples of channels, as tests: scripts with the bytes that the program prints for the
+//! opens of both sides (RFC 4254 section 5.1), data within windows, ends, closes and requests
+//! (sections 5.2 to 6.10).
+#![tactic(auto)]
+
+#[cfg(test)]
+mod channels;
+#[cfg(test)]
+mod opens;
+#[cfg(test)]
+mod requests;
