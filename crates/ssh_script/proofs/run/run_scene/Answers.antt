@@ -1,10 +1,10 @@
 use Rattle.std.proofs.Common.{◌∙◌, sym, ap, ◌++◌}
 use Rattle.std.specs.Prelude.{flat_map}
 use Rattle.std.specs.String.{string_bytes}
-use Rattle.ssh_script.specs.Scene.{scene_of}
-use Rattle.ssh_script.specs.Played.{queues_in}
-use Rattle.ssh_script.specs.CallLines.{question_line}
-use Rattle.ssh_script.specs.Print.{entry_lines}
+use Rattle.ssh_scene.specs.Scene.{scene_of}
+use Rattle.ssh_scene.specs.Queues.{queues_in}
+use Rattle.ssh_transcript.specs.CallLines.{question_line}
+use Rattle.ssh_transcript.specs.Print.{entry_lines}
 use Rattle.ssh_script.proofs.Kept.{kept, text_of}
 use Rattle.ssh_script.proofs.run.run_scene.Goals as goal
 
