@@ -52,11 +52,11 @@ pub(crate) fn keep(
     ensures err { OnErr result (all.new.items ≡ all.old.items) }
     ensures lost { OnErr result (lost.new ≡ true) }
 {
-    if all.push(question).is_err() {
+    let kept = all.push(question).or(Err(RecordError::NoMemory));
+    if kept.is_err() {
         *lost = true;
-        return Err(RecordError::NoMemory);
     }
-    Ok(())
+    kept
 }
 
 // Records the answer to an open, where there is one.
@@ -73,13 +73,8 @@ fn answer_open(
     let Some(answer) = answer else {
         return Ok(());
     };
-    match session.answer_open(answer) {
-        Ok(()) => Ok(()),
-        Err(_unrecorded) => {
-            *lost = true;
-            Err(RecordError::NoMemory)
-        }
-    }
+    let taken = session.answer_open(answer);
+    or_lost(lost, taken.or(Err(WireError::NoMemory)))
 }
 
 // Whether a request on a channel is granted that is answered so.
@@ -123,13 +118,8 @@ fn succeed(
     ensures same { OnOk result (lost.new ≡ lost.old) }
     ensures lost { OnErr result (lost.new ≡ true) }
 {
-    match session.channel_success(channel) {
-        Ok(()) => Ok(()),
-        Err(_unrecorded) => {
-            *lost = true;
-            Err(RecordError::NoMemory)
-        }
-    }
+    let taken = session.channel_success(channel);
+    or_lost(lost, taken.or(Err(WireError::NoMemory)))
 }
 
 // Records that a request on a channel failed.
@@ -143,13 +133,8 @@ fn fail(
     ensures same { OnOk result (lost.new ≡ lost.old) }
     ensures lost { OnErr result (lost.new ≡ true) }
 {
-    match session.channel_failure(channel) {
-        Ok(()) => Ok(()),
-        Err(_unrecorded) => {
-            *lost = true;
-            Err(RecordError::NoMemory)
-        }
-    }
+    let taken = session.channel_failure(channel);
+    or_lost(lost, taken.or(Err(WireError::NoMemory)))
 }
 
 // Records the answer to a request on a channel, where there is one.
@@ -208,13 +193,8 @@ fn send_back(
         *lost = true;
         return Err(RecordError::NoMemory);
     };
-    match session.data(channel, copy) {
-        Ok(()) => Ok(()),
-        Err(_unrecorded) => {
-            *lost = true;
-            Err(RecordError::NoMemory)
-        }
-    }
+    let taken = session.data(channel, copy);
+    or_lost(lost, taken.or(Err(WireError::NoMemory)))
 }
 
 impl ScriptHandler {
@@ -243,11 +223,10 @@ impl ScriptHandler {
             (admission_call admission result) }
     {
         let verdict = verdict_of(&self.answers, self.next, &admission);
-        let answer = or_lost(&mut self.lost, interactive_answer_of(self.alloc, verdict))?;
         let next = places_after(&self.answers, self.next, &admission);
         keep(&mut self.asked, &mut self.lost, Question::Admits(admission))?;
         self.next = next;
-        answer
+        or_lost(&mut self.lost, interactive_answer_of(self.alloc, verdict))?
     }
 
     /// A callback that answers nothing, and recorded what the script says.
@@ -332,8 +311,13 @@ impl ScriptHandler {
             (lent_call (Happened channel happening) result session.new.recorded) }
     {
         let verdict = self.answers.standing.requests;
-        reply(session, &mut self.lost, verdict, channel)?;
-        self.hears(Lent::Happened(channel, happening), session)
+        match reply(session, &mut self.lost, verdict, channel) {
+            Ok(()) => self.hears(Lent::Happened(channel, happening), session),
+            Err(e) => {
+                drop(happening);
+                Err(e)
+            }
+        }
     }
 
     /// The peer opens a channel, which is answered as the script says.
@@ -350,8 +334,13 @@ impl ScriptHandler {
             (lent_call (Opens channel opening) result session.new.recorded) }
     {
         let answer = open_answer_of(self.answers.standing.opens, reply);
-        answer_open(session, &mut self.lost, answer)?;
-        self.hears(Lent::Opens(channel, opening), session)
+        match answer_open(session, &mut self.lost, answer) {
+            Ok(()) => self.hears(Lent::Opens(channel, opening), session),
+            Err(e) => {
+                drop(opening);
+                Err(e)
+            }
+        }
     }
 
     /// Whether something is granted.

@@ -95,9 +95,6 @@ fn signature_in(
 ) -> Result<Option<AcceptedSignature>, AllocError>
     ensures { IfOk result (IsSignatureIn key.now algorithm.now message.now signature.now) }
 {
-    let Some(key) = key_in(alloc, key)? else {
-        return Ok(None);
-    };
     let Some(algorithm) = Algorithm::new(algorithm) else {
         return Ok(None);
     };
@@ -105,6 +102,9 @@ fn signature_in(
         return Ok(None);
     };
     let Some(signature) = bytes_in(alloc, signature)? else {
+        return Ok(None);
+    };
+    let Some(key) = key_in(alloc, key)? else {
         return Ok(None);
     };
     Ok(Some(AcceptedSignature {

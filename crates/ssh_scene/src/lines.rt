@@ -9,7 +9,7 @@ use ssh_link::{Command, OpenAnswer};
 use ssh_wire::Text;
 
 /// How a session is set up, and what its handler answers.
-#[derive(Debug, Drop)]
+#[derive(Drop)]
 pub(crate) enum Setting {
     /// The session id, of at most 2^32 - 1 bytes.
     Session(Bytes),
@@ -60,7 +60,7 @@ pub(crate) enum Setting {
 }
 
 /// What comes in.
-#[derive(Debug, Drop)]
+#[derive(Drop)]
 pub(crate) enum InputLine {
     /// From here on inputs come at this moment, in milliseconds.
     At(u64),
@@ -81,7 +81,7 @@ pub(crate) enum InputLine {
 }
 
 /// What one line of a script says.
-#[derive(Debug, Drop)]
+#[derive(Drop)]
 pub(crate) enum Line {
     /// Nothing: it is empty, or a comment.
     Passed,

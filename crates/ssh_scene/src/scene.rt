@@ -17,9 +17,6 @@ use ssh_keys::{AcceptedSignature, TableVerifier};
 use ssh_link::{Command, Input, InputKind, OpenAnswer};
 use std::alloc::{AllocError, Global};
 
-/// What comes after the peer is gone is not taken.
-fn pass_over(_line: InputLine) {}
-
 impl Script {
     /// What no line says.
     fn new(alloc: Global) -> Result<Script, AllocError>
@@ -127,8 +124,11 @@ impl Script {
         ensures ticket { IfOk result (λ ticket. ticket ≡ self.old.tickets + 1) }
         ensures counted { OnOk result (with_ticket (scene_of self.old) ≡ scene_of self.new) }
     {
-        self.tickets = self.tickets.checked_add(1).ok_or(AllocError)?;
-        Ok(self.tickets)
+        let Some(ticket) = self.tickets.checked_add(1) else {
+            return Err(AllocError);
+        };
+        self.tickets = ticket;
+        Ok(ticket)
     }
 
     /// A command from outside comes, with the next ticket.
@@ -177,7 +177,8 @@ impl Script {
         ensures { OnOk result (taken self.old.stage line (scene_of self.old) ≡ scene_of self.new) }
     {
         if self.stage == Stage::Ended {
-            pass_over(line);
+            // What comes after the peer is gone is not taken.
+            drop(line);
             return Ok(());
         }
         self.take_live(line)

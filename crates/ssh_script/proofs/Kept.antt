@@ -248,8 +248,3 @@ kept scene status result lost lost' queues queues' old all steps steps' inputs i
       text_is = texts ∙ (ap (λ x. x ++ entry_lines 0 trace' ++ last_line result) f
           ∙ ap (λ x. flat_map call_line calls ++ x ++ last_line result) g);
     }
-
-pub text_of : (t0 t1 t2 t3 a b c : List ℕ) → t0 ≡ [] → t1 ≡ t0 ++ a → t2 ≡ t1 ++ b → t3 ≡ t2 ++ c
-    → t3 ≡ a ++ b ++ c
-text_of t0 t1 t2 t3 a b c e f g h = h
-    ∙ ap (λ x. x ++ c) (g ∙ ap (λ x. x ++ b) (f ∙ ap (λ x. x ++ a) e))

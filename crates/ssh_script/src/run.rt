@@ -17,7 +17,7 @@ use ssh_link::{PlainKexError, Sink, Source};
 use ssh_players::{ScriptError, ScriptHandler, ScriptKex, ScriptLink};
 use ssh_scene::{Script, read_script};
 use ssh_session::{RunError, run_stream};
-use ssh_transcript::{print_calls, print_last, print_number, print_trace};
+use ssh_transcript::{print_number, print_run};
 use std::alloc::{AllocError, Global};
 
 /// The status where nothing went wrong.
@@ -67,10 +67,10 @@ fn run_scene(alloc: Global, script: Script) -> Result<Report, AllocError>
     ensures { IfOk result (λ report. IsRun (scene_of script) report.status
         (string_bytes report.text)) }
 {
-    let mut handler = ScriptHandler::new(alloc, script.answers);
     let Ok(mut link) = ScriptLink::new(alloc, script.inputs, script.moment) else {
         return Err(AllocError);
     };
+    let mut handler = ScriptHandler::new(alloc, script.answers);
     let mut kex = ScriptKex::new(alloc);
     let run = run_stream(
         alloc,
@@ -89,10 +89,7 @@ fn run_scene(alloc: Global, script: Script) -> Result<Report, AllocError>
     if handler.lost {
         return Err(AllocError);
     }
-    let mut text = String::new(alloc);
-    print_calls(alloc, &mut text, &handler.asked)?;
-    print_trace(alloc, &mut text, link.memory.trace())?;
-    print_last(&mut text, &run)?;
+    let text = print_run(alloc, &handler.asked, link.memory.trace(), &run)?;
     Ok(Report { status, text })
 }
 

@@ -1,5 +1,5 @@
 -- A text that is written piece by piece.
-use Rattle.std.proofs.Common.{◌≡◌, ℕ, List, ◌++◌, Result, Ok, Err, sym, ◌∙◌, ap, append_assoc}
+use Rattle.std.proofs.Common.{◌≡◌, ℕ, List, [], ◌++◌, Result, Ok, Err, sym, ◌∙◌, ap, append_assoc}
 use Rattle.std.specs.Prelude.{OnOk, is_ok, if◌then◌else◌}
 
 pub two_pieces : {T E : Type 0} (result : Result T E) (t0 t1 t2 a b : List ℕ) → t1 ≡ t0 ++ a
@@ -24,3 +24,9 @@ four_pieces (Ok done) t0 t1 t2 t3 t4 a b c d e f g h =
     in
     h ∙ (ap (λ t. t ++ d) three ∙ append_assoc t0 ((a ++ b) ++ c) d)
 four_pieces (Err error) t0 t1 t2 t3 t4 a b c d e f g h = tt
+
+-- a text of three pieces that was begun empty
+pub text_of : (t0 t1 t2 t3 a b c : List ℕ) → t0 ≡ [] → t1 ≡ t0 ++ a → t2 ≡ t1 ++ b → t3 ≡ t2 ++ c
+    → t3 ≡ a ++ b ++ c
+text_of t0 t1 t2 t3 a b c e f g h = h
+    ∙ ap (λ x. x ++ c) (g ∙ ap (λ x. x ++ b) (f ∙ ap (λ x. x ++ a) e))

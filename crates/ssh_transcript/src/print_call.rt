@@ -265,7 +265,11 @@ fn print_question(alloc: Global, out: &mut String, question: &Question) -> Resul
 }
 
 /// The callbacks, a line for each.
-pub fn print_calls(alloc: Global, out: &mut String, asked: &[Question]) -> Result<(), AllocError>
+pub(crate) fn print_calls(
+    alloc: Global,
+    out: &mut String,
+    asked: &[Question],
+) -> Result<(), AllocError>
     ensures { OnOk result (string_bytes out.new ≡ string_bytes out.old ++ flat_map question_line
         asked.now) }
 {

@@ -19,13 +19,13 @@ invariant_of-self-2 c =
 pub returns : goal.returns
 returns c =
     let self = c.args.self.now in
-    let answer = made_one c.interactive_answer_of.result c.in_ok-answer.answer (λ answer. answer
-    ≡ interactive_answer c.verdict_of-verdict.result) c.in_ok-answer.ensures.made
+    let answer = made_one c.interactive_answer_of.result c.in_ok-or_lost.field-0 (λ answer. answer
+    ≡ interactive_answer c.verdict_of-verdict.result) c.in_ok-or_lost.ensures.made
     c.interactive_answer_of.ensures in
-    tells_call self.lost c.keep.new.lost (queues_in self.answers)
+    tells_call self.lost c.or_lost.new.lost (queues_in self.answers)
     (queues_from self.answers self.next self.banners_left)
-    self.asked.items c.keep.new.all.items (Admits c.args.admission) c.in_ok-answer.answer
-    (admission_call c.args.admission c.in_ok-answer.answer) self.left
-    c.in_ok-keep.ensures.ok (c.in_ok-keep.ensures.same ∙ c.in_ok-answer.ensures.same)
+    self.asked.items c.keep.new.all.items (Admits c.args.admission) c.in_ok-or_lost.field-0
+    (admission_call c.args.admission c.in_ok-or_lost.field-0) self.left
+    c.in_ok-keep.ensures.ok (c.in_ok-or_lost.ensures.same ∙ c.in_ok-keep.ensures.same)
     (ap (λ x. admission_call c.args.admission x ∷ [])
     (sym (answer ∙ ap interactive_answer (c.verdict_of-verdict.ensures self.banners_left))))

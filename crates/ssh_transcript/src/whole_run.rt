@@ -1,10 +1,15 @@
-// How the end of a run is printed.
-ghost use Rattle.std.specs.Prelude.{◌≡◌, ◌++◌, OnOk};
+// A whole run, as it is printed.
+ghost use Rattle.std.specs.Prelude.{◌≡◌, ◌++◌, flat_map, IfOk, OnOk};
 ghost use Rattle.std.specs.String.{string_bytes};
-ghost use Rattle.ssh_transcript.specs.Print.{variant_name, last_line};
+ghost use Rattle.ssh_transcript.specs.CallLines.{question_line};
+ghost use Rattle.ssh_transcript.specs.Print.{entry_lines, variant_name, last_line};
 
+use crate::print::print_trace;
+use crate::print_call::print_calls;
+use ssh_auth::Question;
+use ssh_link::TraceEntry;
 use ssh_rules::RunError;
-use std::alloc::AllocError;
+use std::alloc::{AllocError, Global};
 
 /// How the error of a run is named.
 fn variant_name<HE, KE>(error: &RunError<HE, KE>) -> &'static str
@@ -28,7 +33,7 @@ fn variant_name<HE, KE>(error: &RunError<HE, KE>) -> &'static str
 }
 
 /// The last line of a run, which says how it ended.
-pub fn print_last<HE, KE>(
+fn print_last<HE, KE>(
     out: &mut String,
     run: &Result<(), RunError<HE, KE>>,
 ) -> Result<(), AllocError>
@@ -40,4 +45,22 @@ pub fn print_last<HE, KE>(
     out.push_str("error ")?;
     out.push_str(variant_name(error))?;
     out.push_str("\n")
+}
+
+/// The text of a run: a line for each of these callbacks, then one for each of these calls of the
+/// link, and last how the run ended.
+pub fn print_run<HE, KE>(
+    alloc: Global,
+    asked: &[Question],
+    trace: &[TraceEntry],
+    run: &Result<(), RunError<HE, KE>>,
+) -> Result<String, AllocError>
+    ensures { IfOk result (λ text. string_bytes text ≡ flat_map question_line asked.now
+        ++ entry_lines 0 trace.now ++ last_line run.now) }
+{
+    let mut text = String::new(alloc);
+    print_calls(alloc, &mut text, asked)?;
+    print_trace(alloc, &mut text, trace)?;
+    print_last(&mut text, run)?;
+    Ok(text)
 }
