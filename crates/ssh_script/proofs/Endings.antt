@@ -8,8 +8,8 @@ use Rattle.ssh_handler.specs.declared.recorded.RecordError.TheVariants as record
 use Rattle.ssh_rules.specs.declared.error.RunError.{RunError}
 use Rattle.ssh_rules.specs.declared.error.RunError.TheVariants as error
 use Rattle.ssh_script.specs.Transfer.{IsFront, AddsPart}
-use Rattle.ssh_script.specs.Scene.{Scene}
-use Rattle.ssh_script.specs.Played.{Failure}
+use Rattle.ssh_scene.specs.Scene.{Scene}
+use Rattle.ssh_players.specs.Played.{Failure}
 use Rattle.ssh_script.specs.Transcript.{status_of, Shows, longest, Scripted, Transcript, Owed}
 use Rattle.ssh_script.specs.Transcript.{usage, version, run_words, help_words, version_words}
 use Rattle.ssh_script.specs.Transcript.{IsUnknown, Ends, Shown, Unwritten}

@@ -23,18 +23,19 @@ use Rattle.ssh_rules.specs.World.{settings_of}
 use Rattle.ssh_rules.specs.Cause.{may_stop}
 use Rattle.ssh_rules.specs.Run.{calls_of, steps_of, entries}
 use Rattle.ssh_rules.specs.Account.{Told, Ran}
-use Rattle.ssh_script.specs.Scene.{Scene}
-use Rattle.ssh_script.specs.Played.{Failure, Queues, banner_answer, interactive_answer, verdict_on}
-use Rattle.ssh_script.specs.Played.{records, grants, listened, answered, after, played, IsAnswered}
-use Rattle.ssh_script.specs.Played.{heading, told_of}
-use Rattle.ssh_script.specs.Exchanged.{IsExchanged}
-use Rattle.ssh_script.specs.Given.{IsGiven, as_given, trace_of}
-use Rattle.ssh_script.specs.Given.{heading as input_heading}
-use Rattle.ssh_script.specs.CallLines.{question_line, call_line}
-use Rattle.ssh_script.specs.Print.{entry_lines, last_line}
+use Rattle.ssh_scene.specs.Scene.{Scene}
+use Rattle.ssh_scene.specs.Queues.{Queues}
+use Rattle.ssh_players.specs.Played.{Failure, banner_answer, interactive_answer, verdict_on}
+use Rattle.ssh_players.specs.Played.{records, grants, listened, answered, after, played, IsAnswered}
+use Rattle.ssh_players.specs.Played.{heading, told_of}
+use Rattle.ssh_players.specs.Exchanged.{IsExchanged}
+use Rattle.ssh_players.specs.Given.{IsGiven, as_given, trace_of}
+use Rattle.ssh_players.specs.Given.{heading as input_heading}
+use Rattle.ssh_transcript.specs.CallLines.{question_line, call_line}
+use Rattle.ssh_transcript.specs.Print.{entry_lines, last_line}
 use Rattle.ssh_script.specs.Transcript.{status_of, scene_settings, scene_accepts, IsRun}
 use Rattle.ssh_script.proofs.Faultless.{closes_by}
-use Rattle.ssh_script.proofs.Heads.{heads, input_heads}
+use Rattle.ssh_players.proofs.Heads.{heads, input_heads}
 
 abbrev done : Unit {0}
 done = tt
@@ -247,8 +248,3 @@ kept scene status result lost lost' queues queues' old all steps steps' inputs i
       text_is = texts ∙ (ap (λ x. x ++ entry_lines 0 trace' ++ last_line result) f
           ∙ ap (λ x. flat_map call_line calls ++ x ++ last_line result) g);
     }
-
-pub text_of : (t0 t1 t2 t3 a b c : List ℕ) → t0 ≡ [] → t1 ≡ t0 ++ a → t2 ≡ t1 ++ b → t3 ≡ t2 ++ c
-    → t3 ≡ a ++ b ++ c
-text_of t0 t1 t2 t3 a b c e f g h = h
-    ∙ ap (λ x. x ++ c) (g ∙ ap (λ x. x ++ b) (f ∙ ap (λ x. x ++ a) e))

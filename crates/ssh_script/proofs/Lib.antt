@@ -1,17 +1,4 @@
 pub mod Reading
-pub mod Digits
-pub mod Printing
-pub mod Hexed
-pub mod Reasons
-pub mod Queues
-pub mod Telling
-pub mod Giving
-pub mod Exchanging
-pub mod Cutting
-pub mod LinesOnce
-pub mod Signatures
-pub mod Texts
-pub mod Heads
 pub mod Faultless
 pub mod Kept
 pub mod Endings

@@ -22,15 +22,16 @@ use Rattle.ssh_rules.specs.Replied.{events_of}
 use Rattle.ssh_rules.specs.Run.{Turn, calls_of, steps_of, entries}
 use Rattle.ssh_rules.specs.Cause.{may_stop}
 use Rattle.ssh_rules.proofs.RunsOnce.{outside_once}
-use Rattle.ssh_script.specs.Exchanged.{IsExchanged}
-use Rattle.ssh_script.specs.Exchanged.{after as after_step}
-use Rattle.ssh_script.specs.Given.{IsGiven, left_after}
-use Rattle.ssh_script.specs.Played.{Failure, Queues, answered, after, IsAnswered}
-use Rattle.ssh_script.specs.Print.{printed}
-use Rattle.ssh_script.specs.Scene.{Scene}
+use Rattle.ssh_players.specs.Exchanged.{IsExchanged}
+use Rattle.ssh_players.specs.Exchanged.{after as after_step}
+use Rattle.ssh_players.specs.Given.{IsGiven, left_after}
+use Rattle.ssh_scene.specs.Queues.{Queues}
+use Rattle.ssh_players.specs.Played.{Failure, answered, after, IsAnswered}
+use Rattle.ssh_transcript.specs.Print.{printed}
+use Rattle.ssh_scene.specs.Scene.{Scene}
 use Rattle.ssh_script.specs.Transcript.{status_of, scene_settings, scene_accepts, scene_supply}
 use Rattle.ssh_script.specs.Transcript.{IsRun}
-use Rattle.ssh_script.proofs.Exchanging.{first_exchanged, rest_exchanged, one_step}
+use Rattle.ssh_players.proofs.Exchanging.{first_exchanged, rest_exchanged, one_step}
 use Rattle.ssh_script.proofs.Faultless.{closes_by, no_link_fault}
 
 -- an event of a run of a script, and a turn

@@ -6,11 +6,11 @@ use Rattle.ssh_link.specs.declared.plain_kex.PlainKexError.{PlainKexError}
 use Rattle.ssh_handler.specs.declared.recorded.RecordError.TheVariants as record_error
 use Rattle.ssh_rules.specs.declared.error.RunError.{RunError}
 use Rattle.ssh_rules.specs.declared.error.RunError.TheVariants as error
-use Rattle.ssh_script.specs.Scene.{Scene, opening_scene, lines_of, Gives}
-use Rattle.ssh_script.specs.Played.{Failure}
+use Rattle.ssh_scene.specs.Scene.{Scene, opening_scene, lines_of, Gives}
+use Rattle.ssh_players.specs.Played.{Failure}
 use Rattle.ssh_script.specs.Transcript.{status_of, Shows, Scripted, Transcript, IsBadScript}
 use Rattle.ssh_script.specs.Transcript.{IsUnknown, run_words, help_words, version_words}
-use Rattle.ssh_script.proofs.LinesOnce.{gives_once}
+use Rattle.ssh_scene.proofs.LinesOnce.{gives_once}
 use Rattle.ssh_script.proofs.RunsOnce.{run_once}
 
 shows_once : (read : Result Scene ℕ) (m n : ℕ) (s t : List ℕ) → Shows read m s → Shows read n t

@@ -1,15 +1,2 @@
 pub mod Transfer
-pub mod Opens
-pub mod Verdicts
-pub mod Grammar
-pub mod Queue
-pub mod Played
-pub mod Telling
-pub mod Given
-pub mod Exchanged
-pub mod Words
-pub mod Happenings
-pub mod CallLines
-pub mod Print
-pub mod Scene
 pub mod Transcript

@@ -18,11 +18,11 @@ use Rattle.ssh_rules.specs.Account.{Closes}
 use Rattle.ssh_script.specs.declared.task.Task.{Task}
 use Rattle.ssh_script.specs.declared.task.Task.TheVariants as task
 use Rattle.ssh_script.specs.Transfer.{IsAll, AddsPart}
-use Rattle.ssh_script.specs.Scene.{Scene, opening_scene, lines_of, Gives}
-use Rattle.ssh_script.specs.Played.{Failure, IsAnswered}
-use Rattle.ssh_script.specs.Exchanged.{IsExchanged}
-use Rattle.ssh_script.specs.Given.{IsGiven}
-use Rattle.ssh_script.specs.Print.{printed}
+use Rattle.ssh_scene.specs.Scene.{Scene, opening_scene, lines_of, Gives}
+use Rattle.ssh_players.specs.Played.{Failure, IsAnswered}
+use Rattle.ssh_players.specs.Exchanged.{IsExchanged}
+use Rattle.ssh_players.specs.Given.{IsGiven}
+use Rattle.ssh_transcript.specs.Print.{printed}
 
 -- the status of a run: 0 where it is Ok, 1 where it ended by an error; want of memory has none
 abbrev pub status_of : Result (Unit {0}) (RunError Failure PlainKexError) → Option ℕ

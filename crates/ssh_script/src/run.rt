@@ -4,25 +4,20 @@ ghost use Rattle.std.specs.Prelude.{length, IfOk, OnOk, IsErrOf, true, false};
 ghost use Rattle.std.specs.Fmt.{decimal};
 ghost use Rattle.std.specs.String.{string_bytes};
 ghost use Rattle.ssh_link.specs.Faults.{RoseOrFull};
-ghost use Rattle.ssh_script.specs.Print.{variant_name, last_line};
-ghost use Rattle.ssh_script.specs.Scene.{scene_of};
+ghost use Rattle.ssh_scene.specs.Scene.{scene_of};
 ghost use Rattle.ssh_script.specs.Transfer.{IsReadTo, IsReadWithin};
 ghost use Rattle.ssh_script.specs.Transcript.{status_of, IsRun, Scripted, IsBadScript, IsUnknown};
 ghost use Rattle.ssh_script.specs.Transcript.{Transcript, Owed, IsUnread, IsCutShort, Ends};
 ghost use Rattle.ssh_script.specs.Transcript.{longest, run_words};
 
-use crate::print::{print_number, print_trace};
-use crate::print_call::print_calls;
-use crate::scene::read_script;
-use crate::script::Script;
-use crate::script_handler::{ScriptError, ScriptHandler};
-use crate::script_kex::ScriptKex;
-use crate::script_link::ScriptLink;
 use crate::task::{Task, task_of};
 use crate::transfer::{ReadError, read_front, write_all};
 use ssh_handler::RecordError;
 use ssh_link::{PlainKexError, Sink, Source};
+use ssh_players::{ScriptError, ScriptHandler, ScriptKex, ScriptLink};
+use ssh_scene::{Script, read_script};
 use ssh_session::{RunError, run_stream};
+use ssh_transcript::{print_number, print_run};
 use std::alloc::{AllocError, Global};
 
 /// The status where nothing went wrong.
@@ -55,42 +50,6 @@ struct Report {
     text: String,
 }
 
-/// How the error of a run is named.
-fn variant_name(error: &RunError<RecordError<ScriptError>, PlainKexError>) -> &'static str
-    ensures { result.now ≡ variant_name error.now }
-{
-    match error {
-        RunError::NoMemory => "NoMemory",
-        RunError::LinkFault => "LinkFault",
-        RunError::InputLimit => "InputLimit",
-        RunError::Encoding(_) => "Encoding",
-        RunError::Inconsistent => "Inconsistent",
-        RunError::Key(_) => "Key",
-        RunError::UnsupportedAuthMethod => "UnsupportedAuthMethod",
-        RunError::Handler(_) => "Handler",
-        RunError::Kex(_) => "Kex",
-        RunError::ChannelsFull => "ChannelsFull",
-        RunError::KeepaliveTimeout => "KeepaliveTimeout",
-        RunError::InactivityTimeout => "InactivityTimeout",
-        RunError::Pending => "Pending",
-    }
-}
-
-/// How a run ended.
-fn print_last(
-    out: &mut String,
-    run: &Result<(), RunError<RecordError<ScriptError>, PlainKexError>>,
-) -> Result<(), AllocError>
-    ensures { OnOk result (string_bytes out.new ≡ string_bytes out.old ++ last_line run.now) }
-{
-    let Err(error) = run else {
-        return out.push_str("ok\n");
-    };
-    out.push_str("error ")?;
-    out.push_str(variant_name(error))?;
-    out.push_str("\n")
-}
-
 /// The status of a run; none where memory was wanting.
 fn status_of(run: &Result<(), RunError<RecordError<ScriptError>, PlainKexError>>) -> Option<u8>
     ensures { result ≡ status_of run.now }
@@ -108,10 +67,10 @@ fn run_scene(alloc: Global, script: Script) -> Result<Report, AllocError>
     ensures { IfOk result (λ report. IsRun (scene_of script) report.status
         (string_bytes report.text)) }
 {
-    let mut handler = ScriptHandler::new(alloc, script.answers);
     let Ok(mut link) = ScriptLink::new(alloc, script.inputs, script.moment) else {
         return Err(AllocError);
     };
+    let mut handler = ScriptHandler::new(alloc, script.answers);
     let mut kex = ScriptKex::new(alloc);
     let run = run_stream(
         alloc,
@@ -130,10 +89,7 @@ fn run_scene(alloc: Global, script: Script) -> Result<Report, AllocError>
     if handler.lost {
         return Err(AllocError);
     }
-    let mut text = String::new(alloc);
-    print_calls(alloc, &mut text, &handler.asked)?;
-    print_trace(alloc, &mut text, link.memory.trace())?;
-    print_last(&mut text, &run)?;
+    let text = print_run(alloc, &handler.asked, link.memory.trace(), &run)?;
     Ok(Report { status, text })
 }
 

@@ -1,0 +1,5 @@
+pub mod Queues
+pub mod Telling
+pub mod Giving
+pub mod Exchanging
+pub mod Heads

@@ -1,0 +1,5 @@
+pub mod Queue
+pub mod Played
+pub mod Telling
+pub mod Given
+pub mod Exchanged

@@ -1,0 +1,6 @@
+pub mod Digits
+pub mod Reasons
+pub mod Cutting
+pub mod LinesOnce
+pub mod Signatures
+pub mod Texts

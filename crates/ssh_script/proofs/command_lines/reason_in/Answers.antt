@@ -1,6 +1,0 @@
-use Rattle.ssh_script.proofs.Reasons.{the_reason}
-use Rattle.ssh_script.proofs.command_lines.reason_in.Goals as goal
-
-pub returns : goal.returns
-returns c = the_reason c.args.code c.from_u32.result c.from_u32.ensures.code
-    c.from_u32.ensures.known

@@ -1,0 +1,4 @@
+pub mod Words
+pub mod Happenings
+pub mod CallLines
+pub mod Print
