@@ -1,5 +1,5 @@
 // Which messages of a channel are commands, and that a copy of a command or of a reply equals it.
-use crate::values::{are_equal, equals};
+use crate::values::{are_equal, equals, filled};
 use bytes::Bytes;
 use ssh_link::{ChannelMsg, ChannelOpenHandle, Command, Notice};
 use ssh_wire::{ChannelId, ChannelOpenFailure, Disconnect, Modes, Pty, Sig, Text, WireError};
@@ -10,6 +10,13 @@ const CHANNEL: ChannelId = ChannelId(2);
 
 fn bytes(alloc: Global) -> Result<Bytes, WireError> {
     Ok(Bytes::copy_from_slice(alloc, b"hello")?)
+}
+
+/// Two texts, made one after the other before anything holds one of them.
+pub(crate) fn texts(alloc: Global, one: &str, other: &str) -> Result<(Text, Text), WireError> {
+    let one = Text::new(alloc, one)?;
+    let other = Text::new(alloc, other)?;
+    Ok((one, other))
 }
 
 // What a server may send.
@@ -33,12 +40,15 @@ fn sent_msg(alloc: Global, sent: Sent) -> Result<ChannelMsg, WireError> {
         },
         Sent::Eof => ChannelMsg::Eof,
         Sent::Success => ChannelMsg::Success,
-        Sent::ExitSignal => ChannelMsg::ExitSignal {
-            signal_name: Sig::KILL,
-            core_dumped: true,
-            error_message: Text::new(alloc, "killed")?,
-            lang_tag: Text::new(alloc, "en")?,
-        },
+        Sent::ExitSignal => {
+            let (error_message, lang_tag) = texts(alloc, "killed", "en")?;
+            ChannelMsg::ExitSignal {
+                signal_name: Sig::KILL,
+                core_dumped: true,
+                error_message,
+                lang_tag,
+            }
+        }
     })
 }
 
@@ -56,13 +66,16 @@ fn sent_command(alloc: Global, sent: Sent) -> Result<Command, WireError> {
         },
         Sent::Eof => Command::Eof { channel },
         Sent::Success => Command::ChannelSuccess { channel },
-        Sent::ExitSignal => Command::ExitSignal {
-            channel,
-            signal: Sig::KILL,
-            core_dumped: true,
-            error_message: Text::new(alloc, "killed")?,
-            language: Text::new(alloc, "en")?,
-        },
+        Sent::ExitSignal => {
+            let (error_message, language) = texts(alloc, "killed", "en")?;
+            Command::ExitSignal {
+                channel,
+                signal: Sig::KILL,
+                core_dumped: true,
+                error_message,
+                language,
+            }
+        }
     })
 }
 
@@ -104,13 +117,23 @@ enum Asked {
     Signal,
 }
 
+fn push_modes(modes: &mut Modes) -> Result<(), WireError> {
+    modes.push((Pty::ECHO, 1))?;
+    modes.push((Pty::TTY_OP_ISPEED, 38_400))
+}
+
+fn modes(alloc: Global) -> Result<Modes, WireError> {
+    let mut modes = Modes::new(alloc);
+    let done = push_modes(&mut modes);
+    filled(modes, done)
+}
+
 fn pty_msg(alloc: Global) -> Result<ChannelMsg, WireError> {
-    let mut terminal_modes = Modes::new(alloc);
-    terminal_modes.push((Pty::ECHO, 1))?;
-    terminal_modes.push((Pty::TTY_OP_ISPEED, 38_400))?;
+    let terminal_modes = modes(alloc)?;
+    let term = Text::new(alloc, "vt100")?;
     Ok(ChannelMsg::RequestPty {
         want_reply: true,
-        term: Text::new(alloc, "vt100")?,
+        term,
         col_width: 80,
         row_height: 24,
         pix_width: 640,
@@ -189,12 +212,15 @@ enum Other {
 
 fn other_command(alloc: Global, other: Other) -> Result<Command, WireError> {
     Ok(match other {
-        Other::OpenTcpip => Command::OpenDirectTcpip {
-            host: Text::new(alloc, "far")?,
-            port: 80,
-            originator: Text::new(alloc, "here")?,
-            originator_port: 256,
-        },
+        Other::OpenTcpip => {
+            let (host, originator) = texts(alloc, "far", "here")?;
+            Command::OpenDirectTcpip {
+                host,
+                port: 80,
+                originator,
+                originator_port: 256,
+            }
+        }
         Other::OpenStreamlocal => Command::OpenForwardedStreamlocal {
             path: Text::new(alloc, "/run/two")?,
         },
@@ -204,11 +230,14 @@ fn other_command(alloc: Global, other: Other) -> Result<Command, WireError> {
             reply: Some(5),
         },
         Other::Keepalive => Command::Keepalive,
-        Other::Disconnect => Command::Disconnect {
-            reason: Disconnect::ByApplication,
-            description: Text::new(alloc, "over")?,
-            language: Text::new(alloc, "en")?,
-        },
+        Other::Disconnect => {
+            let (description, language) = texts(alloc, "over", "en")?;
+            Command::Disconnect {
+                reason: Disconnect::ByApplication,
+                description,
+                language,
+            }
+        }
         Other::Answer => Command::Answer(ChannelOpenHandle::new(CHANNEL).reject_default()),
     })
 }

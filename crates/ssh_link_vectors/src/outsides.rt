@@ -1,5 +1,5 @@
 // The outsides in memory by example, the values that they carry, and the standard edge once.
-use crate::command::notice_is_copied;
+use crate::command::{notice_is_copied, texts};
 use crate::values::{are_equal, equals, filled, is_copy, is_held};
 use bytes::Bytes;
 use ssh_link::{
@@ -337,8 +337,7 @@ fn a_handle_makes_its_answer_or_keeps_its_number(rt: HostRuntime) {
 // A refusal with a text, as a handle makes it, or field by field.
 fn described(alloc: Global, by_handle: bool) -> Result<OpenAnswer, WireError> {
     let reason = ChannelOpenFailure::ResourceShortage;
-    let busy = Text::new(alloc, "busy")?;
-    let english = Text::new(alloc, "en")?;
+    let (busy, english) = texts(alloc, "busy", "en")?;
     Ok(if by_handle {
         handle().reject_with(reason, busy, english)
     } else {
