@@ -11,7 +11,7 @@ use ssh_link::{ChannelMsg, ChannelOpenHandle, Command, CommandOutcome, OpenAnswe
 use ssh_wire::ChannelId;
 use std::alloc::Global;
 use std::sync::Wait;
-use std::test::Fail;
+use std::test::*;
 use std::thread::{Threads, join};
 
 const CHANNEL: ChannelId = ChannelId(2);
@@ -30,7 +30,7 @@ fn small_hub(alloc: Global) -> Result<(HubLock, Seat), HandleError>
 // What came of a call that hands in or hands out a command or a reply. A value with one in it is
 // read by reference and then always moved: dropping it on some of the ways through a function would
 // take its proof long.
-#[derive(Clone, Copy, Debug, PartialEq, Eq)]
+#[derive(Clone, Copy, PartialEq)]
 enum Came {
     Done(u64),
     Full,
@@ -82,7 +82,7 @@ fn came_of_take(taken: Option<Taken>) -> Came {
 }
 
 // What came of a call on an inbox.
-#[derive(Clone, Copy, Debug, PartialEq, Eq)]
+#[derive(Clone, Copy, PartialEq)]
 enum Inbox {
     Done,
     Gone,
@@ -217,21 +217,13 @@ fn takes<R: Wait>(rt: &R, lock: &HubLock, a: &mut Seat, b: &mut Seat) -> [Came; 
     [first, put, second, third]
 }
 
-// What two seats of one hub are answered.
-#[derive(Clone, Copy, Debug, PartialEq, Eq)]
-struct Shared {
-    reserved: [Reserve; 4],
-    put: [Came; 3],
-    seen: Option<Look>,
-    taken: [Came; 4],
-}
-
+// Whether two seats of one hub are answered as they share it.
 fn share_a_window<R: Wait>(
     rt: &R,
     lock: &HubLock,
     a: &mut Seat,
     b: &mut Seat,
-) -> Result<Shared, HandleError>
+) -> Result<bool, HandleError>
     requires a { IsSeatOf lock.now a.old }
     requires b { IsSeatOf lock.now b.old }
 {
@@ -240,15 +232,28 @@ fn share_a_window<R: Wait>(
     lock.grant(rt, a, CHANNEL, u32::MAX);
     let seen = lock.look(rt, a, CHANNEL);
     let taken = takes(rt, lock, a, b);
-    Ok(Shared {
-        reserved,
-        put,
-        seen,
-        taken,
-    })
+    let (left, packet) = (4294967290, 4);
+    Ok(
+        reserved
+            == [
+                Reserve::Got(8),
+                Reserve::Got(2),
+                Reserve::Empty,
+                Reserve::Got(3),
+            ]
+            && put == [Came::Done(1), Came::Done(2), Came::Full]
+            && seen == Some(Look { left, packet })
+            && taken
+                == [
+                    Came::Command(1),
+                    Came::Done(3),
+                    Came::Reply(3),
+                    Came::Command(2),
+                ],
+    )
 }
 
-fn on_two_seats<R: Wait>(rt: &R, alloc: Global) -> Result<Shared, HandleError> {
+fn on_two_seats<R: Wait>(rt: &R, alloc: Global) -> Result<bool, HandleError> {
     let (lock, mut a) = small_hub(alloc)?;
     lock.ready(rt, &mut a, CHANNEL, 10, 4)?;
     let mut b = lock.split(rt, &mut a)?;
@@ -256,36 +261,12 @@ fn on_two_seats<R: Wait>(rt: &R, alloc: Global) -> Result<Shared, HandleError> {
 }
 
 #[test]
-fn two_seats_share_a_window_and_the_commands(rt: HostRuntime) -> Result<(), Fail> {
-    let wanted = Shared {
-        reserved: [
-            Reserve::Got(8),
-            Reserve::Got(2),
-            Reserve::Empty,
-            Reserve::Got(3),
-        ],
-        put: [Came::Done(1), Came::Done(2), Came::Full],
-        seen: Some(Look {
-            left: 4294967290,
-            packet: 4,
-        }),
-        taken: [
-            Came::Command(1),
-            Came::Done(3),
-            Came::Reply(3),
-            Came::Command(2),
-        ],
-    };
-    assert_eq!(rt; on_two_seats(&rt, rt.alloc())?, wanted);
-    Ok(())
+fn two_seats_share_a_window_and_the_commands(rt: HostRuntime) {
+    assert!(rt; on_two_seats(&rt, rt.alloc()) == Ok(true));
 }
 
-// An end of file and a close come to an inbox, and are taken out of it.
-fn fill_and_empty<R: Wait>(
-    rt: &R,
-    lock: &HubLock,
-    seat: &mut Seat,
-) -> Result<([Inbox; 7], Reserve), HandleError>
+// Whether an end of file and a close come to an inbox, and are taken out of it.
+fn fill_and_empty<R: Wait>(rt: &R, lock: &HubLock, seat: &mut Seat) -> Result<bool, HandleError>
     requires { IsSeatOf lock.now seat.old }
 {
     let gone = deliver(rt, lock, seat, ChannelMsg::Eof);
@@ -297,43 +278,26 @@ fn fill_and_empty<R: Wait>(
     let close = receive(rt, lock, seat);
     let closed = receive(rt, lock, seat);
     let reserved = lock.reserve(rt, seat, CHANNEL, 1)?;
-    Ok(([gone, none, first, second, eof, close, closed], reserved))
+    Ok(
+        [gone, none] == [Inbox::Gone, Inbox::Nothing]
+            && [first, second] == [Inbox::Done, Inbox::Done]
+            && [eof, close, closed] == [Inbox::Eof, Inbox::Close, Inbox::Closed]
+            && reserved == Reserve::Gone,
+    )
 }
 
-fn on_an_inbox<R: Wait>(rt: &R, alloc: Global) -> Result<([Inbox; 7], Reserve), HandleError> {
+fn on_an_inbox<R: Wait>(rt: &R, alloc: Global) -> Result<bool, HandleError> {
     let (lock, mut seat) = small_hub(alloc)?;
     fill_and_empty(rt, &lock, &mut seat)
 }
 
 #[test]
-fn an_inbox_is_emptied_before_it_tells_that_the_channel_is_closed(
-    rt: HostRuntime,
-) -> Result<(), Fail> {
-    let wanted = [
-        Inbox::Gone,
-        Inbox::Nothing,
-        Inbox::Done,
-        Inbox::Done,
-        Inbox::Eof,
-        Inbox::Close,
-        Inbox::Closed,
-    ];
-    let told = on_an_inbox(&rt, rt.alloc())?;
-    assert_eq!(rt; told, (wanted, Reserve::Gone));
-    Ok(())
+fn an_inbox_is_emptied_before_it_tells_that_the_channel_is_closed(rt: HostRuntime) {
+    assert!(rt; on_an_inbox(&rt, rt.alloc()) == Ok(true));
 }
 
-// What became of two commands, the outcome of the second being wanted.
-#[derive(Clone, Copy, Debug, PartialEq, Eq)]
-struct Kept {
-    put: [Came; 2],
-    taken: [Came; 2],
-    refused: (Option<CommandOutcome>, Option<(u64, Refusal)>),
-    opened: [Option<CommandOutcome>; 2],
-    claimed: [bool; 2],
-}
-
-fn keep_outcomes<R: Wait>(rt: &R, lock: &HubLock, seat: &mut Seat) -> Result<Kept, HandleError>
+// Whether two commands come to their outcomes, that of the second being wanted.
+fn keep_outcomes<R: Wait>(rt: &R, lock: &HubLock, seat: &mut Seat) -> Result<bool, HandleError>
     requires { IsSeatOf lock.now seat.old }
 {
     let channel = CHANNEL;
@@ -347,51 +311,34 @@ fn keep_outcomes<R: Wait>(rt: &R, lock: &HubLock, seat: &mut Seat) -> Result<Kep
     lock.answer(rt, seat, 2, CommandOutcome::Opened(channel))?;
     let opened = [lock.outcome(rt, seat, 2), lock.outcome(rt, seat, 2)];
     let claimed = [lock.claim(rt, seat, channel), lock.claim(rt, seat, channel)];
-    Ok(Kept {
-        put: [first, second],
-        taken: [taken, next],
-        refused,
-        opened,
-        claimed,
-    })
+    Ok(
+        [first, second] == [Came::Done(1), Came::Done(2)]
+            && [taken, next] == [Came::Command(1), Came::Command(2)]
+            && refused == (None, Some((1, why)))
+            && opened == [Some(CommandOutcome::Opened(channel)), None]
+            && claimed == [true, false],
+    )
 }
 
-fn on_outcomes<R: Wait>(rt: &R, alloc: Global) -> Result<Kept, HandleError> {
+fn on_outcomes<R: Wait>(rt: &R, alloc: Global) -> Result<bool, HandleError> {
     let (lock, mut seat) = small_hub(alloc)?;
     keep_outcomes(rt, &lock, &mut seat)
 }
 
 #[test]
-fn an_outcome_is_kept_where_it_is_wanted_and_a_refusal_besides(
-    rt: HostRuntime,
-) -> Result<(), Fail> {
-    let wanted = Kept {
-        put: [Came::Done(1), Came::Done(2)],
-        taken: [Came::Command(1), Came::Command(2)],
-        refused: (None, Some((1, Refusal::UnknownChannel))),
-        opened: [Some(CommandOutcome::Opened(CHANNEL)), None],
-        claimed: [true, false],
-    };
-    assert_eq!(rt; on_outcomes(&rt, rt.alloc())?, wanted);
-    Ok(())
+fn an_outcome_is_kept_where_it_is_wanted_and_a_refusal_besides(rt: HostRuntime) {
+    assert!(rt; on_outcomes(&rt, rt.alloc()) == Ok(true));
 }
 
-// What becomes of a slot that is answered twice, and of a hub that is ended twice.
-#[derive(Clone, Copy, Debug, PartialEq, Eq)]
-struct Ended {
-    slot: u64,
-    answers: [Option<SlotAnswer>; 3],
-    ended: [Option<u64>; 2],
-    place: Option<u64>,
-    reserved: Reserve,
-}
-
-fn answer_and_end<R: Wait>(rt: &R, lock: &HubLock, seat: &mut Seat) -> Result<Ended, HandleError>
+// Whether a slot that is answered twice keeps the first answer, and a hub that is ended twice the
+// first end.
+fn answer_and_end<R: Wait>(rt: &R, lock: &HubLock, seat: &mut Seat) -> Result<bool, HandleError>
     requires { IsSeatOf lock.now seat.old }
 {
     let slot = lock.slot(rt, seat)?;
     let none = lock.slot_outcome(rt, seat, slot);
-    lock.slot_answer(rt, seat, slot, SlotAnswer::Port(Some(22)));
+    let answer = SlotAnswer::Port(Some(22));
+    lock.slot_answer(rt, seat, slot, answer);
     lock.slot_answer(rt, seat, slot, SlotAnswer::Pong);
     let first = lock.slot_outcome(rt, seat, slot);
     let again = lock.slot_outcome(rt, seat, slot);
@@ -403,31 +350,22 @@ fn answer_and_end<R: Wait>(rt: &R, lock: &HubLock, seat: &mut Seat) -> Result<En
     let after = lock.ended(rt, seat);
     let reserved = lock.reserve(rt, seat, CHANNEL, 1)?;
     lock.pause(rt, 0);
-    Ok(Ended {
-        slot,
-        answers: [none, first, again],
-        ended: [before, after],
-        place,
-        reserved,
-    })
+    Ok(
+        slot == 1
+            && [none, first, again] == [None, Some(answer), None]
+            && [before, place, after] == [None, Some(7), Some(7)]
+            && reserved == Reserve::Ended { at: 7 },
+    )
 }
 
-fn on_a_slot<R: Wait>(rt: &R, alloc: Global) -> Result<Ended, HandleError> {
+fn on_a_slot<R: Wait>(rt: &R, alloc: Global) -> Result<bool, HandleError> {
     let (lock, mut seat) = small_hub(alloc)?;
     answer_and_end(rt, &lock, &mut seat)
 }
 
 #[test]
-fn a_slot_keeps_its_first_answer_and_the_hub_its_first_end(rt: HostRuntime) -> Result<(), Fail> {
-    let wanted = Ended {
-        slot: 1,
-        answers: [None, Some(SlotAnswer::Port(Some(22))), None],
-        ended: [None, Some(7)],
-        place: Some(7),
-        reserved: Reserve::Ended { at: 7 },
-    };
-    assert_eq!(rt; on_a_slot(&rt, rt.alloc())?, wanted);
-    Ok(())
+fn a_slot_keeps_its_first_answer_and_the_hub_its_first_end(rt: HostRuntime) {
+    assert!(rt; on_a_slot(&rt, rt.alloc()) == Ok(true));
 }
 
 // Reserves up to three bytes and gives them back, a thousand times. Says how many it got in all.
@@ -467,17 +405,7 @@ fn share<R: Threads + Wait + Sync>(
 }
 
 #[test]
-fn two_threads_give_back_what_they_reserve(rt: HostRuntime) -> Result<(), Fail> {
-    let shared = share(&rt, rt.alloc())?;
-    assert_eq!(rt;
-        shared,
-        (
-            6000,
-            Some(Look {
-                left: 10,
-                packet: 4
-            })
-        )
-    );
-    Ok(())
+fn two_threads_give_back_what_they_reserve(rt: HostRuntime) {
+    let (left, packet) = (10, 4);
+    assert!(rt; share(&rt, rt.alloc()) == Ok((6000, Some(Look { left, packet }))));
 }

@@ -14,3 +14,5 @@ mod outsides;
 mod plain_kex;
 #[cfg(test)]
 mod table;
+#[cfg(test)]
+mod values;

@@ -1,4 +1,6 @@
 // The outsides in memory by example, the values that they carry, and the standard edge once.
+use crate::command::{notice_is_copied, texts};
+use crate::values::{are_equal, equals, filled, is_copy, is_held};
 use bytes::Bytes;
 use ssh_link::{
     Calls, ChannelMsg, ChannelOpenHandle, Command, CommandList, CommandOutcome, Frame, Input,
@@ -7,32 +9,27 @@ use ssh_link::{
 };
 use ssh_wire::{ChannelId, ChannelOpenFailure, Text, WireError};
 use std::alloc::Global;
+use std::fmt::Display;
 use std::io;
-use std::test::Fail;
+use std::test::*;
 
 const CHANNEL: ChannelId = ChannelId(2);
 
-// Whether the two are equal. They are dropped here, as values of any type: dropping one of a type
-// with many variants takes the prover long in each function that does it.
-pub(crate) fn are_equal<T: PartialEq + Drop>(one: T, other: T) -> bool {
-    one == other
-}
-
-// Whether the first, which is dropped here, equals the second.
-fn is_this<T: PartialEq + Drop>(one: T, other: &T) -> bool {
-    one == *other
-}
-
-fn calls(alloc: Global, numbers: &[u64]) -> Result<Calls, Fail> {
-    let mut calls = Calls::new(alloc);
+fn push_calls(calls: &mut Calls, numbers: &[u64]) -> Result<(), WireError> {
     for number in numbers {
         calls.push(*number)?;
     }
-    Ok(calls)
+    Ok(())
+}
+
+fn calls(alloc: Global, numbers: &[u64]) -> Result<Calls, WireError> {
+    let mut calls = Calls::new(alloc);
+    let done = push_calls(&mut calls, numbers);
+    filled(calls, done)
 }
 
 // A frame and its payload, whose bytes stand on the heap.
-fn frame(alloc: Global) -> Result<Frame, Fail> {
+fn frame(alloc: Global) -> Result<Frame, WireError> {
     Ok(sent(Bytes::copy_from_slice(alloc, b"\x5b")?))
 }
 
@@ -79,7 +76,7 @@ fn input(given: Given) -> Input {
 }
 
 // The input, the bytes of a payload standing on the heap.
-fn input_on_heap(alloc: Global, given: Given) -> Result<Input, Fail> {
+fn input_on_heap(alloc: Global, given: Given) -> Result<Input, WireError> {
     match given {
         Given::Payload(moment, bytes) => {
             Ok(payload(moment, Bytes::copy_from_slice(alloc, bytes)?))
@@ -88,21 +85,25 @@ fn input_on_heap(alloc: Global, given: Given) -> Result<Input, Fail> {
     }
 }
 
-fn inputs(alloc: Global, rows: &[Given]) -> Result<Inputs, Fail> {
-    let mut inputs = Inputs::new(alloc);
+fn push_inputs(alloc: Global, inputs: &mut Inputs, rows: &[Given]) -> Result<(), WireError> {
     for row in rows {
         inputs.push(input_on_heap(alloc, *row)?)?;
     }
-    Ok(inputs)
+    Ok(())
 }
 
-fn link(alloc: Global, rows: &[Given], fails: &[u64]) -> Result<MemoryLink, Fail> {
-    let fails = calls(alloc, fails)?;
-    Ok(MemoryLink::new(alloc, inputs(alloc, rows)?, fails)?)
+fn inputs(alloc: Global, rows: &[Given]) -> Result<Inputs, WireError> {
+    let mut inputs = Inputs::new(alloc);
+    let done = push_inputs(alloc, &mut inputs, rows);
+    filled(inputs, done)
 }
 
-// Whether the link answers so, where these are asked for; none stands for a failure.
-fn answers(link: &mut MemoryLink, commands: bool, replies: bool, given: Option<Given>) -> bool {
+// What is asked for, commands and replies, and what comes; none stands for a failure.
+type Answer = (bool, bool, Option<Given>);
+
+// Whether the link answers so.
+fn answers(link: &mut MemoryLink, answer: Answer) -> bool {
+    let (commands, replies, given) = answer;
     let wanted = match given {
         Some(given) => Ok(input(given)),
         None => Err(LinkFault::Failed),
@@ -110,76 +111,105 @@ fn answers(link: &mut MemoryLink, commands: bool, replies: bool, given: Option<G
     are_equal(link.next(commands, replies), wanted)
 }
 
-#[test]
-fn a_link_gives_its_inputs_and_then_the_end_and_fails_where_it_is_to(
-    rt: HostRuntime,
-) -> Result<(), Fail> {
-    let rows = [Given::Payload(10, b"\x05"), Given::Payload(20, b"\x32")];
-    let mut link = link(rt.alloc(), &rows, &[1, 3])?;
-    let table = [
-        None,
-        Some(Given::Payload(10, b"\x05")),
-        None,
-        Some(Given::Payload(20, b"\x32")),
-        Some(Given::End(20)),
-        Some(Given::End(20)),
-    ];
-    for given in table {
-        assert!(rt; answers(&mut link, true, false, given));
-    }
-    assert_eq!(rt; link.faults(), 2);
-    Ok(())
+// A link of these inputs, which fails at these calls, and perhaps ends at a moment of its own.
+#[derive(Clone, Copy)]
+struct Row {
+    shows: &'static str,
+    inputs: &'static [Given],
+    fails: &'static [u64],
+    end: Option<u64>,
+    answers: &'static [Answer],
 }
 
-// A link with one command, whose end comes at a moment of its own.
-fn late_link(alloc: Global) -> Result<MemoryLink, Fail> {
-    let inputs = inputs(alloc, &[Given::Command(10, 1)])?;
-    Ok(MemoryLink::ending_at(alloc, inputs, 30, Calls::new(alloc))?)
+fn link(
+    alloc: Global,
+    given: &[Given],
+    fails: &[u64],
+    end: Option<u64>,
+) -> Result<MemoryLink, WireError> {
+    let fails = calls(alloc, fails)?;
+    let inputs = inputs(alloc, given)?;
+    match end {
+        Some(end) => MemoryLink::ending_at(alloc, inputs, end, fails),
+        None => MemoryLink::new(alloc, inputs, fails),
+    }
 }
 
-#[test]
-fn the_end_comes_at_the_last_moment_or_at_one_of_its_own(rt: HostRuntime) -> Result<(), Fail> {
-    let mut late = late_link(rt.alloc())?;
-    for given in [Given::Command(10, 1), Given::End(30)] {
-        assert!(rt; answers(&mut late, true, true, Some(given)));
+// Whether the link answers as the row says, and as many calls failed.
+fn gives(alloc: Global, row: Row) -> Result<bool, WireError> {
+    let mut link = link(alloc, row.inputs, row.fails, row.end)?;
+    let mut is_so = true;
+    for answer in row.answers {
+        is_so = answers(&mut link, *answer) && is_so;
     }
-    drop(late);
-    let mut empty = link(rt.alloc(), &[], &[2])?;
-    for given in [Some(Given::End(0)), None] {
-        assert!(rt; answers(&mut empty, true, true, given));
-    }
-    Ok(())
+    Ok(is_so && link.faults() == row.fails.len() as u64)
 }
 
+static LINKS: [Row; 4] = [
+    Row {
+        shows: "a link gives its inputs and then the end, and fails where it is to",
+        inputs: &[Given::Payload(10, b"\x05"), Given::Payload(20, b"\x32")],
+        fails: &[1, 3],
+        end: None,
+        answers: &[
+            (true, false, None),
+            (true, false, Some(Given::Payload(10, b"\x05"))),
+            (true, false, None),
+            (true, false, Some(Given::Payload(20, b"\x32"))),
+            (true, false, Some(Given::End(20))),
+            (true, false, Some(Given::End(20))),
+        ],
+    },
+    Row {
+        shows: "the end comes at a moment of its own",
+        inputs: &[Given::Command(10, 1)],
+        fails: &[],
+        end: Some(30),
+        answers: &[
+            (true, true, Some(Given::Command(10, 1))),
+            (true, true, Some(Given::End(30))),
+        ],
+    },
+    Row {
+        shows: "with no input the end comes at once",
+        inputs: &[],
+        fails: &[2],
+        end: None,
+        answers: &[(true, true, Some(Given::End(0))), (true, true, None)],
+    },
+    Row {
+        shows: "what is not asked for waits, and replies pass commands",
+        inputs: &[
+            Given::Command(10, 1),
+            Given::Payload(20, b"\x5e"),
+            Given::Command(30, 2),
+            Given::Reply(40, 3),
+            Given::Payload(50, b"\x60"),
+            Given::Command(60, 4),
+            Given::Reply(70, 5),
+        ],
+        fails: &[3],
+        end: None,
+        answers: &[
+            (false, false, Some(Given::Payload(20, b"\x5e"))),
+            (false, false, Some(Given::Payload(50, b"\x60"))),
+            (true, true, None),
+            (true, true, Some(Given::Reply(40, 3))),
+            (true, true, Some(Given::Command(10, 1))),
+            (false, true, Some(Given::Reply(70, 5))),
+            (false, true, Some(Given::End(70))),
+            (true, true, Some(Given::Command(30, 2))),
+            (true, false, Some(Given::Command(60, 4))),
+            (true, true, Some(Given::End(70))),
+        ],
+    },
+];
+
 #[test]
-fn what_is_not_asked_for_waits_and_replies_pass_commands(rt: HostRuntime) -> Result<(), Fail> {
-    let rows = [
-        Given::Command(10, 1),
-        Given::Payload(20, b"\x5e"),
-        Given::Command(30, 2),
-        Given::Reply(40, 3),
-        Given::Payload(50, b"\x60"),
-        Given::Command(60, 4),
-        Given::Reply(70, 5),
-    ];
-    let mut link = link(rt.alloc(), &rows, &[3])?;
-    // Whether commands and replies are asked for, and what comes.
-    let table = [
-        (false, false, Some(Given::Payload(20, b"\x5e"))),
-        (false, false, Some(Given::Payload(50, b"\x60"))),
-        (true, true, None),
-        (true, true, Some(Given::Reply(40, 3))),
-        (true, true, Some(Given::Command(10, 1))),
-        (false, true, Some(Given::Reply(70, 5))),
-        (false, true, Some(Given::End(70))),
-        (true, true, Some(Given::Command(30, 2))),
-        (true, false, Some(Given::Command(60, 4))),
-        (true, true, Some(Given::End(70))),
-    ];
-    for (commands, replies, given) in table {
-        assert!(rt; answers(&mut link, commands, replies, given));
+fn a_link_gives_what_is_asked_for_and_then_the_end(rt: HostRuntime) {
+    for row in &LINKS {
+        assert!(rt; gives(rt.alloc(), *row) == Ok(true), "{}", row.shows);
     }
-    Ok(())
 }
 
 // Whether these calls were finished, and no others.
@@ -197,67 +227,73 @@ fn tells_the_finished(trace: &[TraceEntry]) -> bool {
     trace == told.as_slice()
 }
 
-fn entry_is_copied(entry: &TraceEntry) -> Result<bool, WireError> {
-    match entry.copy() {
-        Ok(copy) => Ok(is_this(copy, entry)),
-        Err(error) => Err(error),
-    }
+// What is answered to calls behind the first.
+fn answered(alloc: Global, link: &mut MemoryLink) -> Result<[bool; 5], WireError> {
+    let frame = frame(alloc)?;
+    let refused = CommandOutcome::Refused(Refusal::UnknownOpen);
+    let failed = Err(LinkFault::Failed);
+    Ok([
+        link.notice(ready(256)) == Ok(()),
+        link.notice(ready(512)) == failed,
+        link.answer(7, CommandOutcome::Accepted) == Ok(()),
+        link.answer(8, refused) == failed,
+        link.send(frame) == Ok(()),
+    ])
 }
 
 #[test]
 fn a_link_tells_its_finished_calls_and_no_others(rt: HostRuntime) -> Result<(), Fail> {
-    let alloc = rt.alloc();
-    let mut link = link(alloc, &[Given::Reply(10, 7)], &[3, 5])?;
-    let refused = CommandOutcome::Refused(Refusal::UnknownOpen);
-    assert!(rt; answers(&mut link, false, true, Some(Given::Reply(10, 7))));
-    assert_eq!(rt; link.notice(ready(256)), Ok(()));
-    assert_eq!(rt; link.notice(ready(512)), Err(LinkFault::Failed));
-    assert_eq!(rt; link.answer(7, CommandOutcome::Accepted), Ok(()));
-    assert_eq!(rt; link.answer(8, refused), Err(LinkFault::Failed));
-    assert_eq!(rt; link.send(frame(alloc)?), Ok(()));
+    let mut link = link(rt.alloc(), &[Given::Reply(10, 7)], &[3, 5], None)?;
+    assert!(rt; answers(&mut link, (false, true, Some(Given::Reply(10, 7)))));
+    assert!(rt; answered(rt.alloc(), &mut link) == Ok([true; 5]));
     assert!(rt; tells_the_finished(link.trace()));
-    assert_eq!(rt; link.faults(), 2);
+    assert!(rt; link.faults() == 2);
     for entry in link.trace() {
-        assert!(rt; entry_is_copied(entry)?);
+        assert!(rt; is_copy(entry.copy(), entry) == Ok(true));
     }
     Ok(())
+}
+
+// What each read answers, and the buffer after it.
+const READS: [(Result<usize, IoFailed>, [u8; 3]); 5] = [
+    (Ok(3), *b"abc"),
+    (Err(IoFailed), *b"..."),
+    (Ok(3), *b"def"),
+    (Ok(1), *b"g.."),
+    (Ok(0), *b"..."),
+];
+
+fn read(source: &mut MemorySource) -> (Result<usize, IoFailed>, [u8; 3]) {
+    let mut buf = *b"...";
+    let answer = source.read(&mut buf);
+    (answer, buf)
 }
 
 #[test]
 fn a_source_reads_as_much_as_fits_and_fails_where_it_is_to(rt: HostRuntime) -> Result<(), Fail> {
-    let alloc = rt.alloc();
-    let bytes = Bytes::copy_from_slice(alloc, b"abcdefg")?;
-    let mut source = MemorySource::new(bytes, calls(alloc, &[2])?);
-    // What a read answers, and the buffer after it.
-    let table = [
-        (Ok(3), *b"abc"),
-        (Err(IoFailed), *b"..."),
-        (Ok(3), *b"def"),
-        (Ok(1), *b"g.."),
-        (Ok(0), *b"..."),
-    ];
-    for (answer, read) in table {
-        let mut buf = *b"...";
-        assert_eq!(rt; source.read(&mut buf), answer);
-        assert_eq!(rt; buf, read);
+    let fails = calls(rt.alloc(), &[2])?;
+    let bytes = Bytes::copy_from_slice(rt.alloc(), b"abcdefg")?;
+    let mut source = MemorySource::new(bytes, fails);
+    for wanted in READS {
+        assert!(rt; read(&mut source) == wanted);
     }
     Ok(())
 }
 
+const WRITES: [(&[u8], Result<usize, IoFailed>); 4] = [
+    (b"lost", Err(IoFailed)),
+    (b"ab", Ok(2)),
+    (b"lost", Err(IoFailed)),
+    (b"cde", Ok(3)),
+];
+
 #[test]
 fn a_sink_holds_what_was_written_and_fails_where_it_is_to(rt: HostRuntime) -> Result<(), Fail> {
-    let alloc = rt.alloc();
-    let mut sink = MemorySink::new(alloc, calls(alloc, &[1, 3])?);
-    let table: [(&[u8], Result<usize, IoFailed>); 4] = [
-        (b"lost", Err(IoFailed)),
-        (b"ab", Ok(2)),
-        (b"lost", Err(IoFailed)),
-        (b"cde", Ok(3)),
-    ];
-    for (piece, answer) in table {
-        assert_eq!(rt; sink.write(piece), answer);
+    let mut sink = MemorySink::new(rt.alloc(), calls(rt.alloc(), &[1, 3])?);
+    for (piece, answer) in WRITES {
+        assert!(rt; sink.write(piece) == answer);
     }
-    assert_eq!(rt; sink.bytes(), b"abcde".as_slice());
+    assert!(rt; sink.bytes() == b"abcde".as_slice());
     Ok(())
 }
 
@@ -265,10 +301,10 @@ fn a_sink_holds_what_was_written_and_fails_where_it_is_to(rt: HostRuntime) -> Re
 fn the_standard_edge_reads_and_writes(rt: HostRuntime) -> Result<(), Fail> {
     let mut source = StdSource::new(b"abc".as_slice());
     let mut buf = [0u8; 2];
-    assert_eq!(rt; source.read(&mut buf), Ok(2));
-    assert_eq!(rt; buf, *b"ab");
-    assert_eq!(rt; source.read(&mut buf), Ok(1));
-    assert_eq!(rt; source.read(&mut buf), Ok(0));
+    assert!(rt; source.read(&mut buf) == Ok(2));
+    assert!(rt; buf == *b"ab");
+    assert!(rt; source.read(&mut buf) == Ok(1));
+    assert!(rt; source.read(&mut buf) == Ok(0));
     let mut sink = StdSink::new(io::writer(&rt));
     assert!(rt; sink.write(b"edge\n").is_ok());
     Ok(())
@@ -291,18 +327,17 @@ fn a_handle_makes_its_answer_or_keeps_its_number(rt: HostRuntime) {
     let shortage = ChannelOpenFailure::ResourceShortage;
     let forbidden = ChannelOpenFailure::AdministrativelyProhibited;
     let handed = handle();
-    assert_eq!(rt; handed.channel(), CHANNEL);
-    assert_eq!(rt; handed.into_channel(), CHANNEL);
+    assert!(rt; handed.channel() == CHANNEL);
+    assert!(rt; handed.into_channel() == CHANNEL);
     assert!(rt; are_equal(handle().accept(), answer(None, None)));
     assert!(rt; are_equal(handle().reject(shortage), answer(Some(shortage), None)));
     assert!(rt; are_equal(handle().reject_default(), answer(Some(forbidden), None)));
 }
 
 // A refusal with a text, as a handle makes it, or field by field.
-fn described(alloc: Global, by_handle: bool) -> Result<OpenAnswer, Fail> {
+fn described(alloc: Global, by_handle: bool) -> Result<OpenAnswer, WireError> {
     let reason = ChannelOpenFailure::ResourceShortage;
-    let busy = Text::new(alloc, "busy")?;
-    let english = Text::new(alloc, "en")?;
+    let (busy, english) = texts(alloc, "busy", "en")?;
     Ok(if by_handle {
         handle().reject_with(reason, busy, english)
     } else {
@@ -310,19 +345,20 @@ fn described(alloc: Global, by_handle: bool) -> Result<OpenAnswer, Fail> {
     })
 }
 
-fn answer_is_copied(answer: &OpenAnswer) -> Result<bool, WireError> {
-    match answer.copy() {
-        Ok(copy) => Ok(is_this(copy, answer)),
-        Err(error) => Err(error),
-    }
+fn answer_is_copied(answer: OpenAnswer) -> Result<bool, WireError> {
+    let copy = answer.copy();
+    equals(answer, copy)
+}
+
+fn texts_are_kept(alloc: Global) -> Result<bool, WireError> {
+    let made = described(alloc, true)?;
+    let is_same = equals(made, described(alloc, false))?;
+    Ok(answer_is_copied(described(alloc, true)?)? && is_same)
 }
 
 #[test]
-fn a_refusal_keeps_its_texts(rt: HostRuntime) -> Result<(), Fail> {
-    let made = described(rt.alloc(), true)?;
-    assert!(rt; answer_is_copied(&made)?);
-    assert!(rt; is_this(described(rt.alloc(), false)?, &made));
-    Ok(())
+fn a_refusal_keeps_its_texts(rt: HostRuntime) {
+    assert!(rt; texts_are_kept(rt.alloc()) == Ok(true));
 }
 
 #[derive(Clone, Copy)]
@@ -357,13 +393,11 @@ fn wanted_command(listed: Option<Listed>) -> Option<Command> {
 }
 
 // Three commands, the bytes standing on the heap.
-fn three_commands(alloc: Global) -> Result<CommandList, Fail> {
+fn push_three(alloc: Global, commands: &mut CommandList) -> Result<(), WireError> {
     let bytes = Bytes::copy_from_slice(alloc, b"hello")?;
-    let mut commands = CommandList::new(alloc);
     commands.push(listed_command(Listed::Eof))?;
     commands.push(hello(bytes))?;
-    commands.push(listed_command(Listed::Accepted))?;
-    Ok(commands)
+    commands.push(listed_command(Listed::Accepted))
 }
 
 fn takes(commands: &mut CommandList, wanted: Option<Listed>) -> bool {
@@ -375,65 +409,52 @@ fn adds(commands: &mut CommandList, added: Listed) -> bool {
 }
 
 fn holds(commands: &CommandList, place: usize, wanted: Listed) -> bool {
-    commands.get(place) == Some(&listed_command(wanted))
+    is_held(commands.get(place), listed_command(wanted))
+}
+
+fn copies_are_taken(commands: &CommandList) -> Result<bool, WireError> {
+    let mut copies = commands.copy()?;
+    Ok(
+        takes(&mut copies, Some(Listed::Hello))
+            && takes(&mut copies, Some(Listed::Accepted))
+            && takes(&mut copies, Some(Listed::Close))
+            && takes(&mut copies, None),
+    )
 }
 
 #[test]
-fn a_command_list_gives_its_commands_in_order(rt: HostRuntime) -> Result<(), Fail> {
-    assert!(rt; CommandList::new(rt.alloc()).is_empty());
-    let mut commands = three_commands(rt.alloc())?;
+fn a_command_list_gives_its_commands_in_order(rt: HostRuntime) {
+    let mut commands = CommandList::new(rt.alloc());
+    assert!(rt; commands.is_empty());
+    assert!(rt; push_three(rt.alloc(), &mut commands) == Ok(()));
     assert!(rt; takes(&mut commands, Some(Listed::Eof)));
     assert!(rt; adds(&mut commands, Listed::Close));
-    assert_eq!(rt; commands.len(), 3);
+    assert!(rt; commands.len() == 3);
     assert!(rt; holds(&commands, 2, Listed::Close));
-    assert_eq!(rt; commands.get(3), None);
-    let mut copies = commands.copy()?;
-    for wanted in [
-        Some(Listed::Hello),
-        Some(Listed::Accepted),
-        Some(Listed::Close),
-        None,
-    ] {
-        assert!(rt; takes(&mut copies, wanted));
-    }
-    Ok(())
-}
-
-pub(crate) fn notice_is_copied(notice: &Notice) -> Result<bool, WireError> {
-    match notice.copy() {
-        Ok(copy) => Ok(is_this(copy, notice)),
-        Err(error) => Err(error),
-    }
+    assert!(rt; commands.get(3).is_none());
+    assert!(rt; copies_are_taken(&commands) == Ok(true));
 }
 
 #[test]
-fn a_notice_is_copied_whole(rt: HostRuntime) -> Result<(), Fail> {
-    let notices = [
-        Notice::Channel(CHANNEL, ChannelMsg::WindowAdjusted { new_size: 5 }),
-        Notice::Channel(CHANNEL, ChannelMsg::Eof),
-        Notice::Channel(CHANNEL, ChannelMsg::Close),
-        Notice::Granted {
-            channel: CHANNEL,
-            amount: 5,
-        },
-        ready(256),
-    ];
-    for notice in &notices {
-        assert!(rt; notice_is_copied(notice)?);
-    }
-    Ok(())
+fn a_notice_is_copied_whole(rt: HostRuntime) {
+    let channel = CHANNEL;
+    let adjusted = ChannelMsg::WindowAdjusted { new_size: 5 };
+    let granted = Notice::Granted { channel, amount: 5 };
+    assert!(rt; notice_is_copied(Notice::Channel(channel, adjusted)) == Ok(true));
+    assert!(rt; notice_is_copied(Notice::Channel(channel, ChannelMsg::Eof)) == Ok(true));
+    assert!(rt; notice_is_copied(Notice::Channel(channel, ChannelMsg::Close)) == Ok(true));
+    assert!(rt; notice_is_copied(granted) == Ok(true));
+    assert!(rt; notice_is_copied(ready(256)) == Ok(true));
+}
+
+fn says<T: Display>(alloc: Global, fault: &T, wanted: &str) -> Result<bool, Fail> {
+    Ok(fault.to_string(alloc)?.as_str() == wanted)
 }
 
 #[test]
 fn a_fault_says_what_failed(rt: HostRuntime) -> Result<(), Fail> {
-    let alloc = rt.alloc();
-    let texts = [
-        (LinkFault::Failed.to_string(alloc)?, "the link failed"),
-        (LinkFault::NoMemory.to_string(alloc)?, "no memory"),
-        (IoFailed.to_string(alloc)?, "a read or a write failed"),
-    ];
-    for (text, want) in &texts {
-        assert_eq!(rt; text.as_str(), *want);
-    }
+    assert!(rt; says(rt.alloc(), &LinkFault::Failed, "the link failed")?);
+    assert!(rt; says(rt.alloc(), &LinkFault::NoMemory, "no memory")?);
+    assert!(rt; says(rt.alloc(), &IoFailed, "a read or a write failed")?);
     Ok(())
 }

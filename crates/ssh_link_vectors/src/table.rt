@@ -6,9 +6,8 @@ mod windows;
 use bytes::Bytes;
 use ssh_channels::{Adjusted, ChannelParams, Encrypted, FrameSink, TableError};
 use ssh_link::Frame;
-use ssh_wire::{ChannelId, ChannelOpenConfirmation};
+use ssh_wire::{ChannelId, ChannelOpenConfirmation, WireError};
 use std::alloc::Global;
-use std::test::Fail;
 
 // Which way data go.
 #[derive(Clone, Copy)]
@@ -171,7 +170,7 @@ fn made(
     table: &mut Encrypted,
     sink: &mut FrameSink,
     call: Call,
-) -> Result<Answer, Fail> {
+) -> Result<Answer, WireError> {
     Ok(match call {
         Call::Insert(own, peer, window, packet) => {
             let own = ChannelId(own);
@@ -224,18 +223,20 @@ fn made_without_bytes(table: &mut Encrypted, sink: &mut FrameSink, call: Call) -
 // The channel of a frame, and its payload.
 type Sent = (Option<u32>, &'static [u8]);
 
+fn is_sent(frame: &Frame, sent: &Sent) -> bool {
+    let (channel, payload) = sent;
+    let (head, body) = frame.parts();
+    let goes_out = (frame.hold_until(), frame.channel()) == (None, channel.map(ChannelId));
+    goes_out && payload.strip_prefix(head) == Some(body)
+}
+
 // Whether these are the frames.
-fn are(frames: &[Frame], alloc: Global, wanted: &[Sent]) -> Result<bool, Fail> {
-    if frames.len() != wanted.len() {
-        return Ok(false);
+fn are_sent(frames: &[Frame], wanted: &[Sent]) -> bool {
+    let mut are_sent = frames.len() == wanted.len();
+    for (frame, sent) in frames.iter().zip(wanted) {
+        are_sent = is_sent(frame, sent) && are_sent;
     }
-    for (frame, (channel, payload)) in frames.iter().zip(wanted) {
-        let payload = Bytes::copy_from_slice(alloc, *payload)?;
-        if *frame != Frame::new(payload, None, channel.map(ChannelId)) {
-            return Ok(false);
-        }
-    }
-    Ok(true)
+    are_sent
 }
 
 // Calls with their answers on a new table, and the frames that are then in the sink, and staged.
@@ -247,19 +248,32 @@ struct Row {
     staged: &'static [Sent],
 }
 
-// Whether the row's calls answer so, and put out these frames. What is staged in the end is what a
-// flush outside an exchange hands on.
-fn holds(alloc: Global, row: Row) -> Result<bool, Fail> {
-    let mut table = Encrypted::new(alloc);
-    let mut sink = FrameSink::new(alloc);
-    for (call, answer) in row.calls {
-        if made(alloc, &mut table, &mut sink, *call)? != *answer {
+fn are_answered(
+    alloc: Global,
+    table: &mut Encrypted,
+    sink: &mut FrameSink,
+    calls: &[(Call, Answer)],
+) -> Result<bool, WireError> {
+    for (call, answer) in calls {
+        if made(alloc, table, sink, *call)? != *answer {
             return Ok(false);
         }
     }
+    Ok(true)
+}
+
+// Whether the row's calls answer so, and put out these frames. What is staged in the end is what a
+// flush outside an exchange hands on.
+fn holds(alloc: Global, row: Row) -> Result<bool, WireError> {
+    let mut table = Encrypted::new(alloc);
+    let mut sink = FrameSink::new(alloc);
+    let are_answered = are_answered(alloc, &mut table, &mut sink, row.calls);
     let mut staged = FrameSink::new(alloc);
-    if done(table.flush(&mut staged, false)) != Answer::Done {
-        return Ok(false);
-    }
-    Ok(are(sink.as_slice(), alloc, row.sink)? && are(staged.as_slice(), alloc, row.staged)?)
+    let is_flushed = table.flush(&mut staged, false) == Ok(());
+    drop(table);
+    let are_put = are_sent(sink.as_slice(), row.sink);
+    drop(sink);
+    let are_staged = are_sent(staged.as_slice(), row.staged);
+    drop(staged);
+    Ok(are_answered? && is_flushed && are_put && are_staged)
 }

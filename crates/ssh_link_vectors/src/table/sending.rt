@@ -1,10 +1,11 @@
 // What goes out, and what waits.
-use super::{Answer, Call, Row, Way, holds, line};
+use super::{Answer, Call, Row, Way, holds, is_sent, line};
 use bytes::Bytes;
 use ssh_channels::{ChannelParams, Encrypted, FrameSink};
 use ssh_link::Frame;
-use ssh_wire::ChannelId;
-use std::test::Fail;
+use ssh_wire::{ChannelId, WireError};
+use std::alloc::Global;
+use std::test::*;
 
 static WAITING: [Row; 4] = [
     Row {
@@ -75,11 +76,10 @@ static WAITING: [Row; 4] = [
 ];
 
 #[test]
-fn what_the_credit_does_not_cover_waits(rt: HostRuntime) -> Result<(), Fail> {
+fn what_the_credit_does_not_cover_waits(rt: HostRuntime) {
     for row in &WAITING {
-        assert!(rt; holds(rt.alloc(), *row)?, "{}", row.shows);
+        assert!(rt; holds(rt.alloc(), *row) == Ok(true), "{}", row.shows);
     }
-    Ok(())
 }
 
 static FLUSHED: [Row; 4] = [
@@ -156,11 +156,10 @@ static FLUSHED: [Row; 4] = [
 ];
 
 #[test]
-fn a_flush_sends_what_waits_and_then_its_end(rt: HostRuntime) -> Result<(), Fail> {
+fn a_flush_sends_what_waits_and_then_its_end(rt: HostRuntime) {
     for row in &FLUSHED {
-        assert!(rt; holds(rt.alloc(), *row)?, "{}", row.shows);
+        assert!(rt; holds(rt.alloc(), *row) == Ok(true), "{}", row.shows);
     }
-    Ok(())
 }
 
 static STAGED: [Row; 3] = [
@@ -197,11 +196,10 @@ static STAGED: [Row; 3] = [
 ];
 
 #[test]
-fn staged_frames_go_first_and_after_an_exchange(rt: HostRuntime) -> Result<(), Fail> {
+fn staged_frames_go_first_and_after_an_exchange(rt: HostRuntime) {
     for row in &STAGED {
-        assert!(rt; holds(rt.alloc(), *row)?, "{}", row.shows);
+        assert!(rt; holds(rt.alloc(), *row) == Ok(true), "{}", row.shows);
     }
-    Ok(())
 }
 
 static ENDED: [Row; 2] = [
@@ -239,39 +237,40 @@ static ENDED: [Row; 2] = [
 ];
 
 #[test]
-fn nothing_follows_an_end(rt: HostRuntime) -> Result<(), Fail> {
+fn nothing_follows_an_end(rt: HostRuntime) {
     for row in &ENDED {
-        assert!(rt; holds(rt.alloc(), *row)?, "{}", row.shows);
+        assert!(rt; holds(rt.alloc(), *row) == Ok(true), "{}", row.shows);
     }
-    Ok(())
+}
+
+fn bytes_of_256_kib(alloc: Global) -> Result<Bytes, WireError> {
+    Ok(Bytes::from_vec(vec![in alloc; 97; 262144]?)?)
 }
 
 #[test]
 fn data_of_256_kib_go_out_in_eight_packets(rt: HostRuntime) -> Result<(), Fail> {
     let alloc = rt.alloc();
+    let bytes = bytes_of_256_kib(alloc)?;
     let mut table = Encrypted::new(alloc);
     let params = ChannelParams::new(alloc, 7, ChannelId(2), 262144, 0, 32768, 32768);
     assert!(rt; table.insert(params) == Ok(true));
-    let bytes = Bytes::from_vec(vec![in alloc; 97; 262144]?)?;
     assert!(rt; table.data(ChannelId(2), bytes, false) == Ok(true));
     let mut staged = FrameSink::new(alloc);
     assert!(rt; table.flush(&mut staged, false) == Ok(()));
-    assert_eq!(rt; staged.as_slice().len(), 8);
+    assert!(rt; staged.as_slice().len() == 8);
     for frame in staged.as_slice() {
-        assert_eq!(rt; frame.body().len(), 32768);
+        assert!(rt; frame.body().len() == 32768);
     }
     assert!(rt; line(&table, ChannelId(2)) == Answer::Line(0, 0, false, false, false, false));
     Ok(())
 }
 
 #[test]
-fn a_sink_hands_on_its_frames_in_order(rt: HostRuntime) -> Result<(), Fail> {
+fn a_sink_hands_on_its_frames_in_order(rt: HostRuntime) {
     let mut sink = FrameSink::new(rt.alloc());
-    sink.push(Frame::short(&[81], None, None))?;
-    sink.push(Frame::short(&[82], None, None))?;
-    assert_eq!(rt; sink.as_slice().len(), 2);
+    assert!(rt; sink.push(Frame::short(&[81], None, None)).is_ok());
+    assert!(rt; sink.push(Frame::short(&[82], None, None)).is_ok());
+    assert!(rt; sink.as_slice().len() == 2);
     let frames = sink.into_vec();
-    assert!(rt; frames[0] == Frame::short(&[81], None, None));
-    assert!(rt; frames[1] == Frame::short(&[82], None, None));
-    Ok(())
+    assert!(rt; is_sent(&frames[0], &(None, b"\x51")) && is_sent(&frames[1], &(None, b"\x52")));
 }
