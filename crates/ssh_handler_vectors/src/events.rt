@@ -41,24 +41,37 @@ pub(crate) enum Asked {
     CancelStreamlocal,
 }
 
+/// Two texts, made one after the other before anything holds one of them.
+pub(crate) fn texts(alloc: Global, one: &str, other: &str) -> Result<(Text, Text), WireError> {
+    let one = Text::new(alloc, one)?;
+    let other = Text::new(alloc, other)?;
+    Ok((one, other))
+}
+
 fn opened(alloc: Global, event: Event) -> Result<OpenType, WireError> {
     Ok(match event {
         Event::X11 => OpenType::X11 {
             originator_address: Text::new(alloc, "here")?,
             originator_port: 6000,
         },
-        Event::DirectTcpip => OpenType::DirectTcpip {
-            host_to_connect: Text::new(alloc, "there")?,
-            port_to_connect: 80,
-            originator_address: Text::new(alloc, "here")?,
-            originator_port: 1024,
-        },
-        Event::ForwardedTcpip => OpenType::ForwardedTcpip {
-            host_to_connect: Text::new(alloc, "there")?,
-            port_to_connect: 80,
-            originator_address: Text::new(alloc, "here")?,
-            originator_port: 1024,
-        },
+        Event::DirectTcpip => {
+            let (host_to_connect, originator_address) = texts(alloc, "there", "here")?;
+            OpenType::DirectTcpip {
+                host_to_connect,
+                port_to_connect: 80,
+                originator_address,
+                originator_port: 1024,
+            }
+        }
+        Event::ForwardedTcpip => {
+            let (host_to_connect, originator_address) = texts(alloc, "there", "here")?;
+            OpenType::ForwardedTcpip {
+                host_to_connect,
+                port_to_connect: 80,
+                originator_address,
+                originator_port: 1024,
+            }
+        }
         Event::DirectStreamlocal => OpenType::DirectStreamlocal {
             socket_path: Text::new(alloc, "/run/there")?,
         },
@@ -77,16 +90,22 @@ fn requested(alloc: Global, event: Event) -> Result<Happening, WireError> {
             pix_height: 0,
             modes: Modes::new(alloc),
         },
-        Event::X11Request => Happening::X11Request {
-            single_connection: true,
-            x11_auth_protocol: Text::new(alloc, "MIT-MAGIC-COOKIE-1")?,
-            x11_auth_cookie: Text::new(alloc, "00")?,
-            x11_screen_number: 0,
-        },
-        Event::Variable => Happening::EnvRequest {
-            variable_name: Text::new(alloc, "LANG")?,
-            variable_value: Text::new(alloc, "C")?,
-        },
+        Event::X11Request => {
+            let (x11_auth_protocol, x11_auth_cookie) = texts(alloc, "MIT-MAGIC-COOKIE-1", "00")?;
+            Happening::X11Request {
+                single_connection: true,
+                x11_auth_protocol,
+                x11_auth_cookie,
+                x11_screen_number: 0,
+            }
+        }
+        Event::Variable => {
+            let (variable_name, variable_value) = texts(alloc, "LANG", "C")?;
+            Happening::EnvRequest {
+                variable_name,
+                variable_value,
+            }
+        }
         Event::Subsystem => Happening::SubsystemRequest {
             name: Text::new(alloc, "sftp")?,
         },

@@ -1,4 +1,5 @@
 // A handler that fails.
+use crate::events::texts;
 use ssh_auth::{
     Auth, AuthHandler, Prompts, PublicKeyOffer, Response, Unwritten, VerifiedPublicKey,
 };
@@ -24,12 +25,17 @@ fn fails<T>(callback: &'static str, session: &Commands<'_>) -> Result<T, Failed>
     Err(Failed(callback, session.config().window_size))
 }
 
+fn code(alloc: Global) -> Result<Prompts, WireError> {
+    let text = Text::new(alloc, "Code: ")?;
+    let mut prompts = Prompts::new(alloc);
+    prompts.push(text, false)?;
+    Ok(prompts)
+}
+
 /// Asks for a code, which is not shown.
 pub(crate) fn prompt(alloc: Global) -> Result<Auth, WireError> {
-    let name = Text::new(alloc, "")?;
-    let instructions = Text::new(alloc, "")?;
-    let mut prompts = Prompts::new(alloc);
-    prompts.push(Text::new(alloc, "Code: ")?, false)?;
+    let prompts = code(alloc)?;
+    let (name, instructions) = texts(alloc, "", "")?;
     Ok(Auth::Partial {
         name,
         instructions,

@@ -7,19 +7,43 @@ use crate::lender::Lender;
 use crate::told::{Call, Error};
 use ssh_handler::{Handler, RecordError, Recorded};
 use ssh_link::{CommandOutcome, Refusal};
+use ssh_wire::ChannelId;
 use std::alloc::Global;
 
-// Whether it is a forward from port 0, with this port after it and this answer.
-fn is_forward(call: &Call, after: u32, expected: Result<bool, Error>) -> bool {
+// What is told of a number or of a command, by plain values.
+#[derive(Clone, Copy, PartialEq)]
+enum Told {
+    // The port before and after the call.
+    Forward(u32, u32, Result<bool, Error>),
+    Window(ChannelId, u32, Result<u32, Error>),
+    Done(usize, CommandOutcome, Result<(), Error>),
+}
+
+fn read(call: &Call) -> Option<Told> {
     match call {
         Call::TcpipForward {
-            port: 0,
+            port,
             port_after,
             answer,
             ..
-        } => *port_after == after && *answer == expected,
-        _ => false,
+        } => Some(Told::Forward(*port, *port_after, *answer)),
+        Call::AdjustWindow {
+            channel,
+            current,
+            answer,
+        } => Some(Told::Window(*channel, *current, *answer)),
+        Call::CommandDone {
+            place,
+            outcome,
+            answer,
+        } => Some(Told::Done(*place, *outcome, *answer)),
+        _ => None,
     }
+}
+
+// Whether this call alone is told.
+fn is_told(calls: &[Call], this: Told) -> bool {
+    matches!(calls, [call] if read(call) == Some(this))
 }
 
 // A handler that fails listens at port 2022.
@@ -31,7 +55,10 @@ fn a_forward_fails(alloc: Global) -> bool {
     let mut port = 0;
     let answer = handler.tcpip_forward("here", &mut port, &mut session);
     let failure = Err(RecordError::Inner(Failed("tcpip_forward", 7)));
-    let is_told = matches!(handler.calls(), [call] if is_forward(call, 2022, failure));
+    let is_told = is_told(handler.calls(), Told::Forward(0, 2022, failure));
+    drop(handler);
+    drop(session);
+    drop(lender);
     answer == failure && port == 2022 && is_told
 }
 
@@ -41,61 +68,49 @@ fn a_forward_is_refused(alloc: Global) -> bool {
     let mut handler = Recorded::new(alloc, Accepting);
     let mut port = 0;
     let answer = handler.tcpip_forward("here", &mut port, &mut session);
-    let is_told = matches!(handler.calls(), [call] if is_forward(call, 0, Ok(false)));
-    answer == Ok(false) && port == 0 && is_told && session.recorded().len() == 0
-}
-
-// Whether it asks for the next window of the channel, behind 8 bytes, with this answer.
-fn is_window(call: &Call, expected: Result<u32, Error>) -> bool {
-    match call {
-        Call::AdjustWindow {
-            channel,
-            current: 8,
-            answer,
-        } => *channel == CHANNEL && *answer == expected,
-        _ => false,
-    }
+    let is_told = is_told(handler.calls(), Told::Forward(0, 0, Ok(false)));
+    drop(handler);
+    let recorded = session.recorded().len();
+    drop(session);
+    drop(lender);
+    answer == Ok(false) && port == 0 && is_told && recorded == 0
 }
 
 fn a_window_fails(alloc: Global) -> bool {
     let mut handler = Recorded::new(alloc, Failing { alloc });
     let answer = handler.adjust_window(CHANNEL, 8);
     let failure = Err(RecordError::Inner(Failed("adjust_window", 8)));
-    answer == failure && matches!(handler.calls(), [call] if is_window(call, failure))
+    let is_told = is_told(handler.calls(), Told::Window(CHANNEL, 8, failure));
+    drop(handler);
+    answer == failure && is_told
 }
 
 fn a_window_stays(alloc: Global) -> bool {
     let mut handler = Recorded::new(alloc, Accepting);
     let answer = handler.adjust_window(CHANNEL, 8);
-    answer == Ok(8) && matches!(handler.calls(), [call] if is_window(call, Ok(8)))
+    let is_told = is_told(handler.calls(), Told::Window(CHANNEL, 8, Ok(8)));
+    drop(handler);
+    answer == Ok(8) && is_told
 }
 
 // What came of a command.
 const REFUSED: CommandOutcome = CommandOutcome::Refused(Refusal::UnknownOpen);
 
-// Whether it tells this of the command in place 3, with this answer.
-fn is_done(call: &Call, expected: Result<(), Error>) -> bool {
-    match call {
-        Call::CommandDone {
-            place: 3,
-            outcome,
-            answer,
-        } => *outcome == REFUSED && *answer == expected,
-        _ => false,
-    }
-}
-
 fn an_outcome_fails(alloc: Global) -> bool {
     let mut handler = Recorded::new(alloc, Failing { alloc });
     let answer = handler.command_done(3, REFUSED);
     let failure = Err(RecordError::Inner(Failed("command_done", 3)));
-    answer == failure && matches!(handler.calls(), [call] if is_done(call, failure))
+    let is_told = is_told(handler.calls(), Told::Done(3, REFUSED, failure));
+    drop(handler);
+    answer == failure && is_told
 }
 
 fn an_outcome_is_told(alloc: Global) -> bool {
     let mut handler = Recorded::new(alloc, Accepting);
     let answer = handler.command_done(3, REFUSED);
-    answer == Ok(()) && matches!(handler.calls(), [call] if is_done(call, Ok(())))
+    let is_told = is_told(handler.calls(), Told::Done(3, REFUSED, Ok(())));
+    drop(handler);
+    answer == Ok(()) && is_told
 }
 
 #[test]

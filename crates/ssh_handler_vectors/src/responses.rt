@@ -11,14 +11,12 @@ use std::test::Fail;
 const CALLBACK: &str = "auth_keyboard_interactive";
 
 fn are_same(told: &Blobs, sent: &[&[u8]]) -> bool {
-    let mut count: usize = 0;
-    for blob in told.as_slice() {
-        if sent.get(count).copied() != Some(blob.as_slice()) {
-            return false;
-        }
-        count = count.saturating_add(1);
+    let told = told.as_slice();
+    let mut are_same = told.len() == sent.len();
+    for (blob, response) in told.iter().zip(sent) {
+        are_same = blob.as_slice() == *response && are_same;
     }
-    count == sent.len()
+    are_same
 }
 
 // Whether the call has these responses, none before the prompts.
@@ -46,6 +44,7 @@ fn are_prompts_passed_on(alloc: Global) -> Result<bool, Fail> {
     drop(expected);
     let is_told = matches!(handler.calls(), [call]
         if has_responses(call, None) && is_told(call, CALLBACK, "anna", Verdict::Prompted));
+    drop(handler);
     Ok(is_same && is_told)
 }
 

@@ -3,11 +3,10 @@ use crate::accepting::Accepting;
 use crate::events::{Asked, CHANNEL, Event, judged, lent};
 use crate::failing::{Failed, Failing};
 use crate::lender::Lender;
-use ssh_auth::{Judged, Lent};
 use ssh_handler::{RecordError, Recorded, ask, judge};
 use ssh_link::{ChannelOpenHandle, Command, CommandList};
+use ssh_wire::WireError;
 use std::alloc::Global;
-use std::test::Fail;
 
 /// Why a recording handler over one of the handlers here cannot go on.
 pub(crate) type Error = RecordError<Failed>;
@@ -142,31 +141,49 @@ fn are_told(call: &Call, accepts: bool) -> bool {
     }
 }
 
+// Whether one call alone is told, by this callback, with this answer and its commands.
+fn is_heard(calls: &[Call], name: &str, answer: Result<(), Error>, accepts: bool) -> bool {
+    matches!(calls, [call] if heard(call) == Some((name, answer)) && are_told(call, accepts))
+}
+
 // Whether a handler that fails is told it by this callback, in a session of this window.
-fn fails(alloc: Global, lent: Lent, name: &'static str, window: u32) -> bool {
+fn fails(alloc: Global, event: Event, name: &'static str, window: u32) -> Result<bool, WireError> {
+    let lent = lent(alloc, event)?;
     let mut lender = Lender::new(alloc);
     lender.config.window_size = window;
     let mut session = lender.lend();
     let mut handler = Recorded::new(alloc, Failing { alloc });
+    let failure = Err(RecordError::Inner(Failed(name, window)));
     let answer = ask(&mut handler, lent, &mut session);
-    let is_told = matches!(handler.calls(), [call]
-        if heard(call) == Some((name, answer)) && are_told(call, false));
-    let failure = Failed(name, window);
-    is_told && answer == Err(RecordError::Inner(failure)) && session.recorded().len() == 0
+    let is_told = is_heard(handler.calls(), name, failure, false);
+    drop(handler);
+    let recorded = session.recorded().len();
+    drop(session);
+    drop(lender);
+    Ok(is_told && answer == failure && recorded == 0)
 }
 
 // Whether a handler that writes what it has to goes on, and the call and its commands are told,
 // recorded and kept.
-fn goes_on(alloc: Global, lent: Lent, name: &'static str, accepts: bool) -> bool {
+fn goes_on(
+    alloc: Global,
+    event: Event,
+    name: &'static str,
+    accepts: bool,
+) -> Result<bool, WireError> {
+    let lent = lent(alloc, event)?;
     let lender = Lender::new(alloc);
     let mut session = lender.lend();
     let mut handler = Recorded::new(alloc, Accepting);
     let answer = ask(&mut handler, lent, &mut session);
-    let is_told = matches!(handler.calls(), [call]
-        if heard(call) == Some((name, Ok(()))) && are_told(call, accepts));
+    let is_told = is_heard(handler.calls(), name, Ok(()), accepts);
+    drop(handler);
     let is_recorded = is_acceptance(session.recorded(), accepts);
     let list = session.into_list();
-    answer == Ok(()) && is_told && is_recorded && is_acceptance(&list, accepts)
+    let is_kept = is_acceptance(&list, accepts);
+    drop(list);
+    drop(lender);
+    Ok(answer == Ok(()) && is_told && is_recorded && is_kept)
 }
 
 // What comes, the callback that it is for, and whether that has to accept a channel.
@@ -198,41 +215,58 @@ static EVENTS: [(Event, &str, bool); 20] = [
 ];
 
 #[test]
-fn what_comes_is_passed_on_and_told(rt: HostRuntime) -> Result<(), Fail> {
+fn what_comes_is_passed_on_and_told(rt: HostRuntime) {
     let alloc = rt.alloc();
     let mut window: u32 = 0;
     for (event, name, accepts) in &EVENTS {
         window = window.saturating_add(1);
-        assert!(rt; fails(alloc, lent(alloc, *event)?, *name, window), "{name}");
+        assert!(rt; fails(alloc, *event, *name, window) == Ok(true), "{name}");
         assert!(rt;
-            goes_on(alloc, lent(alloc, *event)?, *name, *accepts),
+            goes_on(alloc, *event, *name, *accepts) == Ok(true),
             "{name}"
         );
     }
-    Ok(())
+}
+
+// Whether one call alone is told, by this callback, with this answer and no commands.
+fn is_decided(calls: &[Call], name: &str, answer: Result<bool, Error>) -> bool {
+    matches!(calls, [call] if decided(call) == Some((name, answer)) && are_told(call, false))
 }
 
 // Whether a handler that fails is asked it by this callback, in a session of this window.
-fn fails_to_decide(alloc: Global, judged: Judged, name: &'static str, window: u32) -> bool {
+fn fails_to_decide(
+    alloc: Global,
+    asked: Asked,
+    name: &'static str,
+    window: u32,
+) -> Result<bool, WireError> {
+    let judged = judged(alloc, asked)?;
     let mut lender = Lender::new(alloc);
     lender.config.window_size = window;
     let mut session = lender.lend();
     let mut handler = Recorded::new(alloc, Failing { alloc });
+    let failure = Err(RecordError::Inner(Failed(name, window)));
     let answer = judge(&mut handler, judged, &mut session);
-    let is_told = matches!(handler.calls(), [call]
-        if decided(call) == Some((name, answer)) && are_told(call, false));
-    is_told && answer == Err(RecordError::Inner(Failed(name, window)))
+    let is_told = is_decided(handler.calls(), name, failure);
+    drop(handler);
+    drop(session);
+    drop(lender);
+    Ok(is_told && answer == failure)
 }
 
 // Whether a handler that writes no such callback refuses it, and records nothing.
-fn refuses(alloc: Global, judged: Judged, name: &'static str) -> bool {
+fn refuses(alloc: Global, asked: Asked, name: &'static str) -> Result<bool, WireError> {
+    let judged = judged(alloc, asked)?;
     let lender = Lender::new(alloc);
     let mut session = lender.lend();
     let mut handler = Recorded::new(alloc, Accepting);
     let answer = judge(&mut handler, judged, &mut session);
-    let is_told = matches!(handler.calls(), [call]
-        if decided(call) == Some((name, Ok(false))) && are_told(call, false));
-    answer == Ok(false) && is_told && session.recorded().len() == 0
+    let is_told = is_decided(handler.calls(), name, Ok(false));
+    drop(handler);
+    let recorded = session.recorded().len();
+    drop(session);
+    drop(lender);
+    Ok(answer == Ok(false) && is_told && recorded == 0)
 }
 
 // What is asked, and the callback that it is for.
@@ -244,16 +278,15 @@ static QUESTIONS: [(Asked, &str); 4] = [
 ];
 
 #[test]
-fn what_is_asked_is_passed_on_and_told(rt: HostRuntime) -> Result<(), Fail> {
+fn what_is_asked_is_passed_on_and_told(rt: HostRuntime) {
     let alloc = rt.alloc();
     let mut window: u32 = 0;
     for (asked, name) in &QUESTIONS {
         window = window.saturating_add(1);
         assert!(rt;
-            fails_to_decide(alloc, judged(alloc, *asked)?, *name, window),
+            fails_to_decide(alloc, *asked, *name, window) == Ok(true),
             "{name}"
         );
-        assert!(rt; refuses(alloc, judged(alloc, *asked)?, *name), "{name}");
+        assert!(rt; refuses(alloc, *asked, *name) == Ok(true), "{name}");
     }
-    Ok(())
 }

@@ -161,32 +161,38 @@ static WRITTEN: [(&str, Verdict); 6] = [
     ("auth_keyboard_interactive", Verdict::Prompted),
 ];
 
-// Whether anna's requests were answered so, and are told so.
-fn are_told(answers: &[Verdict; 6], calls: &[Call], expected: &[(&'static str, Verdict)]) -> bool {
-    let mut count: usize = 0;
-    for call in calls {
-        let Some((callback, verdict)) = expected.get(count) else {
-            return false;
-        };
-        let is_answered = answers.get(count) == Some(verdict);
-        if !is_answered || !is_told(call, *callback, "anna", *verdict) {
-            return false;
-        }
-        count = count.saturating_add(1);
+// Whether anna's requests are told so.
+fn are_told(calls: &[Call], expected: &[(&'static str, Verdict); 6]) -> bool {
+    let mut are_told = calls.len() == expected.len();
+    for (call, (callback, verdict)) in calls.iter().zip(expected) {
+        are_told = is_told(call, *callback, "anna", *verdict) && are_told;
     }
-    count == expected.len()
+    are_told
+}
+
+// Whether anna's requests were answered so.
+fn are_answered(answers: &[Verdict; 6], expected: &[(&'static str, Verdict); 6]) -> bool {
+    let mut are_answered = true;
+    for (answer, (_, verdict)) in answers.iter().zip(expected) {
+        are_answered = *answer == *verdict && are_answered;
+    }
+    are_answered
 }
 
 fn lets_nobody_in(alloc: Global, public_key: &PublicKey, certificate: &Certificate) -> bool {
     let mut handler = Recorded::new(alloc, Accepting);
     let answers = verdicts(&mut handler, public_key, certificate);
-    are_told(&answers, handler.calls(), &UNWRITTEN)
+    let are_told = are_told(handler.calls(), &UNWRITTEN);
+    drop(handler);
+    are_told && are_answered(&answers, &UNWRITTEN)
 }
 
 fn passes_on(alloc: Global, public_key: &PublicKey, certificate: &Certificate) -> bool {
     let mut handler = Recorded::new(alloc, Failing { alloc });
     let answers = verdicts(&mut handler, public_key, certificate);
-    are_told(&answers, handler.calls(), &WRITTEN)
+    let are_told = are_told(handler.calls(), &WRITTEN);
+    drop(handler);
+    are_told && are_answered(&answers, &WRITTEN)
 }
 
 #[test]
@@ -212,13 +218,20 @@ fn is_banner(call: &Call, failure: Option<Error>) -> bool {
     }
 }
 
+// Whether such a call alone is told.
+fn is_greeted(calls: &[Call], failure: Option<Error>) -> bool {
+    matches!(calls, [call] if is_banner(call, failure))
+}
+
 // There is no banner where none is written.
 fn has_no_banner(alloc: Global) -> bool {
     let mut handler = Recorded::new(alloc, Accepting);
     let answer = handler.authentication_banner();
     let is_none = matches!(&answer, Ok(None));
     drop(answer);
-    is_none && matches!(handler.calls(), [call] if is_banner(call, None))
+    let is_told = is_greeted(handler.calls(), None);
+    drop(handler);
+    is_none && is_told
 }
 
 fn fails_to_greet(alloc: Global) -> bool {
@@ -227,7 +240,9 @@ fn fails_to_greet(alloc: Global) -> bool {
     let failure = RecordError::Inner(Failed("authentication_banner", 0));
     let fails = matches!(&answer, Err(e) if *e == failure);
     drop(answer);
-    fails && matches!(handler.calls(), [call] if is_banner(call, Some(failure)))
+    let is_told = is_greeted(handler.calls(), Some(failure));
+    drop(handler);
+    fails && is_told
 }
 
 // Whether another user is told by his name, behind anna.
@@ -235,11 +250,11 @@ fn are_told_apart(alloc: Global) -> bool {
     let mut handler = Recorded::new(alloc, Failing { alloc });
     let anna = spent(handler.auth_none("anna"));
     let bert = spent(handler.auth_none("bert"));
-    anna == Verdict::Accepted
-        && bert == Verdict::Refused
-        && matches!(handler.calls(), [one, other]
-            if is_told(one, "auth_none", "anna", Verdict::Accepted)
-                && is_told(other, "auth_none", "bert", Verdict::Refused))
+    let are_told = matches!(handler.calls(), [one, other]
+        if is_told(one, "auth_none", "anna", Verdict::Accepted)
+            && is_told(other, "auth_none", "bert", Verdict::Refused));
+    drop(handler);
+    are_told && anna == Verdict::Accepted && bert == Verdict::Refused
 }
 
 // A call that was not told ends the telling, and the next one is passed on all the same.
@@ -247,6 +262,7 @@ fn is_passed_on_untold(alloc: Global) -> bool {
     let mut handler = Recorded::new(alloc, Failing { alloc });
     let untold = handler.untold(Unwritten::new());
     let anna = spent(handler.auth_none("anna"));
+    drop(handler);
     untold == Err(RecordError::NoMemory) && anna == Verdict::Accepted
 }
 
