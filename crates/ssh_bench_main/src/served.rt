@@ -71,7 +71,7 @@ impl Handler for Accepting {
         reply: ChannelOpenHandle,
         session: &mut Commands<'_>,
     ) -> Result<(), Unrecorded> {
-        session.answer_open(reply.accept()).map_err(|_| Unrecorded)
+        session.answer_open(reply.accept()).or(Err(Unrecorded))
     }
 
     fn channel_open_x11(
