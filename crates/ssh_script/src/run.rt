@@ -1,6 +1,6 @@
 // A script is read and run, and what comes of it is written.
 ghost use Rattle.std.specs.Prelude.{◌≡◌, ◌≢◌, ◌<◌, ◌≤◌, ◌+◌, ◌++◌, ◌↔◌, ◌⊎◌, ℕ, List, map, codes};
-ghost use Rattle.std.specs.Prelude.{length, IfOk, OnOk, IsErrOf, true, false};
+ghost use Rattle.std.specs.Prelude.{length, IfOk, OnOk, IsErrOf, Err, true, false};
 ghost use Rattle.std.specs.Fmt.{decimal};
 ghost use Rattle.std.specs.String.{string_bytes};
 ghost use Rattle.ssh_link.specs.Faults.{RoseOrFull};
@@ -50,15 +50,34 @@ struct Report {
     text: String,
 }
 
+/// The status of a run that ended by this error; none where memory was wanting.
+fn error_status(error: &RunError<RecordError<ScriptError>, PlainKexError>) -> Option<u8>
+    ensures { result ≡ status_of (Err error.now) }
+{
+    match error {
+        RunError::NoMemory | RunError::Handler(RecordError::NoMemory) => None,
+        RunError::LinkFault
+        | RunError::InputLimit
+        | RunError::Encoding(_)
+        | RunError::Inconsistent
+        | RunError::Pending
+        | RunError::Key(_)
+        | RunError::UnsupportedAuthMethod
+        | RunError::Handler(RecordError::Inner(_))
+        | RunError::Kex(_)
+        | RunError::ChannelsFull
+        | RunError::KeepaliveTimeout
+        | RunError::InactivityTimeout => Some(ENDED_BY_ERROR),
+    }
+}
+
 /// The status of a run; none where memory was wanting.
 fn status_of(run: &Result<(), RunError<RecordError<ScriptError>, PlainKexError>>) -> Option<u8>
     ensures { result ≡ status_of run.now }
 {
     match run {
         Ok(()) => Some(DONE),
-        Err(RunError::NoMemory) => None,
-        Err(RunError::Handler(RecordError::NoMemory)) => None,
-        Err(_) => Some(ENDED_BY_ERROR),
+        Err(error) => error_status(error),
     }
 }
 
