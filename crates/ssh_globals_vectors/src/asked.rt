@@ -1,6 +1,6 @@
 // Global requests of the peer: how they are read, asked about and answered (RFC 4254 sections 4 and
 // 7.1, OpenSSH PROTOCOL section 2.4).
-use crate::playing::comes_true;
+use crate::playing::{Around, NOTHING, comes_true};
 use ssh_stories::Line::{Ends, Forwarded, In, Out};
 use ssh_stories::{ACCEPT, ALIVE, End, Plan, QUIET, SERVICE, STANDARD, Story, Turn, Wish};
 use std::alloc::Global;
@@ -72,7 +72,12 @@ fn comes_of(
     (told, asked): (Turn, &[u8]),
 ) -> Result<bool, Fail> {
     let payload = request(alloc, name, flag, rest)?;
-    comes_true(alloc, plan, &[&[In(payload.as_slice())], told], asked)
+    let around = Around {
+        payload: Some(payload.as_slice()),
+        then: told,
+        ..NOTHING
+    };
+    comes_true(alloc, plan, around, asked)
 }
 
 // A flag, whether the callback grants it, what it records, and what goes out.
@@ -121,6 +126,16 @@ fn requests_are_asked_about_and_answered(rt: HostRuntime) -> Result<(), Fail> {
     Ok(())
 }
 
+// Whether the payload does not fit its layout, and nobody is asked.
+fn is_misfit(alloc: Global, payload: &[u8]) -> Result<bool, Fail> {
+    let around = Around {
+        payload: Some(payload),
+        then: MISFIT,
+        ..NOTHING
+    };
+    comes_true(alloc, GENEROUS, around, b"")
+}
+
 // Whether it fits no more without its last bytes, however many, or with a byte behind it; and
 // nobody is asked then.
 fn fits_alone(alloc: Global, name: &[u8], flag: u8, rest: &[u8]) -> Result<bool, Fail> {
@@ -128,13 +143,13 @@ fn fits_alone(alloc: Global, name: &[u8], flag: u8, rest: &[u8]) -> Result<bool,
     let mut front = Vec::new(alloc);
     front.push(80u8)?;
     for byte in whole.as_slice().iter().skip(1) {
-        if !comes_true(alloc, GENEROUS, &[&[In(front.as_slice())], MISFIT], b"")? {
+        if !is_misfit(alloc, front.as_slice())? {
             return Ok(false);
         }
         front.push(*byte)?;
     }
     front.push(0)?;
-    comes_true(alloc, GENEROUS, &[&[In(front.as_slice())], MISFIT], b"")
+    is_misfit(alloc, front.as_slice())
 }
 
 #[test]

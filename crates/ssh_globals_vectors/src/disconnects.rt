@@ -1,6 +1,6 @@
 // The end of a connection by this side (RFC 4253 section 11.1): what goes out before it, and that
 // nothing does behind it.
-use crate::playing::comes_true;
+use crate::playing::{Around, comes_true};
 use ssh_link::{CommandOutcome, Refusal};
 use ssh_stories::Line::{Asks, Ends, In, Keepalive, Noted, On, Out};
 use ssh_stories::{
@@ -153,16 +153,19 @@ static UNANSWERED: [(&[u8], Turn, &[u8]); 5] = [
     ),
 ];
 
+// The session is spent: the next payload is an error.
+const SPENT: Turn = &[In(b"\x02"), Ends(End::Inconsistent)];
+
 #[test]
 fn requests_whose_callbacks_end_the_connection(rt: HostRuntime) -> Result<(), Fail> {
     for (request, told, asked) in &UNANSWERED {
-        let turns = [
-            OPENED,
-            &[In(*request)],
-            *told,
-            &[In(b"\x02"), Ends(End::Inconsistent)],
-        ];
-        let is_true = comes_true(rt.alloc(), LEAVING, &turns, *asked)?;
+        let around = Around {
+            first: OPENED,
+            payload: Some(*request),
+            then: *told,
+            last: SPENT,
+        };
+        let is_true = comes_true(rt.alloc(), LEAVING, around, *asked)?;
         assert!(rt; is_true, "{}", asked.escape_ascii());
     }
     Ok(())

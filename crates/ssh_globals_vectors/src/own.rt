@@ -1,6 +1,6 @@
 // Messages of no channel that this side sends, and the peer's replies to them (RFC 4254 sections 4
 // and 7.1, RFC 4253 section 11.3).
-use crate::playing::comes_true;
+use crate::playing::{Around, NOTHING, comes_true};
 use ssh_stories::Line::{Asks, Cancelled, Ends, Forwarded, In, Keepalive, Out, Pong};
 use ssh_stories::{ACCEPTED, ALIVE, End, Line, QUIET, STANDARD, Story, Turn, Wish};
 use std::test::Fail;
@@ -58,7 +58,11 @@ static SAID: [Turn; 12] = [
 #[test]
 fn what_goes_out_for_commands(rt: HostRuntime) -> Result<(), Fail> {
     for (place, turn) in SAID.iter().enumerate() {
-        assert!(rt; comes_true(rt.alloc(), QUIET, &[*turn], b"")?, "{place}");
+        let around = Around {
+            first: *turn,
+            ..NOTHING
+        };
+        assert!(rt; comes_true(rt.alloc(), QUIET, around, b"")?, "{place}");
     }
     Ok(())
 }
@@ -186,22 +190,26 @@ fn replies_to_requests_of_this_side(rt: HostRuntime) -> Result<(), Fail> {
     Ok(())
 }
 
-const MISFIT: Line<'static> = Ends(End::Encoding);
+const MISFIT: Turn = &[Ends(End::Encoding)];
 
 // The request that waits, the reply, and what comes of it.
-static RESTS: [(Turn, &[u8], Line<'static>); 16] = [
-    (FORWARD_ASKED, b"\x51", Forwarded(5, Some(0))),
-    (FORWARD_ASKED, b"\x51\0", Forwarded(5, None)),
-    (FORWARD_ASKED, b"\x51\0\x0f\xb6", Forwarded(5, None)),
-    (FORWARD_ASKED, b"\x51\0\0\x0f\xb6", Forwarded(5, Some(4022))),
-    (FORWARD_ASKED, b"\x51\0\0\0\0", Forwarded(5, Some(0))),
+static RESTS: [(Turn, &[u8], Turn); 16] = [
+    (FORWARD_ASKED, b"\x51", &[Forwarded(5, Some(0))]),
+    (FORWARD_ASKED, b"\x51\0", &[Forwarded(5, None)]),
+    (FORWARD_ASKED, b"\x51\0\x0f\xb6", &[Forwarded(5, None)]),
+    (
+        FORWARD_ASKED,
+        b"\x51\0\0\x0f\xb6",
+        &[Forwarded(5, Some(4022))],
+    ),
+    (FORWARD_ASKED, b"\x51\0\0\0\0", &[Forwarded(5, Some(0))]),
     (
         FORWARD_ASKED,
         b"\x51\xff\xff\xff\xff",
-        Forwarded(5, Some(u32::MAX)),
+        &[Forwarded(5, Some(u32::MAX))],
     ),
-    (FORWARD_ASKED, b"\x51\0\0\x0f\xb6\0", Forwarded(5, None)),
-    (FORWARD_ASKED, b"\x52", Forwarded(5, None)),
+    (FORWARD_ASKED, b"\x51\0\0\x0f\xb6\0", &[Forwarded(5, None)]),
+    (FORWARD_ASKED, b"\x52", &[Forwarded(5, None)]),
     // The other replies have nothing behind their number.
     (FORWARD_ASKED, b"\x52\0", MISFIT),
     (KEEPALIVE_ASKED, b"\x51\0", MISFIT),
@@ -216,7 +224,13 @@ static RESTS: [(Turn, &[u8], Line<'static>); 16] = [
 #[test]
 fn what_stands_behind_the_number_of_a_reply(rt: HostRuntime) -> Result<(), Fail> {
     for (place, (asked, reply, comes)) in RESTS.iter().enumerate() {
-        let is_true = comes_true(rt.alloc(), QUIET, &[*asked, &[In(*reply), *comes]], b"")?;
+        let around = Around {
+            first: *asked,
+            payload: Some(*reply),
+            then: *comes,
+            ..NOTHING
+        };
+        let is_true = comes_true(rt.alloc(), QUIET, around, b"")?;
         assert!(rt; is_true, "{place}");
     }
     Ok(())

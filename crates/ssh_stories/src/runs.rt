@@ -97,14 +97,19 @@ fn is_told(link: &MemoryLink, run: &Run, end: End) -> bool {
 }
 
 impl Run {
+    // Whether the handler was told and called as the run says.
+    fn was_heard(&self, handler: &Answering) -> bool {
+        handler.done() == self.done
+            && handler.calls() == self.calls.unwrap_or(handler.calls())
+            && handler.software() == self.software.unwrap_or(handler.software())
+    }
+
     /// Whether it goes so.
     pub fn holds(&self, alloc: Global) -> Result<bool, WireError> {
         let mut link = link(alloc, self)?;
         let mut handler = Answering::new(alloc, self.plan);
         let end = run_over(alloc, &mut handler, &mut link);
-        let was_heard = handler.done() == self.done
-            && handler.calls() == self.calls.unwrap_or(handler.calls())
-            && handler.software() == self.software.unwrap_or(handler.software());
+        let was_heard = self.was_heard(&handler);
         drop(handler);
         let faults: u64 = if self.fails.is_some() { 1 } else { 0 };
         let is_told = is_told(&link, self, end) && link.faults() == faults;
