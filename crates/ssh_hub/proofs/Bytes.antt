@@ -38,27 +38,8 @@ use Rattle.ssh_link.specs.declared.command.Command.{Command}
 use Rattle.ssh_link.specs.declared.notice.ChannelMsg.{ChannelMsg}
 use Rattle.ssh_link.specs.declared.outcome.CommandOutcome.{CommandOutcome}
 use Rattle.ssh_link.specs.declared.outcome.CommandOutcome.TheVariants.{Accepted, Opened, Refused}
-use Rattle.ssh_hub.specs.World.{World, Channel, Map, find, with_new, with_changed, total_reserved}
-use Rattle.ssh_hub.specs.Channels.{
-  most_bytes,
-  waiting,
-  with_window,
-  reserved_by,
-  reserving,
-  reserve_open,
-  reserve_from,
-  releasing,
-  spending,
-  granted_to,
-  granting,
-  closes_by,
-  closed_on,
-  deliver_open,
-  deliver_to,
-  receive_from,
-  closed,
-  claimed,
-}
+use Rattle.ssh_hub.specs.World.{Held, World, Channel, Map, find, with_new, with_changed}
+use Rattle.ssh_hub.specs.Channels.{most_bytes, waiting, with_window, reserving, reserve_open, reserve_from, releasing, spending, granted_to, granting, closes_by, closed_on, deliver_open, deliver_to, receive_from, closed, claimed}
 use Rattle.ssh_hub.specs.Lists.{
   data_channel,
   spent_at,
@@ -79,6 +60,7 @@ use Rattle.ssh_hub.specs.Outcomes.{
   settled_if,
   answered,
 }
+use Rattle.ssh_hub.specs.Reserved.{bytes_on, bytes_at, with_more, with_less, less_at, after_reserve, after_put, reserved_after, reservations, at_hand, sum_on}
 use Rattle.ssh_hub.specs.Step.{
   opening,
   act,
@@ -94,11 +76,12 @@ use Rattle.ssh_hub.specs.Laws.{
   Account,
   no_bytes,
   granted_in,
-  spent_in,
   is_data_on,
+  account_from,
   after_call,
   account,
   left_of,
+  total_on,
   reserved_of,
 }
 use Rattle.ssh_hub.specs.declared.answers.Config2.{Config2}
@@ -131,127 +114,56 @@ use Rattle.ssh_hub.specs.declared.history.HubCall.TheVariants.{
   SplitSeat,
 }
 use Rattle.ssh_hub.specs.declared.history.Entry.{Entry}
-use Rattle.ssh_hub.proofs.Maps.{credited_total, debited_total}
+use Rattle.ssh_hub.specs.declared.reservations.Reservation.{Reservation}
+use Rattle.ssh_hub.proofs.Counts.{act_counts}
 use Rattle.ssh_hub.proofs.Found.{find_changed_here, find_changed_else, find_new_here, find_new_else}
+use Rattle.ssh_hub.proofs.Holdings.{
+  AreDistinct,
+  more_here,
+  more_else,
+  less_here,
+  less_else,
+  put_total,
+  one_of_all,
+}
+use Rattle.ssh_hub.proofs.Own.{distinct_through}
 
--- the account of a channel that is there so
-pub record Even (o : Option Channel) (a : Account) : Type 0 where
-  pub sums : a.counted ≡ left_of o + reserved_of o + a.spent
-  pub most : left_of o + reserved_of o ≤ most_bytes
+-- the inbox of a channel that is there has room for so many messages
+abbrev HasInbox : ℕ → Option Channel → Type 0
+HasInbox k None = Unit {0}
+HasInbox k (Some ch) = ch.room ≡ k
 
--- one channel changes
-changed_even : (cs : Map Channel) (d c : ℕ) (ch ch' : Channel) (a a' : Account) → find d cs
-    ≡ Some ch → (d ≡ c → find c cs ≡ Some ch → Even (Some ch) a → Even (Some ch') a')
-    → (d ≢ c → a' ≡ a) → Even (find c cs) a → Even (find c (with_changed cs d ch')) a'
-changed_even cs d c ch ch' a a' is here else_ h = dite (ℕ_discrete d c)
-    (λ same. let found : find c cs ≡ Some ch = subst (λ x. find x cs ≡ Some ch) same is in
-    let now : find c (with_changed cs d ch') ≡ Some ch' = subst (λ x. find x (with_changed cs d ch')
-    ≡ Some ch') same (find_changed_here cs d ch ch' is) in
-    subst (λ (o : Option Channel). Even o a') (sym now)
-    (here same found (subst (λ (o : Option Channel). Even o a) found h)))
-    (λ ne. subst (λ (o : Option Channel). Even o a') (sym (find_changed_else cs d c ch ch' is ne))
-    (subst (Even (find c cs)) (sym (else_ ne)) h))
+-- the account of a channel that is there so, of which the seats have s bytes together
+pub record Even (k : ℕ) (o : Option Channel) (a : Account) (s : ℕ) : Type 0 where
+  pub sums : a.counted ≡ left_of o + s + a.spent
+  pub most : left_of o + s ≤ most_bytes
+  pub adds : sum_on o ≡ s
+  pub inbox : HasInbox k o
 
--- one channel is new
-new_even : (cs : Map Channel) (d c : ℕ) (ch' : Channel) (a a' : Account) → find d cs ≡ None
-    → (d ≡ c → find c cs ≡ None → Even None a → Even (Some ch') a') → (d ≢ c → a' ≡ a)
-    → Even (find c cs) a → Even (find c (with_new cs d ch')) a'
-new_even cs d c ch' a a' is here else_ h = dite (ℕ_discrete d c)
-    (λ same. let found : find c cs ≡ None = subst (λ x. find x cs ≡ None) same is in
-    let now : find c (with_new cs d ch') ≡ Some ch' = subst (λ x. find x (with_new cs d ch')
-    ≡ Some ch') same (find_new_here cs d ch' is) in
-    subst (λ (o : Option Channel). Even o a') (sym now)
-    (here same found (subst (λ (o : Option Channel). Even o a) found h)))
-    (λ ne. subst (λ (o : Option Channel). Even o a') (sym (find_new_else cs d c ch' is ne))
-    (subst (Even (find c cs)) (sym (else_ ne)) h))
+module _ (P : Option Channel → Type 0) where
+  -- one channel changes
+  changed_to : (Q : Option Channel → Type 0) (cs : Map Channel) (d c : ℕ) (ch ch' : Channel)
+      → find d cs ≡ Some ch → (d ≡ c → find c cs ≡ Some ch → P (Some ch) → Q (Some ch'))
+      → (d ≢ c → P (find c cs) → Q (find c cs)) → P (find c cs)
+      → Q (find c (with_changed cs d ch'))
+  changed_to Q cs d c ch ch' is here else_ h = dite (ℕ_discrete d c)
+      (λ same. let found : find c cs ≡ Some ch = subst (λ x. find x cs ≡ Some ch) same is in
+      let now : find c (with_changed cs d ch') ≡ Some ch' = subst (λ x. find x
+      (with_changed cs d ch') ≡ Some ch') same (find_changed_here cs d ch ch' is) in
+      subst Q (sym now) (here same found (subst P found h)))
+      (λ ne. subst Q (sym (find_changed_else cs d c ch ch' is ne)) (else_ ne h))
 
--- what is left and what is reserved are as many together
-as_many : (ch ch' : Channel) (a : Account) → ch'.left + total_reserved ch'.reserved
-    ≡ ch.left + total_reserved ch.reserved → Even (Some ch) a → Even (Some ch') a
-as_many ch ch' a same h = let s = h.sums in let m = h.most in
-    record { sums = omega arith; most = omega arith }
-
-moved : (cs : Map Channel) (d c : ℕ) (ch ch' : Channel) (a : Account) → find d cs ≡ Some ch
-    → ch'.left + total_reserved ch'.reserved ≡ ch.left + total_reserved ch.reserved
-    → Even (find c cs) a → Even (find c (with_changed cs d ch')) a
-moved cs d c ch ch' a is same h = changed_even cs d c ch ch' a a is
-    (λ _ _ e. as_many ch ch' a same e) (λ _. refl) h
-
-reserving_moves : (ch : Channel) (seat want : ℕ) → (reserving ch seat want).left + total_reserved
-    (reserving ch seat want).reserved ≡ ch.left + total_reserved ch.reserved
-reserving_moves ch seat want = let t = credited_total ch.reserved seat (min want ch.left) in
-    omega arith
-
-reserve_open_moves : (ch : Channel) (seat want : ℕ) (b : Bool) → let x =
-    (reserve_open ch seat want b).0 in x.left + total_reserved x.reserved ≡ ch.left + total_reserved
-    ch.reserved
-reserve_open_moves ch seat want true = refl
-reserve_open_moves ch seat want false = reserving_moves ch seat want
-
-reserve_moves : (ch : Channel) (seat want : ℕ) (b : Bool) → let x =
-    (reserve_from ch seat want b).0 in x.left + total_reserved x.reserved ≡ ch.left + total_reserved
-    ch.reserved
-reserve_moves ch seat want true = refl
-reserve_moves ch seat want false = reserve_open_moves ch seat want (eqb ch.left 0)
-
-reserve_even : (cs : Map Channel) (d c seat want : ℕ) (a : Account) (e : Option ℕ)
-    (o : Option Channel) → find d cs ≡ o → Even (find c cs) a
-    → Even (find c (reserve_in cs seat d want e o).0) a
-reserve_even cs d c seat want a (Some at) o is h = h
-reserve_even cs d c seat want a None None is h = h
-reserve_even cs d c seat want a None (Some ch) is h =
-    moved cs d c ch (reserve_from ch seat want ch.is_closed).0 a is
-    (reserve_moves ch seat want ch.is_closed) h
-
-release_even : (cs : Map Channel) (d c seat amount : ℕ) (a : Account) (o : Option Channel)
-    → find d cs ≡ o → Even (find c cs) a
-    → Even (find c (changed cs d (λ ch. releasing ch seat amount) o)) a
-release_even cs d c seat amount a None is h = h
-release_even cs d c seat amount a (Some ch) is h = moved cs d c ch (releasing ch seat amount) a is
-    (let t = debited_total ch.reserved seat amount in omega arith) h
-
-claim_even : (cs : Map Channel) (d c : ℕ) (a : Account) (o : Option Channel) → find d cs ≡ o
-    → Even (find c cs) a → Even (find c (changed cs d claimed o)) a
-claim_even cs d c a None is h = h
-claim_even cs d c a (Some ch) is h = moved cs d c ch (claimed ch) a is refl h
-
-closed_on_moves : (ch : Channel) (b : Bool) → (closed_on ch b).left + total_reserved
-    (closed_on ch b).reserved ≡ ch.left + total_reserved ch.reserved
-closed_on_moves ch true = refl
-closed_on_moves ch false = refl
-
-deliver_open_moves : (ch : Channel) (msg : ChannelMsg) (b : Bool) → let x =
-    (deliver_open ch msg b).0 in x.left + total_reserved x.reserved ≡ ch.left + total_reserved
-    ch.reserved
-deliver_open_moves ch msg true = closed_on_moves (record ch { inbox = ch.inbox ++ msg ∷ [] })
-    (closes_by msg)
-deliver_open_moves ch msg false = refl
-
-deliver_moves : (ch : Channel) (size : ℕ) (msg : ChannelMsg) (b : Bool) → let x =
-    (deliver_to ch size msg b).0 in x.left + total_reserved x.reserved ≡ ch.left + total_reserved
-    ch.reserved
-deliver_moves ch size msg true = refl
-deliver_moves ch size msg false = deliver_open_moves ch msg (ltb (length ch.inbox) size)
-
-deliver_even : (cs : Map Channel) (d c size : ℕ) (msg : ChannelMsg) (a : Account)
-    (o : Option Channel) → find d cs ≡ o → Even (find c cs) a
-    → Even (find c (deliver_in cs d size msg o).0) a
-deliver_even cs d c size msg a None is h = h
-deliver_even cs d c size msg a (Some ch) is h =
-    moved cs d c ch (deliver_to ch size msg ch.is_closed).0 a is
-    (deliver_moves ch size msg ch.is_closed) h
-
-receive_moves : (ch : Channel) (e : Option ℕ) (msgs : List ChannelMsg) → let x =
-    (receive_from ch e msgs).0 in x.left + total_reserved x.reserved ≡ ch.left + total_reserved
-    ch.reserved
-receive_moves ch e [] = refl
-receive_moves ch e (m ∷ ms) = refl
-
-receive_even : (cs : Map Channel) (d c : ℕ) (e : Option ℕ) (a : Account) (o : Option Channel)
-    → find d cs ≡ o → Even (find c cs) a → Even (find c (receive_in cs d e o).0) a
-receive_even cs d c e a None is h = h
-receive_even cs d c e a (Some ch) is h = moved cs d c ch (receive_from ch e ch.inbox).0 a is
-    (receive_moves ch e ch.inbox) h
+  -- one channel is new
+  new_to : (Q : Option Channel → Type 0) (cs : Map Channel) (d c : ℕ) (ch' : Channel)
+      → find d cs ≡ None → (d ≡ c → find c cs ≡ None → P None → Q (Some ch'))
+      → (d ≢ c → P (find c cs) → Q (find c cs)) → P (find c cs)
+      → Q (find c (with_new cs d ch'))
+  new_to Q cs d c ch' is here else_ h = dite (ℕ_discrete d c)
+      (λ same. let found : find c cs ≡ None = subst (λ x. find x cs ≡ None) same is in
+      let now : find c (with_new cs d ch') ≡ Some ch' = subst (λ x. find x (with_new cs d ch')
+      ≡ Some ch') same (find_new_here cs d ch' is) in
+      subst Q (sym now) (here same found (subst P found h)))
+      (λ ne. subst Q (sym (find_new_else cs d c ch' is ne)) (else_ ne h))
 
 -- the account changes where the call is on this channel
 here_is : {X : Type 0} (d c : ℕ) (x y : X) → d ≡ c → cond (eqb d c) x y ≡ x
@@ -260,197 +172,478 @@ here_is d c x y same = ap (λ (b : Bool). cond b x y) (eq-eqb d c same)
 else_is : {X : Type 0} (d c : ℕ) (x y : X) → d ≢ c → cond (eqb d c) x y ≡ y
 else_is d c x y ne = ap (λ (b : Bool). cond b x y) (ne_eqb d c ne)
 
-window_even : (ch : Channel) (window packet : ℕ) → Even (Some (with_window ch window packet))
-    (record { counted = min window most_bytes; spent = 0 })
-window_even ch window packet = record { sums = omega arith; most = omega arith }
+module _ (k : ℕ) where
+  same_sum : (o : Option Channel) (a : Account) (s t : ℕ) → t ≡ s → Even k o a s → Even k o a t
+  same_sum o a s t is h = subst (Even k o a) (sym is) h
 
-ready_even : (cs : Map Channel) (d c window packet : ℕ) (a : Account) (o : Option Channel)
-    → find d cs ≡ o → Even (find c cs) a → Even (find c (ready_in cs d window packet o))
-    (cond (eqb d c) (record { counted = min window most_bytes; spent = 0 }) a)
-ready_even cs d c window packet a None is h = let b : Account =
-    record { counted = min window most_bytes; spent = 0 } in
-    new_even cs d c (with_window waiting window packet) a (cond (eqb d c) b a) is
-    (λ same _ _. subst (Even (Some (with_window waiting window packet)))
-    (sym (here_is d c b a same)) (window_even waiting window packet)) (λ ne. else_is d c b a ne)
-    h
-ready_even cs d c window packet a (Some ch) is h = let b : Account =
-    record { counted = min window most_bytes; spent = 0 } in
-    changed_even cs d c ch (with_window ch window packet) a (cond (eqb d c) b a) is
-    (λ same _ _. subst (Even (Some (with_window ch window packet))) (sym (here_is d c b a same))
-    (window_even ch window packet)) (λ ne. else_is d c b a ne) h
+  -- a channel of which nothing is left more or less, and nothing reserved
+  moved : (cs : Map Channel) (d c : ℕ) (ch ch' : Channel) (a : Account) (s : ℕ)
+      → find d cs ≡ Some ch → ch'.left ≡ ch.left → ch'.reserved ≡ ch.reserved
+      → ch'.room ≡ ch.room → Even k (find c cs) a s → Even k (find c (with_changed cs d ch')) a s
+  moved cs d c ch ch' a s is left reserved room h =
+      changed_to (λ o. Even k o a s) (λ o. Even k o a s) cs d c ch ch' is
+      (λ _ _ e. let u = e.sums in let m = e.most in record {
+        sums = omega arith;
+        most = omega arith;
+        adds = reserved ∙ e.adds;
+        inbox = room ∙ e.inbox;
+      })
+      (λ _ e. e) h
 
-granted_fits : (ch : Channel) (amount : ℕ) (r x : Bool) → granted_to ch amount r x ≤ most_bytes -
-    (ch.left + total_reserved ch.reserved)
-granted_fits ch amount true false = omega arith
-granted_fits ch amount true true = omega arith
-granted_fits ch amount false x = omega arith
+  -- bytes are reserved of a channel
+  reserving_even : (cs : Map Channel) (d c want : ℕ) (rs : List Reservation) (ch : Channel)
+      (a : Account) (s t : ℕ) → find d cs ≡ Some ch
+      → t + bytes_on c rs ≡ s + bytes_on c (with_more d (min want ch.left) rs)
+      → Even k (find c cs) a s → Even k (find c (with_changed cs d (reserving ch want))) a t
+  reserving_even cs d c want rs ch a s t is total h =
+      changed_to (λ o. Even k o a s) (λ o. Even k o a t) cs d c ch (reserving ch want) is
+      (λ same _ e. let u = e.sums in let m = e.most in let r = e.adds in
+      let more = subst (λ (x : ℕ). bytes_on c (with_more x (min want ch.left) rs)
+      ≡ bytes_on c rs + min want ch.left) (sym same) (more_here c (min want ch.left) rs) in
+      record {
+        sums = omega arith;
+        most = omega arith;
+        adds = omega arith;
+        inbox = e.inbox;
+      })
+      (λ ne e. let more = more_else d c (min want ch.left) rs ne in
+      same_sum (find c cs) a s t (omega arith) e)
+      h
 
--- nothing is added to the account where nothing is added to the channel
-none_added : (cs : Map Channel) (d c : ℕ) (a b : Account) → find d cs ≡ None
-    → (find c cs ≡ None → b ≡ a) → Even (find c cs) a → Even (find c cs) (cond (eqb d c) b a)
-none_added cs d c a b is none h = dite (ℕ_discrete d c)
-    (λ same. subst (Even (find c cs))
-    (sym (here_is d c b a same ∙ none (subst (λ x. find x cs ≡ None) same is))) h)
-    (λ ne. subst (Even (find c cs)) (sym (else_is d c b a ne)) h)
+  reserve_open_even : (cs : Map Channel) (d c want : ℕ) (rs : List Reservation) (ch : Channel)
+      (a : Account) (s t : ℕ) (b : Bool) → find d cs ≡ Some ch
+      → t + bytes_on c rs ≡ s + bytes_on c (after_reserve (reserve_open ch want b).1 d rs)
+      → Even k (find c cs) a s → Even k (find c (with_changed cs d (reserve_open ch want b).0)) a t
+  reserve_open_even cs d c want rs ch a s t true is total h =
+      moved cs d c ch ch a t is refl refl refl (same_sum (find c cs) a s t (omega arith) h)
+  reserve_open_even cs d c want rs ch a s t false is total h =
+      reserving_even cs d c want rs ch a s t is total h
 
-grant_even : (cs : Map Channel) (d c amount : ℕ) (a : Account) (o : Option Channel) → find d cs ≡ o
-    → Even (find c cs) a → Even (find c (changed cs d (λ ch. granting ch amount) o))
-    (cond (eqb d c) (record a { counted = a.counted + granted_in amount (find c cs) }) a)
-grant_even cs d c amount a None is h = none_added cs d c a
-    (record a { counted = a.counted + granted_in amount (find c cs) }) is
-    (λ none. let zero : a.counted + granted_in amount (find c cs) ≡ a.counted =
-    (let g : granted_in amount (find c cs) ≡ 0 = ap (granted_in amount) none in omega arith) in
-    ap (λ n. let b : Account = record a { counted = n } in b) zero) h
-grant_even cs d c amount a (Some ch) is h = let b : Account =
-    record a { counted = a.counted + granted_in amount (find c cs) } in
-    changed_even cs d c ch (granting ch amount) a (cond (eqb d c) b a) is
-    (λ same found e. subst (Even (Some (granting ch amount))) (sym (here_is d c b a same))
-    (let g : granted_in amount (find c cs) ≡ granted_to ch amount ch.is_ready ch.is_closed =
-    ap (granted_in amount) found in
-    let f = granted_fits ch amount ch.is_ready ch.is_closed in let s = e.sums in let m = e.most in
-    record { sums = omega arith; most = omega arith }))
-    (λ ne. else_is d c b a ne) h
+  reserve_from_even : (cs : Map Channel) (d c want : ℕ) (rs : List Reservation) (ch : Channel)
+      (a : Account) (s t : ℕ) (b : Bool) → find d cs ≡ Some ch
+      → t + bytes_on c rs ≡ s + bytes_on c (after_reserve (reserve_from ch want b).1 d rs)
+      → Even k (find c cs) a s → Even k (find c (with_changed cs d (reserve_from ch want b).0)) a t
+  reserve_from_even cs d c want rs ch a s t true is total h =
+      moved cs d c ch ch a t is refl refl refl (same_sum (find c cs) a s t (omega arith) h)
+  reserve_from_even cs d c want rs ch a s t false is total h =
+      reserve_open_even cs d c want rs ch a s t (eqb ch.left 0) is total h
 
-spend_at_even : (cs : Map Channel) (d c seat spend : ℕ) (a : Account) (o : Option Channel)
-    → find d cs ≡ o → Even (find c cs) a → Even (find c (spent_at cs seat d spend o))
-    (cond (eqb d c) (record a { spent = a.spent + spent_in seat spend (find c cs) }) a)
-spend_at_even cs d c seat spend a None is h = none_added cs d c a
-    (record a { spent = a.spent + spent_in seat spend (find c cs) }) is
-    (λ none. let zero : a.spent + spent_in seat spend (find c cs) ≡ a.spent =
-    (let g : spent_in seat spend (find c cs) ≡ 0 = ap (spent_in seat spend) none in omega arith)
-    in ap (λ n. let b : Account = record a { spent = n } in b) zero) h
-spend_at_even cs d c seat spend a (Some ch) is h = let b : Account =
-    record a { spent = a.spent + spent_in seat spend (find c cs) } in
-    changed_even cs d c ch (spending ch seat spend) a (cond (eqb d c) b a) is
-    (λ same found e. subst (Even (Some (spending ch seat spend))) (sym (here_is d c b a same))
-    (let g : spent_in seat spend (find c cs) ≡ min spend (reserved_by seat ch.reserved) =
-    ap (spent_in seat spend) found in
-    let t = debited_total ch.reserved seat spend in let s = e.sums in let m = e.most in
-    record { sums = omega arith; most = omega arith }))
-    (λ ne. else_is d c b a ne) h
+  reserve_even : (cs : Map Channel) (d c want : ℕ) (rs : List Reservation) (a : Account) (s t : ℕ)
+      (e : Option ℕ) (o : Option Channel) → find d cs ≡ o
+      → t + bytes_on c rs ≡ s + bytes_on c (after_reserve (reserve_in cs d want e o).1 d rs)
+      → Even k (find c cs) a s → Even k (find c (reserve_in cs d want e o).0) a t
+  reserve_even cs d c want rs a s t (Some at) o is total h =
+      same_sum (find c cs) a s t (omega arith) h
+  reserve_even cs d c want rs a s t None None is total h =
+      same_sum (find c cs) a s t (omega arith) h
+  reserve_even cs d c want rs a s t None (Some ch) is total h =
+      reserve_from_even cs d c want rs ch a s t ch.is_closed is total h
 
-spend_even : (cs : Map Channel) (c seat spend : ℕ) (a : Account) (x : Option ℕ) → Even (find c cs) a
-    → Even (find c (spent_on cs seat spend x))
-    (cond (is_data_on c x) (record a { spent = a.spent + spent_in seat spend (find c cs) }) a)
-spend_even cs c seat spend a None h = h
-spend_even cs c seat spend a (Some d) h = spend_at_even cs d c seat spend a (find d cs) refl h
+  -- what a seat gives back, or spends, of the channel d, as it is on the channel c
+  less_on_same : (d c n : ℕ) (rs : List Reservation) → AreDistinct rs → d ≡ c
+      → bytes_on c (with_less d n rs) + min n (bytes_on d rs) ≡ bytes_on c rs
+  less_on_same d c n rs alone same = subst (λ (x : ℕ). bytes_on c (with_less x n rs)
+      + min n (bytes_on x rs) ≡ bytes_on c rs) (sym same) (less_here c n rs alone)
 
-put_open_even : (w : World) (c seat : ℕ) (m : Command) (n : ℕ) (wanted : Bool) (a : Account)
-    (b : Bool) → Even (find c w.channels) a
-    → Even (find c (put_open w seat m n wanted b).0.channels)
-    (cond (b && is_data_on c (data_channel m))
-    (record a { spent = a.spent + spent_in seat n (find c w.channels) }) a)
-put_open_even w c seat m n wanted a true h = spend_even w.channels c seat n a (data_channel m) h
-put_open_even w c seat m n wanted a false h = h
+  -- where the channel is not there, the seat has nothing of it
+  less_of_none : (cs : Map Channel) (d c n : ℕ) (rs : List Reservation) (a : Account) (s t : ℕ)
+      → AreDistinct rs → bytes_on c rs ≤ s → find d cs ≡ None
+      → t + bytes_on c rs ≡ s + bytes_on c (with_less d n rs) → Even k (find c cs) a s → t ≡ s
+  less_of_none cs d c n rs a s t alone part is total h = dite (ℕ_discrete d c)
+      (λ same. let less = less_on_same d c n rs alone same in
+      let none : sum_on (find c cs) ≡ 0 = ap sum_on (subst (λ x. find x cs ≡ None) same is) in
+      let r = h.adds in omega arith)
+      (λ ne. let less = less_else d c n rs ne in omega arith)
 
-put_even : (w : World) (c seat : ℕ) (m : Command) (n : ℕ) (wanted : Bool) (a : Account)
-    (o : Option ℕ) → Even (find c w.channels) a
-    → Even (find c (put_in w seat m n wanted o).0.channels)
-    (cond ((is_none o && ltb (length w.commands) w.command_size) && is_data_on c (data_channel m))
-    (record a { spent = a.spent + spent_in seat n (find c w.channels) }) a)
-put_even w c seat m n wanted a (Some at) h = h
-put_even w c seat m n wanted a None h = put_open_even w c seat m n wanted a
-    (ltb (length w.commands) w.command_size) h
+  release_even : (cs : Map Channel) (d c amount : ℕ) (rs : List Reservation) (a : Account)
+      (s t : ℕ) (o : Option Channel) → AreDistinct rs → bytes_on c rs ≤ s → find d cs ≡ o
+      → t + bytes_on c rs ≡ s + bytes_on c (with_less d amount rs) → Even k (find c cs) a s
+      → Even k (find c (changed cs d (λ ch. releasing ch (min amount (bytes_on d rs))) o)) a t
+  release_even cs d c amount rs a s t None alone part is total h =
+      same_sum (find c cs) a s t (less_of_none cs d c amount rs a s t alone part is total h) h
+  release_even cs d c amount rs a s t (Some ch) alone part is total h =
+      changed_to (λ o. Even k o a s) (λ o. Even k o a t) cs d c ch
+      (releasing ch (min amount (bytes_on d rs))) is
+      (λ same _ e. let less = less_on_same d c amount rs alone same in
+      let one : bytes_on d rs ≡ bytes_on c rs = ap (λ (x : ℕ). bytes_on x rs) same in
+      let u = e.sums in let m = e.most in let r = e.adds in record {
+        sums = omega arith;
+        most = omega arith;
+        adds = omega arith;
+        inbox = e.inbox;
+      })
+      (λ ne e. let less = less_else d c amount rs ne in
+      same_sum (find c cs) a s t (omega arith) e)
+      h
 
-reply_channels : (w : World) (seat : ℕ) (m : OpenAnswer) (b : Bool)
+  claim_even : (cs : Map Channel) (d c : ℕ) (a : Account) (s : ℕ) (o : Option Channel)
+      → find d cs ≡ o → Even k (find c cs) a s → Even k (find c (changed cs d claimed o)) a s
+  claim_even cs d c a s None is h = h
+  claim_even cs d c a s (Some ch) is h = moved cs d c ch (claimed ch) a s is refl refl refl h
+
+  deliver_open_even : (cs : Map Channel) (d c : ℕ) (msg : ChannelMsg) (ch : Channel) (a : Account)
+      (s : ℕ) (b x : Bool) → find d cs ≡ Some ch → Even k (find c cs) a s
+      → Even k (find c (with_changed cs d
+      (closed_on (record ch { inbox = ch.inbox ++ msg ∷ [] }) x))) a s
+  deliver_open_even cs d c msg ch a s b true is h = moved cs d c ch
+      (closed_on (record ch { inbox = ch.inbox ++ msg ∷ [] }) true) a s is refl refl refl h
+  deliver_open_even cs d c msg ch a s b false is h = moved cs d c ch
+      (closed_on (record ch { inbox = ch.inbox ++ msg ∷ [] }) false) a s is refl refl refl h
+
+  deliver_to_even : (cs : Map Channel) (d c : ℕ) (msg : ChannelMsg) (ch : Channel) (a : Account)
+      (s : ℕ) (b : Bool) → find d cs ≡ Some ch → Even k (find c cs) a s
+      → Even k (find c (with_changed cs d (deliver_open ch msg b).0)) a s
+  deliver_to_even cs d c msg ch a s true is h = deliver_open_even cs d c msg ch a s true
+      (closes_by msg) is h
+  deliver_to_even cs d c msg ch a s false is h = moved cs d c ch ch a s is refl refl refl h
+
+  deliver_some_even : (cs : Map Channel) (d c : ℕ) (msg : ChannelMsg) (ch : Channel) (a : Account)
+      (s : ℕ) (b : Bool) → find d cs ≡ Some ch → Even k (find c cs) a s
+      → Even k (find c (with_changed cs d (deliver_to ch msg b).0)) a s
+  deliver_some_even cs d c msg ch a s true is h = moved cs d c ch ch a s is refl refl refl h
+  deliver_some_even cs d c msg ch a s false is h = deliver_to_even cs d c msg ch a s
+      (ltb (length ch.inbox) ch.room) is h
+
+  deliver_even : (cs : Map Channel) (d c : ℕ) (msg : ChannelMsg) (a : Account) (s : ℕ)
+      (o : Option Channel) → find d cs ≡ o → Even k (find c cs) a s
+      → Even k (find c (deliver_in cs d msg o).0) a s
+  deliver_even cs d c msg a s None is h = h
+  deliver_even cs d c msg a s (Some ch) is h = deliver_some_even cs d c msg ch a s ch.is_closed is h
+
+  receive_some_even : (cs : Map Channel) (d c : ℕ) (e : Option ℕ) (ch : Channel) (a : Account)
+      (s : ℕ) (msgs : List ChannelMsg) → find d cs ≡ Some ch → Even k (find c cs) a s
+      → Even k (find c (with_changed cs d (receive_from ch e msgs).0)) a s
+  receive_some_even cs d c e ch a s [] is h = moved cs d c ch ch a s is refl refl refl h
+  receive_some_even cs d c e ch a s (m ∷ ms) is h = moved cs d c ch (record ch { inbox = ms }) a s
+      is refl refl refl h
+
+  receive_even : (cs : Map Channel) (d c : ℕ) (e : Option ℕ) (a : Account) (s : ℕ)
+      (o : Option Channel) → find d cs ≡ o → Even k (find c cs) a s
+      → Even k (find c (receive_in cs d e o).0) a s
+  receive_even cs d c e a s None is h = h
+  receive_even cs d c e a s (Some ch) is h = receive_some_even cs d c e ch a s ch.inbox is h
+
+  window_even : (ch : Channel) (window packet s : ℕ) → s ≤ most_bytes → ch.reserved ≡ s
+      → ch.room ≡ k → Even k (Some (with_window ch window packet)) (account_from window s) s
+  window_even ch window packet s most adds room = record {
+    sums = omega arith;
+    most = omega arith;
+    adds = adds;
+    inbox = room;
+  }
+
+  ready_even : (cs : Map Channel) (d c window packet : ℕ) (a : Account) (s : ℕ)
+      (o : Option Channel) → find d cs ≡ o → Even k (find c cs) a s
+      → Even k (find c (ready_in cs k d window packet o))
+      (cond (eqb d c) (account_from window (sum_on (find c cs))) a) s
+  ready_even cs d c window packet a s None is h =
+      let b : Account = account_from window (sum_on (find c cs)) in
+      new_to (λ o. Even k o a s) (λ o. Even k o (cond (eqb d c) b a) s) cs d c
+      (with_window (waiting k) window packet) is
+      (λ same found e. let r = e.adds in let none : sum_on (find c cs) ≡ s = ap sum_on found ∙ r in
+      subst (λ (x : Account). Even k (Some (with_window (waiting k) window packet)) x s)
+      (sym (here_is d c b a same ∙ ap (account_from window) none))
+      (window_even (waiting k) window packet s (omega arith) r refl))
+      (λ ne e. subst (λ (x : Account). Even k (find c cs) x s) (sym (else_is d c b a ne)) e) h
+  ready_even cs d c window packet a s (Some ch) is h =
+      let b : Account = account_from window (sum_on (find c cs)) in
+      changed_to (λ o. Even k o a s) (λ o. Even k o (cond (eqb d c) b a) s) cs d c ch
+      (with_window ch window packet) is
+      (λ same found e. let m = e.most in
+      let all : sum_on (find c cs) ≡ s = ap sum_on found ∙ e.adds in
+      subst (λ (x : Account). Even k (Some (with_window ch window packet)) x s)
+      (sym (here_is d c b a same ∙ ap (account_from window) all))
+      (window_even ch window packet s (omega arith) e.adds e.inbox))
+      (λ ne e. subst (λ (x : Account). Even k (find c cs) x s) (sym (else_is d c b a ne)) e) h
+
+  granted_fits : (ch : Channel) (amount : ℕ) (r x : Bool) → granted_to ch amount r x ≤ most_bytes -
+      (ch.left + ch.reserved)
+  granted_fits ch amount true false = omega arith
+  granted_fits ch amount true true = omega arith
+  granted_fits ch amount false x = omega arith
+
+  -- nothing is added to the account where the channel is not there
+  none_added : (cs : Map Channel) (d c s : ℕ) (a b : Account) → find d cs ≡ None
+      → (find c cs ≡ None → b ≡ a) → Even k (find c cs) a s
+      → Even k (find c cs) (cond (eqb d c) b a) s
+  none_added cs d c s a b is none h = dite (ℕ_discrete d c)
+      (λ same. subst (λ (x : Account). Even k (find c cs) x s)
+      (sym (here_is d c b a same ∙ none (subst (λ x. find x cs ≡ None) same is))) h)
+      (λ ne. subst (λ (x : Account). Even k (find c cs) x s) (sym (else_is d c b a ne)) h)
+
+  grant_even : (cs : Map Channel) (d c amount : ℕ) (a : Account) (s : ℕ) (o : Option Channel)
+      → find d cs ≡ o → Even k (find c cs) a s
+      → Even k (find c (changed cs d (λ ch. granting ch amount) o))
+      (cond (eqb d c) (record a { counted = a.counted + granted_in amount (find c cs) }) a) s
+  grant_even cs d c amount a s None is h = none_added cs d c s a
+      (record a { counted = a.counted + granted_in amount (find c cs) }) is
+      (λ none. let zero : a.counted + granted_in amount (find c cs) ≡ a.counted =
+      (let g : granted_in amount (find c cs) ≡ 0 = ap (granted_in amount) none in omega arith) in
+      ap (λ n. let b : Account = record a { counted = n } in b) zero) h
+  grant_even cs d c amount a s (Some ch) is h =
+      let b : Account = record a { counted = a.counted + granted_in amount (find c cs) } in
+      changed_to (λ o. Even k o a s) (λ o. Even k o (cond (eqb d c) b a) s) cs d c ch
+      (granting ch amount) is
+      (λ same found e. subst (λ (x : Account). Even k (Some (granting ch amount)) x s)
+      (sym (here_is d c b a same))
+      (let g : granted_in amount (find c cs) ≡ granted_to ch amount ch.is_ready ch.is_closed =
+      ap (granted_in amount) found in
+      let f = granted_fits ch amount ch.is_ready ch.is_closed in let u = e.sums in
+      let m = e.most in let r = e.adds in
+      record { sums = omega arith; most = omega arith; adds = r; inbox = e.inbox }))
+      (λ ne e. subst (λ (x : Account). Even k (find c cs) x s) (sym (else_is d c b a ne)) e) h
+
+  -- a put of data on the channel d spends bytes
+  spend_at_even : (cs : Map Channel) (d c spend : ℕ) (rs : List Reservation) (a : Account)
+      (s t : ℕ) (o : Option Channel) → AreDistinct rs → bytes_on c rs ≤ s → find d cs ≡ o
+      → t + bytes_on c rs ≡ s + bytes_on c (with_less d spend rs) → Even k (find c cs) a s
+      → Even k (find c (spent_at cs d (min spend (bytes_on d rs)) o))
+      (cond (eqb d c) (record a { spent = a.spent + min spend (bytes_on c rs) }) a) t
+  spend_at_even cs d c spend rs a s t None alone part is total h =
+      same_sum (find c cs) _ s t (less_of_none cs d c spend rs a s t alone part is total h)
+      (none_added cs d c s a (record a { spent = a.spent + min spend (bytes_on c rs) }) is
+      (λ none. let zero : a.spent + min spend (bytes_on c rs) ≡ a.spent =
+      (let r = h.adds in let g : sum_on (find c cs) ≡ 0 = ap sum_on none in omega arith)
+      in ap (λ n. let b : Account = record a { spent = n } in b) zero) h)
+  spend_at_even cs d c spend rs a s t (Some ch) alone part is total h =
+      let b : Account = record a { spent = a.spent + min spend (bytes_on c rs) } in
+      changed_to (λ o. Even k o a s) (λ o. Even k o (cond (eqb d c) b a) t) cs d c ch
+      (spending ch (min spend (bytes_on d rs))) is
+      (λ same _ e. subst (λ (x : Account). Even k (Some (spending ch (min spend (bytes_on d rs)))) x
+      t) (sym (here_is d c b a same))
+      (let less = less_on_same d c spend rs alone same in
+      let one : bytes_on d rs ≡ bytes_on c rs = ap (λ (x : ℕ). bytes_on x rs) same in
+      let u = e.sums in let m = e.most in let r = e.adds in
+      record {
+        sums = omega arith;
+        most = omega arith;
+        adds = omega arith;
+        inbox = e.inbox;
+      }))
+      (λ ne e. let less = less_else d c spend rs ne in
+      same_sum (find c cs) (cond (eqb d c) b a) s t (omega arith)
+      (subst (λ (x : Account). Even k (find c cs) x s) (sym (else_is d c b a ne)) e))
+      h
+
+  spend_even : (cs : Map Channel) (c spend : ℕ) (rs : List Reservation) (a : Account) (s t : ℕ)
+      (x : Option ℕ) → AreDistinct rs → bytes_on c rs ≤ s
+      → t + bytes_on c rs ≡ s + bytes_on c (less_at x spend rs) → Even k (find c cs) a s
+      → Even k (find c (spent_on cs (min spend (bytes_at x rs)) x))
+      (cond (is_data_on c x) (record a { spent = a.spent + min spend (bytes_on c rs) }) a) t
+  spend_even cs c spend rs a s t None alone part total h =
+      same_sum (find c cs) a s t (omega arith) h
+  spend_even cs c spend rs a s t (Some d) alone part total h =
+      spend_at_even cs d c spend rs a s t (find d cs) alone part refl total h
+
+  put_open_even : (w : Held) (c seat spend : ℕ) (m : Command) (wanted : Bool)
+      (rs : List Reservation) (a : Account) (s t : ℕ) (b : Bool) → AreDistinct rs
+      → bytes_on c rs ≤ s → let n : ℕ = min spend (bytes_at (data_channel m) rs) in
+      t + bytes_on c rs ≡ s + bytes_on c (after_put (put_open w seat n m wanted b).1
+      (data_channel m) spend rs) → Even k (find c w.channels) a s
+      → Even k (find c (put_open w seat n m wanted b).0.channels)
+      (cond (b && is_data_on c (data_channel m))
+      (record a { spent = a.spent + min spend (bytes_on c rs) }) a) t
+  put_open_even w c seat spend m wanted rs a s t true alone part total h =
+      spend_even w.channels c spend rs a s t (data_channel m) alone part total h
+  put_open_even w c seat spend m wanted rs a s t false alone part total h =
+      same_sum (find c w.channels) a s t (omega arith) h
+
+  put_even : (w : Held) (c seat spend : ℕ) (m : Command) (wanted : Bool) (rs : List Reservation)
+      (a : Account) (s t : ℕ) (o : Option ℕ) → AreDistinct rs → bytes_on c rs ≤ s
+      → let n : ℕ = min spend (bytes_at (data_channel m) rs) in
+      t + bytes_on c rs ≡ s + bytes_on c (after_put (put_in w seat n m wanted o).1
+      (data_channel m) spend rs) → Even k (find c w.channels) a s
+      → Even k (find c (put_in w seat n m wanted o).0.channels)
+      (cond ((is_none o && ltb (length w.commands) w.command_size)
+      && is_data_on c (data_channel m))
+      (record a { spent = a.spent + min spend (bytes_on c rs) }) a) t
+  put_even w c seat spend m wanted rs a s t (Some at) alone part total h =
+      same_sum (find c w.channels) a s t (omega arith) h
+  put_even w c seat spend m wanted rs a s t None alone part total h =
+      put_open_even w c seat spend m wanted rs a s t (ltb (length w.commands) w.command_size) alone
+      part total h
+
+  opened_even : (cs : Map Channel) (d c : ℕ) (a : Account) (s : ℕ) (o : Option Channel)
+      → find d cs ≡ o → Even k (find c cs) a s → Even k (find c (opened_at k cs d o)) a s
+  opened_even cs d c a s None is h = new_to (λ o. Even k o a s) (λ o. Even k o a s) cs d c
+      (waiting k) is
+      (λ _ _ e. let u = e.sums in let m = e.most in record {
+        sums = omega arith;
+        most = omega arith;
+        adds = e.adds;
+        inbox = refl;
+      })
+      (λ _ e. e) h
+  opened_even cs d c a s (Some ch) is h = h
+
+  closed_at_even : (cs : Map Channel) (d c : ℕ) (a : Account) (s : ℕ) (o : Option Channel)
+      → find d cs ≡ o → Even k (find c cs) a s → Even k (find c (closed_at cs d o)) a s
+  closed_at_even cs d c a s None is h = h
+  closed_at_even cs d c a s (Some ch) is h = moved cs d c ch (closed ch) a s is refl refl refl h
+
+  closed_by_even : (cs : Map Channel) (c : ℕ) (a : Account) (s : ℕ) (x : Option ℕ)
+      → Even k (find c cs) a s → Even k (find c (closed_by cs x)) a s
+  closed_by_even cs c a s None h = h
+  closed_by_even cs c a s (Some d) h = closed_at_even cs d c a s (find d cs) refl h
+
+  after_even : (cs : Map Channel) (c : ℕ) (due : Due) (a : Account) (s : ℕ) (o : CommandOutcome)
+      → Even k (find c cs) a s → Even k (find c (channels_after k cs due o)) a s
+  after_even cs c due a s (Opened d) h = opened_even cs d.0 c a s (find d.0 cs) refl h
+  after_even cs c due a s Accepted h = closed_by_even cs c a s due.closes h
+  after_even cs c due a s (Refused why) h = h
+
+reply_channels : (w : Held) (seat : ℕ) (m : OpenAnswer) (b : Bool)
     → (put_reply_open w seat m b).0.channels ≡ w.channels
 reply_channels w seat m true = refl
 reply_channels w seat m false = refl
 
-put_reply_channels : (w : World) (seat : ℕ) (m : OpenAnswer) (o : Option ℕ)
+put_reply_channels : (w : Held) (seat : ℕ) (m : OpenAnswer) (o : Option ℕ)
     → (put_reply_in w seat m o).0.channels ≡ w.channels
 put_reply_channels w seat m (Some at) = refl
 put_reply_channels w seat m None = reply_channels w seat m (ltb (length w.replies) reply_size)
 
-take_channels : (w : World) (rs : List QueuedReply) (cs : List QueuedCommand)
+take_channels : (w : Held) (rs : List QueuedReply) (cs : List QueuedCommand)
     → (take_first w rs cs).0.channels ≡ w.channels
 take_channels w (r ∷ rs) cs = refl
 take_channels w [] (q ∷ cs) = refl
 take_channels w [] [] = refl
 
-opened_even : (cs : Map Channel) (d c : ℕ) (a : Account) (o : Option Channel) → find d cs ≡ o
-    → Even (find c cs) a → Even (find c (opened_at cs d o)) a
-opened_even cs d c a None is h = new_even cs d c waiting a a is (λ _ _ e. let s = e.sums in
-    record { sums = omega arith; most = omega arith }) (λ _. refl) h
-opened_even cs d c a (Some ch) is h = h
+settled_even : (w : Held) (c : ℕ) (due : Due) (o : CommandOutcome) (a : Account) (s : ℕ) (b : Bool)
+    → Even w.inbox_size (find c w.channels) a s
+    → Even w.inbox_size (find c (settled_if w due o b).channels) a s
+settled_even w c due o a s true h = after_even w.inbox_size w.channels c due a s o h
+settled_even w c due o a s false h = h
 
-closed_at_even : (cs : Map Channel) (d c : ℕ) (a : Account) (o : Option Channel) → find d cs ≡ o
-    → Even (find c cs) a → Even (find c (closed_at cs d o)) a
-closed_at_even cs d c a None is h = h
-closed_at_even cs d c a (Some ch) is h = moved cs d c ch (closed ch) a is refl h
+answer_even : (w : Held) (c t : ℕ) (o : CommandOutcome) (a : Account) (s : ℕ) (due : Option Due)
+    → Even w.inbox_size (find c w.channels) a s
+    → Even w.inbox_size (find c (answered w t o due).channels) a s
+answer_even w c t o a s None h = h
+answer_even w c t o a s (Some due) h = settled_even w c due o a s (eqb due.ticket t) h
 
-closed_by_even : (cs : Map Channel) (c : ℕ) (a : Account) (x : Option ℕ) → Even (find c cs) a
-    → Even (find c (closed_by cs x)) a
-closed_by_even cs c a None h = h
-closed_by_even cs c a (Some d) h = closed_at_even cs d c a (find d cs) refl h
-
-after_even : (cs : Map Channel) (c : ℕ) (due : Due) (a : Account) (o : CommandOutcome)
-    → Even (find c cs) a → Even (find c (channels_after cs due o)) a
-after_even cs c due a (Opened d) h = opened_even cs d.0 c a (find d.0 cs) refl h
-after_even cs c due a Accepted h = closed_by_even cs c a due.closes h
-after_even cs c due a (Refused why) h = h
-
-settled_even : (w : World) (c : ℕ) (due : Due) (o : CommandOutcome) (a : Account) (b : Bool)
-    → Even (find c w.channels) a → Even (find c (settled_if w due o b).channels) a
-settled_even w c due o a true h = after_even w.channels c due a o h
-settled_even w c due o a false h = h
-
-answer_even : (w : World) (c t : ℕ) (o : CommandOutcome) (a : Account) (due : Option Due)
-    → Even (find c w.channels) a → Even (find c (answered w t o due).channels) a
-answer_even w c t o a None h = h
-answer_even w c t o a (Some due) h = settled_even w c due o a (eqb due.ticket t) h
-
-step_even : (w : World) (c by : ℕ) (call : HubCall) (a : Account) → Even (find c w.channels) a
-    → Even (find c (hub_step w by call).0.channels) (after_call w c by call a)
+-- one call, where the seat has reserved rs, and the seats together s bytes before it and t after it
+act_even : (w : World) (c by : ℕ) (call : HubCall) (a : Account) (t : ℕ)
+    → let rs = reservations by w in let s = total_on c w.reserved in let k = w.hub.inbox_size in
+    let p = act w.hub by (at_hand call rs) call in
+    AreDistinct rs → bytes_on c rs ≤ s → t + bytes_on c rs ≡ s + bytes_on c (reserved_after call p.1 rs)
+    → Even k (find c w.hub.channels) a s
+    → Even k (find c p.0.channels) (after_call w c by call a) t
 unfolding act
-step_even w c by (ReserveBytes d n) a h = reserve_even w.channels d.0 c by n a w.ended
-    (find d.0 w.channels) refl h
-step_even w c by (ReleaseBytes d n) a h = release_even w.channels d.0 c by n a (find d.0 w.channels)
-    refl h
-step_even w c by (PutCommand m n b) a h = put_even w c by m n b a w.ended h
-step_even w c by (PutAnswer m) a h = subst (λ (cs : Map Channel). Even (find c cs) a)
-    (sym (put_reply_channels w by m w.ended)) h
-step_even w c by (TakeNext r q) a h = subst (λ (cs : Map Channel). Even (find c cs) a)
-    (sym (take_channels w (asked r w.replies) (asked q w.commands))) h
-step_even w c by (MakeReady d n p) a h = ready_even w.channels d.0 c n p a (find d.0 w.channels)
-    refl h
-step_even w c by (GrantBytes d n) a h = grant_even w.channels d.0 c n a (find d.0 w.channels) refl h
-step_even w c by (DeliverMsg d m) a h = deliver_even w.channels d.0 c w.inbox_size m a
-    (find d.0 w.channels) refl h
-step_even w c by (ReceiveMsg d) a h = receive_even w.channels d.0 c w.ended a (find d.0 w.channels)
-    refl h
-step_even w c by (AnswerTicket t o) a h = answer_even w c t o a w.due h
-step_even w c by (TakeOutcome t) a h = h
-step_even w c by EndHub a h = h
-step_even w c by AskEnded a h = h
-step_even w c by (LookAt d) a h = h
-step_even w c by (ClaimChannel d) a h = claim_even w.channels d.0 c a (find d.0 w.channels) refl h
-step_even w c by DrawSlot a h = h
-step_even w c by (AnswerSlot t x) a h = h
-step_even w c by (TakeSlotAnswer t) a h = h
-step_even w c by AskRefusal a h = h
-step_even w c by Nudge a h = h
-step_even w c by SplitSeat a h = h
+act_even w c by (ReserveBytes d n) a t alone part total h = reserve_even w.hub.inbox_size
+    w.hub.channels d.0 c n (reservations by w) a (total_on c w.reserved) t w.hub.ended
+    (find d.0 w.hub.channels) refl total h
+act_even w c by (ReleaseBytes d n) a t alone part total h = release_even w.hub.inbox_size
+    w.hub.channels d.0 c n (reservations by w) a (total_on c w.reserved) t
+    (find d.0 w.hub.channels) alone part refl total h
+act_even w c by (PutCommand m n b) a t alone part total h = put_even w.hub.inbox_size
+    w.hub c by n m b (reservations by w) a (total_on c w.reserved) t w.hub.ended alone part total h
+act_even w c by (PutAnswer m) a t alone part total h = same_sum w.hub.inbox_size _ _ _ t
+    (omega arith) (subst (λ (cs : Map Channel). Even w.hub.inbox_size (find c cs) a (total_on c w.reserved))
+    (sym (put_reply_channels w.hub by m w.hub.ended)) h)
+act_even w c by (TakeNext r q) a t alone part total h = same_sum w.hub.inbox_size _ _ _ t
+    (omega arith) (subst (λ (cs : Map Channel). Even w.hub.inbox_size (find c cs) a (total_on c w.reserved))
+    (sym (take_channels w.hub (asked r w.hub.replies) (asked q w.hub.commands))) h)
+act_even w c by (MakeReady d n p) a t alone part total h = same_sum w.hub.inbox_size _ _ _ t
+    (omega arith) (ready_even w.hub.inbox_size w.hub.channels d.0 c n p a (total_on c w.reserved)
+    (find d.0 w.hub.channels) refl h)
+act_even w c by (GrantBytes d n) a t alone part total h = same_sum w.hub.inbox_size _ _ _ t
+    (omega arith) (grant_even w.hub.inbox_size w.hub.channels d.0 c n a (total_on c w.reserved)
+    (find d.0 w.hub.channels) refl h)
+act_even w c by (DeliverMsg d m) a t alone part total h = same_sum w.hub.inbox_size _ _ _ t
+    (omega arith) (deliver_even w.hub.inbox_size w.hub.channels d.0 c m a (total_on c w.reserved)
+    (find d.0 w.hub.channels) refl h)
+act_even w c by (ReceiveMsg d) a t alone part total h = same_sum w.hub.inbox_size _ _ _ t
+    (omega arith) (receive_even w.hub.inbox_size w.hub.channels d.0 c w.hub.ended a (total_on c w.reserved)
+    (find d.0 w.hub.channels) refl h)
+act_even w c by (AnswerTicket x o) a t alone part total h = same_sum w.hub.inbox_size _ _ _ t
+    (omega arith) (answer_even w.hub c x o a (total_on c w.reserved) w.hub.due h)
+act_even w c by (TakeOutcome x) a t alone part total h = same_sum w.hub.inbox_size _ _ _ t
+    (omega arith) (h)
+act_even w c by EndHub a t alone part total h = same_sum w.hub.inbox_size _ _ _ t
+    (omega arith) (h)
+act_even w c by AskEnded a t alone part total h = same_sum w.hub.inbox_size _ _ _ t
+    (omega arith) (h)
+act_even w c by (LookAt d) a t alone part total h = same_sum w.hub.inbox_size _ _ _ t
+    (omega arith) (h)
+act_even w c by (ClaimChannel d) a t alone part total h = same_sum w.hub.inbox_size _ _ _ t
+    (omega arith) (claim_even w.hub.inbox_size w.hub.channels d.0 c a (total_on c w.reserved)
+    (find d.0 w.hub.channels) refl h)
+act_even w c by DrawSlot a t alone part total h = same_sum w.hub.inbox_size _ _ _ t
+    (omega arith) (h)
+act_even w c by (AnswerSlot x y) a t alone part total h = same_sum w.hub.inbox_size _ _ _ t
+    (omega arith) (h)
+act_even w c by (TakeSlotAnswer x) a t alone part total h = same_sum w.hub.inbox_size _ _ _ t
+    (omega arith) (h)
+act_even w c by AskRefusal a t alone part total h = same_sum w.hub.inbox_size _ _ _ t
+    (omega arith) (h)
+act_even w c by Nudge a t alone part total h = same_sum w.hub.inbox_size _ _ _ t
+    (omega arith) (h)
+act_even w c by SplitSeat a t alone part total h = same_sum w.hub.inbox_size _ _ _ t
+    (omega arith) (h)
 
-even_through : (w : World) (c : ℕ) (log : List Entry) (a : Account) → Even (find c w.channels) a
-    → Even (find c (run w log).channels) (account w c log a)
-even_through w c [] a h = h
-even_through w c (e ∷ es) a h = even_through (hub_step w e.by e.call).0 c es
-    (after_call w c e.by e.call a) (step_even w c e.by e.call a h)
+step_even : (w : World) (c by : ℕ) (call : HubCall) (a : Account) → AreDistinct (reservations by w)
+    → Even w.hub.inbox_size (find c w.hub.channels) a (total_on c w.reserved)
+    → let x = (hub_step w by call).0 in
+    Even x.hub.inbox_size (find c x.hub.channels) (after_call w c by call a) (total_on c x.reserved)
+step_even w c by call a alone h =
+    let rs : List Reservation = reservations by w in
+    let x = (hub_step w by call).0 in
+    let reply = (hub_step w by call).1 in
+    subst (λ (k : ℕ). Even k (find c x.hub.channels) (after_call w c by call a)
+    (total_on c x.reserved)) (sym (act_counts w.hub by (at_hand call rs) call).inbox)
+    (act_even w c by call a (total_on c x.reserved) alone
+    (one_of_all by c w.reserved (find by w.reserved) refl)
+    (put_total by c w.reserved (reserved_after call reply rs) (find by w.reserved) refl) h)
+
+even_through : (w : World) (c : ℕ) (log : List Entry) (a : Account)
+    → ((n : ℕ) → AreDistinct (reservations n w))
+    → Even w.hub.inbox_size (find c w.hub.channels) a (total_on c w.reserved)
+    → let x = run w log in
+    Even x.hub.inbox_size (find c x.hub.channels) (account w c log a) (total_on c x.reserved)
+even_through w c [] a alone h = h
+even_through w c (e ∷ es) a alone h = even_through (hub_step w e.by e.call).0 c es
+    (after_call w c e.by e.call a) (distinct_through w e.by e.call alone)
+    (step_even w c e.by e.call a (alone e.by) h)
+
+all_even : (k : Config2) (log : List Entry) (c : ℕ) → let x = run (opening k) log in
+    Even x.hub.inbox_size (find c x.hub.channels) (account (opening k) c log no_bytes)
+    (total_on c x.reserved)
+all_even k log c = even_through (opening k) c log no_bytes (λ n. tt) record {
+  sums = refl;
+  most = omega arith;
+  adds = refl;
+  inbox = tt;
+}
 
 -- what was counted is left, reserved or spent
-pub conserved : (k : Config2) (log : List Entry) (c : ℕ) → let ch =
-    find c (run (opening k) log).channels in let a = account (opening k) c log no_bytes in a.counted
-    ≡ left_of ch + reserved_of ch + a.spent
-conserved k log c = (even_through (opening k) c log no_bytes record {
-  sums = refl;
-  most = omega arith;
-}).sums
+pub conserved : (k : Config2) (log : List Entry) (c : ℕ) → let w = run (opening k) log in
+    let a = account (opening k) c log no_bytes in
+    a.counted ≡ left_of (find c w.hub.channels) + reserved_of c w + a.spent
+conserved k log c = (all_even k log c).sums
 
 -- what is left and what is reserved fit 32 bits together
-pub fits : (k : Config2) (log : List Entry) (c : ℕ) → let ch = find c (run (opening k) log).channels
-    in left_of ch + reserved_of ch ≤ most_bytes
-fits k log c = (even_through (opening k) c log no_bytes record {
-  sums = refl;
-  most = omega arith;
-}).most
+pub fits : (k : Config2) (log : List Entry) (c : ℕ) → let w = run (opening k) log in
+    left_of (find c w.hub.channels) + reserved_of c w ≤ most_bytes
+fits k log c = (all_even k log c).most
+
+-- the sum that the hub counts is right
+pub adds_up : (k : Config2) (log : List Entry) (c : ℕ) → let w = run (opening k) log in
+    sum_on (find c w.hub.channels) ≡ reserved_of c w
+adds_up k log c = (all_even k log c).adds
+
+-- one seat has no more than the hub counts
+pub part_of_all : (k : Config2) (log : List Entry) (n c : ℕ) → let w = run (opening k) log in
+    bytes_on c (reservations n w) ≤ sum_on (find c w.hub.channels)
+part_of_all k log n c = let w = run (opening k) log in
+    subst (λ (s : ℕ). bytes_on c (reservations n w) ≤ s) (sym (adds_up k log c))
+    (one_of_all n c w.reserved (find n w.reserved) refl)
+
+sizes_through : (w : World) (log : List Entry) → (run w log).hub.inbox_size ≡ w.hub.inbox_size
+sizes_through w [] = refl
+sizes_through w (e ∷ es) = sizes_through (hub_step w e.by e.call).0 es
+    ∙ (act_counts w.hub e.by (at_hand e.call (reservations e.by w)) e.call).inbox
+
+-- each inbox has the size that the hub was made with
+pub of_one_size : (k : Config2) (log : List Entry) (c : ℕ) (ch : Channel)
+    → find c (run (opening k) log).hub.channels ≡ Some ch → ch.room ≡ k.channel_buffer_size
+of_one_size k log c ch is = subst (HasInbox (run (opening k) log).hub.inbox_size) is
+    (all_even k log c).inbox ∙ sizes_through (opening k) log

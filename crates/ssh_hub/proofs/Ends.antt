@@ -3,6 +3,7 @@ use Rattle.std.proofs.Common.{
   ◌≡◌,
   ℕ,
   ◌+◌,
+  min,
   Bool,
   true,
   false,
@@ -17,7 +18,8 @@ use Rattle.std.proofs.Common.{
   ap,
   ◌∙◌,
 }
-use Rattle.ssh_hub.specs.World.{World}
+use Rattle.ssh_hub.specs.World.{Held, World}
+use Rattle.ssh_hub.specs.Reserved.{at_hand, reservations}
 use Rattle.ssh_hub.specs.Lists.{asked}
 use Rattle.ssh_hub.specs.Step.{opening, act, hub_step, ended_first}
 use Rattle.ssh_hub.specs.History.{run}
@@ -51,30 +53,30 @@ use Rattle.ssh_hub.specs.declared.history.Entry.{Entry}
 use Rattle.ssh_hub.proofs.Counts.{put_quiet, reply_quiet, take_quiet, answer_quiet, act_counts}
 
 -- a call ends the hub, or leaves it as it was
-act_ended : (w : World) (by : ℕ) (c : HubCall) → (hub_step w by c).0.ended
+act_ended : (w : Held) (by had : ℕ) (c : HubCall) → (act w by had c).0.ended
     ≡ cond (is_end c) (ended_first w.place w.ended) w.ended
 unfolding act
-act_ended w by (ReserveBytes d n) = refl
-act_ended w by (ReleaseBytes d n) = refl
-act_ended w by (PutCommand m n b) = (put_quiet w by m n b w.ended).ended
-act_ended w by (PutAnswer m) = (reply_quiet w by m w.ended).ended
-act_ended w by (TakeNext r q) = (take_quiet w (asked r w.replies) (asked q w.commands)).ended
-act_ended w by (MakeReady d n p) = refl
-act_ended w by (GrantBytes d n) = refl
-act_ended w by (DeliverMsg d m) = refl
-act_ended w by (ReceiveMsg d) = refl
-act_ended w by (AnswerTicket t o) = (answer_quiet w t o w.due).ended
-act_ended w by (TakeOutcome t) = refl
-act_ended w by EndHub = refl
-act_ended w by AskEnded = refl
-act_ended w by (LookAt d) = refl
-act_ended w by (ClaimChannel d) = refl
-act_ended w by DrawSlot = refl
-act_ended w by (AnswerSlot t x) = refl
-act_ended w by (TakeSlotAnswer t) = refl
-act_ended w by AskRefusal = refl
-act_ended w by Nudge = refl
-act_ended w by SplitSeat = refl
+act_ended w by had (ReserveBytes d n) = refl
+act_ended w by had (ReleaseBytes d n) = refl
+act_ended w by had (PutCommand m n b) = (put_quiet w by (min n had) m b w.ended).ended
+act_ended w by had (PutAnswer m) = (reply_quiet w by m w.ended).ended
+act_ended w by had (TakeNext r q) = (take_quiet w (asked r w.replies) (asked q w.commands)).ended
+act_ended w by had (MakeReady d n p) = refl
+act_ended w by had (GrantBytes d n) = refl
+act_ended w by had (DeliverMsg d m) = refl
+act_ended w by had (ReceiveMsg d) = refl
+act_ended w by had (AnswerTicket t o) = (answer_quiet w t o w.due).ended
+act_ended w by had (TakeOutcome t) = refl
+act_ended w by had EndHub = refl
+act_ended w by had AskEnded = refl
+act_ended w by had (LookAt d) = refl
+act_ended w by had (ClaimChannel d) = refl
+act_ended w by had DrawSlot = refl
+act_ended w by had (AnswerSlot t x) = refl
+act_ended w by had (TakeSlotAnswer t) = refl
+act_ended w by had AskRefusal = refl
+act_ended w by had Nudge = refl
+act_ended w by had SplitSeat = refl
 
 -- where it has not ended, the later end counts
 or_else : Option ℕ → Option ℕ → Option ℕ
@@ -95,20 +97,22 @@ unfolding or_else
 never_later (Some at) = refl
 never_later None = refl
 
-ended_through : (w : World) (log : List Entry) → (run w log).ended
-    ≡ or_else w.ended (first_end w.place log)
-ended_through w [] = never_later w.ended
+ended_through : (w : World) (log : List Entry) → (run w log).hub.ended
+    ≡ or_else w.hub.ended (first_end w.hub.place log)
+ended_through w [] = never_later w.hub.ended
 ended_through w (e ∷ es) =
     let next : World = (hub_step w e.by e.call).0 in
-    let place : next.place ≡ w.place + 1 = (act_counts w e.by e.call).place in
+    let had : ℕ = at_hand e.call (reservations e.by w) in
+    let h : Held = w.hub in
+    let place : next.hub.place ≡ h.place + 1 = (act_counts h e.by had e.call).place in
     ended_through next es
-    ∙ (ap (λ (o : Option ℕ). or_else o (first_end next.place es)) (act_ended w e.by e.call)
-    ∙ (ap (λ (p : ℕ). or_else (cond (is_end e.call) (ended_first w.place w.ended) w.ended)
+    ∙ (ap (λ (o : Option ℕ). or_else o (first_end next.hub.place es)) (act_ended h e.by had e.call)
+    ∙ (ap (λ (p : ℕ). or_else (cond (is_end e.call) (ended_first h.place h.ended) h.ended)
     (first_end p es)) place
-    ∙ ends_once (is_end e.call) w.place w.ended (first_end (w.place + 1) es)))
+    ∙ ends_once (is_end e.call) h.place h.ended (first_end (h.place + 1) es)))
 
 -- the hub has ended at the place of the first end
-pub ended_at_first : (k : Config2) (log : List Entry) → (run (opening k) log).ended
+pub ended_at_first : (k : Config2) (log : List Entry) → (run (opening k) log).hub.ended
     ≡ first_end 0 log
 unfolding or_else
 ended_at_first k log = ended_through (opening k) log

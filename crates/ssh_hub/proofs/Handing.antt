@@ -46,7 +46,7 @@ use Rattle.atomic_table.specs.Table.{
   carried_after,
 }
 use Rattle.atomic_table.proofs.Lists.{set_here}
-use Rattle.ssh_hub.specs.World.{World}
+use Rattle.ssh_hub.specs.World.{Held}
 use Rattle.ssh_hub.specs.Step as hub
 use Rattle.ssh_hub.specs.Step.{opening}
 use Rattle.ssh_hub.specs.History.{calls_by}
@@ -87,7 +87,7 @@ use Rattle.ssh_hub.proofs.Stages.{ticket_in, turn_in, waits_on, spare_cases, new
 
 -- the lock's table: its words, its slot, and the views of its seats
 abbrev TableState : Type 0
-TableState = State (Option World) View
+TableState = State (Option Held) View
 
 module _ (k : Config2) where
   -- the entry is written
@@ -114,8 +114,8 @@ module _ (k : Config2) where
       let next : world k log' ≡ (hub.hub_step (world k log) e.by e.call).0 = run_snoc (opening k)
       log e in
       let more = seats_more (world k log) e.by e.call in
-      let up : (world k log).seats ≤ (world k log').seats =
-      subst (λ x. (world k log).seats ≤ x.seats) (sym next) more.0 in
+      let up : (world k log).hub.seats ≤ (world k log').hub.seats =
+      subst (λ x. (world k log).hub.seats ≤ x.hub.seats) (sym next) more.0 in
       let spare : Option ℕ = drawn_by e.call e.reply v.spare in
       let drew_one = spare_cases k log e v.spare unspared legal' in
       let w : View = record v {
@@ -137,7 +137,7 @@ module _ (k : Config2) where
       let spared_before : spares_of v ≡ 0 = ap spares_in unspared in
       let h = r.held in
       let b = r.seated in
-      let count : spares_of w + (world k log).seats ≡ (world k log').seats = drew_one.0 in
+      let count : spares_of w + (world k log).hub.seats ≡ (world k log').hub.seats = drew_one.0 in
       let found : get_or s.words 2 0 ≡ length log = ap (λ ws. get_or ws 2 0) r.words in
       let here : HasTicket v.stage r.served = subst (λ x. HasTicket x r.served) (sym st) is in
       let longer : (length log + 1) % 18446744073709551616 ≡ length log' =
@@ -150,7 +150,7 @@ module _ (k : Config2) where
       let not_turn : (j : ℕ) (u : View) → j ≢ id → get_elem? s.views j ≡ some u → HasTurn u.stage
       → ⊥ = λ j u ne x turn. (r.apart id j v u (λ y. ne (sym y)) at x).0 r.served here
       (turn_in log r.drawn r.served u.seen u.stage (r.each j u x).stage turn).0 in
-      subst (λ (z : View). (y : View) × (a : Act (Option World)) × Valid s.homes me.1 a
+      subst (λ (z : View). (y : View) × (a : Act (Option Held)) × Valid s.homes me.1 a
       × Kept k (stepped s 2 ((get_or s.words 2 0 + 1) % 18446744073709551616) id me.1 y a)
       × ((get_or s.words 2 0 ≡ length v.seen) × (let p : Seated = (y, carried_after me.1 a) in
       p ≡ (z, me.1)) × ((n : ℕ) → drawn_by e.call e.reply v.spare ≡ Some n → (0 < n)
@@ -233,7 +233,7 @@ module _ (k : Config2) where
 
   -- the hub is given back, and the next ticket is served
   pub passes : (slots id : ℕ) (me : Seated) → 0 < me.0.number → HasTurn me.0.stage → me.1
-      ≡ (0, Some (world me.0.config me.0.seen)) ∷ [] → Allows (Kept k) slots id me 1
+      ≡ (0, Some (world me.0.config me.0.seen).hub) ∷ [] → Allows (Kept k) slots id me 1
       (λ n. (n + 1) % 18446744073709551616) (passed (step slots 1 1 0 none) me)
   passes slots id me real turn carried s r _ at _ =
       let v = me.0 in
@@ -245,9 +245,9 @@ module _ (k : Config2) where
       let len = here.3 in
       let room = here.4 in
       let w : View = record v { stage = Idle } in
-      let home : Option World = Some (world v.config v.seen) in
-      let home_is : home ≡ Some (world k log) = ap₂ (λ (c : Config2) (l : List Entry).
-      Some (world c l)) config here.2 in
+      let home : Option Held = Some (world v.config v.seen).hub in
+      let home_is : home ≡ Some (world k log).hub = ap₂ (λ (c : Config2) (l : List Entry).
+      Some (world c l).hub) config here.2 in
       let sum = total_set tickets_of s.views id v w at in
       let same = total_set spares_of s.views id v w at in
       let held_before : tickets_of v ≡ 1 = here.5 in
@@ -264,7 +264,7 @@ module _ (k : Config2) where
         w,
         gives,
         tt,
-        subst (λ (c : List (ℕ × Option World)).
+        subst (λ (c : List (ℕ × Option Held)).
             Kept k (stepped s 1 ((get_or s.words 1 0 + 1) % 18446744073709551616) id c w gives))
             (sym carried)
             record {
@@ -311,7 +311,7 @@ module _ (k : Config2) where
                 each_set (λ u. HasTurn u.stage → ⊥) s.views id w (λ x. x)
                     (λ j u ne x. not_turn j u ne x),
                 ap (λ hs. set hs 0 (some home)) out
-                    ∙ ap (λ (x : Option World). some x ∷ []) home_is,
+                    ∙ ap (λ (x : Option Held). some x ∷ []) home_is,
                 len,
               );
             },
@@ -319,17 +319,17 @@ module _ (k : Config2) where
       )
 
 -- the same where the seat has just given the hub back
-pub passes_as : (k : Config2) (slots id : ℕ) (me : Seated) (v : View) (w : World)
-    (old : List (ℕ × Option World)) → me ≡ (v, (0, Some w) ∷ rest old) → old ≡ (0, None) ∷ []
-    → 0 < v.number → HasTurn v.stage → w ≡ world v.config v.seen
+pub passes_as : (k : Config2) (slots id : ℕ) (me : Seated) (v : View) (w : Held)
+    (old : List (ℕ × Option Held)) → me ≡ (v, (0, Some w) ∷ rest old) → old ≡ (0, None) ∷ []
+    → 0 < v.number → HasTurn v.stage → w ≡ (world v.config v.seen).hub
     → Allows (Kept k) slots id me 1 (λ n. (n + 1) % 18446744073709551616)
     (passed (step slots 1 1 0 none) me)
 passes_as k slots id me v w old is was real turn hub_is =
     subst (λ (m : Seated). Allows (Kept k) slots id m 1 (λ n. (n + 1) % 18446744073709551616)
     (passed (step slots 1 1 0 none) m)) (sym is)
     (passes k slots id (v, (0, Some w) ∷ rest old) real turn
-    (ap₂ (λ (x : World) (c : List (ℕ × Option World)). (0, Some x) ∷ rest c) hub_is was))
+    (ap₂ (λ (x : Held) (c : List (ℕ × Option Held)). (0, Some x) ∷ rest c) hub_is was))
 
-pub carries : (cs old : List (ℕ × Option World)) (x : Option World) → cs ≡ (0, x) ∷ old → cs
+pub carries : (cs old : List (ℕ × Option Held)) (x : Option Held) → cs ≡ (0, x) ∷ old → cs
     ≡ (0, x) ∷ rest cs
-carries cs old x e = e ∙ ap (λ (l : List (ℕ × Option World)). (0, x) ∷ rest l) (sym e)
+carries cs old x e = e ∙ ap (λ (l : List (ℕ × Option Held)). (0, x) ∷ rest l) (sym e)

@@ -36,10 +36,12 @@ use Rattle.std.proofs.Common.{
   length-append,
 }
 use mathlib.Core.List.{IsPrefix}
-use Rattle.ssh_hub.specs.World.{World}
-use Rattle.ssh_hub.specs.Step.{hub_step}
+use Rattle.ssh_hub.specs.World.{Held, World}
+use Rattle.ssh_hub.specs.Reserved.{at_hand, reservations}
+use Rattle.ssh_hub.specs.Step.{opening, hub_step}
 use Rattle.ssh_hub.specs.History.{run, IsLegal, calls_by, Grows, one_on, newest}
 use Rattle.ssh_hub.specs.Rule.{drawn_by}
+use Rattle.ssh_hub.specs.declared.answers.Config2.{Config2}
 use Rattle.ssh_hub.specs.declared.history.HubCall.{HubCall}
 use Rattle.ssh_hub.specs.declared.history.HubReply.{HubReply}
 use Rattle.ssh_hub.specs.declared.history.Entry.{Entry}
@@ -55,6 +57,17 @@ pub legal_snoc : (w : World) (es : List Entry) (e : Entry) → IsLegal w es → 
     ≡ (hub_step (run w es) e.by e.call).1 → IsLegal w (es ++ e ∷ [])
 legal_snoc w [] e l is = (is, tt)
 legal_snoc w (x ∷ xs) e l is = (l.0, legal_snoc (hub_step w x.by x.call).0 xs e l.1 is)
+
+-- a legal history is legal up to each place, and from there on
+pub legal_parts : (w : World) (xs ys : List Entry) → IsLegal w (xs ++ ys) → IsLegal w xs
+    × IsLegal (run w xs) ys
+legal_parts w [] ys l = (tt, l)
+legal_parts w (x ∷ xs) ys l = let rest = legal_parts (hub_step w x.by x.call).0 xs ys l.1 in
+    ((l.0, rest.0), rest.1)
+
+pub legal_before : (k : Config2) (xs ys : List Entry) → IsLegal (opening k) (xs ++ ys)
+    → IsLegal (opening k) xs
+legal_before k xs ys l = (legal_parts (opening k) xs ys l).0
 
 -- the same list before both, or neither
 both_ways : (b : Bool) (x : Entry) (all xs ys : List Entry) → all ≡ xs ++ ys
@@ -114,25 +127,31 @@ between_mine n a b c p q same =
 
 -- a call draws no number, or the next one
 pub numbers_drawn : (w : World) (by : ℕ) (c : HubCall) (r : HubReply) → r ≡ (hub_step w by c).1
-    → ((drawn_by c r None ≡ None) × ((hub_step w by c).0.seats ≡ w.seats))
-    ⊎ ((drawn_by c r None ≡ Some (w.seats + 1)) × ((hub_step w by c).0.seats ≡ w.seats + 1))
+    → ((drawn_by c r None ≡ None) × ((hub_step w by c).0.hub.seats ≡ w.hub.seats))
+    ⊎ ((drawn_by c r None ≡ Some (w.hub.seats + 1))
+    × ((hub_step w by c).0.hub.seats ≡ w.hub.seats + 1))
 numbers_drawn w by c r is = ⊎_elim
     (λ t. inl (subst (λ (x : HubReply). drawn_by c x None ≡ None) (sym is) t.0, t.1))
-    (λ t. inr (subst (λ (x : HubReply). drawn_by c x None ≡ Some (w.seats + 1)) (sym is) t.0, t.1))
-    (act_draws w by c)
+    (λ t. inr (
+      subst (λ (x : HubReply). drawn_by c x None ≡ Some (w.hub.seats + 1)) (sym is) t.0,
+      t.1,
+    ))
+    (act_draws w.hub by (at_hand c (reservations by w)) c)
 
-pub seats_more : (w : World) (by : ℕ) (c : HubCall) → (w.seats ≤ (hub_step w by c).0.seats)
-    × ((hub_step w by c).0.seats ≤ w.seats + 1)
-seats_more w by c = let n = act_counts w by c in (n.seats, n.seat)
+pub seats_more : (w : World) (by : ℕ) (c : HubCall)
+    → (w.hub.seats ≤ (hub_step w by c).0.hub.seats)
+    × ((hub_step w by c).0.hub.seats ≤ w.hub.seats + 1)
+seats_more w by c = let n = act_counts w.hub by (at_hand c (reservations by w)) c in
+    (n.seats, n.seat)
 
 -- what a history adds to the numbers
-pub record Below (w x : World) (n : ℕ) : Type 0 where
+pub record Below (w x : Held) (n : ℕ) : Type 0 where
   pub place : x.place ≡ w.place + n
   pub seats : x.seats ≤ w.seats + n
   pub tickets : x.tickets ≤ w.tickets + n
   pub slots : x.slots ≤ w.slots + n
 
-pub counts_below : (w : World) (es : List Entry) → Below w (run w es) (length es)
+pub counts_below : (w : World) (es : List Entry) → Below w.hub (run w es).hub (length es)
 counts_below w [] = record {
   place = omega arith;
   seats = omega arith;
@@ -141,12 +160,12 @@ counts_below w [] = record {
 }
 counts_below w (e ∷ es) =
     let rec = counts_below (hub_step w e.by e.call).0 es in
-    let one = act_counts w e.by e.call in
+    let one = act_counts w.hub e.by (at_hand e.call (reservations e.by w)) e.call in
     let p = rec.place in
     let p1 = one.place in
     record { place = omega arith; seats = omega arith; tickets = omega arith; slots = omega arith }
 
-pub seats_below : (w : World) (es : List Entry) → (run w es).seats ≤ w.seats + length es
+pub seats_below : (w : World) (es : List Entry) → (run w es).hub.seats ≤ w.hub.seats + length es
 seats_below w es = (counts_below w es).seats
 
 -- the newest call

@@ -2,6 +2,11 @@ pub mod Maps
 pub mod Counts
 pub mod Begins
 pub mod Histories
+pub mod Found
+pub mod Holdings
+pub mod Indexes
+pub mod Own
+pub mod Bytes
 pub mod Views
 pub mod Stages
 pub mod Steps
@@ -10,6 +15,4 @@ pub mod Seating
 pub mod Made
 pub mod Did
 pub mod Order
-pub mod Found
-pub mod Bytes
 pub mod Ends

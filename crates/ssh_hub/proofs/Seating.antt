@@ -1,41 +1,12 @@
 -- Each kind of step keeps the rule: a seat is split, two are joined, and the first sits down.
-use Rattle.std.proofs.Common.{
-  ◌≡◌,
-  ℕ,
-  zero,
-  suc,
-  ◌+◌,
-  ◌<◌,
-  List,
-  [],
-  ◌∷◌,
-  ◌++◌,
-  length,
-  set,
-  Some,
-  None,
-  Option,
-  ltb,
-  refl,
-  ap,
-  sym,
-  ◌∙◌,
-  subst,
-  inl,
-  inr,
-  ⊎_elim,
-  arith,
-  length-append,
-  length-set,
-}
-use mathlib.Core.Option.{some, none, some-ne-none, some-injective}
+use Rattle.std.proofs.Common.{◌≡◌, ℕ, zero, suc, ◌<◌, List, [], ◌∷◌, ◌++◌, length, set, Some, None, Option, ltb, refl, ap, sym, ◌∙◌, subst, inl, inr, ⊎_elim, arith, length-append, length-set}
+use mathlib.Core.Option.{some, some-ne-none, some-injective}
 use mathlib.Core.Logic.{dite}
 use native.Mathlib.Decide.{ℕ_discrete}
 use lib.ListN.{get_elem?}
 use Rattle.atomic_table.specs.Table.{State, takes, Splits, Joins}
 use Rattle.atomic_table.proofs.Lists.{set_here, set_else, at_longer}
-use Rattle.ssh_hub.specs.World.{World}
-use Rattle.ssh_hub.specs.Step as hub
+use Rattle.ssh_hub.specs.World.{Held}
 use Rattle.ssh_hub.specs.Step.{opening}
 use Rattle.ssh_hub.specs.declared.answers.Config2.{Config2}
 use Rattle.ssh_hub.specs.declared.history.Stage.TheVariants.{Idle}
@@ -72,7 +43,7 @@ use Rattle.ssh_hub.proofs.Stages.{holder_stays, met_same, met_fits, nobody_fits}
 
 -- the lock's table: its words, its slot, and the views of its seats
 abbrev TableState : Type 0
-TableState = State (Option World) View
+TableState = State (Option Held) View
 
 module _ (k : Config2) where
   -- a new seat takes the number that was drawn
@@ -235,8 +206,8 @@ module _ (k : Config2) where
       }
 
   -- the rule at the start
-  pub begins : Kept k (Rattle.atomic_table.specs.Table.opening (0 ∷ 0 ∷ 0 ∷ []) (Some (opening k)
-      ∷ []) (newcomer k 1 []))
+  pub begins : Kept k (Rattle.atomic_table.specs.Table.opening (0 ∷ 0 ∷ 0 ∷ []) (Some
+      (opening k).hub ∷ []) (newcomer k 1 []))
   begins = record {
     log = [];
     drawn = 0;
@@ -275,9 +246,9 @@ module _ (k : Config2) where
       }
       first_each (suc j) v e = absurd (some-ne-none v (sym e))
 
-pub begins_as : (k : Config2) (slots : List (Option World)) (h : World) → slots ≡ Some h ∷ [] → h
-    ≡ opening k → Kept k (Rattle.atomic_table.specs.Table.opening (0 ∷ 0 ∷ 0 ∷ []) slots
+pub begins_as : (k : Config2) (slots : List (Option Held)) (h : Held) → slots ≡ Some h ∷ [] → h
+    ≡ (opening k).hub → Kept k (Rattle.atomic_table.specs.Table.opening (0 ∷ 0 ∷ 0 ∷ []) slots
     (newcomer k 1 []))
-begins_as k slots h is new = subst (λ (x : List (Option World)).
+begins_as k slots h is new = subst (λ (x : List (Option Held)).
     Kept k (Rattle.atomic_table.specs.Table.opening (0 ∷ 0 ∷ 0 ∷ []) x (newcomer k 1 [])))
-    (sym (is ∙ ap (λ (y : World). Some y ∷ []) new)) (begins k)
+    (sym (is ∙ ap (λ (y : Held). Some y ∷ []) new)) (begins k)

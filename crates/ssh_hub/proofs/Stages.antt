@@ -35,7 +35,7 @@ use mathlib.Core.Option.{some, none, some-ne-none, some-injective}
 use mathlib.Core.Option as maybe
 use lib.ListN.{get_elem?}
 use Rattle.atomic_table.proofs.Lists.{set_else}
-use Rattle.ssh_hub.specs.World.{World}
+use Rattle.ssh_hub.specs.World.{Held, World}
 use Rattle.ssh_hub.specs.Step as hub
 use Rattle.ssh_hub.specs.Step.{opening}
 use Rattle.ssh_hub.specs.declared.answers.Config2.{Config2}
@@ -109,7 +109,7 @@ drawn_on log drawn drawn' served seen (Leaving u) more f = let b = f.1 in
 -- the hub still has one holder where the view of a seat changes that has not the turn before or
 -- after
 pub holder_stays : (k : Config2) (log : List Entry) (served : ℕ) (vs : List View)
-    (homes : List (maybe.Option (Option World))) (id : ℕ) (v w : View) → get_elem? vs id ≡ some v
+    (homes : List (maybe.Option (Option Held))) (id : ℕ) (v w : View) → get_elem? vs id ≡ some v
     → (HasTurn v.stage → ⊥) → (HasTurn w.stage → ⊥) → OneHolder k log served vs homes
     → OneHolder k log served (set vs id w) homes
 holder_stays k log served vs homes id v w at before after d =
@@ -129,28 +129,28 @@ holder_stays k log served vs homes id v w at before after d =
 -- the number that an entry draws
 pub spare_cases : (k : Config2) (log : List Entry) (e : Entry) (before : Option ℕ) → before ≡ None
     → e.reply ≡ (hub.hub_step (world k log) e.by e.call).1
-    → (spares_in (drawn_by e.call e.reply before) + (world k log).seats
-    ≡ (world k (log ++ e ∷ [])).seats)
-    × ((n : ℕ) → drawn_by e.call e.reply before ≡ Some n → (n ≡ (world k log).seats + 1)
-    × (n ≡ (world k (log ++ e ∷ [])).seats))
+    → (spares_in (drawn_by e.call e.reply before) + (world k log).hub.seats
+    ≡ (world k (log ++ e ∷ [])).hub.seats)
+    × ((n : ℕ) → drawn_by e.call e.reply before ≡ Some n → (n ≡ (world k log).hub.seats + 1)
+    × (n ≡ (world k (log ++ e ∷ [])).hub.seats))
 spare_cases k log e before empty legal =
-    let next : (world k (log ++ e ∷ [])).seats ≡ (hub.hub_step (world k log) e.by e.call).0.seats =
-    ap (λ (x : World). x.seats) (run_snoc (opening k) log e) in
-    let S : Option ℕ → Type 0 = λ x. (spares_in x + (world k log).seats
-    ≡ (world k (log ++ e ∷ [])).seats) × ((n : ℕ) → x ≡ Some n → (n ≡ (world k log).seats + 1)
-    × (n ≡ (world k (log ++ e ∷ [])).seats)) in
+    let next : (world k (log ++ e ∷ [])).hub.seats ≡ (hub.hub_step (world k log) e.by e.call).0.hub.seats =
+    ap (λ (x : World). x.hub.seats) (run_snoc (opening k) log e) in
+    let S : Option ℕ → Type 0 = λ x. (spares_in x + (world k log).hub.seats
+    ≡ (world k (log ++ e ∷ [])).hub.seats) × ((n : ℕ) → x ≡ Some n → (n ≡ (world k log).hub.seats + 1)
+    × (n ≡ (world k (log ++ e ∷ [])).hub.seats)) in
     subst (λ (b : Option ℕ). S (drawn_by e.call e.reply b)) (sym empty)
     (⊎_elim
     (λ l. let a = l.1 in subst S (sym l.0) (omega arith, λ n x. absurd (cc x)))
     (λ q. let a = q.1 in subst S (sym q.0) (
       omega arith,
-      λ n x. let y : (world k log).seats + 1 ≡ n = cc x in (omega arith, omega arith),
+      λ n x. let y : (world k log).hub.seats + 1 ≡ n = cc x in (omega arith, omega arith),
     ))
     (numbers_drawn (world k log) e.by e.call e.reply legal))
 
 -- a number above the last one is no one's
 pub new_number : (k : Config2) (log : List Entry) (drawn served : ℕ) (u : View) (n : ℕ)
-    → Fits k log drawn served u → IsNamed u n → (world k log).seats < n → ⊥
+    → Fits k log drawn served u → IsNamed u n → (world k log).hub.seats < n → ⊥
 new_number k log drawn served u n f named above =
     ⊎_elim (λ (a : (0 < n) × (u.number ≡ n)). let b = a.1 in let c = f.known in omega arith)
     (λ b. let c = (f.spare n b).1 in omega arith) named

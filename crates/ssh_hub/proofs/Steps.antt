@@ -45,8 +45,7 @@ use Rattle.atomic_table.specs.Table.{
   carried_after,
 }
 use Rattle.atomic_table.proofs.Lists.{set_here, set_again, one_turn}
-use Rattle.ssh_hub.specs.World.{World, HasRoom}
-use Rattle.ssh_hub.specs.Step as hub
+use Rattle.ssh_hub.specs.World.{Held, HasRoom}
 use Rattle.ssh_hub.specs.Step.{opening}
 use Rattle.ssh_hub.specs.History.{IsLegal}
 use Rattle.ssh_hub.specs.declared.answers.Config2.{Config2}
@@ -83,7 +82,7 @@ use Rattle.ssh_hub.proofs.Stages.{
 
 -- the lock's table: its words, its slot, and the views of its seats
 abbrev TableState : Type 0
-TableState = State (Option World) View
+TableState = State (Option Held) View
 
 module _ (k : Config2) where
   -- no more tickets are out than the lock can tell apart
@@ -180,7 +179,7 @@ module _ (k : Config2) where
       → get_elem? s.views id ≡ some v
       → HasTicket v.stage r.served → (HasTurn v.stage → ⊥)
       → ((j : ℕ) (u : View) → get_elem? s.views j ≡ some u → HasTurn u.stage → ⊥)
-      × (s.homes ≡ some (Some (world k r.log)) ∷ []) × (length r.log ≤ r.served)
+      × (s.homes ≡ some (Some (world k r.log).hub) ∷ []) × (length r.log ≤ r.served)
   one_turn_only s r id v at mine idle =
       ⊎_elim
       (λ l. l)
@@ -195,7 +194,7 @@ module _ (k : Config2) where
       → get_elem? s.views id ≡ some me.0
       → 0 < me.0.number → me.0.stage ≡ Waiting t → t ≡ r.served
       → r.served + 2 < 18446744073709551616
-      → (w : View) × (a : Act (Option World)) × Valid s.homes me.1 a
+      → (w : View) × (a : Act (Option Held)) × Valid s.homes me.1 a
       × Kept k (stepped s 1 (get_or s.words 1 0) id me.1 w a)
       × Turned t me (w, carried_after me.1 a)
   enters s r id t me at real st is room =
@@ -206,10 +205,10 @@ module _ (k : Config2) where
       let config : v.config ≡ k = f.config real in
       let one = one_turn_only s r id v at (subst (λ x. HasTicket x r.served) (sym st) is)
       (λ x. subst HasTurn st x) in
-      let homes : s.homes ≡ some (Some (world k log)) ∷ [] = one.1 in
-      let home : s.homes ≡ some (Some (world v.config log)) ∷ [] = homes
-      ∙ ap (λ c. some (Some (world c log)) ∷ []) (sym config) in
-      let a : Act (Option World) = takes 0 (Some (world v.config log)) in
+      let homes : s.homes ≡ some (Some (world k log).hub) ∷ [] = one.1 in
+      let home : s.homes ≡ some (Some (world v.config log).hub) ∷ [] = homes
+      ∙ ap (λ c. some (Some (world c log).hub) ∷ []) (sym config) in
+      let a : Act (Option Held) = takes 0 (Some (world v.config log).hub) in
       let sum = total_set tickets_of s.views id v w at in
       let same = total_set spares_of s.views id v w at in
       let held_before : tickets_of v ≡ 1 = ap tickets_at st in
@@ -221,7 +220,7 @@ module _ (k : Config2) where
       subst (InStage log r.drawn r.served v.seen) st f.stage in
       let below = in_stage.1 in
       let place = bound.place in
-      let roomy : HasRoom (world v.config log) = subst (λ c. HasRoom (world c log)) (sym config)
+      let roomy : HasRoom (world v.config log).hub = subst (λ c. HasRoom (world c log).hub) (sym config)
       record {
         place = omega arith;
         seats = omega arith;
@@ -364,7 +363,7 @@ module _ (k : Config2) where
 
 -- a seat that waits looks
 pub looks_as : (k : Config2) (slots id t : ℕ) (me : Seated) (v : View)
-    (carried : List (ℕ × Option World)) → me ≡ (record v { stage = Waiting t }, carried)
+    (carried : List (ℕ × Option Held)) → me ≡ (record v { stage = Waiting t }, carried)
     → 0 < v.number → t % 18446744073709551616 + 2 < 18446744073709551616
     → Allows (Kept k) slots id me 1 (λ n. n) (looked (step slots 1 0 0 none) me)
 looks_as k slots id t me v carried is real room =
@@ -372,8 +371,8 @@ looks_as k slots id t me v carried is real room =
     (sym is) (looks k slots id t (record v { stage = Waiting t }, carried) real refl room)
 
 -- what the look tells that found the seat's ticket
-pub took_turn : (st : Step (Option World)) (t r : ℕ) (me me' : Seated) (v : View)
-    (carried : List (ℕ × Option World)) → me ≡ (record v { stage = Waiting t }, carried)
+pub took_turn : (st : Step (Option Held)) (t r : ℕ) (me me' : Seated) (v : View)
+    (carried : List (ℕ × Option Held)) → me ≡ (record v { stage = Waiting t }, carried)
     → looked st me r me' → r ≡ t % 18446744073709551616 → Turned t (v, carried) me'
 took_turn st t r me me' v carried is l hit =
     (subst (λ (m : Seated). looked st m r me') is l t refl).0
@@ -381,7 +380,7 @@ took_turn st t r me me' v carried is l hit =
 
 -- a seat that met another is compared
 pub compares_as : (k : Config2) (slots id : ℕ) (me : Seated) (v x : View)
-    (carried : List (ℕ × Option World)) → me ≡ (meets v x, carried) → 0 < v.number → v.stage ≡ Idle
+    (carried : List (ℕ × Option Held)) → me ≡ (meets v x, carried) → 0 < v.number → v.stage ≡ Idle
     → Allows (Kept k) slots id me 1 (λ n. n) (compared (step slots 1 0 0 none) me)
 compares_as k slots id me v x carried is real idle =
     let e = met_same (ltb (length v.seen) (length x.seen)) v x in

@@ -19,90 +19,65 @@ use Rattle.ssh_hub.specs.declared.answers.Received.TheVariants.{
   Ended as HubEnded,
 }
 use Rattle.ssh_hub.specs.declared.answers.Look.{Look}
-use Rattle.ssh_hub.specs.World.{Channel, Map, find, with_new, with_changed, total_reserved}
+use Rattle.ssh_hub.specs.World.{Channel}
 
 -- a sum of bytes has 32 bits
 abbrev pub most_bytes : ℕ
 most_bytes = 4294967295
 
--- a channel that an own command opened: it is there, and its window is not known
-abbrev pub waiting : Channel
-waiting = record {
+-- a channel that an own command opened: it is there, and its window is not known; `size` messages
+-- may wait in its inbox
+abbrev pub waiting : ℕ → Channel
+waiting size = record {
   left = 0;
   packet = 0;
-  reserved = [];
+  reserved = 0;
   inbox = [];
+  room = size;
   is_ready = false;
   is_closed = false;
   is_claimed = false;
 }
 
--- the channel with this window, which nobody has reserved of; its inbox and its claim stay
+-- how many bytes of a window are left where so many are reserved
+abbrev pub left_in : ℕ → ℕ → ℕ
+left_in window reserved = min window (most_bytes - reserved)
+
+-- the channel with this window; what is reserved of it stays, and so do its inbox and its claim
 abbrev pub with_window : Channel → ℕ → ℕ → Channel
-with_window ch window packet = record {
-  left = min window most_bytes;
+with_window ch window packet = record ch {
+  left = left_in window ch.reserved;
   packet = packet;
-  reserved = [];
-  inbox = ch.inbox;
   is_ready = true;
   is_closed = false;
-  is_claimed = ch.is_claimed;
 }
 
--- what stands at a key, or nothing
-abbrev pub bytes_in : Option ℕ → ℕ
-bytes_in None = 0
-bytes_in (Some n) = n
-
--- what the seat has reserved
-abbrev pub reserved_by : ℕ → Map ℕ → ℕ
-reserved_by seat reserved = bytes_in (find seat reserved)
-
-abbrev pub credited_at : Map ℕ → ℕ → ℕ → Option ℕ → Map ℕ
-credited_at reserved seat n None = with_new reserved seat n
-credited_at reserved seat n (Some had) = with_changed reserved seat (had + n)
-
--- n bytes more are the seat's
-abbrev pub credited : Map ℕ → ℕ → ℕ → Map ℕ
-credited reserved seat n = credited_at reserved seat n (find seat reserved)
-
-abbrev pub debited_at : Map ℕ → ℕ → ℕ → Option ℕ → Map ℕ
-debited_at reserved seat n None = reserved
-debited_at reserved seat n (Some had) = with_changed reserved seat (had - min n had)
-
--- n bytes fewer are the seat's, or none where it has fewer
-abbrev pub debited : Map ℕ → ℕ → ℕ → Map ℕ
-debited reserved seat n = debited_at reserved seat n (find seat reserved)
-
--- bytes of what is left become the seat's
-abbrev pub reserving : Channel → ℕ → ℕ → Channel
-reserving ch seat want = record ch {
+-- bytes of what is left are reserved
+abbrev pub reserving : Channel → ℕ → Channel
+reserving ch want = record ch {
   left = ch.left - min want ch.left;
-  reserved = credited ch.reserved seat (min want ch.left);
+  reserved = ch.reserved + min want ch.left;
 }
 
-abbrev pub reserve_open : Channel → ℕ → ℕ → Bool → Channel × Reserve
-reserve_open ch seat want true = (ch, Empty)
-reserve_open ch seat want false = (reserving ch seat want, Got (min want ch.left))
+abbrev pub reserve_open : Channel → ℕ → Bool → Channel × Reserve
+reserve_open ch want true = (ch, Empty)
+reserve_open ch want false = (reserving ch want, Got (min want ch.left))
 
-abbrev pub reserve_from : Channel → ℕ → ℕ → Bool → Channel × Reserve
-reserve_from ch seat want true = (ch, Gone)
-reserve_from ch seat want false = reserve_open ch seat want (eqb ch.left 0)
+abbrev pub reserve_from : Channel → ℕ → Bool → Channel × Reserve
+reserve_from ch want true = (ch, Gone)
+reserve_from ch want false = reserve_open ch want (eqb ch.left 0)
 
--- bytes of the seat are left again
-abbrev pub releasing : Channel → ℕ → ℕ → Channel
-releasing ch seat amount = record ch {
-  left = ch.left + min amount (reserved_by seat ch.reserved);
-  reserved = debited ch.reserved seat amount;
-}
+-- reserved bytes are left again
+abbrev pub releasing : Channel → ℕ → Channel
+releasing ch n = record ch { left = ch.left + n; reserved = ch.reserved - n }
 
--- bytes of the seat are put
-abbrev pub spending : Channel → ℕ → ℕ → Channel
-spending ch seat amount = record ch { reserved = debited ch.reserved seat amount }
+-- reserved bytes are put
+abbrev pub spending : Channel → ℕ → Channel
+spending ch n = record ch { reserved = ch.reserved - n }
 
 -- by how many bytes a grant raises what is left
 abbrev pub granted_to : Channel → ℕ → Bool → Bool → ℕ
-granted_to ch amount true false = min amount (most_bytes - (ch.left + total_reserved ch.reserved))
+granted_to ch amount true false = min amount (most_bytes - (ch.left + ch.reserved))
 granted_to ch amount true true = 0
 granted_to ch amount false closed = 0
 
@@ -127,9 +102,9 @@ abbrev pub deliver_open : Channel → ChannelMsg → Bool → Channel × Deliver
 deliver_open ch msg true = (delivering ch msg, IsDelivered)
 deliver_open ch msg false = (ch, InboxFull msg)
 
-abbrev pub deliver_to : Channel → ℕ → ChannelMsg → Bool → Channel × Deliver
-deliver_to ch size msg true = (ch, ChannelGone msg)
-deliver_to ch size msg false = deliver_open ch msg (ltb (length ch.inbox) size)
+abbrev pub deliver_to : Channel → ChannelMsg → Bool → Channel × Deliver
+deliver_to ch msg true = (ch, ChannelGone msg)
+deliver_to ch msg false = deliver_open ch msg (ltb (length ch.inbox) ch.room)
 
 abbrev pub ended_or_nothing : Option ℕ → Received
 ended_or_nothing None = Nothing

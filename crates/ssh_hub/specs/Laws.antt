@@ -4,11 +4,12 @@ use Rattle.std.specs.Prelude.{List, [], ◌∷◌, ◌++◌, length, Option, Som
 use mathlib.Core.List.{IsPrefix}
 use Rattle.ssh_link.specs.declared.command.Command.{Command}
 use Rattle.ssh_link.specs.declared.open_answer.OpenAnswer.{OpenAnswer}
-use Rattle.ssh_hub.specs.World.{World, Channel, find, total_reserved}
-use Rattle.ssh_hub.specs.Channels.{most_bytes, granted_to, reserved_by}
+use Rattle.ssh_hub.specs.World.{World, Channel, Map, find}
+use Rattle.ssh_hub.specs.Channels.{most_bytes, granted_to, left_in}
 use Rattle.ssh_hub.specs.Lists.{data_channel}
+use Rattle.ssh_hub.specs.Reserved.{bytes_on, sum_on, reservations, reserved_by}
 use Rattle.ssh_hub.specs.Step.{opening, hub_step}
-use Rattle.ssh_hub.specs.History.{run, IsLegal}
+use Rattle.ssh_hub.specs.History.{run, IsLegal, calls_by}
 use Rattle.ssh_hub.specs.declared.answers.Config2.{Config2}
 use Rattle.ssh_hub.specs.declared.answers.Put.TheVariants.{Done as IsPut}
 use Rattle.ssh_hub.specs.declared.answers.PutReply.TheVariants.{Done as ReplyIsPut}
@@ -19,6 +20,7 @@ use Rattle.ssh_hub.specs.declared.history.HubCall.TheVariants.{MakeReady, GrantB
 use Rattle.ssh_hub.specs.declared.history.HubReply.{HubReply}
 use Rattle.ssh_hub.specs.declared.history.HubReply.TheVariants.{WasPut, ReplyWasPut, Took}
 use Rattle.ssh_hub.specs.declared.history.Entry.{Entry}
+use Rattle.ssh_hub.specs.declared.reservations.Reservation.{Reservation}
 
 -- the command that a call puts, with its ticket
 abbrev pub put_command : HubCall → HubReply → List (ℕ × Command)
@@ -84,10 +86,6 @@ abbrev pub granted_in : ℕ → Option Channel → ℕ
 granted_in amount None = 0
 granted_in amount (Some ch) = granted_to ch amount ch.is_ready ch.is_closed
 
-abbrev pub spent_in : ℕ → ℕ → Option Channel → ℕ
-spent_in seat spend None = 0
-spent_in seat spend (Some ch) = min spend (reserved_by seat ch.reserved)
-
 -- whether a command is data on the channel c
 abbrev pub is_data_on : ℕ → Option ℕ → Bool
 is_data_on c None = false
@@ -95,17 +93,24 @@ is_data_on c (Some d) = d == c
 
 -- whether a put is taken in
 abbrev pub takes_in : World → Bool
-takes_in w = is_none w.ended && ltb (length w.commands) w.command_size
+takes_in w = is_none w.hub.ended && ltb (length w.hub.commands) w.hub.command_size
 
--- what a call adds to the account of the channel c; a window begins it anew
+-- the account begins with a window, by what is left of it and what is reserved then
+abbrev pub account_from : ℕ → ℕ → Account
+account_from window reserved = record {
+  counted = left_in window reserved + reserved;
+  spent = 0;
+}
+
+-- what a call adds to the account of the channel c
 abbrev pub after_call : World → ℕ → ℕ → HubCall → Account → Account
 after_call w c seat (MakeReady d window packet) a =
-    cond (d.0 == c) (record { counted = min window most_bytes; spent = 0 }) a
+    cond (d.0 == c) (account_from window (sum_on (find c w.hub.channels))) a
 after_call w c seat (GrantBytes d amount) a =
-    cond (d.0 == c) (record a { counted = a.counted + granted_in amount (find c w.channels) }) a
+    cond (d.0 == c) (record a { counted = a.counted + granted_in amount (find c w.hub.channels) }) a
 after_call w c seat (PutCommand command spend wanted) a =
     cond (takes_in w && is_data_on c (data_channel command))
-    (record a { spent = a.spent + spent_in seat spend (find c w.channels) })
+    (record a { spent = a.spent + min spend (bytes_on c (reservations seat w)) })
     a
 after_call w c seat call a = a
 
@@ -119,10 +124,14 @@ abbrev pub left_of : Option Channel → ℕ
 left_of None = 0
 left_of (Some ch) = ch.left
 
--- what all seats have reserved of a channel
-abbrev pub reserved_of : Option Channel → ℕ
-reserved_of None = 0
-reserved_of (Some ch) = total_reserved ch.reserved
+-- how many bytes these seats have reserved of the channel c, each its own
+abbrev pub total_on : ℕ → Map (List Reservation) → ℕ
+total_on c [] = 0
+total_on c (one ∷ others) = bytes_on c one.1 + total_on c others
+
+-- what all seats have reserved of the channel c
+abbrev pub reserved_of : ℕ → World → ℕ
+reserved_of c w = total_on c w.reserved
 
 -- the commands that were taken are the first of those that were put, in their order
 abbrev pub CommandsInOrder : Type 0
@@ -149,17 +158,42 @@ AnswersFirst =
 abbrev pub BytesAreConserved : Type 0
 BytesAreConserved =
     (k : Config2) (log : List Entry) (c : ℕ)
-    → let channel = find c (run (opening k) log).channels in
+    → let w = run (opening k) log in
     let a = account (opening k) c log no_bytes in
-    a.counted ≡ left_of channel + reserved_of channel + a.spent
+    a.counted ≡ left_of (find c w.hub.channels) + reserved_of c w + a.spent
 
 -- what is left of a channel and what is reserved of it stay below 2^32 together
 abbrev pub BytesFit : Type 0
 BytesFit =
     (k : Config2) (log : List Entry) (c : ℕ)
-    → let channel = find c (run (opening k) log).channels in
-    left_of channel + reserved_of channel ≤ most_bytes
+    → let w = run (opening k) log in
+    left_of (find c w.hub.channels) + reserved_of c w ≤ most_bytes
+
+-- the sum that the hub counts is that of what each seat has reserved
+abbrev pub ReservedAddUp : Type 0
+ReservedAddUp =
+    (k : Config2) (log : List Entry) (c : ℕ)
+    → let w = run (opening k) log in
+    sum_on (find c w.hub.channels) ≡ reserved_of c w
+
+-- what a seat has reserved is what its own calls make of it
+abbrev pub ReservedByOwnCalls : Type 0
+ReservedByOwnCalls =
+    (k : Config2) (log : List Entry) (n : ℕ) → IsLegal (opening k) log
+    → reservations n (run (opening k) log) ≡ reserved_by (calls_by n log) []
+
+-- in each inbox may wait as many messages as the hub was made for
+abbrev pub InboxesAreOfOneSize : Type 0
+InboxesAreOfOneSize =
+    (k : Config2) (log : List Entry) (c : ℕ) (ch : Channel)
+    → find c (run (opening k) log).hub.channels ≡ Some ch → ch.room ≡ k.channel_buffer_size
+
+-- a beginning of a legal history is legal
+abbrev pub BeginningsAreLegal : Type 0
+BeginningsAreLegal =
+    (k : Config2) (before after : List Entry) → IsLegal (opening k) (before ++ after)
+    → IsLegal (opening k) before
 
 -- a hub has ended at the place of the first end in its history
 abbrev pub EndsAtTheFirst : Type 0
-EndsAtTheFirst = (k : Config2) (log : List Entry) → (run (opening k) log).ended ≡ first_end 0 log
+EndsAtTheFirst = (k : Config2) (log : List Entry) → (run (opening k) log).hub.ended ≡ first_end 0 log

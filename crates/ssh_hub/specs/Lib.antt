@@ -2,10 +2,12 @@ pub mod World
 pub mod Channels
 pub mod Lists
 pub mod Outcomes
+pub mod Reserved
 pub mod Slots
 pub mod Step
 pub mod History
 pub mod Rule
+pub mod Views
 pub mod Words
 pub mod Does
 pub mod Legality

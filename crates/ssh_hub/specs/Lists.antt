@@ -21,7 +21,7 @@ use Rattle.ssh_hub.specs.declared.answers.Taken.TheVariants.{Reply, Command as T
 use Rattle.ssh_hub.specs.declared.queued.QueuedCommand.{QueuedCommand}
 use Rattle.ssh_hub.specs.declared.queued.QueuedReply.{QueuedReply}
 use Rattle.ssh_hub.specs.declared.queued.Due.{Due}
-use Rattle.ssh_hub.specs.World.{World, Channel, Map, find, with_changed}
+use Rattle.ssh_hub.specs.World.{Held, Channel, Map, find, with_changed}
 use Rattle.ssh_hub.specs.Channels.{spending}
 
 -- how many replies wait at most
@@ -39,18 +39,18 @@ abbrev pub close_channel : Command → Option ℕ
 close_channel (Close channel) = Some channel.0
 close_channel command = None
 
-abbrev pub spent_at : Map Channel → ℕ → ℕ → ℕ → Option Channel → Map Channel
-spent_at channels seat c spend None = channels
-spent_at channels seat c spend (Some ch) = with_changed channels c (spending ch seat spend)
+abbrev pub spent_at : Map Channel → ℕ → ℕ → Option Channel → Map Channel
+spent_at channels c n None = channels
+spent_at channels c n (Some ch) = with_changed channels c (spending ch n)
 
--- what the channels are where the seat puts data on one of them
-abbrev pub spent_on : Map Channel → ℕ → ℕ → Option ℕ → Map Channel
-spent_on channels seat spend None = channels
-spent_on channels seat spend (Some c) = spent_at channels seat c spend (find c channels)
+-- what the channels are where a put of data on one of them spends n bytes
+abbrev pub spent_on : Map Channel → ℕ → Option ℕ → Map Channel
+spent_on channels n None = channels
+spent_on channels n (Some c) = spent_at channels c n (find c channels)
 
--- the command waits under the next ticket
-abbrev pub queued : World → ℕ → Command → ℕ → Bool → World
-queued w seat command spend wanted = record w {
+-- the command waits under the next ticket, and spends n bytes
+abbrev pub queued : Held → ℕ → ℕ → Command → Bool → Held
+queued w seat n command wanted = record w {
   tickets = w.tickets + 1;
   commands = w.commands ++ record {
     ticket = w.tickets + 1;
@@ -58,33 +58,30 @@ queued w seat command spend wanted = record w {
     wanted = wanted;
     command = command;
   } ∷ [];
-  channels = spent_on w.channels seat spend (data_channel command);
+  channels = spent_on w.channels n (data_channel command);
 }
 
-abbrev pub put_open : World → ℕ → Command → ℕ → Bool → Bool → World × Put
-put_open w seat command spend wanted true = (
-  queued w seat command spend wanted,
-  IsPut (w.tickets + 1),
-)
-put_open w seat command spend wanted false = (w, CommandsFull command)
+abbrev pub put_open : Held → ℕ → ℕ → Command → Bool → Bool → Held × Put
+put_open w seat n command wanted true = (queued w seat n command wanted, IsPut (w.tickets + 1))
+put_open w seat n command wanted false = (w, CommandsFull command)
 
-abbrev pub put_in : World → ℕ → Command → ℕ → Bool → Option ℕ → World × Put
-put_in w seat command spend wanted (Some at) = (w, PutEnded at command)
-put_in w seat command spend wanted None = put_open w seat command spend wanted
+abbrev pub put_in : Held → ℕ → ℕ → Command → Bool → Option ℕ → Held × Put
+put_in w seat n command wanted (Some at) = (w, PutEnded at command)
+put_in w seat n command wanted None = put_open w seat n command wanted
     (ltb (length w.commands) w.command_size)
 
 -- the reply waits under the next ticket
-abbrev pub queued_reply : World → ℕ → OpenAnswer → World
+abbrev pub queued_reply : Held → ℕ → OpenAnswer → Held
 queued_reply w seat answer = record w {
   tickets = w.tickets + 1;
   replies = w.replies ++ record { ticket = w.tickets + 1; seat = seat; answer = answer } ∷ [];
 }
 
-abbrev pub put_reply_open : World → ℕ → OpenAnswer → Bool → World × PutReply
+abbrev pub put_reply_open : Held → ℕ → OpenAnswer → Bool → Held × PutReply
 put_reply_open w seat answer true = (queued_reply w seat answer, ReplyIsPut (w.tickets + 1))
 put_reply_open w seat answer false = (w, RepliesFull answer)
 
-abbrev pub put_reply_in : World → ℕ → OpenAnswer → Option ℕ → World × PutReply
+abbrev pub put_reply_in : Held → ℕ → OpenAnswer → Option ℕ → Held × PutReply
 put_reply_in w seat answer (Some at) = (w, ReplyEnded at answer)
 put_reply_in w seat answer None = put_reply_open w seat answer (ltb (length w.replies) reply_size)
 
@@ -102,7 +99,7 @@ abbrev pub due_for_reply : QueuedReply → Due
 due_for_reply q = record { ticket = q.ticket; seat = q.seat; wanted = false; closes = None }
 
 -- the first of these replies, or else the first of these commands, is taken
-abbrev pub take_first : World → List QueuedReply → List QueuedCommand → World × Option Taken
+abbrev pub take_first : Held → List QueuedReply → List QueuedCommand → Held × Option Taken
 take_first w (r ∷ rs) commands =
     (record w { replies = rs; due = Some (due_for_reply r) }, Some (Reply r.ticket r.answer))
 take_first w [] (c ∷ cs) =

@@ -4,12 +4,12 @@ use Rattle.ssh_link.specs.declared.outcome.CommandOutcome.{CommandOutcome}
 use Rattle.ssh_link.specs.declared.outcome.CommandOutcome.TheVariants.{Accepted, Opened, Refused}
 use Rattle.ssh_link.specs.declared.outcome.Refusal.{Refusal}
 use Rattle.ssh_hub.specs.declared.queued.Due.{Due}
-use Rattle.ssh_hub.specs.World.{World, Channel, Map, find, with_new, with_changed, without}
+use Rattle.ssh_hub.specs.World.{Held, Channel, Map, find, with_new, with_changed, without}
 use Rattle.ssh_hub.specs.Channels.{waiting, closed}
 
-abbrev pub opened_at : Map Channel → ℕ → Option Channel → Map Channel
-opened_at channels c None = with_new channels c waiting
-opened_at channels c (Some ch) = channels
+abbrev pub opened_at : ℕ → Map Channel → ℕ → Option Channel → Map Channel
+opened_at size channels c None = with_new channels c (waiting size)
+opened_at size channels c (Some ch) = channels
 
 abbrev pub closed_at : Map Channel → ℕ → Option Channel → Map Channel
 closed_at channels c None = channels
@@ -21,10 +21,10 @@ closed_by channels None = channels
 closed_by channels (Some c) = closed_at channels c (find c channels)
 
 -- an opened channel is there, and one that an accepted command closes is closed
-abbrev pub channels_after : Map Channel → Due → CommandOutcome → Map Channel
-channels_after channels due (Opened c) = opened_at channels c.0 (find c.0 channels)
-channels_after channels due Accepted = closed_by channels due.closes
-channels_after channels due (Refused why) = channels
+abbrev pub channels_after : ℕ → Map Channel → Due → CommandOutcome → Map Channel
+channels_after size channels due (Opened c) = opened_at size channels c.0 (find c.0 channels)
+channels_after size channels due Accepted = closed_by channels due.closes
+channels_after size channels due (Refused why) = channels
 
 abbrev pub put_at : {X : Type 0} → Map X → ℕ → X → Option X → Map X
 put_at entries k v None = with_new entries k v
@@ -45,20 +45,20 @@ kept_if outcomes ticket outcome false = outcomes
 abbrev pub outcomes_after : Map CommandOutcome → Due → CommandOutcome → Map CommandOutcome
 outcomes_after outcomes due outcome = kept_if outcomes due.ticket outcome due.wanted
 
-abbrev pub settled : World → Due → CommandOutcome → World
+abbrev pub settled : Held → Due → CommandOutcome → Held
 settled w due outcome = record w {
   due = None;
   outcomes = outcomes_after w.outcomes due outcome;
   refusals = refusals_after w.refusals due outcome;
-  channels = channels_after w.channels due outcome;
+  channels = channels_after w.inbox_size w.channels due outcome;
 }
 
-abbrev pub settled_if : World → Due → CommandOutcome → Bool → World
+abbrev pub settled_if : Held → Due → CommandOutcome → Bool → Held
 settled_if w due outcome true = settled w due outcome
 settled_if w due outcome false = w
 
 -- an outcome of another ticket than that of what was taken last does nothing
-abbrev pub answered : World → ℕ → CommandOutcome → Option Due → World
+abbrev pub answered : Held → ℕ → CommandOutcome → Option Due → Held
 answered w ticket outcome None = w
 answered w ticket outcome (Some due) = settled_if w due outcome (eqb due.ticket ticket)
 

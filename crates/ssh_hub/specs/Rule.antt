@@ -7,7 +7,7 @@ use mathlib.Core.Option as maybe
 use mathlib.Core.List.{IsPrefix}
 use lib.ListN.{get_elem?}
 use Rattle.atomic_table.specs.Table.{State, Me, Step, rest}
-use Rattle.ssh_hub.specs.World.{World, HasRoom}
+use Rattle.ssh_hub.specs.World.{Held, World, HasRoom}
 use Rattle.ssh_hub.specs.Step.{opening}
 use Rattle.ssh_hub.specs.History.{run, IsLegal, calls_by, Grows}
 use Rattle.ssh_hub.specs.declared.answers.Config2.{Config2}
@@ -78,7 +78,7 @@ InStage log drawn served seen (Leaving t) =
 
 -- a number that was drawn, and which no seat has yet
 abbrev pub IsSpare : Config2 → List Entry → ℕ → ℕ → Type 0
-IsSpare k log number n = (0 < n) × (n ≤ (world k log).seats) × (calls_by n log ≡ []) × (n ≢ number)
+IsSpare k log number n = (0 < n) × (n ≤ (world k log).hub.seats) × (calls_by n log ≡ []) × (n ≢ number)
 
 -- what holds of one seat
 pub record Fits (k : Config2) (log : List Entry) (drawn served : ℕ) (v : View) : Type 0 where
@@ -87,29 +87,29 @@ pub record Fits (k : Config2) (log : List Entry) (drawn served : ℕ) (v : View)
   pub told : IsPrefix v.told log
   pub mine : 0 < v.number → calls_by v.number log ≡ calls_by v.number v.seen
   pub own : 0 < v.number → calls_by v.number log ≡ v.mine
-  pub known : v.number ≤ (world k log).seats
+  pub known : v.number ≤ (world k log).hub.seats
   pub spare : (n : ℕ) → v.spare ≡ Some n → IsSpare k log v.number n
   pub stage : InStage log drawn served v.seen v.stage
 
 -- the hub is in its slot and no seat has the turn, or one seat has the turn and the hub
 abbrev pub OneHolder :
-    Config2 → List Entry → ℕ → List View → List (maybe.Option (Option World)) → Type 0
+    Config2 → List Entry → ℕ → List View → List (maybe.Option (Option Held)) → Type 0
 OneHolder k log served views homes =
     (((j : ℕ) (v : View) → get_elem? views j ≡ maybe.some v → HasTurn v.stage → ⊥)
-    × (homes ≡ maybe.some (Some (world k log)) ∷ []) × (length log ≤ served))
+    × (homes ≡ maybe.some (Some (world k log).hub) ∷ []) × (length log ≤ served))
     ⊎ ((i : ℕ) × (v : View) × (get_elem? views i ≡ maybe.some v)
     × HasTurn v.stage × (homes ≡ maybe.none ∷ []))
 
-pub record Kept (k : Config2) (s : State (Option World) View) : Type 0 where
+pub record Kept (k : Config2) (s : State (Option Held) View) : Type 0 where
   pub log : List Entry
   pub drawn : ℕ
   pub served : ℕ
   pub words : s.words ≡ drawn % 18446744073709551616 ∷ served ∷ length log ∷ []
   pub small : served < 18446744073709551616
   pub legal : IsLegal (opening k) log
-  pub named : (n : ℕ) → (world k log).seats < n → calls_by n log ≡ []
+  pub named : (n : ℕ) → (world k log).hub.seats < n → calls_by n log ≡ []
   pub held : served + total tickets_of s.views ≡ drawn
-  pub seated : length s.views + total spares_of s.views ≡ (world k log).seats
+  pub seated : length s.views + total spares_of s.views ≡ (world k log).hub.seats
   pub each : (j : ℕ) (v : View) → get_elem? s.views j ≡ maybe.some v → Fits k log drawn served v
   pub apart :
       (i j : ℕ) (v w : View) → i ≢ j → get_elem? s.views i ≡ maybe.some v
@@ -143,10 +143,10 @@ no_entry = record { by = 0; call = Nudge; reply = Done }
 
 -- a seat: what it knows, and what it took out of the slots
 abbrev pub Seated : Type 0
-Seated = Me (Option World) View
+Seated = Me (Option Held) View
 
 -- a ticket was drawn
-abbrev pub drew : Step (Option World) → Seated → ℕ → Seated → Type 0
+abbrev pub drew : Step (Option Held) → Seated → ℕ → Seated → Type 0
 drew st m r m' = (t : ℕ) × (r ≡ t % 18446744073709551616)
     × (m' ≡ (record m.0 { stage = Waiting t }, m.1))
 
@@ -154,17 +154,17 @@ drew st m r m' = (t : ℕ) × (r ≡ t % 18446744073709551616)
 abbrev pub Turned : ℕ → Seated → Seated → Type 0
 Turned t m m' =
     (seen : List Entry)
-    × (m' ≡ (record m.0 { stage = Inside t; seen = seen }, (0, Some (world m.0.config seen)) ∷ m.1))
+    × (m' ≡ (record m.0 { stage = Inside t; seen = seen }, (0, Some (world m.0.config seen).hub) ∷ m.1))
     × Grows m.0.number m.0.seen seen × IsLegal (opening m.0.config) seen
-    × HasRoom (world m.0.config seen)
+    × HasRoom (world m.0.config seen).hub
 
-abbrev pub looked : Step (Option World) → Seated → ℕ → Seated → Type 0
+abbrev pub looked : Step (Option Held) → Seated → ℕ → Seated → Type 0
 looked st m r m' =
     (t : ℕ) → m.0.stage ≡ Waiting t
     → (r ≡ t % 18446744073709551616 → Turned t m m') × (r ≢ t % 18446744073709551616 → m' ≡ m)
 
 -- both histories stand in one
-abbrev pub compared : Step (Option World) → Seated → ℕ → Seated → Type 0
+abbrev pub compared : Step (Option Held) → Seated → ℕ → Seated → Type 0
 compared st m r m' =
     (m' ≡ (record m.0 { told = [] }, m.1)) × IsPrefix m.0.told m.0.seen
     × (m.0.mine ≡ calls_by m.0.number m.0.seen)
@@ -187,13 +187,13 @@ written e v = record v {
   mine = v.mine ++ e ∷ [];
 }
 
-abbrev pub committed : Entry → Step (Option World) → Seated → ℕ → Seated → Type 0
+abbrev pub committed : Entry → Step (Option Held) → Seated → ℕ → Seated → Type 0
 committed e st m r m' =
     (r ≡ length m.0.seen) × (m' ≡ (written e m.0, m.1))
     × ((n : ℕ) → drawn_by e.call e.reply m.0.spare ≡ Some n
     → (0 < n) × (calls_by n (m.0.seen ++ e ∷ []) ≡ []))
 
-abbrev pub passed : Step (Option World) → Seated → ℕ → Seated → Type 0
+abbrev pub passed : Step (Option Held) → Seated → ℕ → Seated → Type 0
 passed st m r m' = m' ≡ (record m.0 { stage = Idle }, rest m.1)
 
 -- a new seat takes the number that was drawn

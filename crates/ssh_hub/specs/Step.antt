@@ -1,11 +1,12 @@
 -- One call of the hub of one thread: the hub afterwards, and the reply.
-use Rattle.std.specs.Prelude.{ℕ, ◌+◌, [], Some, None, Option, Bool, false, not}
-use Rattle.ssh_hub.specs.World.{World, Channel, Map, find, with_new, with_changed}
+use Rattle.std.specs.Prelude.{ℕ, ◌+◌, min, [], Some, None, Option, Bool, false, not}
+use Rattle.ssh_hub.specs.World.{Held, World, Channel, Map, find, with_new, with_changed}
 use Rattle.ssh_hub.specs.Channels.{waiting, with_window, reserve_from, releasing, granting}
 use Rattle.ssh_hub.specs.Channels.{deliver_to, receive_from, look_at, claimed}
 use Rattle.ssh_hub.specs.Lists.{put_in, put_reply_in, take_first, asked}
 use Rattle.ssh_hub.specs.Outcomes.{answered, without_found}
 use Rattle.ssh_hub.specs.Slots.{answered_at, answer_at, collected_at}
+use Rattle.ssh_hub.specs.Reserved.{at_hand, reservations, all_after}
 use Rattle.ssh_hub.specs.declared.answers.Config2.{Config2}
 use Rattle.ssh_hub.specs.declared.answers.Reserve.{Reserve}
 use Rattle.ssh_hub.specs.declared.answers.Reserve.TheVariants.{Gone, Ended}
@@ -65,9 +66,8 @@ use Rattle.ssh_hub.specs.declared.history.HubReply.TheVariants.{
 }
 use Rattle.ssh_link.specs.declared.notice.ChannelMsg.{ChannelMsg}
 
--- the hub as it is made, with its first seat
-abbrev pub opening : Config2 → World
-opening config = record {
+abbrev pub opening_hub : Config2 → Held
+opening_hub config = record {
   inbox_size = config.channel_buffer_size;
   command_size = config.event_buffer_size;
   place = 0;
@@ -84,29 +84,34 @@ opening config = record {
   channels = [];
 }
 
+-- the hub as it is made, with its first seat
+abbrev pub opening : Config2 → World
+opening config = record { hub = opening_hub config; reserved = [] }
+
 -- a channel changes and answers
 abbrev pub on : {R : Type 0} → Map Channel → ℕ → Channel × R → Map Channel × R
 on channels c p = (with_changed channels c p.0, p.1)
 
-abbrev pub reserve_in : Map Channel → ℕ → ℕ → ℕ → Option ℕ → Option Channel → Map Channel × Reserve
-reserve_in channels seat c want (Some at) found = (channels, Ended at)
-reserve_in channels seat c want None None = (channels, Gone)
-reserve_in channels seat c want None (Some ch) =
-    on channels c (reserve_from ch seat want ch.is_closed)
+abbrev pub reserve_in : Map Channel → ℕ → ℕ → Option ℕ → Option Channel → Map Channel × Reserve
+reserve_in channels c want (Some at) found = (channels, Ended at)
+reserve_in channels c want None None = (channels, Gone)
+reserve_in channels c want None (Some ch) = on channels c (reserve_from ch want ch.is_closed)
 
 -- where the channel is there, it changes so
 abbrev pub changed : Map Channel → ℕ → (Channel → Channel) → Option Channel → Map Channel
 changed channels c f None = channels
 changed channels c f (Some ch) = with_changed channels c (f ch)
 
--- the channel has this window
-abbrev pub ready_in : Map Channel → ℕ → ℕ → ℕ → Option Channel → Map Channel
-ready_in channels c window packet None = with_new channels c (with_window waiting window packet)
-ready_in channels c window packet (Some ch) = with_changed channels c (with_window ch window packet)
+-- the channel has this window; a new one has an inbox of this size
+abbrev pub ready_in : Map Channel → ℕ → ℕ → ℕ → ℕ → Option Channel → Map Channel
+ready_in channels size c window packet None =
+    with_new channels c (with_window (waiting size) window packet)
+ready_in channels size c window packet (Some ch) =
+    with_changed channels c (with_window ch window packet)
 
-abbrev pub deliver_in : Map Channel → ℕ → ℕ → ChannelMsg → Option Channel → Map Channel × Deliver
-deliver_in channels c size msg None = (channels, ChannelGone msg)
-deliver_in channels c size msg (Some ch) = on channels c (deliver_to ch size msg ch.is_closed)
+abbrev pub deliver_in : Map Channel → ℕ → ChannelMsg → Option Channel → Map Channel × Deliver
+deliver_in channels c msg None = (channels, ChannelGone msg)
+deliver_in channels c msg (Some ch) = on channels c (deliver_to ch msg ch.is_closed)
 
 abbrev pub receive_in : Map Channel → ℕ → Option ℕ → Option Channel → Map Channel × Received
 receive_in channels c ended None = (channels, Closed)
@@ -127,72 +132,80 @@ ended_first place None = Some place
 ended_first place (Some at) = Some at
 
 -- the hub and the reply where only the channels change
-abbrev pub with_channels : {R : Type 0} → World → (R → HubReply) → Map Channel × R → World
+abbrev pub with_channels : {R : Type 0} → Held → (R → HubReply) → Map Channel × R → Held
     × HubReply
 with_channels w say p = (record w { channels = p.0 }, say p.1)
 
 -- the hub and the reply, where the reply is said so
-abbrev pub saying : {R : Type 0} → (R → HubReply) → World × R → World × HubReply
+abbrev pub saying : {R : Type 0} → (R → HubReply) → Held × R → Held × HubReply
 saying say p = (p.0, say p.1)
 
--- what the call does; its entry is counted by `hub_step`
-unfoldable pub act : World → ℕ → HubCall → World × HubReply
-act w seat (ReserveBytes c want) =
-    with_channels w Reserved (reserve_in w.channels seat c.0 want w.ended (find c.0 w.channels))
-act w seat (ReleaseBytes c amount) = (
+-- what the call of a seat does that has so many bytes at hand, which it may give back or spend
+unfoldable pub act : Held → ℕ → ℕ → HubCall → Held × HubReply
+act w seat had (ReserveBytes c want) =
+    with_channels w Reserved (reserve_in w.channels c.0 want w.ended (find c.0 w.channels))
+act w seat had (ReleaseBytes c amount) = (
   record w {
-    channels = changed w.channels c.0 (λ ch. releasing ch seat amount)
+    channels = changed w.channels c.0 (λ ch. releasing ch (min amount had))
         (find c.0 w.channels);
   },
   Done,
 )
-act w seat (PutCommand command spend wanted) =
-    saying WasPut (put_in w seat command spend wanted w.ended)
-act w seat (PutAnswer answer) = saying ReplyWasPut (put_reply_in w seat answer w.ended)
-act w seat (TakeNext replies commands) =
+act w seat had (PutCommand command spend wanted) =
+    saying WasPut (put_in w seat (min spend had) command wanted w.ended)
+act w seat had (PutAnswer answer) = saying ReplyWasPut (put_reply_in w seat answer w.ended)
+act w seat had (TakeNext replies commands) =
     saying Took (take_first w (asked replies w.replies) (asked commands w.commands))
-act w seat (MakeReady c window packet) =
-    (record w { channels = ready_in w.channels c.0 window packet (find c.0 w.channels) }, Done)
-act w seat (GrantBytes c amount) = (
+act w seat had (MakeReady c window packet) = (
+  record w { channels = ready_in w.channels w.inbox_size c.0 window packet (find c.0 w.channels) },
+  Done,
+)
+act w seat had (GrantBytes c amount) = (
   record w {
     channels = changed w.channels c.0 (λ ch. granting ch amount) (find c.0 w.channels);
   },
   Done,
 )
-act w seat (DeliverMsg c msg) =
-    with_channels w Delivered (deliver_in w.channels c.0 w.inbox_size msg (find c.0 w.channels))
-act w seat (ReceiveMsg c) =
+act w seat had (DeliverMsg c msg) =
+    with_channels w Delivered (deliver_in w.channels c.0 msg (find c.0 w.channels))
+act w seat had (ReceiveMsg c) =
     with_channels w HasReceived (receive_in w.channels c.0 w.ended (find c.0 w.channels))
-act w seat (AnswerTicket ticket outcome) = (answered w ticket outcome w.due, Done)
-act w seat (TakeOutcome ticket) = (
+act w seat had (AnswerTicket ticket outcome) = (answered w ticket outcome w.due, Done)
+act w seat had (TakeOutcome ticket) = (
   record w { outcomes = without_found w.outcomes ticket (find ticket w.outcomes) },
   OutcomeIs (find ticket w.outcomes),
 )
-act w seat EndHub = (record w { ended = ended_first w.place w.ended }, Done)
-act w seat AskEnded = (w, EndedAt w.ended)
-act w seat (LookAt c) = (w, Saw (look_in (find c.0 w.channels)))
-act w seat (ClaimChannel c) = (
+act w seat had EndHub = (record w { ended = ended_first w.place w.ended }, Done)
+act w seat had AskEnded = (w, EndedAt w.ended)
+act w seat had (LookAt c) = (w, Saw (look_in (find c.0 w.channels)))
+act w seat had (ClaimChannel c) = (
   record w { channels = changed w.channels c.0 claimed (find c.0 w.channels) },
   Claimed (is_free (find c.0 w.channels)),
 )
-act w seat DrawSlot = (
+act w seat had DrawSlot = (
   record w { slots = w.slots + 1; answers = with_new w.answers (w.slots + 1) None },
   SlotIs (w.slots + 1),
 )
-act w seat (AnswerSlot slot answer) =
+act w seat had (AnswerSlot slot answer) =
     (record w { answers = answered_at w.answers slot answer (find slot w.answers) }, Done)
-act w seat (TakeSlotAnswer slot) = (
+act w seat had (TakeSlotAnswer slot) = (
   record w { answers = collected_at w.answers slot (answer_at (find slot w.answers)) },
   SlotAnswerIs (answer_at (find slot w.answers)),
 )
-act w seat AskRefusal = (w, RefusalIs (find seat w.refusals))
-act w seat Nudge = (w, Done)
-act w seat SplitSeat = (record w { seats = w.seats + 1 }, SeatIs (w.seats + 1))
+act w seat had AskRefusal = (w, RefusalIs (find seat w.refusals))
+act w seat had Nudge = (w, Done)
+act w seat had SplitSeat = (record w { seats = w.seats + 1 }, SeatIs (w.seats + 1))
 
 -- one more call was made
-abbrev pub counted : World → World
+abbrev pub counted : Held → Held
 counted w = record w { place = w.place + 1 }
+
+-- the hub with what the seats have reserved, after a call that did so
+abbrev pub stepped : World → ℕ → HubCall → Held × HubReply → World × HubReply
+stepped w seat call p =
+    (record { hub = counted p.0; reserved = all_after w seat call p.1 }, p.1)
 
 -- one call of the hub of one thread
 abbrev pub hub_step : World → ℕ → HubCall → World × HubReply
-hub_step w seat call = (counted (act w seat call).0, (act w seat call).1)
+hub_step w seat call =
+    stepped w seat call (act w.hub seat (at_hand call (reservations seat w)) call)

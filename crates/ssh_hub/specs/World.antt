@@ -1,5 +1,5 @@
 -- What the hub of one thread holds.
-use Rattle.std.specs.Prelude.{ℕ, ◌+◌, ◌<◌, List, [], ◌∷◌, Bool, Option}
+use Rattle.std.specs.Prelude.{ℕ, ◌+◌, ◌<◌, List, Bool, Option}
 use Rattle.std.specs.Ordering.{nat_cmp}
 use Rattle.std.specs.Map.{lookup, set_value, remove_entry}
 use Rattle.std.specs.BTreeMap.{insert_entry, is_at}
@@ -10,6 +10,7 @@ use Rattle.ssh_hub.specs.declared.answers.SlotAnswer.{SlotAnswer}
 use Rattle.ssh_hub.specs.declared.queued.QueuedCommand.{QueuedCommand}
 use Rattle.ssh_hub.specs.declared.queued.QueuedReply.{QueuedReply}
 use Rattle.ssh_hub.specs.declared.queued.Due.{Due}
+use Rattle.ssh_hub.specs.declared.reservations.Reservation.{Reservation}
 
 -- a map is the list of its entries, by rising keys
 abbrev pub Map : Type 0 → Type 0
@@ -37,21 +38,18 @@ pub record Channel : Type 0 where
   pub left : ℕ
   -- how many bytes of data one message may have
   pub packet : ℕ
-  -- how many bytes each seat has reserved, by the seat's number
-  pub reserved : Map ℕ
-  -- the messages that wait for the channel's reader
+  -- how many bytes all seats have reserved together
+  pub reserved : ℕ
+  -- the messages that wait for the channel's reader, and how many may wait
   pub inbox : List ChannelMsg
+  pub room : ℕ
   -- whether its window is known
   pub is_ready : Bool
   pub is_closed : Bool
   pub is_claimed : Bool
 
--- what all seats have reserved together
-abbrev pub total_reserved : Map ℕ → ℕ
-total_reserved [] = 0
-total_reserved (one ∷ others) = one.1 + total_reserved others
-
-pub record World : Type 0 where
+-- what lies in the lock's slot: all that the hub holds, but which seat has reserved what
+pub record Held : Type 0 where
   -- how many messages wait in one inbox at most
   pub inbox_size : ℕ
   -- how many commands wait at most
@@ -79,8 +77,14 @@ pub record World : Type 0 where
   pub ended : Option ℕ
   pub channels : Map Channel
 
+-- the hub of one thread
+pub record World : Type 0 where
+  pub hub : Held
+  -- what each seat has reserved, by the seat's number
+  pub reserved : Map (List Reservation)
+
 -- the numbers that the next call may draw fit 64 bits
-pub record HasRoom (w : World) : Type 0 where
+pub record HasRoom (w : Held) : Type 0 where
   pub place : w.place + 1 < 18446744073709551616
   pub seats : w.seats + 1 < 18446744073709551616
   pub tickets : w.tickets + 1 < 18446744073709551616

@@ -2,25 +2,56 @@
 ghost use Rattle.std.specs.Prelude.{◌≡◌};
 ghost use Rattle.ssh_hub.specs.declared.answers.HandleError.TheVariants.{NoMemory};
 
-use ssh_link::{ChannelMsg, Command, OpenAnswer};
+use ssh_link::{ChannelMsg, Command, OpenAnswer, Refusal};
+use ssh_wire::ChannelOpenFailure;
 use std::alloc::{AllocError, AllocFailed};
 use thiserror::Error;
 
 /// How much a hub holds at most.
 #[derive(Clone, Copy, Debug, PartialEq, Eq)]
 pub struct Config2 {
-    /// How many messages wait in the inbox of one channel.
+    /// How many messages may wait in the inbox of one channel. Memory for them is taken when the
+    /// channel is made.
     pub channel_buffer_size: usize,
-    /// How many commands wait for the session.
+    /// How many commands may wait for the session. Memory for them is taken when the hub is made.
     pub event_buffer_size: usize,
 }
 
-/// Why a call of a hub cannot be made.
+/// Why a call of a hub, or of a handle over one, cannot be made. The calls of `HubLock` and `Seat`
+/// answer `NoMemory` alone. All others are for the handles of sessions and channels that stand on
+/// them.
 #[derive(Clone, Copy, Debug, PartialEq, Eq, Error)]
 pub enum HandleError {
+    /// The hub has ended: of each call of a handle that puts something or waits for an answer.
+    #[error("the hub has ended")]
+    Ended {
+        /// The place of the end in the history.
+        at: u64,
+    },
+    /// One message may have no byte of data, and there is data to write (RFC 4254 section 5.1).
+    #[error("the packet size is 0")]
+    Inconsistent,
+    /// The peer did not open the channel, for this reason (RFC 4254 section 5.1): of a call that
+    /// opens one.
+    #[error("the peer did not open the channel")]
+    OpenFailed(ChannelOpenFailure),
+    /// The peer denied a global request (RFC 4254 section 4): of a call that asks for a forward, or
+    /// takes one back.
+    #[error("the peer denied the request")]
+    Denied,
+    /// There is no byte to write: of a write to a stream that was handed none.
+    #[error("nothing to write")]
+    EmptyWrite,
     /// There was no memory.
     #[error("no memory")]
     NoMemory,
+    /// The session refused the command, or there is no such channel: of a call whose command is
+    /// answered, or that sends on a channel.
+    #[error("the session refused the command")]
+    Refused(Refusal),
+    /// The source of the data to send failed (its count of faults rose).
+    #[error("a read of the data to send failed")]
+    ReadFault,
 }
 
 impl From<AllocError> for HandleError {

@@ -1,25 +1,25 @@
 // One channel of a hub: what may be sent on it, and what waits for its reader.
-ghost use Rattle.std.specs.Prelude.{◌≡◌, IfOk, IfErr, OnErr, not};
+ghost use Rattle.std.specs.Prelude.{◌≡◌, ◌≤◌, IfOk, not};
 ghost use Rattle.ssh_hub.specs.Channels.{waiting, with_window, reserve_from, releasing, spending};
 ghost use Rattle.ssh_hub.specs.Channels.{granting};
 ghost use Rattle.ssh_hub.specs.Channels.{deliver_to, receive_from, look_at, claimed, closed};
 ghost use Rattle.ssh_hub.specs.Channels.{closes_by};
+ghost use Rattle.ssh_hub.specs.Reserved.{FitsBeside};
 
 use crate::answers::{Deliver, Look, Received, Reserve};
-use crate::reservations::Reservations;
+use circular_buffer::HeapCircularBuffer;
 use ssh_link::ChannelMsg;
 use std::alloc::{AllocError, Global};
-use std::collections::VecDeque;
 use std::marker::Model;
 
-/// A channel of a hub: the bytes that may be sent on it, and the messages for its reader. A clause
-/// sees what the hub of one thread has of it.
+/// A channel of a hub: the bytes that may be sent on it, and the messages for its reader, which wait
+/// in a ring whose memory is taken with the channel. Which seat has reserved what, the seats know.
 #[derive(Drop)]
 pub struct Channel {
     left: u32,
     packet: u32,
-    reserved: Reservations,
-    inbox: VecDeque<ChannelMsg>,
+    reserved: u32,
+    inbox: HeapCircularBuffer<ChannelMsg>,
     is_ready: bool,
     is_closed: bool,
     is_claimed: bool,
@@ -27,7 +27,7 @@ pub struct Channel {
 
 impl Model for Channel {
     ghost use Rattle.std.specs.Prelude.{◌+◌, ◌≤◌};
-    ghost use Rattle.ssh_hub.specs.World.{Channel, total_reserved};
+    ghost use Rattle.ssh_hub.specs.World.{Channel};
     ghost use Rattle.ssh_hub.specs.Channels.{most_bytes};
 
     ghost Value = { Channel };
@@ -37,12 +37,13 @@ impl Model for Channel {
       packet = c.packet;
       reserved = c.reserved;
       inbox = c.inbox.items;
+      room = c.inbox.capacity;
       is_ready = c.is_ready;
       is_closed = c.is_closed;
       is_claimed = c.is_claimed;
     } };
 
-    ghost invariant = { λ c. c.left + total_reserved c.reserved ≤ most_bytes };
+    ghost invariant = { λ c. c.left + c.reserved ≤ most_bytes };
 }
 
 /// Whether a delivered message closes its channel: a CLOSE, or a refusal of the open.
@@ -53,65 +54,65 @@ fn closes(msg: &ChannelMsg) -> bool
 }
 
 impl Channel {
-    /// A channel whose window is not known: nothing can be reserved of it. It takes no memory.
-    pub fn waiting(alloc: Global) -> Channel
-        ensures { result ≡ waiting }
+    /// A channel whose window is not known: nothing can be reserved of it. It takes memory for
+    /// `size` messages.
+    pub fn waiting(alloc: Global, size: usize) -> Result<Channel, AllocError>
+        ensures { IfOk result (λ made. made ≡ waiting size) }
     {
-        Channel {
+        Ok(Channel {
             left: 0,
             packet: 0,
-            reserved: Reservations::new(alloc),
-            inbox: VecDeque::new(alloc),
+            reserved: 0,
+            inbox: HeapCircularBuffer::with_capacity(alloc, size)?,
             is_ready: false,
             is_closed: false,
             is_claimed: false,
-        }
+        })
     }
 
     /// The channel is open: the peer takes `window` bytes, and `packet` bytes of data in one
-    /// message (RFC 4254 section 5.1). Nothing is reserved. The inbox and the claim stay.
-    pub fn make_ready(&mut self, alloc: Global, window: u32, packet: u32)
+    /// message (RFC 4254 section 5.1). What is reserved stays, and so do the inbox and the claim.
+    pub fn make_ready(&mut self, window: u32, packet: u32)
         ensures { self.new ≡ with_window self.old window packet }
     {
-        self.reserved = Reservations::new(alloc);
-        self.left = window;
+        self.left = window.min(u32::MAX - self.reserved);
         self.packet = packet;
         self.is_ready = true;
         self.is_closed = false;
     }
 
-    /// Reserves up to `want` of the bytes that are left for the seat. After an error, for want of
-    /// memory, the channel is unchanged.
-    pub fn reserve(&mut self, seat: u64, want: u32) -> Result<Reserve, AllocError>
-        ensures ok { IfOk result (λ r. reserve_from self.old seat want self.old.is_closed
-            ≡ (self.new, r)) }
-        ensures err { OnErr result (self.new ≡ self.old) }
+    /// Reserves up to `want` of the bytes that are left.
+    pub fn reserve(&mut self, want: u32) -> Reserve
+        ensures answer { reserve_from self.old want self.old.is_closed ≡ (self.new, result) }
+        ensures fits { FitsBeside self.old.reserved result }
     {
         if self.is_closed {
-            return Ok(Reserve::Gone);
+            return Reserve::Gone;
         }
         if self.left == 0 {
-            return Ok(Reserve::Empty);
+            return Reserve::Empty;
         }
         let got = want.min(self.left);
-        self.reserved.credit(seat, got, self.left)?;
         self.left -= got;
-        Ok(Reserve::Got(got))
+        self.reserved += got;
+        Reserve::Got(got)
     }
 
-    /// Gives back `amount` bytes of the seat, or all that it has reserved where those are fewer.
-    pub fn release(&mut self, seat: u64, amount: u32)
-        ensures { self.new ≡ releasing self.old seat amount }
+    /// Gives back `amount` of the reserved bytes.
+    pub fn release(&mut self, amount: u32)
+        requires { amount ≤ self.old.reserved }
+        ensures { self.new ≡ releasing self.old amount }
     {
-        let given = self.reserved.debit(seat, amount);
-        self.left += given;
+        self.reserved -= amount;
+        self.left += amount;
     }
 
-    /// Spends `amount` bytes of the seat, or all that it has reserved where those are fewer.
-    pub fn spend(&mut self, seat: u64, amount: u32)
-        ensures { self.new ≡ spending self.old seat amount }
+    /// Spends `amount` of the reserved bytes.
+    pub fn spend(&mut self, amount: u32)
+        requires { amount ≤ self.old.reserved }
+        ensures { self.new ≡ spending self.old amount }
     {
-        self.reserved.debit(seat, amount);
+        self.reserved -= amount;
     }
 
     /// The peer takes `amount` bytes more (RFC 4254 section 5.2). What is left and what is reserved
@@ -120,37 +121,28 @@ impl Channel {
         ensures { self.new ≡ granting self.old amount }
     {
         if self.is_ready && !self.is_closed {
-            let room = u32::MAX - (self.left + self.reserved.total());
+            let room = u32::MAX - (self.left + self.reserved);
             self.left += amount.min(room);
         }
     }
 
-    /// Puts the message into the inbox, which holds at most `size` messages. After an error, for
-    /// want of memory, the channel is unchanged and the message comes back.
-    pub fn deliver(
-        &mut self,
-        size: usize,
-        msg: ChannelMsg,
-    ) -> Result<Deliver, (ChannelMsg, AllocError)>
-        ensures ok { IfOk result (λ r. deliver_to self.old size msg self.old.is_closed
-            ≡ (self.new, r)) }
-        ensures back { IfErr result (λ e. e.0 ≡ msg) }
-        ensures err { OnErr result (self.new ≡ self.old) }
+    /// Puts the message into the inbox.
+    pub fn deliver(&mut self, msg: ChannelMsg) -> Deliver
+        ensures { deliver_to self.old msg self.old.is_closed ≡ (self.new, result) }
     {
         if self.is_closed {
-            return Ok(Deliver::Gone(msg));
-        }
-        if self.inbox.len() >= size {
-            return Ok(Deliver::Full(msg));
+            return Deliver::Gone(msg);
         }
         let closing = closes(&msg);
-        if let Err(failed) = self.inbox.push_back(msg) {
-            return Err((failed.value, AllocError));
+        match self.inbox.try_push_back(msg) {
+            Ok(()) => {
+                if closing {
+                    self.is_closed = true;
+                }
+                Deliver::Done
+            }
+            Err(msg) => Deliver::Full(msg),
         }
-        if closing {
-            self.is_closed = true;
-        }
-        Ok(Deliver::Done)
     }
 
     /// Takes the first message out of the inbox. `ended` is the place where the hub ended; none

@@ -2,6 +2,8 @@
 // proves.
 ghost use Rattle.ssh_hub.specs.Laws.{CommandsInOrder, RepliesInOrder, AnswersFirst};
 ghost use Rattle.ssh_hub.specs.Laws.{BytesAreConserved, BytesFit, EndsAtTheFirst};
+ghost use Rattle.ssh_hub.specs.Laws.{ReservedAddUp, ReservedByOwnCalls, InboxesAreOfOneSize};
+ghost use Rattle.ssh_hub.specs.Laws.{BeginningsAreLegal};
 ghost use Rattle.ssh_hub.specs.Does.{OneCallDoes, CallsAddUp};
 
 /// The commands that were taken are the first of those that were put, in their order.
@@ -34,6 +36,31 @@ pub fn bytes_are_conserved()
 #[tactic(auto, using(crate::proofs::Bytes::fits))]
 pub fn bytes_fit()
     ensures { BytesFit }
+{}
+
+/// The sum that the hub counts as reserved of a channel is that of what each seat has reserved.
+#[tactic(auto, using(crate::proofs::Bytes::adds_up))]
+pub fn reservations_add_up()
+    ensures { ReservedAddUp }
+{}
+
+/// What a seat has reserved is what its own calls make of it: what `reserve` gave, less what it gave
+/// back or put, also where a channel was closed, or made ready a second time.
+#[tactic(auto, using(crate::proofs::Own::by_own_calls))]
+pub fn reserved_by_own_calls()
+    ensures { ReservedByOwnCalls }
+{}
+
+/// In each inbox may wait as many messages as the hub was made for.
+#[tactic(auto, using(crate::proofs::Bytes::of_one_size))]
+pub fn inboxes_are_of_one_size()
+    ensures { InboxesAreOfOneSize }
+{}
+
+/// A beginning of a legal history is legal.
+#[tactic(auto, using(crate::proofs::Histories::legal_before))]
+pub fn beginnings_are_legal()
+    ensures { BeginningsAreLegal }
 {}
 
 /// A hub has ended at the place of the first end in its history, and not where there is none.

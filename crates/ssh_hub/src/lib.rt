@@ -21,7 +21,9 @@ pub use answers::{
 };
 pub use history::{Entry, HubCall, HubReply, Stage, View};
 pub use laws::{
-    answers_before_commands, bytes_are_conserved, bytes_fit, calls_add_up, commands_in_order,
-    ends_at_the_first_end, one_call_does, replies_in_order,
+    answers_before_commands, beginnings_are_legal, bytes_are_conserved, bytes_fit, calls_add_up,
+    commands_in_order, ends_at_the_first_end, inboxes_are_of_one_size, one_call_does,
+    replies_in_order, reservations_add_up, reserved_by_own_calls,
 };
 pub use lock::{HubLock, Seat, crosses};
+pub use reservations::Reservation;

@@ -1,104 +1,158 @@
-// What the seats of a hub have reserved of one channel.
-ghost use Rattle.std.specs.Prelude.{◌≡◌, ◌+◌, ◌≤◌, [], min, OnOk, OnErr};
-ghost use Rattle.ssh_hub.specs.World.{total_reserved};
-ghost use Rattle.ssh_hub.specs.Channels.{credited, debited, reserved_by, most_bytes};
+// What a seat has reserved, in memory of the seat's own.
+ghost use Rattle.std.specs.Prelude.{◌≡◌, ◌+◌, ◌≤◌, [], true, max, IfOk, OnOk, OnErr};
+ghost use Rattle.ssh_hub.specs.Channels.{most_bytes};
+ghost use Rattle.ssh_hub.specs.Reserved.{bytes_on, bytes_at, is_roomy, with_more, with_less, memory};
+ghost use Rattle.ssh_hub.specs.Reserved.{index_of, after_reserve, after_put, FitsBeside};
 
+use crate::answers::{Put, Reserve};
 use std::alloc::{AllocError, Global};
-use std::collections::BTreeMap;
 use std::marker::Model;
 
-/// How many bytes each seat has reserved, by the seat's number, with their sum. A clause sees the
-/// map.
+/// Bytes that a seat has reserved of one channel.
+#[derive(Clone, Copy, Debug, PartialEq, Eq)]
+pub struct Reservation {
+    /// The number of the channel.
+    pub channel: u32,
+    /// How many bytes.
+    pub bytes: u32,
+}
+
+/// What one seat has reserved, and on how many channels it may at once.
 #[derive(Drop)]
 pub struct Reservations {
-    by_seat: BTreeMap<u64, u32>,
-    total: u32,
+    list: Vec<Reservation>,
+    room: usize,
 }
 
 impl Model for Reservations {
-    ghost use Rattle.std.specs.Prelude.{ℕ, List, ◌≡◌};
-    ghost use Rattle.ssh_hub.specs.World.{total_reserved};
+    ghost use Rattle.std.specs.Prelude.{◌≤◌};
+    ghost use Rattle.std.specs.Vec.{vec_capacity};
+    ghost use Rattle.ssh_hub.specs.Reserved.{Reservations, memory};
 
-    ghost Value = { List (ℕ × ℕ) };
+    ghost Value = { Reservations };
 
-    ghost view = { λ r. r.by_seat.entries };
+    ghost view = { λ r. memory r.list.items r.room };
 
-    ghost invariant = { λ r. r.total ≡ total_reserved r.by_seat.entries };
+    ghost invariant = { λ r. r.room ≤ vec_capacity r.list };
 }
 
-/// Adds `got` bytes to what the seat has. After an error, for want of memory, the map is unchanged.
-fn add_at(by_seat: &mut BTreeMap<u64, u32>, seat: u64, got: u32) -> Result<(), AllocError>
-    requires { reserved_by seat by_seat.old.entries + got ≤ most_bytes }
-    ensures ok { OnOk result (by_seat.new.entries ≡ credited by_seat.old.entries seat got) }
-    ensures err { OnErr result (by_seat.new.entries ≡ by_seat.old.entries) }
+/// Where the reservation on the channel stands; none where there is none.
+fn index_of(list: &[Reservation], channel: u32) -> Option<usize>
+    ensures { result ≡ index_of channel list.now }
 {
-    if let Some(had) = by_seat.get_mut(&seat) {
-        *had += got;
-        return Ok(());
+    for at in 0..list.len() {
+        if list[at].channel == channel {
+            return Some(at);
+        }
     }
-    match by_seat.insert(seat, got) {
-        Ok(_) => Ok(()),
-        Err(_) => Err(AllocError),
-    }
-}
-
-/// Takes `amount` bytes of what the seat has, or all that it has where those are fewer, and answers
-/// how many.
-fn take_at(by_seat: &mut BTreeMap<u64, u32>, seat: u64, amount: u32) -> u32
-    ensures after { by_seat.new.entries ≡ debited by_seat.old.entries seat amount }
-    ensures taken { result ≡ min amount (reserved_by seat by_seat.old.entries) }
-{
-    let Some(had) = by_seat.get_mut(&seat) else {
-        return 0;
-    };
-    let taken = amount.min(*had);
-    *had -= taken;
-    taken
+    None
 }
 
 impl Reservations {
-    /// Nothing is reserved. It takes no memory.
-    pub fn new(alloc: Global) -> Reservations
-        ensures { result ≡ [] }
+    /// Nothing is reserved, with memory for reservations on so many channels.
+    pub fn with_room(alloc: Global, room: usize) -> Result<Reservations, AllocError>
+        ensures { IfOk result (λ made. made ≡ memory [] room) }
     {
-        Reservations {
-            by_seat: BTreeMap::new(alloc),
-            total: 0,
+        let list = Vec::with_capacity(alloc, room)?;
+        Ok(Reservations { list, room })
+    }
+
+    /// Makes memory for reservations on `channels` channels at once. After an error nothing has
+    /// changed.
+    pub fn make_room(&mut self, channels: usize) -> Result<(), AllocError>
+        ensures held { self.new.held ≡ self.old.held }
+        ensures ok { OnOk result (self.new.room ≡ max self.old.room channels) }
+        ensures err { OnErr result (self.new.room ≡ self.old.room) }
+    {
+        if channels <= self.room {
+            return Ok(());
         }
-    }
-
-    /// How many bytes all seats have together.
-    pub fn total(&self) -> u32
-        ensures { result ≡ total_reserved self.now }
-    {
-        self.total
-    }
-
-    /// Adds `got` of the `left` bytes of the channel to what the seat has. `left` is for the proof
-    /// alone: with what is reserved it fits 32 bits. After an error, for want of memory, nothing
-    /// has changed.
-    pub fn credit(&mut self, seat: u64, got: u32, left: u32) -> Result<(), AllocError>
-        requires fits { left + total_reserved self.old ≤ most_bytes }
-        requires within { got ≤ left }
-        ensures ok { OnOk result (self.new ≡ credited self.old seat got) }
-        ensures total { OnOk result (total_reserved self.new ≡ total_reserved self.old + got) }
-        ensures err { OnErr result (self.new ≡ self.old) }
-    {
-        let _ = left;
-        add_at(&mut self.by_seat, seat, got)?;
-        self.total += got;
+        self.list.reserve(channels.saturating_sub(self.list.len()))?;
+        self.room = channels;
         Ok(())
     }
 
-    /// Takes `amount` bytes of what the seat has, or all that it has where those are fewer, and
-    /// answers how many.
-    pub fn debit(&mut self, seat: u64, amount: u32) -> u32
-        ensures after { self.new ≡ debited self.old seat amount }
-        ensures taken { result ≡ min amount (reserved_by seat self.old) }
-        ensures total { total_reserved self.new + result ≡ total_reserved self.old }
+    /// Whether something is reserved of the channel, or there is memory for one channel more.
+    pub fn has_room(&self, channel: u32) -> bool
+        ensures { result ≡ is_roomy self.now.room self.now.held channel }
     {
-        let taken = take_at(&mut self.by_seat, seat, amount);
-        self.total -= taken;
-        taken
+        index_of(&self.list, channel).is_some() || self.list.len() < self.room
+    }
+
+    /// How many bytes are reserved of the channel.
+    pub fn bytes(&self, channel: u32) -> u32
+        ensures { result ≡ bytes_on channel self.now.held }
+    {
+        match index_of(&self.list, channel) {
+            Some(at) => self.list[at].bytes,
+            None => 0,
+        }
+    }
+
+    /// How many bytes are reserved of the channel, if it is one.
+    pub fn bytes_at(&self, channel: Option<u32>) -> u32
+        ensures { result ≡ bytes_at channel self.now.held }
+    {
+        match channel {
+            Some(channel) => self.bytes(channel),
+            None => 0,
+        }
+    }
+
+    /// What `reserve` gave of the channel is reserved.
+    pub fn gain(&mut self, reply: &Reserve, channel: u32)
+        requires room { is_roomy self.old.room self.old.held channel ≡ true }
+        requires fits { FitsBeside (bytes_on channel self.old.held) reply.now }
+        ensures held { self.new.held ≡ after_reserve reply.now channel self.old.held }
+        ensures room { self.new.room ≡ self.old.room }
+    {
+        if let Reserve::Got(got) = *reply {
+            self.add(channel, got);
+        }
+    }
+
+    /// `got` bytes more are reserved of the channel.
+    fn add(&mut self, channel: u32, got: u32)
+        requires room { is_roomy self.old.room self.old.held channel ≡ true }
+        requires fits { bytes_on channel self.old.held + got ≤ most_bytes }
+        ensures held { self.new.held ≡ with_more channel got self.old.held }
+        ensures room { self.new.room ≡ self.old.room }
+    {
+        match index_of(&self.list, channel) {
+            Some(at) => self.list[at].bytes += got,
+            None => {
+                let one = Reservation {
+                    channel,
+                    bytes: got,
+                };
+                self.list.push(one).unwrap();
+            }
+        }
+    }
+
+    /// `amount` bytes of the channel are given back, or all that are reserved where those are
+    /// fewer.
+    pub fn give_back(&mut self, channel: u32, amount: u32)
+        ensures held { self.new.held ≡ with_less channel amount self.old.held }
+        ensures room { self.new.room ≡ self.old.room }
+    {
+        let Some(at) = index_of(&self.list, channel) else {
+            return;
+        };
+        if amount < self.list[at].bytes {
+            self.list[at].bytes -= amount;
+        } else {
+            self.list.remove(at);
+        }
+    }
+
+    /// A put that was to spend `amount` bytes of the channel was answered so.
+    pub fn spend(&mut self, reply: &Put, channel: Option<u32>, amount: u32)
+        ensures held { self.new.held ≡ after_put reply.now channel amount self.old.held }
+        ensures room { self.new.room ≡ self.old.room }
+    {
+        if let (Put::Done(_), Some(channel)) = (reply, channel) {
+            self.give_back(channel, amount);
+        }
     }
 }

@@ -1,5 +1,8 @@
 // A hub by example, on one thread and on two.
-ghost use Rattle.std.specs.Prelude.{IfOk};
+mod rings;
+mod room;
+
+ghost use Rattle.std.specs.Prelude.{IfOk, ◌<◌};
 ghost use Rattle.ssh_hub.specs.Words.{IsSeatOf};
 
 use bytes::Bytes;
@@ -39,29 +42,29 @@ enum Came {
     Else,
 }
 
-fn read_put(put: &Result<Put, (Command, HandleError)>) -> Came {
+fn read_put(put: &Put) -> Came {
     match put {
-        Ok(Put::Done(ticket)) => Came::Done(*ticket),
-        Ok(Put::Full(_)) => Came::Full,
+        Put::Done(ticket) => Came::Done(*ticket),
+        Put::Full(_) => Came::Full,
         _ => Came::Else,
     }
 }
 
-fn came_of_put(put: Result<Put, (Command, HandleError)>) -> Came {
+fn came_of_put(put: Put) -> Came {
     let came = read_put(&put);
     drop(put);
     came
 }
 
-fn read_reply(put: &Result<PutReply, (OpenAnswer, HandleError)>) -> Came {
+fn read_reply(put: &PutReply) -> Came {
     match put {
-        Ok(PutReply::Done(ticket)) => Came::Done(*ticket),
-        Ok(PutReply::Full(_)) => Came::Full,
+        PutReply::Done(ticket) => Came::Done(*ticket),
+        PutReply::Full(_) => Came::Full,
         _ => Came::Else,
     }
 }
 
-fn came_of_reply(put: Result<PutReply, (OpenAnswer, HandleError)>) -> Came {
+fn came_of_reply(put: PutReply) -> Came {
     let came = read_reply(&put);
     drop(put);
     came
@@ -93,15 +96,15 @@ enum Inbox {
     Else,
 }
 
-fn read_delivered(delivered: &Result<Deliver, (ChannelMsg, HandleError)>) -> Inbox {
+fn read_delivered(delivered: &Deliver) -> Inbox {
     match delivered {
-        Ok(Deliver::Done) => Inbox::Done,
-        Ok(Deliver::Gone(_)) => Inbox::Gone,
+        Deliver::Done => Inbox::Done,
+        Deliver::Gone(_) => Inbox::Gone,
         _ => Inbox::Else,
     }
 }
 
-fn inbox_of_deliver(delivered: Result<Deliver, (ChannelMsg, HandleError)>) -> Inbox {
+fn inbox_of_deliver(delivered: Deliver) -> Inbox {
     let told = read_delivered(&delivered);
     drop(delivered);
     told
@@ -154,6 +157,18 @@ fn take<R: Wait>(rt: &R, lock: &HubLock, seat: &mut Seat, replies: bool) -> Came
     came_of_take(lock.take(rt, seat, replies, true))
 }
 
+// What a `reserve` answers; none where the seat has no room for a reservation.
+fn reserve<R: Wait>(rt: &R, lock: &HubLock, seat: &mut Seat, want: u32) -> Option<Reserve>
+    requires seat { IsSeatOf lock.now seat.old }
+    requires some { 0 < want }
+    ensures { IsSeatOf lock.now seat.new }
+{
+    if !seat.has_room(CHANNEL) {
+        return None;
+    }
+    Some(lock.reserve(rt, seat, CHANNEL, want))
+}
+
 fn deliver<R: Wait>(rt: &R, lock: &HubLock, seat: &mut Seat, msg: ChannelMsg) -> Inbox
     requires { IsSeatOf lock.now seat.old }
     ensures { IsSeatOf lock.now seat.new }
@@ -169,23 +184,18 @@ fn receive<R: Wait>(rt: &R, lock: &HubLock, seat: &mut Seat) -> Inbox
 }
 
 // Two seats reserve of ten bytes, and the first gives three back.
-fn reserves<R: Wait>(
-    rt: &R,
-    lock: &HubLock,
-    a: &mut Seat,
-    b: &mut Seat,
-) -> Result<[Reserve; 4], HandleError>
+fn reserves<R: Wait>(rt: &R, lock: &HubLock, a: &mut Seat, b: &mut Seat) -> [Option<Reserve>; 4]
     requires a { IsSeatOf lock.now a.old }
     requires b { IsSeatOf lock.now b.old }
     ensures a { IsSeatOf lock.now a.new }
     ensures b { IsSeatOf lock.now b.new }
 {
-    let first = lock.reserve(rt, a, CHANNEL, 8)?;
-    let rest = lock.reserve(rt, b, CHANNEL, 8)?;
-    let none = lock.reserve(rt, b, CHANNEL, 1)?;
+    let first = reserve(rt, lock, a, 8);
+    let rest = reserve(rt, lock, b, 8);
+    let none = reserve(rt, lock, b, 1);
     lock.release(rt, a, CHANNEL, 3);
-    let again = lock.reserve(rt, b, CHANNEL, 8)?;
-    Ok([first, rest, none, again])
+    let again = reserve(rt, lock, b, 8);
+    [first, rest, none, again]
 }
 
 // One seat puts data, and the other an end of file, for which there is room once.
@@ -218,46 +228,39 @@ fn takes<R: Wait>(rt: &R, lock: &HubLock, a: &mut Seat, b: &mut Seat) -> [Came; 
 }
 
 // Whether two seats of one hub are answered as they share it.
-fn share_a_window<R: Wait>(
-    rt: &R,
-    lock: &HubLock,
-    a: &mut Seat,
-    b: &mut Seat,
-) -> Result<bool, HandleError>
+fn share_a_window<R: Wait>(rt: &R, lock: &HubLock, a: &mut Seat, b: &mut Seat) -> bool
     requires a { IsSeatOf lock.now a.old }
     requires b { IsSeatOf lock.now b.old }
 {
-    let reserved = reserves(rt, lock, a, b)?;
+    let reserved = reserves(rt, lock, a, b);
     let put = puts(rt, lock, a, b);
     lock.grant(rt, a, CHANNEL, u32::MAX);
     let seen = lock.look(rt, a, CHANNEL);
     let taken = takes(rt, lock, a, b);
     let (left, packet) = (4294967290, 4);
-    Ok(
-        reserved
+    reserved
+        == [
+            Some(Reserve::Got(8)),
+            Some(Reserve::Got(2)),
+            Some(Reserve::Empty),
+            Some(Reserve::Got(3)),
+        ]
+        && put == [Came::Done(1), Came::Done(2), Came::Full]
+        && seen == Some(Look { left, packet })
+        && taken
             == [
-                Reserve::Got(8),
-                Reserve::Got(2),
-                Reserve::Empty,
-                Reserve::Got(3),
+                Came::Command(1),
+                Came::Done(3),
+                Came::Reply(3),
+                Came::Command(2),
             ]
-            && put == [Came::Done(1), Came::Done(2), Came::Full]
-            && seen == Some(Look { left, packet })
-            && taken
-                == [
-                    Came::Command(1),
-                    Came::Done(3),
-                    Came::Reply(3),
-                    Came::Command(2),
-                ],
-    )
 }
 
 fn on_two_seats<R: Wait>(rt: &R, alloc: Global) -> Result<bool, HandleError> {
     let (lock, mut a) = small_hub(alloc)?;
     lock.ready(rt, &mut a, CHANNEL, 10, 4)?;
     let mut b = lock.split(rt, &mut a)?;
-    share_a_window(rt, &lock, &mut a, &mut b)
+    Ok(share_a_window(rt, &lock, &mut a, &mut b))
 }
 
 #[test]
@@ -277,12 +280,12 @@ fn fill_and_empty<R: Wait>(rt: &R, lock: &HubLock, seat: &mut Seat) -> Result<bo
     let eof = receive(rt, lock, seat);
     let close = receive(rt, lock, seat);
     let closed = receive(rt, lock, seat);
-    let reserved = lock.reserve(rt, seat, CHANNEL, 1)?;
+    let reserved = reserve(rt, lock, seat, 1);
     Ok(
         [gone, none] == [Inbox::Gone, Inbox::Nothing]
             && [first, second] == [Inbox::Done, Inbox::Done]
             && [eof, close, closed] == [Inbox::Eof, Inbox::Close, Inbox::Closed]
-            && reserved == Reserve::Gone,
+            && reserved == Some(Reserve::Gone),
     )
 }
 
@@ -348,13 +351,13 @@ fn answer_and_end<R: Wait>(rt: &R, lock: &HubLock, seat: &mut Seat) -> Result<bo
     lock.nudge(rt, seat);
     lock.end(rt, seat);
     let after = lock.ended(rt, seat);
-    let reserved = lock.reserve(rt, seat, CHANNEL, 1)?;
+    let reserved = reserve(rt, lock, seat, 1);
     lock.pause(rt, 0);
     Ok(
         slot == 1
             && [none, first, again] == [None, Some(answer), None]
             && [before, place, after] == [None, Some(7), Some(7)]
-            && reserved == Reserve::Ended { at: 7 },
+            && reserved == Some(Reserve::Ended { at: 7 }),
     )
 }
 
@@ -375,7 +378,7 @@ fn take_turns<R: Wait>(rt: &R, lock: &HubLock, mut seat: Seat) -> (Seat, u64)
 {
     let mut sum: u64 = 0;
     for _ in 0..1000 {
-        if let Ok(Reserve::Got(got)) = lock.reserve(rt, &mut seat, CHANNEL, 3) {
+        if let Some(Reserve::Got(got)) = reserve(rt, lock, &mut seat, 3) {
             lock.release(rt, &mut seat, CHANNEL, got);
             sum = sum.saturating_add(u64::from(got));
         }

@@ -1,5 +1,7 @@
 // The calls on one channel.
-ghost use Rattle.std.specs.Prelude.{◌≡◌, IfOk, IfErr, OnErr};
+ghost use Rattle.std.specs.Prelude.{◌≡◌, ◌≤◌, IfOk, OnErr};
+ghost use Rattle.ssh_hub.specs.World.{find};
+ghost use Rattle.ssh_hub.specs.Reserved.{sum_on, FitsBeside};
 ghost use Rattle.ssh_hub.specs.Step.{act};
 ghost use Rattle.ssh_hub.specs.declared.history.HubCall.TheVariants.{ReserveBytes, ReleaseBytes};
 ghost use Rattle.ssh_hub.specs.declared.history.HubCall.TheVariants.{GrantBytes};
@@ -18,33 +20,36 @@ use std::alloc::AllocError;
 
 #[tactic(auto, unfolding(crate::specs::Step::act), using(std::proofs::lemmas::Map::Steps::set_value_same))]
 impl Hub {
-    /// Reserves up to `want` of the bytes that are left of the channel for the seat `by`. After an
-    /// error, for want of memory, the hub is unchanged.
-    pub fn reserve(&mut self, by: u64, channel: ChannelId, want: u32) -> Result<Reserve, AllocError>
-        ensures ok { IfOk result (λ r. act self.old by (ReserveBytes channel want)
-            ≡ (self.new, Reserved r)) }
-        ensures err { OnErr result (self.new ≡ self.old) }
+    /// Reserves up to `want` of the bytes that are left of the channel, for the seat `by`.
+    pub fn reserve(&mut self, by: u64, channel: ChannelId, want: u32) -> Reserve
+        ensures answer { act self.old by 0 (ReserveBytes channel want)
+            ≡ (self.new, Reserved result) }
+        ensures fits { FitsBeside (sum_on (find channel.0 self.old.channels)) result }
     {
+        let _ = by;
         if let Some(at) = self.ended {
-            return Ok(Reserve::Ended { at });
+            return Reserve::Ended { at };
         }
         match self.channels.get_mut(&channel.0) {
-            Some(found) => found.reserve(by, want),
-            None => Ok(Reserve::Gone),
+            Some(found) => found.reserve(want),
+            None => Reserve::Gone,
         }
     }
 
-    /// Gives back up to `amount` of the bytes that the seat `by` has reserved of the channel.
-    pub fn release(&mut self, by: u64, channel: ChannelId, amount: u32)
-        ensures { act self.old by (ReleaseBytes channel amount) ≡ (self.new, Done) }
+    /// Gives back up to `amount` of the `had` bytes that the seat `by` has reserved of the channel.
+    pub fn release(&mut self, by: u64, channel: ChannelId, amount: u32, had: u32)
+        requires { had ≤ sum_on (find channel.0 self.old.channels) }
+        ensures { act self.old by had (ReleaseBytes channel amount) ≡ (self.new, Done) }
     {
+        let _ = by;
         if let Some(found) = self.channels.get_mut(&channel.0) {
-            found.release(by, amount);
+            found.release(amount.min(had));
         }
     }
 
     /// The channel is open: the peer takes `window` bytes, and `packet` bytes of data in one
-    /// message (RFC 4254 section 5.1). After an error, for want of memory, the hub is unchanged.
+    /// message (RFC 4254 section 5.1). A channel that is new takes memory for its inbox. After an
+    /// error, for want of memory, the hub is unchanged.
     pub fn ready(
         &mut self,
         by: u64,
@@ -52,18 +57,17 @@ impl Hub {
         window: u32,
         packet: u32,
     ) -> Result<(), AllocError>
-        ensures ok { IfOk result (λ _. act self.old by (MakeReady channel window packet)
+        ensures ok { IfOk result (λ _. act self.old by 0 (MakeReady channel window packet)
             ≡ (self.new, Done)) }
         ensures err { OnErr result (self.new ≡ self.old) }
     {
         let _ = by;
-        let alloc = self.alloc;
         if let Some(found) = self.channels.get_mut(&channel.0) {
-            found.make_ready(alloc, window, packet);
+            found.make_ready(window, packet);
             return Ok(());
         }
-        let mut made = Channel::waiting(alloc);
-        made.make_ready(alloc, window, packet);
+        let mut made = Channel::waiting(self.alloc, self.inbox_size)?;
+        made.make_ready(window, packet);
         match self.channels.insert(channel.0, made) {
             Ok(_) => Ok(()),
             Err(_) => Err(AllocError),
@@ -72,7 +76,7 @@ impl Hub {
 
     /// The peer takes `amount` bytes more on the channel (RFC 4254 section 5.2).
     pub fn grant(&mut self, by: u64, channel: ChannelId, amount: u32)
-        ensures { act self.old by (GrantBytes channel amount) ≡ (self.new, Done) }
+        ensures { act self.old by 0 (GrantBytes channel amount) ≡ (self.new, Done) }
     {
         let _ = by;
         if let Some(found) = self.channels.get_mut(&channel.0) {
@@ -80,30 +84,20 @@ impl Hub {
         }
     }
 
-    /// Puts the message into the inbox of the channel. After an error, for want of memory, the hub
-    /// is unchanged and the message comes back.
-    pub fn deliver(
-        &mut self,
-        by: u64,
-        channel: ChannelId,
-        msg: ChannelMsg,
-    ) -> Result<Deliver, (ChannelMsg, AllocError)>
-        ensures ok { IfOk result (λ r. act self.old by (DeliverMsg channel msg)
-            ≡ (self.new, Delivered r)) }
-        ensures back { IfErr result (λ e. e.0 ≡ msg) }
-        ensures err { OnErr result (self.new ≡ self.old) }
+    /// Puts the message into the inbox of the channel.
+    pub fn deliver(&mut self, by: u64, channel: ChannelId, msg: ChannelMsg) -> Deliver
+        ensures { act self.old by 0 (DeliverMsg channel msg) ≡ (self.new, Delivered result) }
     {
         let _ = by;
-        let size = self.inbox_size;
         match self.channels.get_mut(&channel.0) {
-            Some(found) => found.deliver(size, msg),
-            None => Ok(Deliver::Gone(msg)),
+            Some(found) => found.deliver(msg),
+            None => Deliver::Gone(msg),
         }
     }
 
     /// Takes the first message out of the inbox of the channel.
     pub fn receive(&mut self, by: u64, channel: ChannelId) -> Received
-        ensures { act self.old by (ReceiveMsg channel) ≡ (self.new, HasReceived result) }
+        ensures { act self.old by 0 (ReceiveMsg channel) ≡ (self.new, HasReceived result) }
     {
         let _ = by;
         let ended = self.ended;
@@ -116,7 +110,7 @@ impl Hub {
     /// How many bytes may be reserved of the channel, and how many one message may have; none where
     /// the hub has no such channel or it is closed.
     pub fn look(&self, by: u64, channel: ChannelId) -> Option<Look>
-        ensures { act self.now by (LookAt channel) ≡ (self.now, Saw result) }
+        ensures { act self.now by 0 (LookAt channel) ≡ (self.now, Saw result) }
     {
         let _ = by;
         match self.channels.get(&channel.0) {
@@ -127,7 +121,7 @@ impl Hub {
 
     /// Claims the channel: `true` exactly where it is there, and nobody claimed it before.
     pub fn claim(&mut self, by: u64, channel: ChannelId) -> bool
-        ensures { act self.old by (ClaimChannel channel) ≡ (self.new, Claimed result) }
+        ensures { act self.old by 0 (ClaimChannel channel) ≡ (self.new, Claimed result) }
     {
         let _ = by;
         match self.channels.get_mut(&channel.0) {

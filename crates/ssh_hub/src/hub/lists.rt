@@ -1,7 +1,8 @@
 // The commands and replies that wait for the session.
-ghost use Rattle.std.specs.Prelude.{◌≡◌, ◌+◌, ◌<◌, ◌^◌, IfOk, IfErr, OnErr};
+ghost use Rattle.std.specs.Prelude.{◌≡◌, ◌+◌, ◌<◌, ◌^◌};
 ghost use Rattle.ssh_hub.specs.Step.{act};
 ghost use Rattle.ssh_hub.specs.Lists.{data_channel, close_channel, spent_on};
+ghost use Rattle.ssh_hub.specs.Reserved.{IsCovered};
 ghost use Rattle.ssh_hub.specs.declared.history.HubCall.TheVariants.{PutCommand, PutAnswer};
 ghost use Rattle.ssh_hub.specs.declared.history.HubCall.TheVariants.{TakeNext};
 ghost use Rattle.ssh_hub.specs.declared.history.HubReply.TheVariants.{WasPut, ReplyWasPut, Took};
@@ -11,14 +12,10 @@ use crate::answers::{Put, PutReply, Taken};
 use crate::channel::Channel;
 use crate::queued::{Due, QueuedCommand, QueuedReply};
 use ssh_link::{Command, OpenAnswer};
-use std::alloc::AllocError;
 use std::collections::BTreeMap;
 
-/// How many replies wait at most.
-const REPLY_SIZE: usize = 64;
-
 /// The number of the channel whose reserved bytes the command spends; none where it has no data.
-fn data_channel(command: &Command) -> Option<u32>
+pub fn data_channel(command: &Command) -> Option<u32>
     ensures { result ≡ data_channel command.now }
 {
     match command {
@@ -38,41 +35,31 @@ fn close_channel(command: &Command) -> Option<u32>
     }
 }
 
-/// Spends up to `spend` of the bytes that the seat has reserved of the channel.
-fn spend_on(channels: &mut BTreeMap<u32, Channel>, seat: u64, spend: u32, channel: Option<u32>)
-    ensures { channels.new.entries ≡ spent_on channels.old.entries seat spend channel }
+/// Spends `amount` of the reserved bytes of the channel, if it is one.
+fn spend_on(channels: &mut BTreeMap<u32, Channel>, amount: u32, channel: Option<u32>)
+    requires { IsCovered channel amount channels.old.entries }
+    ensures { channels.new.entries ≡ spent_on channels.old.entries amount channel }
 {
     let Some(channel) = channel else {
         return;
     };
     if let Some(found) = channels.get_mut(&channel) {
-        found.spend(seat, spend);
+        found.spend(amount);
     }
 }
 
 #[tactic(auto, unfolding(crate::specs::Step::act))]
 impl Hub {
     /// Puts the command of the seat `by` behind those that wait. One with data spends up to `spend`
-    /// of the bytes that the seat has reserved. With `wanted` its outcome is kept. After an error,
-    /// for want of memory, the hub is unchanged and the command comes back.
-    pub fn put(
-        &mut self,
-        by: u64,
-        msg: Command,
-        spend: u32,
-        wanted: bool,
-    ) -> Result<Put, (Command, AllocError)>
-        requires { self.old.tickets + 1 < 2 ^ 64 }
-        ensures ok { IfOk result (λ r. act self.old by (PutCommand msg spend wanted)
-            ≡ (self.new, WasPut r)) }
-        ensures back { IfErr result (λ e. e.0 ≡ msg) }
-        ensures err { OnErr result (self.new ≡ self.old) }
+    /// of the `had` bytes that the seat has reserved of its channel. With `wanted` its outcome is
+    /// kept.
+    pub fn put(&mut self, by: u64, msg: Command, spend: u32, wanted: bool, had: u32) -> Put
+        requires tickets { self.old.tickets + 1 < 2 ^ 64 }
+        requires had { IsCovered (data_channel msg) had self.old.channels }
+        ensures { act self.old by had (PutCommand msg spend wanted) ≡ (self.new, WasPut result) }
     {
         if let Some(at) = self.ended {
-            return Ok(Put::Ended { at, msg });
-        }
-        if self.commands.len() >= self.command_size {
-            return Ok(Put::Full(msg));
+            return Put::Ended { at, msg };
         }
         let channel = data_channel(&msg);
         let ticket = self.tickets + 1;
@@ -82,32 +69,23 @@ impl Hub {
             wanted,
             command: msg,
         };
-        if let Err(failed) = self.commands.push_back(queued) {
-            return Err((failed.value.command, AllocError));
+        match self.commands.try_push_back(queued) {
+            Ok(()) => {
+                self.tickets = ticket;
+                spend_on(&mut self.channels, spend.min(had), channel);
+                Put::Done(ticket)
+            }
+            Err(back) => Put::Full(back.command),
         }
-        self.tickets = ticket;
-        spend_on(&mut self.channels, by, spend, channel);
-        Ok(Put::Done(ticket))
     }
 
-    /// Puts the answer to an open of the peer (RFC 4254 section 5.1) behind those that wait. After
-    /// an error, for want of memory, the hub is unchanged and the answer comes back.
-    pub fn put_reply(
-        &mut self,
-        by: u64,
-        answer: OpenAnswer,
-    ) -> Result<PutReply, (OpenAnswer, AllocError)>
+    /// Puts the answer to an open of the peer (RFC 4254 section 5.1) behind those that wait.
+    pub fn put_reply(&mut self, by: u64, answer: OpenAnswer) -> PutReply
         requires { self.old.tickets + 1 < 2 ^ 64 }
-        ensures ok { IfOk result (λ r. act self.old by (PutAnswer answer)
-            ≡ (self.new, ReplyWasPut r)) }
-        ensures back { IfErr result (λ e. e.0 ≡ answer) }
-        ensures err { OnErr result (self.new ≡ self.old) }
+        ensures { act self.old by 0 (PutAnswer answer) ≡ (self.new, ReplyWasPut result) }
     {
         if let Some(at) = self.ended {
-            return Ok(PutReply::Ended { at, answer });
-        }
-        if self.replies.len() >= REPLY_SIZE {
-            return Ok(PutReply::Full(answer));
+            return PutReply::Ended { at, answer };
         }
         let ticket = self.tickets + 1;
         let queued = QueuedReply {
@@ -115,17 +93,19 @@ impl Hub {
             seat: by,
             answer,
         };
-        if let Err(failed) = self.replies.push_back(queued) {
-            return Err((failed.value.answer, AllocError));
+        match self.replies.try_push_back(queued) {
+            Ok(()) => {
+                self.tickets = ticket;
+                PutReply::Done(ticket)
+            }
+            Err(back) => PutReply::Full(back.answer),
         }
-        self.tickets = ticket;
-        Ok(PutReply::Done(ticket))
     }
 
     /// Takes the first reply where asked for, or else the first command where asked for. It is now
     /// what `answer` may tell the outcome of.
     pub fn take(&mut self, by: u64, replies: bool, commands: bool) -> Option<Taken>
-        ensures { act self.old by (TakeNext replies commands) ≡ (self.new, Took result) }
+        ensures { act self.old by 0 (TakeNext replies commands) ≡ (self.new, Took result) }
     {
         let _ = by;
         if replies {

@@ -67,18 +67,19 @@ fn keep_refused(
     Ok(())
 }
 
-/// The opened channel is there, and the outcome is kept where it is wanted. After an error, for
+/// The opened channel is there, with memory for `size` messages, and the outcome is kept where it is wanted. After an error, for
 /// want of memory, nothing has changed.
 #[tactic(auto, using(crate::proofs::Maps::without_new))]
 fn keep_opened(
     alloc: Global,
+    size: usize,
     channels: &mut BTreeMap<u32, Channel>,
     outcomes: &mut BTreeMap<u64, CommandOutcome>,
     due: Due,
     channel: ChannelId,
 ) -> Result<(), AllocError>
     ensures channels { OnOk result (channels.new.entries
-        ≡ channels_after channels.old.entries due (Opened channel)) }
+        ≡ channels_after size channels.old.entries due (Opened channel)) }
     ensures outcomes { OnOk result (outcomes.new.entries
         ≡ outcomes_after outcomes.old.entries due (Opened channel)) }
     ensures no_channels { OnErr result (channels.new.entries ≡ channels.old.entries) }
@@ -88,7 +89,8 @@ fn keep_opened(
     if channels.contains_key(&channel.0) {
         return keep_outcome(outcomes, due, outcome);
     }
-    if channels.insert(channel.0, Channel::waiting(alloc)).is_err() {
+    let made = Channel::waiting(alloc, size)?;
+    if channels.insert(channel.0, made).is_err() {
         return Err(AllocError);
     }
     if keep_outcome(outcomes, due, outcome).is_err() {
@@ -121,7 +123,7 @@ impl Hub {
         ticket: u64,
         outcome: CommandOutcome,
     ) -> Result<(), AllocError>
-        ensures ok { IfOk result (λ _. act self.old by (AnswerTicket ticket outcome)
+        ensures ok { IfOk result (λ _. act self.old by 0 (AnswerTicket ticket outcome)
             ≡ (self.new, Done)) }
         ensures err { OnErr result (self.new ≡ self.old) }
     {
@@ -139,6 +141,7 @@ impl Hub {
             }
             CommandOutcome::Opened(channel) => keep_opened(
                 self.alloc,
+                self.inbox_size,
                 &mut self.channels,
                 &mut self.outcomes,
                 due,
@@ -154,7 +157,7 @@ impl Hub {
 
     /// Gives out the kept outcome of the command with this ticket, once.
     pub fn outcome(&mut self, by: u64, ticket: u64) -> Option<CommandOutcome>
-        ensures { act self.old by (TakeOutcome ticket) ≡ (self.new, OutcomeIs result) }
+        ensures { act self.old by 0 (TakeOutcome ticket) ≡ (self.new, OutcomeIs result) }
     {
         let _ = by;
         self.outcomes.remove(&ticket)
@@ -162,7 +165,7 @@ impl Hub {
 
     /// The newest refusal of the seat `by`: the ticket of the command, and why it was refused.
     pub fn refusal(&self, by: u64) -> Option<(u64, Refusal)>
-        ensures { act self.now by AskRefusal ≡ (self.now, RefusalIs result) }
+        ensures { act self.now by 0 AskRefusal ≡ (self.now, RefusalIs result) }
     {
         self.refusals.get(&by).copied()
     }

@@ -18,7 +18,7 @@ impl Hub {
     /// unchanged.
     pub fn slot(&mut self, by: u64) -> Result<u64, AllocError>
         requires { self.old.slots + 1 < 2 ^ 64 }
-        ensures ok { IfOk result (λ slot. act self.old by DrawSlot ≡ (self.new, SlotIs slot)) }
+        ensures ok { IfOk result (λ slot. act self.old by 0 DrawSlot ≡ (self.new, SlotIs slot)) }
         ensures err { OnErr result (self.new ≡ self.old) }
     {
         let _ = by;
@@ -32,7 +32,7 @@ impl Hub {
 
     /// Keeps the first answer of a slot that was given out, and else does nothing.
     pub fn slot_answer(&mut self, by: u64, slot: u64, answer: SlotAnswer)
-        ensures { act self.old by (AnswerSlot slot answer) ≡ (self.new, Done) }
+        ensures { act self.old by 0 (AnswerSlot slot answer) ≡ (self.new, Done) }
     {
         let _ = by;
         if let Some(kept) = self.answers.get_mut(&slot) {
@@ -44,7 +44,7 @@ impl Hub {
 
     /// Gives out the answer of the slot, once.
     pub fn slot_outcome(&mut self, by: u64, slot: u64) -> Option<SlotAnswer>
-        ensures { act self.old by (TakeSlotAnswer slot) ≡ (self.new, SlotAnswerIs result) }
+        ensures { act self.old by 0 (TakeSlotAnswer slot) ≡ (self.new, SlotAnswerIs result) }
     {
         let _ = by;
         let answer = self.answers.get(&slot).copied().flatten();
@@ -56,7 +56,7 @@ impl Hub {
 
     /// The hub ends, if it has not ended before.
     pub fn end(&mut self, by: u64)
-        ensures { act self.old by EndHub ≡ (self.new, Done) }
+        ensures { act self.old by 0 EndHub ≡ (self.new, Done) }
     {
         let _ = by;
         if self.ended.is_none() {
@@ -66,7 +66,7 @@ impl Hub {
 
     /// The place at which the hub ended; none where it has not.
     pub fn ended(&self, by: u64) -> Option<u64>
-        ensures { act self.now by AskEnded ≡ (self.now, EndedAt result) }
+        ensures { act self.now by 0 AskEnded ≡ (self.now, EndedAt result) }
     {
         let _ = by;
         self.ended
@@ -74,7 +74,7 @@ impl Hub {
 
     /// A call that changes nothing.
     pub fn nudge(&self, by: u64)
-        ensures { act self.now by Nudge ≡ (self.now, Done) }
+        ensures { act self.now by 0 Nudge ≡ (self.now, Done) }
     {
         let _ = by;
     }
@@ -82,7 +82,7 @@ impl Hub {
     /// The number of a new seat.
     pub fn split(&mut self, by: u64) -> u64
         requires { self.old.seats + 1 < 2 ^ 64 }
-        ensures { act self.old by SplitSeat ≡ (self.new, SeatIs result) }
+        ensures { act self.old by 0 SplitSeat ≡ (self.new, SeatIs result) }
     {
         let _ = by;
         self.seats += 1;

@@ -1,6 +1,6 @@
 // The calls on one channel.
-ghost use Rattle.std.specs.Prelude.{◌≡◌, ◌<◌, IfOk, IfErr, OnErr};
-ghost use Rattle.ssh_hub.specs.Words.{IsSeatOf, HasCalled, HasLearned};
+ghost use Rattle.std.specs.Prelude.{◌≡◌, ◌<◌, true, IfOk, IfErr, OnErr};
+ghost use Rattle.ssh_hub.specs.Words.{IsSeatOf, HasCalled, HasLearned, has_room_for, room_of};
 ghost use Rattle.ssh_hub.specs.declared.answers.HandleError.TheVariants.{NoMemory};
 ghost use Rattle.ssh_hub.specs.declared.history.HubCall.TheVariants.{ReserveBytes, ReleaseBytes};
 ghost use Rattle.ssh_hub.specs.declared.history.HubCall.TheVariants.{GrantBytes};
@@ -20,45 +20,45 @@ use std::sync::Wait;
 
 #[tactic(auto, using(crate::proofs::Made::makes_later, crate::proofs::Made::learns_still))]
 impl HubLock {
-    /// Takes up to `want` of the bytes that are left of the channel for the seat. After `NoMemory`,
-    /// the only error, the hub is unchanged.
+    /// Takes up to `want` of the bytes that are left of the channel for the seat, which has room for
+    /// one more reservation or has one on this channel (`Seat::has_room`).
     pub fn reserve<R: Wait>(
         &self,
         rt: &R,
         seat: &mut Seat,
         channel: ChannelId,
         want: u32,
-    ) -> Result<Reserve, HandleError>
+    ) -> Reserve
         requires seat { IsSeatOf self.now seat.old }
         requires some { 0 < want }
+        requires room { has_room_for seat.old channel.0 ≡ true }
         ensures seat { IsSeatOf self.now seat.new }
-        ensures call { IfOk result (λ r. HasCalled seat.old (ReserveBytes channel want) (Reserved r)
-            seat.new) }
-        ensures memory { IfErr result (λ e. e ≡ NoMemory) }
-        ensures no_call { OnErr result (HasLearned seat.old seat.new) }
+        ensures room { room_of seat.new ≡ room_of seat.old }
+        ensures call { HasCalled seat.old (ReserveBytes channel want) (Reserved result) seat.new }
     {
         let mut hub = self.enter(rt, &mut seat.inner);
-        let Ok(answer) = hub.reserve(seat.number, channel, want) else {
-            self.give_up(&mut seat.inner, hub);
-            return Err(HandleError::NoMemory);
-        };
+        let answer = hub.reserve(seat.number, channel, want);
+        seat.reserved.gain(&answer, channel.0);
         seat.place = self.finish::<Brand, (ChannelId, u32), Reserve>(
             &mut seat.inner,
             hub,
             &(channel, want),
             &answer,
         );
-        Ok(answer)
+        answer
     }
 
     /// Gives back up to `amount` of the bytes that the seat has reserved of the channel.
     pub fn release<R: Wait>(&self, rt: &R, seat: &mut Seat, channel: ChannelId, amount: u32)
         requires { IsSeatOf self.now seat.old }
         ensures seat { IsSeatOf self.now seat.new }
+        ensures room { room_of seat.new ≡ room_of seat.old }
         ensures call { HasCalled seat.old (ReleaseBytes channel amount) Done seat.new }
     {
+        let had = seat.reserved.bytes(channel.0);
         let mut hub = self.enter(rt, &mut seat.inner);
-        hub.release(seat.number, channel, amount);
+        hub.release(seat.number, channel, amount, had);
+        seat.reserved.give_back(channel.0, amount);
         seat.place = self.finish::<Brand, (ChannelId, u32), ()>(
             &mut seat.inner,
             hub,
@@ -68,8 +68,9 @@ impl HubLock {
     }
 
     /// The channel is open: the peer takes `window` bytes, and `packet` bytes of data in one
-    /// message (RFC 4254 section 5.1). Its inbox and its claim stay. After `NoMemory`, the only
-    /// error, the hub is unchanged.
+    /// message (RFC 4254 section 5.1). Where it was made ready before, what is reserved of it, its
+    /// inbox and its claim stay, and the reserved bytes count against the new window's 2^32 - 1.
+    /// After `NoMemory`, the only error, the hub is unchanged.
     pub fn ready<R: Wait>(
         &self,
         rt: &R,
@@ -80,6 +81,7 @@ impl HubLock {
     ) -> Result<(), HandleError>
         requires { IsSeatOf self.now seat.old }
         ensures seat { IsSeatOf self.now seat.new }
+        ensures room { room_of seat.new ≡ room_of seat.old }
         ensures call { IfOk result (λ _. HasCalled seat.old (MakeReady channel window packet) Done
             seat.new) }
         ensures memory { IfErr result (λ e. e ≡ NoMemory) }
@@ -104,6 +106,7 @@ impl HubLock {
     pub fn grant<R: Wait>(&self, rt: &R, seat: &mut Seat, channel: ChannelId, amount: u32)
         requires { IsSeatOf self.now seat.old }
         ensures seat { IsSeatOf self.now seat.new }
+        ensures room { room_of seat.new ≡ room_of seat.old }
         ensures call { HasCalled seat.old (GrantBytes channel amount) Done seat.new }
     {
         let mut hub = self.enter(rt, &mut seat.inner);
@@ -117,46 +120,36 @@ impl HubLock {
     }
 
     /// Puts the message into the inbox of the channel; a close, or a refusal of the open, closes
-    /// the channel. After `NoMemory`, the only error, the hub is unchanged and the message comes
-    /// back.
+    /// the channel.
     pub fn deliver<R: Wait>(
         &self,
         rt: &R,
         seat: &mut Seat,
         channel: ChannelId,
         msg: ChannelMsg,
-    ) -> Result<Deliver, (ChannelMsg, HandleError)>
+    ) -> Deliver
         requires { IsSeatOf self.now seat.old }
         ensures seat { IsSeatOf self.now seat.new }
-        ensures call { IfOk result (λ r. HasCalled seat.old (DeliverMsg channel msg) (Delivered r)
-            seat.new) }
-        ensures back { IfErr result (λ e. e.0 ≡ msg) }
-        ensures memory { IfErr result (λ e. e.1 ≡ NoMemory) }
-        ensures no_call { OnErr result (HasLearned seat.old seat.new) }
+        ensures room { room_of seat.new ≡ room_of seat.old }
+        ensures call { HasCalled seat.old (DeliverMsg channel msg) (Delivered result) seat.new }
     {
         let said = Snapshot::of(&msg);
         let mut hub = self.enter(rt, &mut seat.inner);
-        match hub.deliver(seat.number, channel, msg) {
-            Ok(answer) => {
-                seat.place = self.finish::<Brand, (ChannelId, Snapshot<ChannelMsg>), Deliver>(
-                    &mut seat.inner,
-                    hub,
-                    &(channel, said),
-                    &answer,
-                );
-                Ok(answer)
-            }
-            Err((back, _)) => {
-                self.give_up(&mut seat.inner, hub);
-                Err((back, HandleError::NoMemory))
-            }
-        }
+        let answer = hub.deliver(seat.number, channel, msg);
+        seat.place = self.finish::<Brand, (ChannelId, Snapshot<ChannelMsg>), Deliver>(
+            &mut seat.inner,
+            hub,
+            &(channel, said),
+            &answer,
+        );
+        answer
     }
 
     /// Takes the first message out of the inbox of the channel.
     pub fn receive<R: Wait>(&self, rt: &R, seat: &mut Seat, channel: ChannelId) -> Received
         requires { IsSeatOf self.now seat.old }
         ensures seat { IsSeatOf self.now seat.new }
+        ensures room { room_of seat.new ≡ room_of seat.old }
         ensures call { HasCalled seat.old (ReceiveMsg channel) (HasReceived result) seat.new }
     {
         let mut hub = self.enter(rt, &mut seat.inner);
@@ -174,6 +167,7 @@ impl HubLock {
     pub fn look<R: Wait>(&self, rt: &R, seat: &mut Seat, channel: ChannelId) -> Option<Look>
         requires { IsSeatOf self.now seat.old }
         ensures seat { IsSeatOf self.now seat.new }
+        ensures room { room_of seat.new ≡ room_of seat.old }
         ensures call { HasCalled seat.old (LookAt channel) (Saw result) seat.new }
     {
         let hub = self.enter(rt, &mut seat.inner);
@@ -191,6 +185,7 @@ impl HubLock {
     pub fn claim<R: Wait>(&self, rt: &R, seat: &mut Seat, channel: ChannelId) -> bool
         requires { IsSeatOf self.now seat.old }
         ensures seat { IsSeatOf self.now seat.new }
+        ensures room { room_of seat.new ≡ room_of seat.old }
         ensures call { HasCalled seat.old (ClaimChannel channel) (Claimed result) seat.new }
     {
         let mut hub = self.enter(rt, &mut seat.inner);

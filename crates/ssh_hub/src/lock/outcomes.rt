@@ -1,6 +1,6 @@
 // What came of commands and replies.
 ghost use Rattle.std.specs.Prelude.{◌≡◌, IfOk, IfErr, OnErr};
-ghost use Rattle.ssh_hub.specs.Words.{IsSeatOf, HasCalled, HasLearned};
+ghost use Rattle.ssh_hub.specs.Words.{IsSeatOf, HasCalled, HasLearned, room_of};
 ghost use Rattle.ssh_hub.specs.declared.answers.HandleError.TheVariants.{NoMemory};
 ghost use Rattle.ssh_hub.specs.declared.history.HubCall.TheVariants.{AnswerTicket, TakeOutcome};
 ghost use Rattle.ssh_hub.specs.declared.history.HubCall.TheVariants.{AskRefusal};
@@ -26,6 +26,7 @@ impl HubLock {
     ) -> Result<(), HandleError>
         requires { IsSeatOf self.now seat.old }
         ensures seat { IsSeatOf self.now seat.new }
+        ensures room { room_of seat.new ≡ room_of seat.old }
         ensures call { IfOk result (λ _. HasCalled seat.old (AnswerTicket ticket outcome) Done
             seat.new) }
         ensures memory { IfErr result (λ e. e ≡ NoMemory) }
@@ -49,6 +50,7 @@ impl HubLock {
     pub fn outcome<R: Wait>(&self, rt: &R, seat: &mut Seat, ticket: u64) -> Option<CommandOutcome>
         requires { IsSeatOf self.now seat.old }
         ensures seat { IsSeatOf self.now seat.new }
+        ensures room { room_of seat.new ≡ room_of seat.old }
         ensures call { HasCalled seat.old (TakeOutcome ticket) (OutcomeIs result) seat.new }
     {
         let mut hub = self.enter(rt, &mut seat.inner);
@@ -66,6 +68,7 @@ impl HubLock {
     pub fn refusal<R: Wait>(&self, rt: &R, seat: &mut Seat) -> Option<(u64, Refusal)>
         requires { IsSeatOf self.now seat.old }
         ensures seat { IsSeatOf self.now seat.new }
+        ensures room { room_of seat.new ≡ room_of seat.old }
         ensures call { HasCalled seat.old AskRefusal (RefusalIs result) seat.new }
     {
         let hub = self.enter(rt, &mut seat.inner);

@@ -1,6 +1,6 @@
 // What the peer answered to requests of this side, and the end of the hub.
 ghost use Rattle.std.specs.Prelude.{◌≡◌, IfOk, IfErr, OnErr};
-ghost use Rattle.ssh_hub.specs.Words.{IsSeatOf, HasCalled, HasLearned};
+ghost use Rattle.ssh_hub.specs.Words.{IsSeatOf, HasCalled, HasLearned, room_of};
 ghost use Rattle.ssh_hub.specs.declared.answers.HandleError.TheVariants.{NoMemory};
 ghost use Rattle.ssh_hub.specs.declared.history.HubCall.TheVariants.{DrawSlot, AnswerSlot};
 ghost use Rattle.ssh_hub.specs.declared.history.HubCall.TheVariants.{TakeSlotAnswer};
@@ -20,6 +20,7 @@ impl HubLock {
     pub fn slot<R: Wait>(&self, rt: &R, seat: &mut Seat) -> Result<u64, HandleError>
         requires { IsSeatOf self.now seat.old }
         ensures seat { IsSeatOf self.now seat.new }
+        ensures room { room_of seat.new ≡ room_of seat.old }
         ensures call { IfOk result (λ r. HasCalled seat.old DrawSlot (SlotIs r) seat.new) }
         ensures memory { IfErr result (λ e. e ≡ NoMemory) }
         ensures no_call { OnErr result (HasLearned seat.old seat.new) }
@@ -37,6 +38,7 @@ impl HubLock {
     pub fn slot_answer<R: Wait>(&self, rt: &R, seat: &mut Seat, slot: u64, answer: SlotAnswer)
         requires { IsSeatOf self.now seat.old }
         ensures seat { IsSeatOf self.now seat.new }
+        ensures room { room_of seat.new ≡ room_of seat.old }
         ensures call { HasCalled seat.old (AnswerSlot slot answer) Done seat.new }
     {
         let mut hub = self.enter(rt, &mut seat.inner);
@@ -53,6 +55,7 @@ impl HubLock {
     pub fn slot_outcome<R: Wait>(&self, rt: &R, seat: &mut Seat, slot: u64) -> Option<SlotAnswer>
         requires { IsSeatOf self.now seat.old }
         ensures seat { IsSeatOf self.now seat.new }
+        ensures room { room_of seat.new ≡ room_of seat.old }
         ensures call { HasCalled seat.old (TakeSlotAnswer slot) (SlotAnswerIs result) seat.new }
     {
         let mut hub = self.enter(rt, &mut seat.inner);
@@ -70,6 +73,7 @@ impl HubLock {
     pub fn end<R: Wait>(&self, rt: &R, seat: &mut Seat)
         requires { IsSeatOf self.now seat.old }
         ensures seat { IsSeatOf self.now seat.new }
+        ensures room { room_of seat.new ≡ room_of seat.old }
         ensures call { HasCalled seat.old EndHub Done seat.new }
     {
         let mut hub = self.enter(rt, &mut seat.inner);
@@ -81,6 +85,7 @@ impl HubLock {
     pub fn ended<R: Wait>(&self, rt: &R, seat: &mut Seat) -> Option<u64>
         requires { IsSeatOf self.now seat.old }
         ensures seat { IsSeatOf self.now seat.new }
+        ensures room { room_of seat.new ≡ room_of seat.old }
         ensures call { HasCalled seat.old AskEnded (EndedAt result) seat.new }
     {
         let hub = self.enter(rt, &mut seat.inner);
@@ -93,6 +98,7 @@ impl HubLock {
     pub fn nudge<R: Wait>(&self, rt: &R, seat: &mut Seat)
         requires { IsSeatOf self.now seat.old }
         ensures seat { IsSeatOf self.now seat.new }
+        ensures room { room_of seat.new ≡ room_of seat.old }
         ensures call { HasCalled seat.old Nudge Done seat.new }
     {
         let hub = self.enter(rt, &mut seat.inner);

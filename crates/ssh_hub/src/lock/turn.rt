@@ -8,7 +8,9 @@ ghost use Rattle.ssh_hub.specs.Rule.{written, drawn_by, HasTurn, AtRest, stays_s
 ghost use Rattle.ssh_hub.specs.declared.history.Stage.TheVariants.{Idle};
 ghost use Rattle.ssh_hub.specs.Words.{IsIdle, IsInside, IsInTurn, IsOfSame, IsSameSeat, Learns};
 ghost use Rattle.ssh_hub.specs.Words.{Makes, Stays};
-ghost use Rattle.ssh_hub.specs.Words.{hub_seen, newest_of, IsAnswered, IsServed, IsFresh};
+ghost use Rattle.ssh_hub.specs.Words.{hub_seen, held_of, newest_of, OwnsPart};
+ghost use Rattle.ssh_hub.specs.Words.{IsAnswered, IsServed, IsFresh};
+ghost use Rattle.ssh_hub.specs.Reserved.{reserved_after};
 
 use super::{HubLock, Place};
 use crate::hub::Hub;
@@ -28,12 +30,15 @@ const COUNT: usize = 2;
 const LAST: u64 = u64::MAX - 1;
 
 impl HubLock {
-    /// Waits for its turn, and takes the hub out.
+    /// Waits for its turn, and takes the hub out. Of no channel the seat has more than the hub
+    /// counts as reserved.
     pub(super) fn enter<R: Wait>(&self, rt: &R, place: &mut Place) -> Hub
         requires { IsIdle self.now place.old }
         ensures place { IsOfSame place.old place.new × IsInside place.new }
         ensures learns { Learns place.old.me.0 place.new.me.0 }
         ensures newest { newest_of place.new ≡ newest_of place.old }
+        ensures held { held_of place.new ≡ held_of place.old }
+        ensures owns { OwnsPart place.new }
         ensures hub { result ≡ hub_seen place.new }
         ensures room { HasRoom result }
         ensures roomy { HasRoom (hub_seen place.new) }
@@ -101,6 +106,8 @@ impl HubLock {
             × (place.new.me.0.spare ≡ drawn_by E.entry.call E.entry.reply None) }
         ensures rests { AtRest (stays_seated place.new.me.0, place.new.me.1) }
         ensures newest { result ≡ newest_of place.new }
+        ensures held { held_of place.new
+            ≡ reserved_after E.entry.call E.entry.reply (held_of place.old) }
         ensures makes { Makes place.old.me.0 E.entry.call E.entry.reply place.new.me.0 }
         ensures fresh { IsFresh E.entry place.new }
     {
@@ -117,6 +124,7 @@ impl HubLock {
         ensures place { IsOfSame place.old place.new × IsSameSeat place.old.me.0 place.new.me.0
             × AtRest place.new.me }
         ensures newest { newest_of place.new ≡ newest_of place.old }
+        ensures held { held_of place.new ≡ held_of place.old }
         ensures stays { Stays place.old.me.0 place.new.me.0 }
     {
         self.leave(place, hub);

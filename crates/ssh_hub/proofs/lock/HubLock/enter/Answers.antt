@@ -3,7 +3,7 @@ use mathlib.Core.Option.{none}
 use Rattle.atomic_table.specs.Table.{step}
 use Rattle.ssh_hub.proofs.Steps.{draws, looks_as, took_turn}
 use Rattle.ssh_hub.proofs.Handing.{carries}
-use Rattle.ssh_hub.proofs.Made.{inside_after, newest_entered}
+use Rattle.ssh_hub.proofs.Made.{inside_after, newest_entered, held_entered, owns_entered}
 use Rattle.ssh_hub.proofs.lock.HubLock.enter.Goals as goal
 
 pub fetch_add-ticket-requires : goal.fetch_add-ticket-requires
@@ -41,3 +41,17 @@ returns-then-serving-ticket-clause-newest g c = let inv = c.loop.invariant in
     let took = took_turn (step 0 0 0 0 none) inv.0 _ _ _ m.0 m.1 inv.2 c.load-serving.ensures.2
     (c.if-serving-ticket.true ∙ inv.1) in
     newest_entered inv.0 m.0 m.1 _ _ took c.exchange.ensures.3
+
+pub returns-then-serving-ticket-clause-held : goal.returns-then-serving-ticket-clause-held
+returns-then-serving-ticket-clause-held g c = let inv = c.loop.invariant in
+    let m = c.args.place.now.me in
+    let took = took_turn (step 0 0 0 0 none) inv.0 _ _ _ m.0 m.1 inv.2 c.load-serving.ensures.2
+    (c.if-serving-ticket.true ∙ inv.1) in
+    held_entered inv.0 m.0 m.1 _ _ took c.exchange.ensures.3
+
+pub returns-then-serving-ticket-clause-owns : goal.returns-then-serving-ticket-clause-owns
+returns-then-serving-ticket-clause-owns g c = let inv = c.loop.invariant in
+    let m = c.args.place.now.me in
+    let took = took_turn (step 0 0 0 0 none) inv.0 _ _ _ m.0 m.1 inv.2 c.load-serving.ensures.2
+    (c.if-serving-ticket.true ∙ inv.1) in
+    owns_entered inv.0 m.0 m.1 _ _ took c.exchange.ensures.3
