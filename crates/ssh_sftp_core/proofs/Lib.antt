@@ -1,0 +1,5 @@
+pub mod Fields
+pub mod Trees
+pub mod Shown
+pub mod Writing
+pub mod Packets
