@@ -1,6 +1,8 @@
 -- What a reader read is what the bytes say.
-use Rattle.std.proofs.Common.{◌≡◌, ℕ, suc, ◌+◌, ◌-◌, ◌<◌, ◌≤◌, inl, inr, List, [], ◌∷◌, ◌++◌, length}
-use Rattle.std.proofs.Common.{sym, ap, refl, ◌∙◌, length-append, arith, take, drop, Option, Some, None}
+use Rattle.std.proofs.Common.{◌≡◌, ℕ, suc, ◌+◌, ◌-◌, ◌<◌, ◌≤◌, inl, inr, List, [], ◌∷◌, ◌++◌}
+use Rattle.std.proofs.Common.{length}
+use Rattle.std.proofs.Common.{sym, ap, refl, ◌∙◌, length-append, arith, take, drop, Option, Some}
+use Rattle.std.proofs.Common.{None}
 use Rattle.std.proofs.Common.{Bool, true, false}
 use Rattle.std.specs.Prelude.{◌&&◌, nat_le, if◌then◌else◌, option_map}
 use Rattle.std.specs.Option.{option_and_then}
@@ -22,7 +24,8 @@ abbrev cut : Bool → (piece after : List ℕ) → Option (List ℕ × List ℕ)
 cut is_there piece after = if is_there then Some (piece, after) else None
 
 string_first : (n : ℕ) (text after : List ℕ) → n ≡ length text
-    → cut (nat_le 4 (length (string text ++ after)) && nat_le (4 + n) (length (string text ++ after)))
+    → cut (nat_le 4 (length (string text ++ after)) && nat_le (4 + n) (length (string text ++
+    after)))
     (take n (drop 4 (string text ++ after))) (drop (4 + n) (string text ++ after))
     ≡ Some (text, after)
 string_first n text after is =
@@ -68,7 +71,8 @@ first_long old new n read =
     let enough : nat_le 8 (length (to_be_bytes w64 n ++ new.left)) ≡ true =
     grind (arith, length-append (to_be_bytes w64 n) new.left) in
     ap (first_of Long) is
-    ∙ ap (λ t. counted t new.left (from_be_bytes w64 (take 8 (to_be_bytes w64 n ++ new.left)))) enough
+    ∙ ap (λ t. counted t new.left (from_be_bytes w64 (take 8 (to_be_bytes w64 n ++ new.left))))
+    enough
     ∙ ap (counted true new.left) (from_be_bytes-to_be_bytes_8 n read.1.0)
 
 is_cut : (bytes : List ℕ) → IsCutShort bytes
@@ -78,7 +82,8 @@ is_cut bytes (inr less) = grind (arith, less)
 
 no_bytes : (bytes : List ℕ) → IsCutShort bytes → first_of Bytes bytes ≡ None
 no_bytes bytes short =
-    ap (λ t. cut t (take (said bytes) (drop 4 bytes)) (drop (4 + said bytes) bytes)) (is_cut bytes short)
+    ap (λ t. cut t (take (said bytes) (drop 4 bytes)) (drop (4 + said bytes) bytes)) (is_cut bytes
+    short)
 
 -- bytes that no string fits have none in front
 pub none_first : (bytes : List ℕ) (why : WireError) → Misfits Bytes bytes why
@@ -90,7 +95,8 @@ none_first bytes _ never = absurd never
 
 decoded_more : (f : Field) (fields : List Field) (a b : List ℕ) (x : Value f)
     → first_of f a ≡ Some (x, b)
-    → decoded (f ∷ fields) a ≡ option_map (λ (values : Values fields). (x, values)) (decoded fields b)
+    → decoded (f ∷ fields) a ≡ option_map (λ (values : Values fields). (x, values)) (decoded fields
+    b)
 decoded_more f fields a b x is = ap (λ (o : Option (Value f × List ℕ)). elim o [
   | None ↦ None
   | Some found ↦ option_map (λ values. (found.0, values)) (decoded fields found.1)

@@ -3,3 +3,4 @@ pub mod Trees
 pub mod Shown
 pub mod Writing
 pub mod Packets
+pub mod Lawful

@@ -1,5 +1,6 @@
 -- What stands of the handles, as the code keeps them.
-use Rattle.std.proofs.Common.{◌≡◌, ◌==◌, not, ℕ, Bool, true, false, List, [], ◌∷◌, refl, ap, Option, Some, None, cond, Bor}
+use Rattle.std.proofs.Common.{◌≡◌, ◌==◌, not, ℕ, Bool, true, false, List, [], ◌∷◌, refl, ap, Option}
+use Rattle.std.proofs.Common.{Some, None, cond, Bor}
 use Rattle.std.specs.Prelude.{option_map, map, find, filter}
 use Rattle.ssh_sftp_core.specs.declared.handles.Opened as kept
 use Rattle.ssh_sftp_core.specs.Files.{Opened}

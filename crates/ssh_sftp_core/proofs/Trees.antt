@@ -1,5 +1,6 @@
 -- The files after a change of the map that keeps them.
-use Rattle.std.proofs.Common.{◌≡◌, ℕ, List, [], ◌∷◌, sym, ap, subst, refl, ◌∙◌, Vec, Option, Bool, true, false, Some, None, cond, Bor}
+use Rattle.std.proofs.Common.{◌≡◌, ℕ, List, [], ◌∷◌, sym, ap, subst, refl, ◌∙◌, Vec, Option, Bool}
+use Rattle.std.proofs.Common.{true, false, Some, None, cond, Bor}
 use Rattle.std.specs.Prelude.{option_map, map, option_copied, IsSome, IfSome}
 use Rattle.std.specs.Global.{Global}
 use Rattle.std.specs.declared.cmp.Ordering.{Ordering}
@@ -44,7 +45,8 @@ equal Greater is = absurd (cc is)
 one_key : (path : List ℕ) → IsKeyTest (λ x y. eq_by_cmp (slice_cmp nat_cmp) x.items y.items)
     (is_at (λ (k : Vec ℕ Global). slice_cmp nat_cmp path k.items))
 one_key path x y is =
-    ap is_eq (nat_list_cmp_total.congr path x.items y.items (equal (slice_cmp nat_cmp path x.items) is))
+    ap is_eq (nat_list_cmp_total.congr path x.items y.items (equal (slice_cmp nat_cmp path x.items)
+    is))
 
 -- what tests another path passes no key that this one does
 other_key : (path other : List ℕ) → eq_by_cmp (slice_cmp nat_cmp) other path ≡ false
@@ -60,7 +62,8 @@ same_path path other is = slice_cmp-IsAntisymmetric nat_cmp-IsAntisymmetric othe
 
 -- after a change at one path, what is found under any
 changed : (m n : BTreeMap (Vec ℕ Global) (Vec ℕ Global)) (path : List ℕ) (w : Option (Vec ℕ Global))
-    → UpdatesBy (λ x y. slice_cmp nat_cmp x.items y.items) (λ k. slice_cmp nat_cmp path k.items) m n w
+    → UpdatesBy (λ x y. slice_cmp nat_cmp x.items y.items) (λ k. slice_cmp nat_cmp path k.items) m
+    n w
     → (q : List ℕ) → find (slice_cmp nat_cmp) q (map shown n.entries)
     ≡ cond (eq_by_cmp (slice_cmp nat_cmp) q path) (option_map (λ file. file.items) w)
     (find (slice_cmp nat_cmp) q (map shown m.entries))
@@ -68,8 +71,10 @@ unfolding KeepsOthers
 changed m n path w u q =
     elim (eq_by_cmp (slice_cmp nat_cmp) q path) as (λ b.
     eq_by_cmp (slice_cmp nat_cmp) q path ≡ b → find (slice_cmp nat_cmp) q (map shown n.entries)
-    ≡ cond b (option_map (λ file. file.items) w) (find (slice_cmp nat_cmp) q (map shown m.entries))) [
-      | true ↦ λ same. ap (λ z. find (slice_cmp nat_cmp) z (map shown n.entries)) (same_path path q same)
+    ≡ cond b (option_map (λ file. file.items) w) (find (slice_cmp nat_cmp) q (map shown
+    m.entries))) [
+      | true ↦ λ same. ap (λ z. find (slice_cmp nat_cmp) z (map shown n.entries)) (same_path path q
+          same)
           ∙ sym (found path n.entries) ∙ ap (option_map (λ file. file.items)) u.1
       | false ↦ λ apart. sym (found q n.entries)
           ∙ ap (option_map (λ file. file.items))
@@ -82,7 +87,8 @@ pub put_is : (m n : BTreeMap (Vec ℕ Global) (Vec ℕ Global)) (path : List ℕ
     (Some file)
     → tree_of n.entries ≡ finite.insert (tree_of m.entries) path file.items
 put_is m n path file u =
-    same_map nat_list_cmp_total (slice_cmp-IsAntisymmetric nat_cmp-IsAntisymmetric) (tree_of n.entries)
+    same_map nat_list_cmp_total (slice_cmp-IsAntisymmetric nat_cmp-IsAntisymmetric) (tree_of
+    n.entries)
     (finite.insert (tree_of m.entries) path file.items) (λ q.
     get-from_entries nat_list_cmp_total (map shown n.entries) q
     ∙ changed m n path (Some file) u q
@@ -95,7 +101,8 @@ pub taken_is : (m n : BTreeMap (Vec ℕ Global) (Vec ℕ Global)) (path : List �
     None
     → tree_of n.entries ≡ finite.remove (tree_of m.entries) path
 taken_is m n path u =
-    same_map nat_list_cmp_total (slice_cmp-IsAntisymmetric nat_cmp-IsAntisymmetric) (tree_of n.entries)
+    same_map nat_list_cmp_total (slice_cmp-IsAntisymmetric nat_cmp-IsAntisymmetric) (tree_of
+    n.entries)
     (finite.remove (tree_of m.entries) path) (λ q.
     get-from_entries nat_list_cmp_total (map shown n.entries) q
     ∙ changed m n path None u q
@@ -107,7 +114,8 @@ pub get_is : (entries : List (Vec ℕ Global × Vec ℕ Global)) (path : List �
     → option_map (λ file. file.items)
     (lookup (is_at (λ k. slice_cmp nat_cmp path k.items)) entries)
     ≡ finite.get (tree_of entries) path
-get_is entries path = found path entries ∙ sym (get-from_entries nat_list_cmp_total (map shown entries) path)
+get_is entries path = found path entries ∙ sym (get-from_entries nat_list_cmp_total (map shown
+    entries) path)
 
 -- the file under a path was written through what the map lent
 pub written_is : (m n : BTreeMap (Vec ℕ Global) (Vec ℕ Global)) (tree : Tree) (path : List ℕ)

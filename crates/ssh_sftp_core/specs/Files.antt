@@ -1,6 +1,8 @@
 -- The files of a server, the handles that it gave, and what each request does with them.
-use Rattle.std.specs.Prelude.{◌≡◌, ◌+◌, ◌-◌, ◌^◌, ◌++◌, ◌&&◌, ◌||◌, ◌==◌, not, ℕ, Bool, true, false, List, [], ◌∷◌}
-use Rattle.std.specs.Prelude.{Option, Some, None, Result, Ok, Err, length, take, drop, min, replicate}
+use Rattle.std.specs.Prelude.{◌≡◌, ◌+◌, ◌-◌, ◌^◌, ◌++◌, ◌&&◌, ◌||◌, ◌==◌, not, ℕ, Bool, true, false}
+use Rattle.std.specs.Prelude.{List, [], ◌∷◌}
+use Rattle.std.specs.Prelude.{Option, Some, None, Result, Ok, Err, length, take, drop, min}
+use Rattle.std.specs.Prelude.{replicate}
 use Rattle.std.specs.Prelude.{if◌then◌else◌, nat_le, nat_lt, nat_eq, codes, find, filter}
 use Rattle.std.specs.Prelude.{slice_index}
 use Rattle.std.specs.Int.{w32, from_be_bytes}
@@ -73,7 +75,8 @@ refuses state why = says state (tell.Report why)
 
 -- a request that was done, and these are the files now
 abbrev pub changes : State → Tree → Outcome
-changes state files = record { told = tell.Report status.Ok; after = record state { files = files } }
+changes state files =
+    record { told = tell.Report status.Ok; after = record state { files = files } }
 
 -- ---- paths
 
@@ -264,9 +267,12 @@ answer_with id outcome =
 
 -- a packet is a byte of its type, the four bytes of an id or of the version of INIT, and a body
 -- (section 3)
+abbrev pub outcome_at : State → (packet : List ℕ) → Outcome
+outcome_at state packet =
+    outcome_of state (heard state (slice_index packet 0) (drop 5 packet))
+
 unfoldable pub answer : State → (packet : List ℕ) → Answer
-answer state packet = answer_with (said (drop 1 packet))
-    (outcome_of state (heard state (slice_index packet 0) (drop 5 packet)))
+answer state packet = answer_with (said (drop 1 packet)) (outcome_at state packet)
 
 -- the answer was put out, and this is the state after it
 pub record Answers (answer : Answer) (after : State) (old new : List ℕ) : Type 0 where

@@ -1,5 +1,6 @@
 -- What bytes say that are laid out as these fields, field by field.
-use Rattle.std.specs.Prelude.{◌+◌, ◌&&◌, ◌==◌, not, ℕ, zero, suc, Bool, true, false, List, [], ◌∷◌, length, take}
+use Rattle.std.specs.Prelude.{◌+◌, ◌&&◌, ◌==◌, not, ℕ, zero, suc, Bool, true, false, List, [], ◌∷◌}
+use Rattle.std.specs.Prelude.{length, take}
 use Rattle.std.specs.Prelude.{drop, nat_le, if◌then◌else◌, Option, Some, None, option_map, bit_and}
 use Rattle.std.specs.Option.{option_and_then}
 use Rattle.std.specs.Int.{w32, w64, from_be_bytes}

@@ -5,3 +5,4 @@ pub mod Responses
 pub mod Trees
 pub mod Files
 pub mod Handles
+pub mod Laws

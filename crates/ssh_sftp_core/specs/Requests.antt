@@ -1,5 +1,6 @@
 -- What a packet asks, by its type: one line a type (draft-ietf-secsh-filexfer-02 sections 4 and 6).
-use Rattle.std.specs.Prelude.{◌==◌, if◌then◌else◌, ℕ, List, [], ◌∷◌, Option, Some, None, Result, Ok, Err}
+use Rattle.std.specs.Prelude.{◌==◌, if◌then◌else◌, ℕ, List, [], ◌∷◌, Option, Some, None, Result, Ok}
+use Rattle.std.specs.Prelude.{Err}
 use Rattle.ssh_wire.specs.Field.{Field, Number, Long, Bytes, Values}
 use Rattle.ssh_sftp_core.specs.declared.request.Request.{Request}
 use Rattle.ssh_sftp_core.specs.declared.request.Request.TheVariants as request
@@ -65,14 +66,25 @@ opens body = elim (first_of Bytes body) [
   | Some path ↦ opened_with path.0 (first_of Number path.1)
 ]
 
--- what follows the version of INIT are extensions, whatever they are (section 4)
+-- string handle, uint64 offset, uint32 length (section 6.4)
+abbrev pub reads : List ℕ → Result Asked Status
+reads body = fits (Bytes ∷ Long ∷ Number ∷ []) (λ (handle, (offset, (most, _))).
+    Read handle offset most) body
+
+-- string handle, uint64 offset, string data (section 6.4)
+abbrev pub writes : List ℕ → Result Asked Status
+writes body = fits (Bytes ∷ Long ∷ Bytes ∷ []) (λ (handle, (offset, (bytes, _))).
+    Write handle offset bytes) body
+
+-- one line a type, of what follows the id; what follows the version of INIT are extensions,
+-- whatever they are (section 4)
 abbrev pub asked_by : (kind : ℕ) → (body : List ℕ) → Result Asked Status
 asked_by kind body =
     if kind == 1 then Ok Init
     else (if kind == 3 then opens body
     else (if kind == 4 then fits (Bytes ∷ []) (λ (handle, _). Close handle) body
-    else (if kind == 5 then fits (Bytes ∷ Long ∷ Number ∷ []) (λ (handle, (at, (most, _))). Read handle at most) body
-    else (if kind == 6 then fits (Bytes ∷ Long ∷ Bytes ∷ []) (λ (handle, (at, (bytes, _))). Write handle at bytes) body
+    else (if kind == 5 then reads body
+    else (if kind == 6 then writes body
     else (if kind == 7 then fits (Bytes ∷ []) (λ (path, _). Stat path) body
     else (if kind == 8 then fits (Bytes ∷ []) (λ (handle, _). Fstat handle) body
     else (if kind == 13 then fits (Bytes ∷ []) (λ (path, _). Remove path) body

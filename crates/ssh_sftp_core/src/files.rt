@@ -1,5 +1,6 @@
 // The files of a server, and the answers to the packets of its client.
-ghost use Rattle.std.specs.Prelude.{◌≡◌, ◌<◌, ◌++◌, length, drop, slice_index, Ok, Err, MatchResult, IfErr, OnOk, OnErr};
+ghost use Rattle.std.specs.Prelude.{◌≡◌, ◌<◌, ◌++◌, length, drop, slice_index, Ok, Err};
+ghost use Rattle.std.specs.Prelude.{MatchResult, IfErr, OnOk, OnErr};
 ghost use Rattle.ssh_wire.specs.Field.{string};
 ghost use Rattle.ssh_wire.specs.declared.error.WireError.TheVariants.{NoMemory};
 ghost use Rattle.ssh_sftp_core.specs.Files.{Answers, answer, answer_with, fresh, heard, outcome};

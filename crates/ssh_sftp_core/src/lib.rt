@@ -7,6 +7,7 @@ mod files;
 pub mod flag;
 mod handles;
 pub mod kind;
+pub mod laws;
 mod path;
 mod request;
 mod response;

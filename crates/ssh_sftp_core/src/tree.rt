@@ -1,5 +1,6 @@
 // The files: bytes under paths.
-ghost use Rattle.std.specs.Prelude.{◌≡◌, ◌+◌, ◌-◌, replicate, ◌<◌, ◌≤◌, ◌^◌, ◌++◌, [], length, take, drop, option_map};
+ghost use Rattle.std.specs.Prelude.{◌≡◌, ◌+◌, ◌-◌, replicate, ◌<◌, ◌≤◌, ◌^◌, ◌++◌, [], length};
+ghost use Rattle.std.specs.Prelude.{take, drop, option_map};
 ghost use Rattle.std.specs.Prelude.{Ok, Err, IfOk, OnOk, IfErr, IfSome, IfNone, MatchResult};
 ghost use Rattle.std.specs.FinMap as map;
 ghost use Rattle.ssh_wire.specs.declared.error.WireError.TheVariants.{NoMemory};

@@ -3,7 +3,8 @@ ghost use Rattle.std.specs.Prelude.{◌≡◌, Ok, Err, IfOk, IfErr, MatchResult
 ghost use Rattle.ssh_wire.specs.declared.error.WireError.TheVariants.{NoMemory};
 ghost use Rattle.ssh_sftp_core.specs.Files.{outcome, says, file_of, read_part, place_of};
 ghost use Rattle.ssh_sftp_core.specs.Handles.{one_of};
-ghost use Rattle.ssh_sftp_core.specs.Requests.{Open, Close, Read, Write, Stat, Fstat, Remove, Rename};
+ghost use Rattle.ssh_sftp_core.specs.Requests.{Open, Close, Read, Write, Stat, Fstat, Remove};
+ghost use Rattle.ssh_sftp_core.specs.Requests.{Rename};
 ghost use Rattle.ssh_sftp_core.specs.Responses.{Report, told};
 
 use super::Files;
@@ -27,7 +28,8 @@ fn find_file<'a>(
     handle: &[u8],
 ) -> Result<(&'a Opened, &'a Vec<u8>), Status>
     ensures { MatchResult result
-        (λ found. file_of tree.now handles.now handle.now ≡ Ok (one_of found.0.now, found.1.now.items))
+        (λ found. file_of tree.now handles.now handle.now
+        ≡ Ok (one_of found.0.now, found.1.now.items))
         (λ why. file_of tree.now handles.now handle.now ≡ Err why) }
 {
     let Some(one) = handles.find(handle) else {

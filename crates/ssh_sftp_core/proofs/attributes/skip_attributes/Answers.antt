@@ -15,8 +15,10 @@ returns-in_err-skip_numbers c =
     rw (p.1, p.2) (
       c.in_err-skip_numbers.ensures.0,
       before ∙ none_second
-          (past_where (has c.in_ok-flags.flags 1) (Long ∷ [])) (past_where (has c.in_ok-flags.flags 2) (Number ∷ Number ∷ []))
-          (past_where (has c.in_ok-flags.flags 4) (Number ∷ [])) (past_where (has c.in_ok-flags.flags 8) (Number ∷ Number ∷ []))
+          (past_where (has c.in_ok-flags.flags 1) (Long ∷ [])) (past_where (has c.in_ok-flags.flags
+          2) (Number ∷ Number ∷ []))
+          (past_where (has c.in_ok-flags.flags 4) (Number ∷ [])) (past_where (has
+          c.in_ok-flags.flags 8) (Number ∷ Number ∷ []))
           (past_extended (has c.in_ok-flags.flags 0x8000_0000))
           c.u32.new.self.left c.skip_long.new.reader.left c.in_ok-skip_long.ensures
           c.in_err-skip_numbers.ensures.1,
@@ -31,11 +33,14 @@ returns-in_err-skip_number c =
     rw (p.1, p.2) (
       c.in_err-skip_number.ensures.0,
       before ∙ none_third
-          (past_where (has c.in_ok-flags.flags 1) (Long ∷ [])) (past_where (has c.in_ok-flags.flags 2) (Number ∷ Number ∷ []))
-          (past_where (has c.in_ok-flags.flags 4) (Number ∷ [])) (past_where (has c.in_ok-flags.flags 8) (Number ∷ Number ∷ []))
+          (past_where (has c.in_ok-flags.flags 1) (Long ∷ [])) (past_where (has c.in_ok-flags.flags
+          2) (Number ∷ Number ∷ []))
+          (past_where (has c.in_ok-flags.flags 4) (Number ∷ [])) (past_where (has
+          c.in_ok-flags.flags 8) (Number ∷ Number ∷ []))
           (past_extended (has c.in_ok-flags.flags 0x8000_0000))
           c.u32.new.self.left c.skip_long.new.reader.left c.in_ok-skip_long.ensures
-          c.skip_numbers.new.reader.left c.in_ok-skip_numbers.ensures c.in_err-skip_number.ensures.1,
+          c.skip_numbers.new.reader.left c.in_ok-skip_numbers.ensures
+          c.in_err-skip_number.ensures.1,
     )
 
 pub returns-in_err-skip_numbers-2 : goal.returns-in_err-skip_numbers-2
@@ -47,8 +52,10 @@ returns-in_err-skip_numbers-2 c =
     rw (p.1, p.2) (
       c.in_err-skip_numbers-2.ensures.0,
       before ∙ none_fourth
-          (past_where (has c.in_ok-flags.flags 1) (Long ∷ [])) (past_where (has c.in_ok-flags.flags 2) (Number ∷ Number ∷ []))
-          (past_where (has c.in_ok-flags.flags 4) (Number ∷ [])) (past_where (has c.in_ok-flags.flags 8) (Number ∷ Number ∷ []))
+          (past_where (has c.in_ok-flags.flags 1) (Long ∷ [])) (past_where (has c.in_ok-flags.flags
+          2) (Number ∷ Number ∷ []))
+          (past_where (has c.in_ok-flags.flags 4) (Number ∷ [])) (past_where (has
+          c.in_ok-flags.flags 8) (Number ∷ Number ∷ []))
           (past_extended (has c.in_ok-flags.flags 0x8000_0000))
           c.u32.new.self.left c.skip_long.new.reader.left c.in_ok-skip_long.ensures
           c.skip_numbers.new.reader.left c.in_ok-skip_numbers.ensures c.skip_number.new.reader.left
@@ -60,8 +67,10 @@ returns c =
     let before = ap (option_and_then (λ found. past_flagged found.0 found.1))
     (first_number c.args.reader.now c.u32.new.self c.in_ok-flags.flags c.in_ok-flags.ensures.ok) in
     let all = before ∙ fifth
-    (past_where (has c.in_ok-flags.flags 1) (Long ∷ [])) (past_where (has c.in_ok-flags.flags 2) (Number ∷ Number ∷ []))
-    (past_where (has c.in_ok-flags.flags 4) (Number ∷ [])) (past_where (has c.in_ok-flags.flags 8) (Number ∷ Number ∷ []))
+    (past_where (has c.in_ok-flags.flags 1) (Long ∷ [])) (past_where (has c.in_ok-flags.flags 2)
+    (Number ∷ Number ∷ []))
+    (past_where (has c.in_ok-flags.flags 4) (Number ∷ [])) (past_where (has c.in_ok-flags.flags 8)
+    (Number ∷ Number ∷ []))
     (past_extended (has c.in_ok-flags.flags 0x8000_0000))
     c.u32.new.self.left c.skip_long.new.reader.left c.in_ok-skip_long.ensures
     c.skip_numbers.new.reader.left c.in_ok-skip_numbers.ensures c.skip_number.new.reader.left

@@ -9,7 +9,8 @@ returns-in_err-bytes c =
     rw (p.1, p.2) (
       refl,
       c.loop-pair.invariant ∙ no_first c.args.count c.loop-pair._pair
-          c.loop-pair.reader.left c.in_err-bytes.field-0.0 c.loop-pair-test.true c.in_err-bytes.ensures.misfit,
+          c.loop-pair.reader.left c.in_err-bytes.field-0.0 c.loop-pair-test.true
+          c.in_err-bytes.ensures.misfit,
     )
 
 pub returns-in_err-bytes-2 : goal.returns-in_err-bytes-2

@@ -11,7 +11,8 @@ returns c =
     ∙ decoded_three Bytes Long Bytes c.new-reader.result.left c.bytes.new.self.left
     c.u64.new.self.left c.bytes-2.new.self.left c.in_ok-handle.handle.now c.in_ok-offset.offset
     c.in_ok-bytes.bytes.now
-    (first_bytes c.new-reader.result c.bytes.new.self c.in_ok-handle.handle.now c.in_ok-handle.ensures.ok)
+    (first_bytes c.new-reader.result c.bytes.new.self c.in_ok-handle.handle.now
+    c.in_ok-handle.ensures.ok)
     (first_long c.bytes.new.self c.u64.new.self c.in_ok-offset.offset c.in_ok-offset.ensures.ok)
     (first_bytes c.u64.new.self c.bytes-2.new.self c.in_ok-bytes.bytes.now c.in_ok-bytes.ensures.ok)
     none
