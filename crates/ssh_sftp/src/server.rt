@@ -1,5 +1,6 @@
 // A file server on a stream.
-ghost use Rattle.std.specs.Prelude.{◌≡◌, ◌++◌, is_err, flat_map, OnOk, IfErr};
+ghost use Rattle.std.specs.Prelude.{◌≡◌, ◌++◌, ◌↔◌, true, is_err, flat_map, OnOk, IfErr, IsErrOf};
+ghost use Rattle.ssh_sftp.specs.declared.error.SftpError.TheVariants.{Failed};
 ghost use Rattle.ssh_sftp.specs.Packets.{IsPartial};
 ghost use Rattle.ssh_sftp.specs.Replies.{Serves, RefusesAt, begun, end_of};
 ghost use Rattle.ssh_sftp.specs.Replies.{IsAnswered, IsRefused, NeverBoth};
@@ -56,6 +57,7 @@ impl SftpServer {
         ensures err { IfErr result (λ why. RefusesAt self.old.failed self.old.files
             (self.old.rest ++ piece.now) why out.old.items out.new.items) }
         ensures failed { self.new.failed ≡ is_err result }
+        ensures spent { IsErrOf result Failed ↔ (self.old.failed ≡ true) }
     {
         if self.failed {
             return Err(SftpError::Failed);
