@@ -1,0 +1,6 @@
+pub mod Fields
+pub mod Trees
+pub mod Shown
+pub mod Writing
+pub mod Packets
+pub mod Lawful

@@ -1,0 +1,12 @@
+//! Worked examples of a file server on a stream, as tests: packets with the bytes that answer them
+//! (draft-ietf-secsh-filexfer-02).
+#![tactic(auto)]
+
+#[cfg(test)]
+mod cuts;
+#[cfg(test)]
+mod limits;
+#[cfg(test)]
+mod requests;
+#[cfg(test)]
+mod talk;
