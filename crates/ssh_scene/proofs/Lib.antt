@@ -1,4 +1,5 @@
 pub mod Digits
+pub mod Generating
 pub mod Reasons
 pub mod Cutting
 pub mod LinesOnce

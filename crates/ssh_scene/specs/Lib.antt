@@ -1,5 +1,6 @@
 pub mod Opens
 pub mod Verdicts
+pub mod Generated
 pub mod Grammar
 pub mod Queues
 pub mod Scene

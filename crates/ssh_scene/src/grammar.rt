@@ -22,7 +22,7 @@ use ssh_wire::Text;
 use std::alloc::{AllocError, Global};
 
 /// The number that the digits write: decimal, without sign or leading zero, below 2^64.
-pub(crate) fn number_in(alloc: Global, digits: &str) -> Result<Option<u64>, AllocError>
+pub fn number_in(alloc: Global, digits: &str) -> Result<Option<u64>, AllocError>
     ensures { IfOk result (IsNumberIn digits.now) }
 {
     let Ok(n) = digits.parse::<u64>() else {
@@ -69,7 +69,7 @@ pub(crate) fn text_in(alloc: Global, digits: &str) -> Result<Option<Text>, Alloc
 }
 
 /// The key whose blob the digits write in hex.
-fn key_in(alloc: Global, digits: &str) -> Result<Option<PublicKey>, AllocError>
+pub(crate) fn key_in(alloc: Global, digits: &str) -> Result<Option<PublicKey>, AllocError>
     ensures { IfOk result (IsKeyIn digits.now) }
 {
     let Some(blob) = bytes_in(alloc, digits)? else {

@@ -6,6 +6,8 @@
 
 mod answers;
 mod command_lines;
+mod faults;
+mod generated;
 mod grammar;
 mod lines;
 mod scene;
@@ -15,5 +17,8 @@ pub use answers::{
     Answers, DataVerdict, ForwardVerdict, InteractiveVerdict, OpenVerdict, RequestVerdict,
     Standing, Verdict,
 };
+pub use faults::{BadLine, LineFault, bad_line};
+pub use generated::generated_script;
+pub use grammar::number_in;
 pub use scene::read_script;
 pub use script::{Script, Stage};

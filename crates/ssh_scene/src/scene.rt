@@ -19,7 +19,7 @@ use std::alloc::{AllocError, Global};
 
 impl Script {
     /// What no line says.
-    fn new(alloc: Global) -> Result<Script, AllocError>
+    pub(crate) fn new(alloc: Global) -> Result<Script, AllocError>
         ensures { IfOk result (λ script. scene_of script ≡ opening_scene) }
     {
         Ok(Script {
@@ -150,7 +150,7 @@ impl Script {
     }
 
     /// Takes in an input line of a peer that is there.
-    fn take_live(&mut self, line: InputLine) -> Result<(), AllocError>
+    pub(crate) fn take_live(&mut self, line: InputLine) -> Result<(), AllocError>
         ensures { OnOk result (after_input line (scene_of self.old) ≡ scene_of self.new) }
     {
         self.stage = Stage::Inputs;
@@ -206,7 +206,7 @@ impl Script {
 }
 
 /// The first line, without its newline, and the bytes after it.
-fn first_line(text: &[u8]) -> Option<(&[u8], &[u8])>
+pub(crate) fn first_line(text: &[u8]) -> Option<(&[u8], &[u8])>
     ensures cut { MatchOption result (text.now ≡ []) (λ pair. lines_of text.now ≡ pair.0.now
         ∷ lines_of pair.1.now) }
     ensures less { IfSome result (λ pair. length pair.1.now < length text.now) }

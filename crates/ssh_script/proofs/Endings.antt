@@ -10,9 +10,10 @@ use Rattle.ssh_rules.specs.declared.error.RunError.TheVariants as error
 use Rattle.ssh_script.specs.Transfer.{IsFront, AddsPart}
 use Rattle.ssh_scene.specs.Scene.{Scene}
 use Rattle.ssh_players.specs.Played.{Failure}
+use Rattle.ssh_script.specs.declared.task.Task.{Task}
+use Rattle.ssh_script.specs.declared.task.Task.TheVariants as task
 use Rattle.ssh_script.specs.Transcript.{status_of, Shows, longest, Scripted, Transcript, Owed}
-use Rattle.ssh_script.specs.Transcript.{usage, version, run_words, help_words, version_words}
-use Rattle.ssh_script.specs.Transcript.{IsUnknown, Ends, Shown, Unwritten}
+use Rattle.ssh_script.specs.Transcript.{run_words, IsTask, Does, Ends, Shown, Unwritten}
 
 -- words that do not ask for a run owe the same whatever is left
 owed_always : (words : List (List ℕ)) (left : Option (List ℕ)) (status : ℕ) (text : List ℕ)
@@ -20,20 +21,12 @@ owed_always : (words : List (List ℕ)) (left : Option (List ℕ)) (status : ℕ
 owed_always words None status text h = ([], tt, h [])
 owed_always words (Some bytes) status text h = (bytes, refl, h bytes)
 
-pub owed_usage : (words : List (List ℕ)) (left : Option (List ℕ)) (status : ℕ) (text : List ℕ)
-    → words ≡ help_words → status ≡ 0 → text ≡ usage → Owed words left status text
-owed_usage words left status text w s t = owed_always words left status text
-    (λ bytes. inr (inl (w, s, t)))
-
-pub owed_version : (words : List (List ℕ)) (left : Option (List ℕ)) (status : ℕ) (text : List ℕ)
-    → words ≡ version_words → status ≡ 0 → text ≡ version → Owed words left status text
-owed_version words left status text w s t = owed_always words left status text
-    (λ bytes. inr (inr (inl (w, s, t))))
-
-pub owed_refusal : (words : List (List ℕ)) (left : Option (List ℕ)) (status : ℕ) (text : List ℕ)
-    → IsUnknown words → status ≡ 2 → text ≡ usage → Owed words left status text
-owed_refusal words left status text w s t = owed_always words left status text
-    (λ bytes. inr (inr (inr (w, s, t))))
+-- what is done without a script is owed whatever is left
+pub owed_alone : (asked : Task) (words : List (List ℕ)) (left : Option (List ℕ)) (status : ℕ)
+    (text : List ℕ) → IsTask asked words → ((bytes : List ℕ) → Does asked bytes status text)
+    → Owed words left status text
+owed_alone asked words left status text w h =
+    owed_always words left status text (λ bytes. (asked, w, h bytes))
 
 some_small : (n status : ℕ) → n < 2 → Some n ≡ Some status → status < 3
 some_small n status l e = let z : n ≡ status = cc in omega arith
@@ -68,12 +61,17 @@ scripted_small : (bytes : List ℕ) (status : ℕ) (text : List ℕ) → Scripte
 scripted_small bytes status text (inl h) = omega (arith, h.1)
 scripted_small bytes status text (inr h) = shows_small h.1 status text h.3
 
+does_small : (asked : Task) (bytes : List ℕ) (status : ℕ) (text : List ℕ)
+    → Does asked bytes status text → status < 3
+does_small task.Run bytes status text h = scripted_small bytes status text h
+does_small (task.Generate channels) bytes status text h = status_small h.result status h.status_is
+does_small task.ShowUsage bytes status text h = omega (arith, h.0)
+does_small task.ShowVersion bytes status text h = omega (arith, h.0)
+does_small task.Refuse bytes status text h = omega (arith, h.0)
+
 transcript_small : (words : List (List ℕ)) (bytes : List ℕ) (status : ℕ) (text : List ℕ)
     → Transcript words bytes status text → status < 3
-transcript_small words bytes status text (inl h) = scripted_small bytes status text h.1
-transcript_small words bytes status text (inr (inl h)) = omega (arith, h.1)
-transcript_small words bytes status text (inr (inr (inl h))) = omega (arith, h.1)
-transcript_small words bytes status text (inr (inr (inr h))) = omega (arith, h.1)
+transcript_small words bytes status text h = does_small h.0 bytes status text h.2
 
 pub shown : (words : List (List ℕ)) (left : Option (List ℕ)) (source_failed sink_failed : Type 0)
     (held held' : Option (List ℕ)) (status : ℕ) (text slice : List ℕ) →
@@ -110,8 +108,8 @@ short_front most front bytes e l =
 pub owed_read : (words : List (List ℕ)) (left : Option (List ℕ)) (front : List ℕ) (status : ℕ)
     (text : List ℕ) → words ≡ run_words → IsFront (longest + 1) left front →
     Scripted front status text → Owed words left status text
-owed_read words None front status text w f h = (front, tt, inl (w, h))
+owed_read words None front status text w f h = (front, tt, (task.Run, w, h))
 owed_read words (Some bytes) front status text w f (inl h) =
-    (bytes, refl, inl (w, inl (long_front longest front bytes f h.0, h.1, h.2)))
+    (bytes, refl, (task.Run, w, inl (long_front longest front bytes f h.0, h.1, h.2)))
 owed_read words (Some bytes) front status text w f (inr h) =
-    (front, short_front longest front bytes f h.0, inl (w, inr h))
+    (front, short_front longest front bytes f h.0, (task.Run, w, inr h))

@@ -33,7 +33,11 @@ use Rattle.ssh_players.specs.Given.{IsGiven, as_given, trace_of}
 use Rattle.ssh_players.specs.Given.{heading as input_heading}
 use Rattle.ssh_transcript.specs.CallLines.{question_line, call_line}
 use Rattle.ssh_transcript.specs.Print.{entry_lines, last_line}
+use Rattle.ssh_transcript.specs.Summary.{summary}
+use Rattle.ssh_script.specs.declared.run.Writing.{Writing}
+use Rattle.ssh_script.specs.declared.run.Writing.TheVariants.{LineByLine, InNumbers}
 use Rattle.ssh_script.specs.Transcript.{status_of, scene_settings, scene_accepts, IsRun}
+use Rattle.ssh_script.specs.Writings.{writing_of, text_in}
 use Rattle.ssh_script.proofs.Faultless.{closes_by}
 use Rattle.ssh_players.proofs.Heads.{heads, input_heads}
 
@@ -196,7 +200,17 @@ told lost queues all steps inputs moment trace = record {
   faults = 0;
 }
 
-pub kept : (scene : Scene) (status : ℕ)
+-- what is written of the questions is what is owed of their calls
+written_as : (writing : Writing) (all : List Question) (calls : List (Call Failure))
+    (trace told : List TraceEntry) (result : Result (Unit {0}) (RunError Failure PlainKexError))
+    → flat_map question_line all ≡ flat_map call_line calls → trace ≡ told
+    → text_in writing all trace result ≡ writing_of writing calls told result
+written_as LineByLine all calls trace told result e f =
+    ap (λ lines. lines ++ entry_lines 0 trace ++ last_line result) e
+    ∙ ap (λ entries. flat_map call_line calls ++ entry_lines 0 entries ++ last_line result) f
+written_as InNumbers all calls trace told result e f = ap (λ entries. summary entries result) f
+
+pub kept : (writing : Writing) (scene : Scene) (status : ℕ)
     (result : Result (Unit {0}) (RunError Failure PlainKexError))
     (lost lost' : Bool) (queues queues' : Queues) (old all : List Question)
     (steps steps' : List (KexCall PlainKexError)) (inputs inputs' : List Input)
@@ -209,9 +223,8 @@ pub kept : (scene : Scene) (status : ℕ)
     Ran (scene_accepts scene) (settings_of scene.config id [] repeatable)
     (told lost queues old steps inputs moment trace)
     (told lost' queues' all steps' inputs' moment' trace') scene.max_inputs result →
-    text ≡ flat_map question_line all ++ entry_lines 0 trace' ++ last_line result →
-    IsRun scene status text
-kept scene status result lost lost' queues queues' old all steps steps' inputs inputs' moment
+    text ≡ text_in writing all trace' result → IsRun (writing_of writing) scene status text
+kept writing scene status result lost lost' queues queues' old all steps steps' inputs inputs' moment
     moment' trace trace' id repeatable text repeats l m qe oe se exchanged ie me te given h de
     given_ran texts =
     let before : Told Failure PlainKexError = told lost queues old steps inputs moment trace in
@@ -230,7 +243,6 @@ kept scene status result lost lost' queues queues' old all steps steps' inputs i
     let c : played scene.queues all ≡ calls = ap (λ q. played q all) (sym (t.0 ∙ qe)) ∙ t.1 in
     let f : flat_map question_line all ≡ flat_map call_line calls =
     calls_print scene.queues all ∙ ap (λ x. flat_map call_line x) c in
-    let g : entry_lines 0 trace' ≡ entry_lines 0 told = ap (entry_lines 0) u.2 in
     record {
       turns = ran.turns;
       world = ran.world;
@@ -245,6 +257,5 @@ kept scene status result lost lost' queues queues' old all steps steps' inputs i
       given = given_same scene.inputs inputs' scene.moment moment' trace' told (u.0 ∙ ie)
           (u.1 ∙ me) u.2 given;
       status_is = h;
-      text_is = texts ∙ (ap (λ x. x ++ entry_lines 0 trace' ++ last_line result) f
-          ∙ ap (λ x. flat_map call_line calls ++ x ++ last_line result) g);
+      text_is = texts ∙ written_as writing all calls trace' told result f u.2;
     }

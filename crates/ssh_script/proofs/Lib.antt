@@ -1,4 +1,5 @@
 pub mod Reading
+pub mod Sizes
 pub mod Faultless
 pub mod Kept
 pub mod Endings

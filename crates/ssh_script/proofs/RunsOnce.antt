@@ -27,10 +27,9 @@ use Rattle.ssh_players.specs.Exchanged.{after as after_step}
 use Rattle.ssh_players.specs.Given.{IsGiven, left_after}
 use Rattle.ssh_scene.specs.Queues.{Queues}
 use Rattle.ssh_players.specs.Played.{Failure, answered, after, IsAnswered}
-use Rattle.ssh_transcript.specs.Print.{printed}
 use Rattle.ssh_scene.specs.Scene.{Scene}
 use Rattle.ssh_script.specs.Transcript.{status_of, scene_settings, scene_accepts, scene_supply}
-use Rattle.ssh_script.specs.Transcript.{IsRun}
+use Rattle.ssh_script.specs.Transcript.{Writing, IsRun}
 use Rattle.ssh_players.proofs.Exchanging.{first_exchanged, rest_exchanged, one_step}
 use Rattle.ssh_script.proofs.Faultless.{closes_by, no_link_fault}
 
@@ -148,29 +147,29 @@ steps_in_turns (turn ∷ turns) = ap (λ steps. steps_of turn ++ steps) (steps_i
     ∙ sym (steps_in_both turn.events (events_of turns))
 
 -- the inputs that were taken
-abbrev taken_in : (scene : Scene) (status : ℕ) (text : List ℕ) → IsRun scene status text
+abbrev taken_in : (writing : Writing) (scene : Scene) (status : ℕ) (text : List ℕ) → IsRun writing scene status text
     → List ScriptTurn
-taken_in scene status text h = h.turns ++ option_to_list h.last
+taken_in writing scene status text h = h.turns ++ option_to_list h.last
 
-plays : (scene : Scene) (status : ℕ) (text : List ℕ) (h : IsRun scene status text)
-    → IsPlayed scene.queues false (events_of (taken_in scene status text h))
-plays scene status text h =
-    let turns = taken_in scene status text h in (
+plays : (writing : Writing) (scene : Scene) (status : ℕ) (text : List ℕ) (h : IsRun writing scene status text)
+    → IsPlayed scene.queues false (events_of (taken_in writing scene status text h))
+plays writing scene status text h =
+    let turns = taken_in writing scene status text h in (
       subst (IsAnswered scene.queues) (calls_in_turns turns) h.answered,
       subst (IsExchanged false) (steps_in_turns turns) h.exchanged,
     )
 
-answered_alike : (scene : Scene) (m n : ℕ) (s t : List ℕ) (h : IsRun scene m s)
-    (k : IsRun scene n t)
-    → AreAnsweredAlike (events_of (taken_in scene m s h)) (events_of (taken_in scene n t k))
-answered_alike scene m n s t h k past xs ys x y question e f a b =
+answered_alike : (writing : Writing) (scene : Scene) (m n : ℕ) (s t : List ℕ) (h : IsRun writing scene m s)
+    (k : IsRun writing scene n t)
+    → AreAnsweredAlike (events_of (taken_in writing scene m s h)) (events_of (taken_in writing scene n t k))
+answered_alike writing scene m n s t h k past xs ys x y question e f a b =
     alike_after scene.queues false past xs ys x y question
-    (subst (IsPlayed scene.queues false) e (plays scene m s h))
-    (subst (IsPlayed scene.queues false) f (plays scene n t k)) a b
+    (subst (IsPlayed scene.queues false) e (plays writing scene m s h))
+    (subst (IsPlayed scene.queues false) f (plays writing scene n t k)) a b
 
-taken_alike : (scene : Scene) (m n : ℕ) (s t : List ℕ) (h : IsRun scene m s)
-    (k : IsRun scene n t) → AreTakenAlike (taken_in scene m s h) (taken_in scene n t k)
-taken_alike scene m n s t h k past ts us x y e f c r =
+taken_alike : (writing : Writing) (scene : Scene) (m n : ℕ) (s t : List ℕ) (h : IsRun writing scene m s)
+    (k : IsRun writing scene n t) → AreTakenAlike (taken_in writing scene m s h) (taken_in writing scene n t k)
+taken_alike writing scene m n s t h k past ts us x y e f c r =
     let P = λ (turns : List ScriptTurn). IsGiven (scene_supply scene) (flat_map entries turns) in
     given_after (scene_supply scene) past ts us x y (subst P e h.given) (subst P f k.given) c r
 
@@ -183,9 +182,9 @@ untold true calls = tt
 untold false calls = refl
 
 -- a run as `ssh_rules` accounts for one
-abbrev account : (scene : Scene) (status : ℕ) (text : List ℕ) (h : IsRun scene status text)
+abbrev account : (writing : Writing) (scene : Scene) (status : ℕ) (text : List ℕ) (h : IsRun writing scene status text)
     → Ran (scene_accepts scene) (scene_settings scene) silent silent scene.max_inputs h.result
-account scene status text h = record {
+account writing scene status text h = record {
   turns = h.turns;
   world = h.world;
   run = h.run;
@@ -202,9 +201,9 @@ no_status : (status : ℕ) → None ≡ Some status → ⊥
 no_status status e = cc
 
 -- one with a status was not cut off
-determined : (scene : Scene) (status : ℕ) (text : List ℕ) (h : IsRun scene status text)
+determined : (writing : Writing) (scene : Scene) (status : ℕ) (text : List ℕ) (h : IsRun writing scene status text)
     → IsDetermined h.result
-determined scene status text h = (
+determined writing scene status text h = (
   λ e. no_status status (sym (ap status_of e) ∙ h.status_is),
   λ e. no_link_fault (scene_accepts scene) h.world (length h.turns) scene.max_inputs h.last
       (subst (Closes (scene_accepts scene) h.world (length h.turns) scene.max_inputs h.last ⊥) e
@@ -214,17 +213,17 @@ determined scene status text h = (
 same_status : (m n : ℕ) → Some m ≡ Some n → m ≡ n
 same_status m n e = cc
 
-pub run_once : (scene : Scene) (m n : ℕ) (s t : List ℕ) → IsRun scene m s → IsRun scene n t
+pub run_once : (writing : Writing) (scene : Scene) (m n : ℕ) (s t : List ℕ) → IsRun writing scene m s → IsRun writing scene n t
     → (m ≡ n) × (s ≡ t)
-run_once scene m n s t h k =
+run_once writing scene m n s t h k =
     let one = outside_once (scene_accepts scene) (scene_settings scene) silent silent silent silent
-    scene.max_inputs h.result k.result (account scene m s h) (account scene n t k)
-    (taken_alike scene m n s t h k, answered_alike scene m n s t h k) (determined scene m s h)
-    (determined scene n t k) in
+    scene.max_inputs h.result k.result (account writing scene m s h) (account writing scene n t k)
+    (taken_alike writing scene m n s t h k, answered_alike writing scene m n s t h k) (determined writing scene m s h)
+    (determined writing scene n t k) in
     let turns : h.turns ++ option_to_list h.last ≡ k.turns ++ option_to_list k.last =
     ap (λ turns. turns ++ option_to_list h.last) one.turns
     ∙ ap (λ last. k.turns ++ option_to_list last) one.last in
-    let P = λ (turns : List ScriptTurn). printed (flat_map calls_of turns)
+    let P = λ (turns : List ScriptTurn). writing (flat_map calls_of turns)
     (flat_map entries turns) in (
       same_status m n (sym h.status_is ∙ ap status_of one.answered ∙ k.status_is),
       h.text_is ∙ ap (λ l. P l h.result) turns

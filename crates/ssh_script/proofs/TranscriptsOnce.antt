@@ -1,6 +1,6 @@
 -- Words and a script owe one status and one text.
 use Rattle.std.proofs.Common.{◌≡◌, ◌≢◌, ◌<◌, ◌⊎◌, ℕ, List, [], ◌∷◌, length, Some, None, Result, Ok}
-use Rattle.std.proofs.Common.{Err, arith, sym, ◌∙◌, ap, subst, inl, inr}
+use Rattle.std.proofs.Common.{Err, arith, refl, sym, ◌∙◌, ap, subst, inl, inr, codes}
 use Rattle.std.specs.Prelude.{◌↔◌}
 use Rattle.ssh_link.specs.declared.plain_kex.PlainKexError.{PlainKexError}
 use Rattle.ssh_handler.specs.declared.recorded.RecordError.TheVariants as record_error
@@ -8,14 +8,21 @@ use Rattle.ssh_rules.specs.declared.error.RunError.{RunError}
 use Rattle.ssh_rules.specs.declared.error.RunError.TheVariants as error
 use Rattle.ssh_scene.specs.Scene.{Scene, opening_scene, lines_of, Gives}
 use Rattle.ssh_players.specs.Played.{Failure}
+use Rattle.std.specs.Fmt.{decimal}
+use Rattle.std.proofs.lemmas.Fmt.{decimal_injective}
+use Rattle.ssh_scene.specs.Generated.{generated}
+use Rattle.ssh_script.specs.declared.task.Task.{Task}
+use Rattle.ssh_script.specs.declared.task.Task.TheVariants as task
 use Rattle.ssh_script.specs.Transcript.{status_of, Shows, Scripted, Transcript, IsBadScript}
+use Rattle.ssh_script.specs.Transcript.{IsTask, Does, IsSize, generate_words, in_numbers}
+use Rattle.ssh_script.specs.Transcript.{line_by_line}
 use Rattle.ssh_script.specs.Transcript.{IsUnknown, run_words, help_words, version_words}
 use Rattle.ssh_scene.proofs.LinesOnce.{gives_once}
 use Rattle.ssh_script.proofs.RunsOnce.{run_once}
 
 shows_once : (read : Result Scene ℕ) (m n : ℕ) (s t : List ℕ) → Shows read m s → Shows read n t
     → (m ≡ n) × (s ≡ t)
-shows_once (Ok scene) m n s t h k = run_once scene m n s t h k
+shows_once (Ok scene) m n s t h k = run_once line_by_line scene m n s t h k
 shows_once (Err number) m n s t h k = (h.0 ∙ sym k.0, h.1 ∙ sym k.1)
 
 scripted_once : (bytes : List ℕ) (m n : ℕ) (s t : List ℕ) → Scripted bytes m s → Scripted bytes n t
@@ -44,30 +51,62 @@ not_both : help_words ≢ version_words
 unfolding first_length
 not_both = λ e. let z : 6 ≡ 9 = ap first_length e in omega (arith, z)
 
+not_generate : (word : List ℕ) (channels : ℕ) → word ∷ [] ≡ generate_words channels → ⊥
+not_generate word channels e = cc
+
+generate_once : (m n : ℕ) → IsSize m → IsSize n → generate_words m ≡ generate_words n → m ≡ n
+generate_once m n h k e =
+    let digits : decimal m ≡ decimal n = cc in
+    decimal_injective m n (omega (arith, h.1)) (omega (arith, k.1)) digits
+
+asked_once : (words : List (List ℕ)) (one other : Task) → IsTask one words → IsTask other words
+    → one ≡ other
+asked_once words task.Run task.Run h k = refl
+asked_once words task.Run (task.Generate n) h k = absurd (not_generate (codes "run") n (sym h ∙ k.1))
+asked_once words task.Run task.ShowUsage h k = absurd (not_help (sym h ∙ k))
+asked_once words task.Run task.ShowVersion h k = absurd (not_version (sym h ∙ k))
+asked_once words task.Run task.Refuse h k = absurd (k.0 h)
+asked_once words (task.Generate m) task.Run h k =
+    absurd (not_generate (codes "run") m (sym k ∙ h.1))
+asked_once words (task.Generate m) (task.Generate n) h k =
+    ap task.Generate (generate_once m n h.0 k.0 (sym h.1 ∙ k.1))
+asked_once words (task.Generate m) task.ShowUsage h k =
+    absurd (not_generate (codes "--help") m (sym k ∙ h.1))
+asked_once words (task.Generate m) task.ShowVersion h k =
+    absurd (not_generate (codes "--version") m (sym k ∙ h.1))
+asked_once words (task.Generate m) task.Refuse h k = absurd (k.3 m h.0 h.1)
+asked_once words task.ShowUsage task.Run h k = absurd (not_help (sym k ∙ h))
+asked_once words task.ShowUsage (task.Generate n) h k =
+    absurd (not_generate (codes "--help") n (sym h ∙ k.1))
+asked_once words task.ShowUsage task.ShowUsage h k = refl
+asked_once words task.ShowUsage task.ShowVersion h k = absurd (not_both (sym h ∙ k))
+asked_once words task.ShowUsage task.Refuse h k = absurd (k.1 h)
+asked_once words task.ShowVersion task.Run h k = absurd (not_version (sym k ∙ h))
+asked_once words task.ShowVersion (task.Generate n) h k =
+    absurd (not_generate (codes "--version") n (sym h ∙ k.1))
+asked_once words task.ShowVersion task.ShowUsage h k = absurd (not_both (sym k ∙ h))
+asked_once words task.ShowVersion task.ShowVersion h k = refl
+asked_once words task.ShowVersion task.Refuse h k = absurd (k.2 h)
+asked_once words task.Refuse task.Run h k = absurd (h.0 k)
+asked_once words task.Refuse (task.Generate n) h k = absurd (h.3 n k.0 k.1)
+asked_once words task.Refuse task.ShowUsage h k = absurd (h.1 k)
+asked_once words task.Refuse task.ShowVersion h k = absurd (h.2 k)
+asked_once words task.Refuse task.Refuse h k = refl
+
+does_once : (asked : Task) (script : List ℕ) (m n : ℕ) (s t : List ℕ) → Does asked script m s
+    → Does asked script n t → (m ≡ n) × (s ≡ t)
+does_once task.Run script m n s t h k = scripted_once script m n s t h k
+does_once (task.Generate channels) script m n s t h k =
+    run_once in_numbers (generated channels) m n s t h k
+does_once task.ShowUsage script m n s t h k = (h.0 ∙ sym k.0, h.1 ∙ sym k.1)
+does_once task.ShowVersion script m n s t h k = (h.0 ∙ sym k.0, h.1 ∙ sym k.1)
+does_once task.Refuse script m n s t h k = (h.0 ∙ sym k.0, h.1 ∙ sym k.1)
+
 pub transcript_once : (words : List (List ℕ)) (script : List ℕ) (m n : ℕ) (s t : List ℕ)
     → Transcript words script m s → Transcript words script n t → (m ≡ n) × (s ≡ t)
-transcript_once words script m n s t (inl h) (inl k) = scripted_once script m n s t h.1 k.1
-transcript_once words script m n s t (inl h) (inr (inl k)) = absurd (not_help (sym h.0 ∙ k.0))
-transcript_once words script m n s t (inl h) (inr (inr (inl k))) =
-    absurd (not_version (sym h.0 ∙ k.0))
-transcript_once words script m n s t (inl h) (inr (inr (inr k))) = absurd (k.0.0 h.0)
-transcript_once words script m n s t (inr (inl h)) (inl k) = absurd (not_help (sym k.0 ∙ h.0))
-transcript_once words script m n s t (inr (inl h)) (inr (inl k)) = (h.1 ∙ sym k.1, h.2 ∙ sym k.2)
-transcript_once words script m n s t (inr (inl h)) (inr (inr (inl k))) =
-    absurd (not_both (sym h.0 ∙ k.0))
-transcript_once words script m n s t (inr (inl h)) (inr (inr (inr k))) = absurd (k.0.1 h.0)
-transcript_once words script m n s t (inr (inr (inl h))) (inl k) =
-    absurd (not_version (sym k.0 ∙ h.0))
-transcript_once words script m n s t (inr (inr (inl h))) (inr (inl k)) =
-    absurd (not_both (sym k.0 ∙ h.0))
-transcript_once words script m n s t (inr (inr (inl h))) (inr (inr (inl k))) =
-    (h.1 ∙ sym k.1, h.2 ∙ sym k.2)
-transcript_once words script m n s t (inr (inr (inl h))) (inr (inr (inr k))) = absurd (k.0.2 h.0)
-transcript_once words script m n s t (inr (inr (inr h))) (inl k) = absurd (h.0.0 k.0)
-transcript_once words script m n s t (inr (inr (inr h))) (inr (inl k)) = absurd (h.0.1 k.0)
-transcript_once words script m n s t (inr (inr (inr h))) (inr (inr (inl k))) = absurd (h.0.2 k.0)
-transcript_once words script m n s t (inr (inr (inr h))) (inr (inr (inr k))) =
-    (h.1 ∙ sym k.1, h.2 ∙ sym k.2)
+transcript_once words script m n s t h k =
+    let e : h.0 ≡ k.0 = asked_once words h.0 k.0 h.1 k.1 in
+    does_once h.0 script m n s t h.2 (subst (λ asked. Does asked script n t) (sym e) k.2)
 
 not_two : (n : ℕ) → n < 2 → Some n ≡ Some 2 → ⊥
 not_two n l e = let z : n ≡ 2 = cc in absurd (omega arith)
@@ -112,24 +151,29 @@ two_is_bad : (bytes : List ℕ) (m : ℕ) (text : List ℕ) → Scripted bytes m
 two_is_bad bytes m text (inl h) e = inl h.0
 two_is_bad bytes m text (inr h) e = inr (two_shown h.1 m text (lines_of bytes) h.2 h.3 e)
 
-two_wrong : (words : List (List ℕ)) (script : List ℕ) (m : ℕ) (text : List ℕ)
-    → Transcript words script m text → m ≡ 2 → IsUnknown words
-    ⊎ ((words ≡ run_words) × IsBadScript script)
-two_wrong words script m text (inl h) e = inr (h.0, two_is_bad script m text h.1 e)
-two_wrong words script m text (inr (inl h)) e = absurd (omega (arith, h.1))
-two_wrong words script m text (inr (inr (inl h))) e = absurd (omega (arith, h.1))
-two_wrong words script m text (inr (inr (inr h))) e = inl h.0
+two_wrong : (asked : Task) (words : List (List ℕ)) (script : List ℕ) (m : ℕ) (text : List ℕ)
+    → IsTask asked words → Does asked script m text → m ≡ 2
+    → IsUnknown words ⊎ ((words ≡ run_words) × IsBadScript script)
+two_wrong task.Run words script m text w h e = inr (w, two_is_bad script m text h e)
+two_wrong (task.Generate channels) words script m text w h e =
+    absurd (run_not_two h.result (h.status_is ∙ ap Some e))
+two_wrong task.ShowUsage words script m text w h e = absurd (omega (arith, h.0))
+two_wrong task.ShowVersion words script m text w h e = absurd (omega (arith, h.0))
+two_wrong task.Refuse words script m text w h e = inl w
 
-wrong_two : (words : List (List ℕ)) (script : List ℕ) (m : ℕ) (text : List ℕ)
-    → Transcript words script m text → IsUnknown words ⊎ ((words ≡ run_words) × IsBadScript script)
-    → m ≡ 2
-wrong_two words script m text (inl h) (inl k) = absurd (k.0 h.0)
-wrong_two words script m text (inl h) (inr k) = bad_is_two script m text h.1 k.1
-wrong_two words script m text (inr (inl h)) (inl k) = absurd (k.1 h.0)
-wrong_two words script m text (inr (inl h)) (inr k) = absurd (not_help (sym k.0 ∙ h.0))
-wrong_two words script m text (inr (inr (inl h))) (inl k) = absurd (k.2 h.0)
-wrong_two words script m text (inr (inr (inl h))) (inr k) = absurd (not_version (sym k.0 ∙ h.0))
-wrong_two words script m text (inr (inr (inr h))) k = h.1
+wrong_two : (asked : Task) (words : List (List ℕ)) (script : List ℕ) (m : ℕ) (text : List ℕ)
+    → IsTask asked words → Does asked script m text
+    → IsUnknown words ⊎ ((words ≡ run_words) × IsBadScript script) → m ≡ 2
+wrong_two task.Run words script m text w h (inl k) = absurd (k.0 w)
+wrong_two task.Run words script m text w h (inr k) = bad_is_two script m text h k.1
+wrong_two (task.Generate n) words script m text w h (inl k) = absurd (k.3 n w.0 w.1)
+wrong_two (task.Generate n) words script m text w h (inr k) =
+    absurd (not_generate (codes "run") n (sym k.0 ∙ w.1))
+wrong_two task.ShowUsage words script m text w h (inl k) = absurd (k.1 w)
+wrong_two task.ShowUsage words script m text w h (inr k) = absurd (not_help (sym k.0 ∙ w))
+wrong_two task.ShowVersion words script m text w h (inl k) = absurd (k.2 w)
+wrong_two task.ShowVersion words script m text w h (inr k) = absurd (not_version (sym k.0 ∙ w))
+wrong_two task.Refuse words script m text w h k = h.0
 
 -- status 2 comes exactly with words that ask for nothing, and with a run of a script that is too
 -- long or has a bad line
@@ -137,7 +181,6 @@ pub two_exactly : (words : List (List ℕ)) (script : List ℕ) (m : ℕ) (text 
     → Transcript words script m text →
     (m ≡ 2) ↔ (IsUnknown words ⊎ ((words ≡ run_words) × IsBadScript script))
 two_exactly words script m text h = (
-  two_wrong words script m text h,
-  wrong_two words script m text
-      h,
+  two_wrong h.0 words script m text h.1 h.2,
+  wrong_two h.0 words script m text h.1 h.2,
 )

@@ -23,6 +23,10 @@ use Rattle.ssh_players.specs.Played.{Failure, IsAnswered}
 use Rattle.ssh_players.specs.Exchanged.{IsExchanged}
 use Rattle.ssh_players.specs.Given.{IsGiven}
 use Rattle.ssh_transcript.specs.Print.{printed}
+use Rattle.ssh_transcript.specs.Summary.{summary}
+use Rattle.ssh_scene.specs.Generated.{generated}
+use Rattle.ssh_auth.specs.declared.call.Call.{Call}
+use Rattle.ssh_link.specs.declared.link.TraceEntry.{TraceEntry}
 
 -- the status of a run: 0 where it is Ok, 1 where it ended by an error; want of memory has none
 abbrev pub status_of : Result (Unit {0}) (RunError Failure PlainKexError) → Option ℕ
@@ -44,9 +48,14 @@ scene_accepts scene = IsListed scene.accepted
 abbrev pub scene_supply : Scene → Supply
 scene_supply scene = left_until scene.moment scene.inputs
 
+-- what is written of a run: of its callbacks, of the calls of its link, and of how it ended
+abbrev pub Writing : Type 0
+Writing = List (Call Failure) → List TraceEntry → Result (Unit {0}) (RunError Failure PlainKexError)
+    → List ℕ
+
 -- this is the status and the text of a run of the scene, in which each callback is answered by the
 -- scene, the keys are exchanged without cryptography, and each input is the scene's
-pub record IsRun (scene : Scene) (status : ℕ) (text : List ℕ) : Type 0 where
+pub record IsRun (writing : Writing) (scene : Scene) (status : ℕ) (text : List ℕ) : Type 0 where
   pub turns : List (Turn Failure PlainKexError)
   pub world : World
   pub run : Run (scene_accepts scene) (opening_world (scene_settings scene)) turns world
@@ -58,12 +67,20 @@ pub record IsRun (scene : Scene) (status : ℕ) (text : List ℕ) : Type 0 where
   pub exchanged : IsExchanged false (flat_map steps_of (turns ++ option_to_list last))
   pub given : IsGiven (scene_supply scene) (flat_map entries (turns ++ option_to_list last))
   pub status_is : status_of result ≡ Some status
-  pub text_is : text ≡ printed (flat_map calls_of (turns ++ option_to_list last))
+  pub text_is : text ≡ writing (flat_map calls_of (turns ++ option_to_list last))
       (flat_map entries (turns ++ option_to_list last)) result
+
+-- the run is written line by line
+abbrev pub line_by_line : Writing
+line_by_line calls trace result = printed calls trace result
+
+-- the run is written in numbers
+abbrev pub in_numbers : Writing
+in_numbers calls trace result = summary trace result
 
 -- the status and the text of a script with this scene, or with this first bad line
 abbrev pub Shows : Result Scene ℕ → ℕ → List ℕ → Type 0
-Shows (Ok scene) status text = IsRun scene status text
+Shows (Ok scene) status text = IsRun line_by_line scene status text
 Shows (Err number) status text = (status ≡ 2) × (text ≡ codes "bad line " ++ decimal number
     ++ codes "\n")
 
@@ -92,13 +109,23 @@ help_words = codes "--help" ∷ []
 abbrev pub version_words : List (List ℕ)
 version_words = codes "--version" ∷ []
 
+-- the words that ask for a session of so many channels
+abbrev pub generate_words : ℕ → List (List ℕ)
+generate_words channels = codes "generate" ∷ decimal channels ∷ []
+
+-- so many may be asked for
+abbrev pub IsSize : ℕ → Type 0
+IsSize channels = (0 < channels) × (channels ≤ 1000)
+
 -- words that ask for nothing
 abbrev pub IsUnknown : List (List ℕ) → Type 0
 IsUnknown words = (words ≢ run_words) × (words ≢ help_words) × (words ≢ version_words)
+    × ((channels : ℕ) → IsSize channels → words ≢ generate_words channels)
 
 -- these words ask for this
 abbrev pub IsTask : Task → List (List ℕ) → Type 0
 IsTask task.Run words = words ≡ run_words
+IsTask (task.Generate channels) words = IsSize channels × (words ≡ generate_words channels)
 IsTask task.ShowUsage words = words ≡ help_words
 IsTask task.ShowVersion words = words ≡ version_words
 IsTask task.Refuse words = IsUnknown words
@@ -109,13 +136,19 @@ usage = codes "usage: ssh_script run | generate <n> | threads <n>\n"
 abbrev pub version : List ℕ
 version = codes "ssh_script 0.1.0\n"
 
+-- the status and the text of what was asked for, with this script
+abbrev pub Does : Task → List ℕ → ℕ → List ℕ → Type 0
+Does task.Run bytes status text = Scripted bytes status text
+Does (task.Generate channels) bytes status text =
+    IsRun in_numbers (generated channels) status text
+Does task.ShowUsage bytes status text = (status ≡ 0) × (text ≡ usage)
+Does task.ShowVersion bytes status text = (status ≡ 0) × (text ≡ version)
+Does task.Refuse bytes status text = (status ≡ 2) × (text ≡ usage)
+
 -- the status and the text of these words and this script
 abbrev pub Transcript : List (List ℕ) → List ℕ → ℕ → List ℕ → Type 0
-Transcript words bytes status text =
-    ((words ≡ run_words) × Scripted bytes status text)
-    ⊎ ((words ≡ help_words) × (status ≡ 0) × (text ≡ usage))
-    ⊎ ((words ≡ version_words) × (status ≡ 0) × (text ≡ version))
-    ⊎ (IsUnknown words × (status ≡ 2) × (text ≡ usage))
+Transcript words bytes status text = (asked : Task) × IsTask asked words
+    × Does asked bytes status text
 
 -- a script that is not run: it is too long, or has a bad line
 abbrev pub IsBadScript : List ℕ → Type 0

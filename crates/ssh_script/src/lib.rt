@@ -9,5 +9,5 @@ mod run;
 mod task;
 mod transfer;
 
-pub use run::{one_transcript, run_script};
+pub use run::{LONGEST, one_transcript, run_script};
 pub use ssh_players::ScriptError;

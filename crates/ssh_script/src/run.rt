@@ -8,16 +8,19 @@ ghost use Rattle.ssh_scene.specs.Scene.{scene_of};
 ghost use Rattle.ssh_script.specs.Transfer.{IsReadTo, IsReadWithin};
 ghost use Rattle.ssh_script.specs.Transcript.{status_of, IsRun, Scripted, IsBadScript, IsUnknown};
 ghost use Rattle.ssh_script.specs.Transcript.{Transcript, Owed, IsUnread, IsCutShort, Ends};
-ghost use Rattle.ssh_script.specs.Transcript.{longest, run_words};
+ghost use Rattle.ssh_script.specs.Transcript.{longest, run_words, in_numbers};
+ghost use Rattle.ssh_script.specs.Writings.{text_in, writing_of};
+ghost use Rattle.ssh_scene.specs.Generated.{generated};
 
 use crate::task::{Task, task_of};
 use crate::transfer::{ReadError, read_front, write_all};
+use ssh_auth::Question;
 use ssh_handler::RecordError;
-use ssh_link::{PlainKexError, Sink, Source};
+use ssh_link::{PlainKexError, Sink, Source, TraceEntry};
 use ssh_players::{ScriptError, ScriptHandler, ScriptKex, ScriptLink};
-use ssh_scene::{Script, read_script};
+use ssh_scene::{Script, generated_script, read_script};
 use ssh_session::{RunError, run_stream};
-use ssh_transcript::{print_number, print_run};
+use ssh_transcript::{print_number, print_run, print_summary};
 use std::alloc::{AllocError, Global};
 
 /// The status where nothing went wrong.
@@ -34,7 +37,7 @@ const WRITE_FAULT: u8 = 4;
 const NO_MEMORY: u8 = 5;
 
 /// The longest script, in bytes.
-const LONGEST: usize = 16_777_216;
+pub const LONGEST: usize = 16_777_216;
 
 /// How much of a source is read at most: one byte more shows that a script is too long.
 const READ_AT_MOST: usize = LONGEST + 1;
@@ -81,9 +84,37 @@ fn status_of(run: &Result<(), RunError<RecordError<ScriptError>, PlainKexError>>
     }
 }
 
+/// How a run is written.
+#[derive(Clone, Copy, Debug, PartialEq, Eq)]
+enum Writing {
+    /// Line by line: the callbacks, the calls of the link, and how it ended.
+    LineByLine,
+    /// In numbers: what was sent, and how it ended.
+    InNumbers,
+}
+
+impl Writing {
+    /// The text of a run with these callbacks, these calls of the link, and this end.
+    fn text(
+        self,
+        alloc: Global,
+        asked: &[Question],
+        trace: &[TraceEntry],
+        run: &Result<(), RunError<RecordError<ScriptError>, PlainKexError>>,
+    ) -> Result<String, AllocError>
+        ensures { IfOk result (λ text. string_bytes text
+            ≡ text_in self asked.now trace.now run.now) }
+    {
+        match self {
+            Writing::LineByLine => print_run(alloc, asked, trace, run),
+            Writing::InNumbers => print_summary(alloc, trace, run),
+        }
+    }
+}
+
 /// Runs what a script says.
-fn run_scene(alloc: Global, script: Script) -> Result<Report, AllocError>
-    ensures { IfOk result (λ report. IsRun (scene_of script) report.status
+fn run_scene(alloc: Global, script: Script, writing: Writing) -> Result<Report, AllocError>
+    ensures { IfOk result (λ report. IsRun (writing_of writing) (scene_of script) report.status
         (string_bytes report.text)) }
 {
     let Ok(mut link) = ScriptLink::new(alloc, script.inputs, script.moment) else {
@@ -108,7 +139,7 @@ fn run_scene(alloc: Global, script: Script) -> Result<Report, AllocError>
     if handler.lost {
         return Err(AllocError);
     }
-    let text = print_run(alloc, &handler.asked, link.memory.trace(), &run)?;
+    let text = writing.text(alloc, &handler.asked, link.memory.trace(), &run)?;
     Ok(Report { status, text })
 }
 
@@ -154,9 +185,21 @@ fn show_lines(alloc: Global, bytes: &[u8]) -> Result<Report, AllocError>
     ensures { IfOk result (λ report. Scripted bytes.now report.status (string_bytes report.text)) }
 {
     match read_script(alloc, bytes)? {
-        Ok(script) => run_scene(alloc, script),
+        Ok(script) => run_scene(alloc, script, Writing::LineByLine),
         Err(number) => bad_line(alloc, number),
     }
+}
+
+/// What a session of so many channels comes to.
+fn generate(alloc: Global, channels: u32) -> Result<Report, AllocError>
+    requires { channels ≤ 1000 }
+    ensures { IfOk result (λ report. IsRun in_numbers (generated channels) report.status
+        (string_bytes report.text)) }
+{
+    let Ok(script) = generated_script(alloc, channels) else {
+        return Err(AllocError);
+    };
+    run_scene(alloc, script, Writing::InNumbers)
 }
 
 /// What these words and the source's script come to.
@@ -171,11 +214,12 @@ fn transcript<S: Source>(alloc: Global, words: &[&str], source: &mut S) -> Resul
         (S.faults source.old) (S.faults source.new) }
     ensures later { S.faults source.old ≤ S.faults source.new }
 {
-    match task_of(words) {
+    match task_of(alloc, words)? {
         Task::Run => {
             let bytes = read_front(alloc, source, READ_AT_MOST)?;
             Ok(show(alloc, bytes.as_slice())?)
         }
+        Task::Generate(channels) => Ok(generate(alloc, channels)?),
         Task::ShowUsage => Ok(one_line(alloc, DONE, USAGE)?),
         Task::ShowVersion => Ok(one_line(alloc, DONE, VERSION)?),
         Task::Refuse => Ok(one_line(alloc, REFUSED, USAGE)?),

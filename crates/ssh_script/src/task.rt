@@ -1,12 +1,21 @@
 // What the words after the program's name ask for.
-ghost use Rattle.std.specs.Prelude.{map};
-ghost use Rattle.ssh_script.specs.Transcript.{IsTask};
+ghost use Rattle.std.specs.Prelude.{◌≡◌, ◌≢◌, ℕ, [], ◌∷◌, map, IfOk, MatchOption};
+ghost use Rattle.std.specs.Fmt.{decimal};
+ghost use Rattle.ssh_script.specs.Transcript.{IsSize, IsTask};
+
+use ssh_scene::number_in;
+use std::alloc::{AllocError, Global};
+
+/// The most channels of a session that the program makes up.
+const MOST_CHANNELS: u64 = 1000;
 
 /// What the program does.
 #[derive(Clone, Copy, Debug, PartialEq, Eq)]
 pub(crate) enum Task {
     /// It runs a script.
     Run,
+    /// It runs a session of so many channels, which it makes up.
+    Generate(u32),
     /// It writes the usage line.
     ShowUsage,
     /// It writes its name and its version.
@@ -15,17 +24,53 @@ pub(crate) enum Task {
     Refuse,
 }
 
-/// What these words ask for.
-pub(crate) fn task_of(words: &[&str]) -> Task
-    ensures { IsTask result (map (λ word. word.now) words.now) }
+/// How many channels the digits ask for; None where it is no number from 1 to 1000.
+fn size_in(alloc: Global, digits: &str) -> Result<Option<u32>, AllocError>
+    ensures { IfOk result (λ size. MatchOption size
+        ((channels : ℕ) → IsSize channels → digits.now ≢ decimal channels)
+        (λ channels. IsSize channels × (digits.now ≡ decimal channels))) }
 {
-    let [word] = words else {
-        return Task::Refuse;
+    let Some(channels) = number_in(alloc, digits)? else {
+        return Ok(None);
     };
-    match *word {
+    if channels == 0 || channels > MOST_CHANNELS {
+        return Ok(None);
+    }
+    Ok(Some(channels as u32))
+}
+
+/// What this one word asks for.
+fn lone_task(word: &str) -> Task
+    ensures { IsTask result (word.now ∷ []) }
+{
+    match word {
         "run" => Task::Run,
         "--help" => Task::ShowUsage,
         "--version" => Task::ShowVersion,
         _ => Task::Refuse,
+    }
+}
+
+/// What a word asks for with these digits behind it.
+fn sized_task(alloc: Global, word: &str, digits: &str) -> Result<Task, AllocError>
+    ensures { IfOk result (λ task. IsTask task (word.now ∷ digits.now ∷ [])) }
+{
+    if word != "generate" {
+        return Ok(Task::Refuse);
+    }
+    match size_in(alloc, digits)? {
+        Some(channels) => Ok(Task::Generate(channels)),
+        None => Ok(Task::Refuse),
+    }
+}
+
+/// What these words ask for.
+pub(crate) fn task_of(alloc: Global, words: &[&str]) -> Result<Task, AllocError>
+    ensures { IfOk result (λ task. IsTask task (map (λ word. word.now) words.now)) }
+{
+    match words {
+        [word] => Ok(lone_task(word)),
+        [word, digits] => sized_task(alloc, word, digits),
+        _ => Ok(Task::Refuse),
     }
 }

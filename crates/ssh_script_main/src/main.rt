@@ -1,9 +1,14 @@
 //! The program: it runs the script that stands on standard input, and writes what comes of it to
-//! standard output. Its exit status is the answer of `run_script`.
+//! standard output. Its exit status is the answer of `run_script`. Where a line of the script is
+//! bad, it says on standard error which and why.
 #![tactic(auto)]
 
+mod keeping;
+
+use crate::keeping::Keeping;
 use ssh_link::{Sink, Source, StdSink, StdSource};
-use ssh_script::run_script;
+use ssh_scene::{BadLine, bad_line};
+use ssh_script::{LONGEST, run_script};
 use std::alloc::{AllocError, Global};
 use std::env;
 use std::process::ExitCode;
@@ -25,6 +30,16 @@ fn run<S: Source, W: Sink>(
     Ok(run_script(alloc, texts.as_slice(), source, sink))
 }
 
+/// The first bad line of the script that was read, where it is not too long; None where no line is
+/// bad, and where there was no memory to find it.
+fn bad_line_of<S>(alloc: Global, source: &Keeping<S>) -> Option<BadLine> {
+    let script = source.kept()?;
+    if script.len() > LONGEST {
+        return None;
+    }
+    bad_line(alloc, script).ok()?
+}
+
 /// Command lines that are not given, or are no text in UTF-8, count as no words.
 fn main(rt: HostRuntime) -> ExitCode {
     let mut words = Vec::new(rt.alloc());
@@ -35,10 +50,14 @@ fn main(rt: HostRuntime) -> ExitCode {
             }
         }
     }
-    let mut source = StdSource::new(rt.stdin());
+    let mut source = Keeping::new(rt.alloc(), StdSource::new(rt.stdin()));
     let mut sink = StdSink::new(rt.stdout());
-    match run(rt.alloc(), words.as_slice(), &mut source, &mut sink) {
-        Ok(status) => ExitCode::from(status),
-        Err(_) => ExitCode::from(NO_MEMORY),
+    let Ok(status) = run(rt.alloc(), words.as_slice(), &mut source, &mut sink) else {
+        return ExitCode::from(NO_MEMORY);
+    };
+    if let Some(bad) = bad_line_of(rt.alloc(), &source) {
+        // The status says it too, so a standard error that fails changes nothing.
+        let _said = eprintln!(rt; "line {}: {}", bad.number, bad.fault);
     }
+    ExitCode::from(status)
 }

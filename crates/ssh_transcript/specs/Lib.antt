@@ -2,3 +2,4 @@ pub mod Words
 pub mod Happenings
 pub mod CallLines
 pub mod Print
+pub mod Summary

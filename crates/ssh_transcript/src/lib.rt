@@ -9,7 +9,9 @@ mod happenings;
 mod print;
 mod print_call;
 mod print_notice;
+mod summary;
 mod whole_run;
 
 pub use print::print_number;
+pub use summary::print_summary;
 pub use whole_run::print_run;

@@ -33,7 +33,7 @@ fn variant_name<HE, KE>(error: &RunError<HE, KE>) -> &'static str
 }
 
 /// The last line of a run, which says how it ended.
-fn print_last<HE, KE>(
+pub(crate) fn print_last<HE, KE>(
     out: &mut String,
     run: &Result<(), RunError<HE, KE>>,
 ) -> Result<(), AllocError>

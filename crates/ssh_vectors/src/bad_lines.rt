@@ -1,5 +1,7 @@
 // Lines that are no lines of a script.
+use ssh_scene::{BadLine, LineFault, bad_line};
 use ssh_scripted::writes;
+use std::alloc::{AllocError, Global};
 use std::test::Fail;
 
 static BAD_LINES: [&[u8]; 113] = [
@@ -147,5 +149,45 @@ fn bad_lines(rt: HostRuntime) -> Result<(), Fail> {
 fn a_bad_line_behind_another(rt: HostRuntime) -> Result<(), Fail> {
     let script = b"at 5\nbanner 68690a\n";
     assert!(rt; writes(rt.alloc(), &["run"], script, 2, b"bad line 2\n")?);
+    Ok(())
+}
+
+// Scripts, the number of the first bad line, and why it is bad.
+static FAULTS: [(&[u8], u64, LineFault); 19] = [
+    (b"recieve 00", 1, LineFault::UnknownWord),
+    (b"config colour 1", 1, LineFault::UnknownWord),
+    (b"tick silence", 1, LineFault::UnknownWord),
+    (b"answer none hold", 1, LineFault::UnknownWord),
+    (b"sign - ssh-ed25519 00 11", 1, LineFault::Key),
+    (b"recv", 1, LineFault::WordCount),
+    (b"recv  00", 1, LineFault::WordCount),
+    (b"recv 00 ", 1, LineFault::WordCount),
+    (b"end 1", 1, LineFault::WordCount),
+    (b"inputs 01", 1, LineFault::Number),
+    (b"config window 4294967296", 1, LineFault::Number),
+    (b"answer forward yes 4294967296", 1, LineFault::Number),
+    (b"at 1\nreject 2 5", 2, LineFault::Number),
+    (b"at 1\n\ndisconnect 16 61\nrecv", 3, LineFault::Number),
+    (b"recv 0g", 1, LineFault::Hex),
+    (b"data 2 6", 1, LineFault::Hex),
+    (b"banner ff", 1, LineFault::Text),
+    (b"\xff", 1, LineFault::NotText),
+    (b"at 1\ninputs 5", 2, LineFault::SettingAfterInput),
+];
+
+// Whether the first bad line of this script is told so.
+fn is_told(
+    alloc: Global,
+    (script, number, fault): (&[u8], u64, LineFault),
+) -> Result<bool, AllocError> {
+    Ok(bad_line(alloc, script)? == Some(BadLine { number, fault }))
+}
+
+#[test]
+fn a_bad_line_is_told_with_its_fault(rt: HostRuntime) -> Result<(), Fail> {
+    for (place, case) in FAULTS.iter().enumerate() {
+        assert!(rt; is_told(rt.alloc(), *case)?, "{place}");
+    }
+    assert!(rt; bad_line(rt.alloc(), b"at 1\nend\n")? == None);
     Ok(())
 }

@@ -392,7 +392,7 @@ fn the_examples_of_the_page_print_what_it_says(rt: HostRuntime) -> Result<(), Fa
 const USAGE: &[u8] = b"usage: ssh_script run | generate <n> | threads <n>\n";
 
 // Words, the status, and what is written for them.
-static WORDS: [(&[&str], u8, &[u8]); 9] = [
+static WORDS: [(&[&str], u8, &[u8]); 15] = [
     (&["--help"], 0, USAGE),
     (&["--version"], 0, b"ssh_script 0.1.0\n"),
     // A word more, other letters, and no word ask for nothing.
@@ -403,6 +403,17 @@ static WORDS: [(&[&str], u8, &[u8]); 9] = [
     (&["Run"], 2, USAGE),
     (&["threads", "2"], 2, USAGE),
     (&[], 2, USAGE),
+    // A session is made up, of 1 to 1000 channels.
+    (
+        &["generate", "3"],
+        0,
+        b"channels 3\nframes 11\nbytes 196608\nok\n",
+    ),
+    (&["generate", "0"], 2, USAGE),
+    (&["generate", "03"], 2, USAGE),
+    (&["generate", "1001"], 2, USAGE),
+    (&["generate"], 2, USAGE),
+    (&["generate", "3", "3"], 2, USAGE),
 ];
 
 // Whether a run with these words comes to this. The first read fails: the source is not read.
@@ -412,9 +423,16 @@ fn comes_to(alloc: Global, (words, status, line): (&[&str], u8, &[u8])) -> Resul
 }
 
 #[test]
-fn words_other_than_run_print_one_line(rt: HostRuntime) -> Result<(), Fail> {
+fn words_other_than_run_read_no_script(rt: HostRuntime) -> Result<(), Fail> {
     for words in &WORDS {
         assert!(rt; comes_to(rt.alloc(), *words)?);
     }
+    Ok(())
+}
+
+#[test]
+fn a_session_of_a_thousand_channels_is_told_in_numbers(rt: HostRuntime) -> Result<(), Fail> {
+    let told = b"channels 1000\nframes 3002\nbytes 65536000\nok\n";
+    assert!(rt; comes_to(rt.alloc(), (&["generate", "1000"], 0, told))?);
     Ok(())
 }

@@ -1,15 +1,13 @@
-use Rattle.std.proofs.Common.{◌∙◌, sym, ap, ◌++◌}
-use Rattle.std.specs.Prelude.{flat_map}
+use Rattle.std.proofs.Common.{◌∙◌, sym, ap}
 use Rattle.std.specs.String.{string_bytes}
 use Rattle.ssh_scene.specs.Scene.{scene_of}
 use Rattle.ssh_scene.specs.Queues.{queues_in}
-use Rattle.ssh_transcript.specs.CallLines.{question_line}
-use Rattle.ssh_transcript.specs.Print.{entry_lines, last_line}
+use Rattle.ssh_script.specs.Writings.{text_in}
 use Rattle.ssh_script.proofs.Kept.{kept}
 use Rattle.ssh_script.proofs.run.run_scene.Goals as goal
 
 pub returns : goal.returns
-returns c = kept (scene_of c.args.script) c.in-Some.status c.run_stream-run.result
+returns c = kept c.args.writing (scene_of c.args.script) c.in-Some.status c.run_stream-run.result
     c.new-handler.result.lost c.run_stream-run.new.handler.lost
     (queues_in c.new-handler.result.answers) (queues_in c.run_stream-run.new.handler.answers)
     c.new-handler.result.asked.items c.run_stream-run.new.handler.asked.items
@@ -25,7 +23,7 @@ returns c = kept (scene_of c.args.script) c.in-Some.status c.run_stream-run.resu
     c.run_stream-run.new.link.given
     (sym c.status_of.ensures ∙ c.in-Some.is) c.as_slice.ensures c.run_stream-run.ensures.laws.run
     (c.in_ok-text.ensures
-    ∙ ap (λ all. flat_map question_line all ++ entry_lines 0 c.trace.result.now
-    ++ last_line c.run_stream-run.result) c.deref.ensures.value
-    ∙ ap (λ entries. flat_map question_line c.run_stream-run.new.handler.asked.items
-    ++ entry_lines 0 entries ++ last_line c.run_stream-run.result) c.trace.ensures)
+    ∙ ap (λ all. text_in c.args.writing all c.trace.result.now c.run_stream-run.result)
+    c.deref.ensures.value
+    ∙ ap (λ entries. text_in c.args.writing c.run_stream-run.new.handler.asked.items entries
+    c.run_stream-run.result) c.trace.ensures)

@@ -1,5 +1,7 @@
-use Rattle.std.proofs.Common.{rules}
-use Rattle.ssh_script.proofs.Endings.{owed_read, owed_usage, owed_version, owed_refusal}
+use Rattle.std.proofs.Common.{rules, List, map, subst}
+use Rattle.ssh_script.specs.declared.task.Task.TheVariants as task
+use Rattle.ssh_script.specs.Transcript.{IsTask}
+use Rattle.ssh_script.proofs.Endings.{owed_read, owed_alone}
 use Rattle.ssh_script.proofs.run.transcript.Goals as goal
 
 pub returns-in_ok-show-in-Run-clause-owed : goal.returns-in_ok-show-in-Run-clause-owed
@@ -8,16 +10,34 @@ returns-in_ok-show-in-Run-clause-owed g c =
     c.in_ok-bytes-in-Run.ensures.front
     (rw c.as_slice.ensures.value at c.in_ok-show-in-Run.ensures)
 
+pub returns-in_ok-generate-in-Generate-clause-owed :
+    goal.returns-in_ok-generate-in-Generate-clause-owed
+returns-in_ok-generate-in-Generate-clause-owed g c =
+    owed_alone (task.Generate c.in-Generate.channels) _ _ _ _ (search rules)
+    (λ bytes. c.in_ok-generate-in-Generate.ensures)
+
 pub returns-in_ok-one_line-in-ShowUsage-clause-owed :
     goal.returns-in_ok-one_line-in-ShowUsage-clause-owed
-returns-in_ok-one_line-in-ShowUsage-clause-owed g c = owed_usage _ _ _ _ (search rules)
-    (search rules) (search rules)
+returns-in_ok-one_line-in-ShowUsage-clause-owed g c =
+    owed_alone task.ShowUsage _ _ _ _ (search rules)
+    (λ bytes. (
+      c.in_ok-one_line-in-ShowUsage.ensures.status,
+      c.in_ok-one_line-in-ShowUsage.ensures.text,
+    ))
 
 pub returns-in_ok-one_line-in-ShowVersion-clause-owed :
     goal.returns-in_ok-one_line-in-ShowVersion-clause-owed
-returns-in_ok-one_line-in-ShowVersion-clause-owed g c = owed_version _ _ _ _ (search rules)
-    (search rules) (search rules)
+returns-in_ok-one_line-in-ShowVersion-clause-owed g c =
+    owed_alone task.ShowVersion _ _ _ _ (search rules)
+    (λ bytes. (
+      c.in_ok-one_line-in-ShowVersion.ensures.status,
+      c.in_ok-one_line-in-ShowVersion.ensures.text,
+    ))
 
 pub returns-in_ok-one_line-in-Refuse-clause-owed : goal.returns-in_ok-one_line-in-Refuse-clause-owed
-returns-in_ok-one_line-in-Refuse-clause-owed g c = owed_refusal _ _ _ _ (search rules)
-    (search rules) (search rules)
+returns-in_ok-one_line-in-Refuse-clause-owed g c =
+    owed_alone task.Refuse _ _ _ _ (search rules)
+    (λ bytes. (
+      c.in_ok-one_line-in-Refuse.ensures.status,
+      c.in_ok-one_line-in-Refuse.ensures.text,
+    ))
