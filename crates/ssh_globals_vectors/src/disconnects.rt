@@ -1,6 +1,5 @@
 // The end of a connection by this side (RFC 4253 section 11.1): what goes out before it, and that
 // nothing does behind it.
-use crate::playing::{Around, comes_true};
 use ssh_link::{CommandOutcome, Refusal};
 use ssh_stories::Line::{Asks, Ends, In, Keepalive, Noted, On, Out};
 use ssh_stories::{
@@ -8,7 +7,8 @@ use ssh_stories::{
     Wish,
 };
 use ssh_wire::Disconnect;
-use std::test::Fail;
+use std::alloc::Global;
+use std::test::*;
 
 pub(crate) const BYE: Wish = Wish::Disconnect(Disconnect::ByApplication, "bye", "en");
 
@@ -108,11 +108,10 @@ static RUNS: [Run; 5] = [
 ];
 
 #[test]
-fn runs_that_this_side_ends(rt: HostRuntime) -> Result<(), Fail> {
+fn runs_that_this_side_ends(rt: HostRuntime) {
     for run in &RUNS {
-        assert!(rt; run.holds(rt.alloc())?, "{}", run.shows);
+        assert!(rt; run.holds(rt.alloc()), "{}", run.shows);
     }
-    Ok(())
 }
 
 // It ends the connection where it is asked something.
@@ -156,22 +155,26 @@ static UNANSWERED: [(&[u8], Turn, &[u8]); 5] = [
 // The session is spent: the next payload is an error.
 const SPENT: Turn = &[In(b"\x02"), Ends(End::Inconsistent)];
 
-#[test]
-fn requests_whose_callbacks_end_the_connection(rt: HostRuntime) -> Result<(), Fail> {
-    for (request, told, asked) in &UNANSWERED {
-        let around = Around {
-            first: OPENED,
-            payload: Some(*request),
-            then: *told,
-            last: SPENT,
-        };
-        let is_true = comes_true(rt.alloc(), LEAVING, around, *asked)?;
-        assert!(rt; is_true, "{}", asked.escape_ascii());
-    }
-    Ok(())
+// Whether behind an open the request leads to this and to the end.
+fn are_left(alloc: Global, request: &[u8], told: Turn, asked: &[u8]) -> bool {
+    let story = Story {
+        plan: LEAVING,
+        turns: &[OPENED, &[In(request)], told, SPENT],
+        asked: Some(asked),
+        ..STANDARD
+    };
+    story.holds(alloc)
 }
 
-static ANSWERED: Story = Story {
+#[test]
+fn requests_whose_callbacks_end_the_connection(rt: HostRuntime) {
+    for (request, told, asked) in &UNANSWERED {
+        let are_left = are_left(rt.alloc(), *request, *told, *asked);
+        assert!(rt; are_left, "{}", asked.escape_ascii());
+    }
+}
+
+static ANSWERED: Story<'static> = Story {
     shows: "a reply that is recorded before the end goes out before it",
     plan: Plan {
         records: &[Wish::Success, BYE, Wish::Failure],
@@ -189,7 +192,6 @@ static ANSWERED: Story = Story {
 };
 
 #[test]
-fn a_reply_before_the_end(rt: HostRuntime) -> Result<(), Fail> {
-    assert!(rt; ANSWERED.holds(rt.alloc())?, "{}", ANSWERED.shows);
-    Ok(())
+fn a_reply_before_the_end(rt: HostRuntime) {
+    assert!(rt; ANSWERED.holds(rt.alloc()), "{}", ANSWERED.shows);
 }

@@ -1,9 +1,9 @@
 // Messages of no channel that this side sends, and the peer's replies to them (RFC 4254 sections 4
 // and 7.1, RFC 4253 section 11.3).
-use crate::playing::{Around, NOTHING, comes_true};
 use ssh_stories::Line::{Asks, Cancelled, Ends, Forwarded, In, Keepalive, Out, Pong};
-use ssh_stories::{ACCEPTED, ALIVE, End, Line, QUIET, STANDARD, Story, Turn, Wish};
-use std::test::Fail;
+use ssh_stories::{ACCEPTED, ALIVE, End, Line, STANDARD, Story, Turn, Wish};
+use std::alloc::Global;
+use std::test::*;
 
 // Commands from outside, and what the link is told of each, in a session of its own.
 static SAID: [Turn; 12] = [
@@ -55,16 +55,17 @@ static SAID: [Turn; 12] = [
     &[Asks(Wish::Failure), ACCEPTED],
 ];
 
+// Whether these turns are told, one behind the other, and the handler is asked nothing.
+fn are_told(alloc: Global, turns: &[&[Line<'_>]]) -> bool {
+    let story = Story { turns, ..STANDARD };
+    story.holds(alloc)
+}
+
 #[test]
-fn what_goes_out_for_commands(rt: HostRuntime) -> Result<(), Fail> {
+fn what_goes_out_for_commands(rt: HostRuntime) {
     for (place, turn) in SAID.iter().enumerate() {
-        let around = Around {
-            first: *turn,
-            ..NOTHING
-        };
-        assert!(rt; comes_true(rt.alloc(), QUIET, around, b"")?, "{place}");
+        assert!(rt; are_told(rt.alloc(), &[*turn]), "{place}");
     }
-    Ok(())
 }
 
 // Requests of this side that wait for their replies, one of each kind.
@@ -91,7 +92,7 @@ const SUCCESS: Turn = &[In(b"\x51")];
 
 const FAILURE: Turn = &[In(b"\x52")];
 
-static REPLIED: [Story; 6] = [
+static REPLIED: [Story<'static>; 6] = [
     Story {
         shows: "successes come in the order of the requests; behind the last they do nothing",
         turns: &[
@@ -183,11 +184,10 @@ static REPLIED: [Story; 6] = [
 ];
 
 #[test]
-fn replies_to_requests_of_this_side(rt: HostRuntime) -> Result<(), Fail> {
+fn replies_to_requests_of_this_side(rt: HostRuntime) {
     for story in &REPLIED {
-        assert!(rt; story.holds(rt.alloc())?, "{}", story.shows);
+        assert!(rt; story.holds(rt.alloc()), "{}", story.shows);
     }
-    Ok(())
 }
 
 const MISFIT: Turn = &[Ends(End::Encoding)];
@@ -222,16 +222,9 @@ static RESTS: [(Turn, &[u8], Turn); 16] = [
 ];
 
 #[test]
-fn what_stands_behind_the_number_of_a_reply(rt: HostRuntime) -> Result<(), Fail> {
+fn what_stands_behind_the_number_of_a_reply(rt: HostRuntime) {
     for (place, (asked, reply, comes)) in RESTS.iter().enumerate() {
-        let around = Around {
-            first: *asked,
-            payload: Some(*reply),
-            then: *comes,
-            ..NOTHING
-        };
-        let is_true = comes_true(rt.alloc(), QUIET, around, b"")?;
-        assert!(rt; is_true, "{place}");
+        let are_told = are_told(rt.alloc(), &[*asked, &[In(*reply)], *comes]);
+        assert!(rt; are_told, "{place}");
     }
-    Ok(())
 }
