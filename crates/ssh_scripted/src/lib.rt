@@ -38,9 +38,11 @@ pub struct Case {
 }
 
 impl Case {
-    /// Whether this comes of the script.
-    pub fn holds(self, alloc: Global) -> Result<bool, WireError> {
-        writes(alloc, &["run"], self.script, self.status, self.written)
+    /// Whether this comes of the script; without memory it does not.
+    pub fn holds(self, alloc: Global) -> bool {
+        let (script, written) = ([self.script], [self.written]);
+        let (script, written) = ([Part::Bytes(&script)], [Part::Bytes(&written)]);
+        writes(alloc, &["run"], &script, self.status, &written)
     }
 }
 
@@ -62,27 +64,53 @@ pub struct Row {
 }
 
 impl Row {
-    /// Whether this comes of the script.
-    pub fn holds(self, alloc: Global) -> Result<bool, WireError> {
-        let script = joined(alloc, &[self.settings, SETTINGS, LOGIN, self.inputs])?;
-        let written = joined(alloc, &[LOGIN_CALLS, self.calls, LOGIN_TRACE, self.trace])?;
-        writes(
-            alloc,
-            &["run"],
-            script.as_slice(),
-            self.status,
-            written.as_slice(),
-        )
+    /// Whether this comes of the script; without memory it does not.
+    pub fn holds(self, alloc: Global) -> bool {
+        let script = [self.settings, SETTINGS, LOGIN, self.inputs];
+        let written = [LOGIN_CALLS, self.calls, LOGIN_TRACE, self.trace];
+        let (script, written) = ([Part::Bytes(&script)], [Part::Bytes(&written)]);
+        writes(alloc, &["run"], &script, self.status, &written)
     }
 }
 
-/// The parts, one after another.
-pub fn joined(alloc: Global, parts: &[&[u8]]) -> Result<Vec<u8>, WireError> {
-    let mut whole = Vec::new(alloc);
-    for part in parts {
-        whole.extend_from_slice(*part)?;
+/// A part of a script, or of what is written for one.
+#[derive(Clone, Copy)]
+pub enum Part<'a> {
+    /// These pieces, one after another.
+    Bytes(&'a [&'a [u8]]),
+    /// So many bytes of these pieces, two hex digits each.
+    Hex(&'a [&'a [u8]], usize),
+}
+
+fn add_pieces(whole: &mut Vec<u8>, pieces: &[&[u8]]) -> Result<(), WireError> {
+    for piece in pieces {
+        whole.extend_from_slice(*piece)?;
     }
-    Ok(whole)
+    Ok(())
+}
+
+fn add_hex(whole: &mut Vec<u8>, alloc: Global, bytes: &[u8]) -> Result<(), WireError> {
+    let digits = hex::encode(alloc, bytes)?;
+    Ok(whole.extend_from_slice(digits.as_bytes())?)
+}
+
+fn add(whole: &mut Vec<u8>, alloc: Global, part: Part<'_>) -> Result<(), WireError> {
+    match part {
+        Part::Bytes(pieces) => add_pieces(whole, pieces),
+        Part::Hex(pieces, count) => {
+            let mut bytes = Vec::new(alloc);
+            let added = add_pieces(&mut bytes, pieces);
+            bytes.truncate(count);
+            added.and(add_hex(whole, alloc, bytes.as_slice()))
+        }
+    }
+}
+
+fn add_each(whole: &mut Vec<u8>, alloc: Global, parts: &[Part<'_>]) -> Result<(), WireError> {
+    for part in parts {
+        add(whole, alloc, *part)?;
+    }
+    Ok(())
 }
 
 fn calls(alloc: Global, numbers: &[u64]) -> Result<Calls, WireError> {
@@ -93,29 +121,61 @@ fn calls(alloc: Global, numbers: &[u64]) -> Result<Calls, WireError> {
     Ok(calls)
 }
 
-/// Runs the program with these words and a script; the reads and writes of these numbers fail.
-pub fn run(
+fn source(alloc: Global, script: &[u8], failing: &[u64]) -> Result<MemorySource, WireError> {
+    let script = Bytes::copy_from_slice(alloc, script)?;
+    Ok(MemorySource::new(script, calls(alloc, failing)?))
+}
+
+fn sink(alloc: Global, failing: &[u64]) -> Result<MemorySink, WireError> {
+    Ok(MemorySink::new(alloc, calls(alloc, failing)?))
+}
+
+/// What comes of a run.
+#[derive(Clone, Copy)]
+pub struct Outcome<'a> {
+    /// The exit status.
+    pub status: u8,
+    /// The bytes that it writes.
+    pub written: &'a [u8],
+}
+
+/// Whether this comes of a run of the program with these words and a script, whose reads and writes
+/// of these numbers fail; without memory it does not.
+pub fn comes_to(
     alloc: Global,
     words: &[&str],
     script: &[u8],
-    failing_reads: &[u64],
-    failing_writes: &[u64],
-) -> Result<(u8, MemorySink), WireError> {
-    let reads = calls(alloc, failing_reads)?;
-    let mut sink = MemorySink::new(alloc, calls(alloc, failing_writes)?);
-    let mut source = MemorySource::new(Bytes::copy_from_slice(alloc, script)?, reads);
-    let status = run_script(alloc, words, &mut source, &mut sink);
-    Ok((status, sink))
+    (failing_reads, failing_writes): (&[u64], &[u64]),
+    outcome: Outcome<'_>,
+) -> bool {
+    match (
+        source(alloc, script, failing_reads),
+        sink(alloc, failing_writes),
+    ) {
+        (Ok(mut source), Ok(mut sink)) => {
+            let status = run_script(alloc, words, &mut source, &mut sink);
+            status == outcome.status && sink.bytes() == outcome.written
+        }
+        _ => false,
+    }
 }
 
-/// Whether a run with these words and this script ends by this status and has written this.
+/// Whether a run with these words and this script ends by this status and has written this; without
+/// memory it does not.
 pub fn writes(
     alloc: Global,
     words: &[&str],
-    script: &[u8],
+    script: &[Part<'_>],
     status: u8,
-    written: &[u8],
-) -> Result<bool, WireError> {
-    let (ended, sink) = run(alloc, words, script, &[], &[])?;
-    Ok(ended == status && sink.bytes() == written)
+    written: &[Part<'_>],
+) -> bool {
+    let mut input = Vec::new(alloc);
+    let mut output = Vec::new(alloc);
+    let is_input = add_each(&mut input, alloc, script) == Ok(());
+    let is_output = add_each(&mut output, alloc, written) == Ok(());
+    let outcome = Outcome {
+        status,
+        written: output.as_slice(),
+    };
+    is_input && is_output && comes_to(alloc, words, input.as_slice(), (&[], &[]), outcome)
 }

@@ -32,7 +32,7 @@ pub enum Message {
 }
 
 /// One of this name. `NoMemory` is the only error.
-pub(crate) fn message(alloc: Global, message: Message) -> Result<ChannelMsg, WireError> {
+pub(crate) fn channel_message(alloc: Global, message: Message) -> Result<ChannelMsg, WireError> {
     Ok(match message {
         Message::Data => ChannelMsg::Data {
             bytes: Bytes::from_static(b"hello"),

@@ -1,5 +1,5 @@
 // What is asked of a session, by plain values, and the commands that it means.
-use crate::messages::{Message, message};
+use crate::messages::{Message, channel_message};
 use bytes::Bytes;
 use ssh_link::Command;
 use ssh_wire::{ChannelId, Disconnect, Sig, Text, WireError};
@@ -72,11 +72,11 @@ pub fn command(alloc: Global, wish: Wish) -> Result<Command, WireError> {
             bytes: Bytes::copy_from_slice(alloc, bytes)?,
         },
         Wish::Means(channel, meant) => {
-            Command::from((ChannelId(channel), message(alloc, meant)?))
+            Command::from((ChannelId(channel), channel_message(alloc, meant)?))
         }
         Wish::OfClient(channel, meant) => Command::ClientOnly {
             channel: ChannelId(channel),
-            msg: message(alloc, meant)?,
+            msg: channel_message(alloc, meant)?,
         },
         other => return command_of_text(alloc, other),
     })
