@@ -1,7 +1,9 @@
 // Global requests of the peer: how they are read, asked about and answered (RFC 4254 sections 4 and
 // 7.1, OpenSSH PROTOCOL section 2.4).
 use ssh_stories::Line::{Ends, Forwarded, In, Out, Parts};
-use ssh_stories::{ACCEPT, ALIVE, End, Plan, QUIET, SERVICE, STANDARD, Story, Turn, Wish};
+use ssh_stories::{
+    ACCEPT, ALIVE, Around, End, NOTHING, Plan, QUIET, SERVICE, STANDARD, Story, Turn, Wish,
+};
 use std::alloc::Global;
 use std::test::*;
 
@@ -68,16 +70,16 @@ fn comes_of_bytes(
     count: usize,
     (told, asked): (Turn, &[u8]),
 ) -> bool {
-    let story = Story {
+    let flag = [flag];
+    let parts: [&[u8]; 5] = [b"\x50", name, &flag, rest, b"\0"];
+    let around = Around {
         plan,
-        turns: &[
-            &[Parts(&[b"\x50", name, &[flag], rest, b"\0"], count)],
-            told,
-        ],
-        asked: Some(asked),
-        ..STANDARD
+        line: Some(Parts(&parts, count)),
+        then: told,
+        asked,
+        ..NOTHING
     };
-    story.holds(alloc)
+    around.holds(alloc)
 }
 
 // Whether this comes of the request.
@@ -271,7 +273,7 @@ fn requests_that_are_not_known(rt: HostRuntime) {
     }
 }
 
-static AROUND: [Story<'static>; 3] = [
+static AROUND: [Story; 3] = [
     Story {
         shows: "before a user is let in requests and replies are not read",
         logged_in: false,

@@ -29,7 +29,7 @@ const GONE_BEFORE: CommandOutcome = CommandOutcome::Refused(Refusal::Disconnecte
 
 const NOT_WAITING: CommandOutcome = CommandOutcome::Refused(Refusal::UnknownOpen);
 
-static BETWEEN: [Story<'static>; 9] = [
+static BETWEEN: [Story; 9] = [
     Story {
         shows: "an open is answered, and the next input tells of it first",
         turns: &[

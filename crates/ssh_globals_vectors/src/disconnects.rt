@@ -3,8 +3,8 @@
 use ssh_link::{CommandOutcome, Refusal};
 use ssh_stories::Line::{Asks, Ends, In, Keepalive, Noted, On, Out};
 use ssh_stories::{
-    ACCEPTED, ALIVE, BEHIND_LOGIN, CONFIRMED, End, Line, Plan, QUIET, Run, STANDARD, Story, Turn,
-    Wish,
+    ACCEPTED, ALIVE, Around, BEHIND_LOGIN, CONFIRMED, End, Line, NOTHING, Plan, QUIET, Run,
+    STANDARD, Story, Turn, Wish,
 };
 use ssh_wire::Disconnect;
 use std::alloc::Global;
@@ -157,13 +157,16 @@ const SPENT: Turn = &[In(b"\x02"), Ends(End::Inconsistent)];
 
 // Whether behind an open the request leads to this and to the end.
 fn are_left(alloc: Global, request: &[u8], told: Turn, asked: &[u8]) -> bool {
-    let story = Story {
+    let around = Around {
         plan: LEAVING,
-        turns: &[OPENED, &[In(request)], told, SPENT],
-        asked: Some(asked),
-        ..STANDARD
+        first: OPENED,
+        line: Some(In(request)),
+        then: told,
+        last: SPENT,
+        asked,
+        ..NOTHING
     };
-    story.holds(alloc)
+    around.holds(alloc)
 }
 
 #[test]
@@ -174,7 +177,7 @@ fn requests_whose_callbacks_end_the_connection(rt: HostRuntime) {
     }
 }
 
-static ANSWERED: Story<'static> = Story {
+static ANSWERED: Story = Story {
     shows: "a reply that is recorded before the end goes out before it",
     plan: Plan {
         records: &[Wish::Success, BYE, Wish::Failure],

@@ -12,7 +12,7 @@ const NEWKEYS: Line<'static> = Out(b"\x15");
 
 const DATA: Line<'static> = In(b"\x5e\0\0\0\x02\0\0\0\x01a");
 
-static EXCHANGES: [Story<'static>; 7] = [
+static EXCHANGES: [Story; 7] = [
     Story {
         shows: "before the login a tick begins none, and the peer does at any time",
         logged_in: false,

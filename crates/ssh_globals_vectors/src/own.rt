@@ -1,70 +1,82 @@
 // Messages of no channel that this side sends, and the peer's replies to them (RFC 4254 sections 4
 // and 7.1, RFC 4253 section 11.3).
 use ssh_stories::Line::{Asks, Cancelled, Ends, Forwarded, In, Keepalive, Out, Pong};
-use ssh_stories::{ACCEPTED, ALIVE, End, Line, STANDARD, Story, Turn, Wish};
+use ssh_stories::{ACCEPTED, ALIVE, Around, End, Line, NOTHING, STANDARD, Story, Turn, Wish};
 use std::alloc::Global;
 use std::test::*;
 
 // Commands from outside, and what the link is told of each, in a session of its own.
-static SAID: [Turn; 12] = [
-    &[
-        Asks(Wish::Forward("0.0.0.0", 8080, None)),
-        ACCEPTED,
-        Out(b"\x50\0\0\0\x0dtcpip-forward\0\0\0\0\x070.0.0.0\0\0\x1f\x90"),
-    ],
-    &[
-        Asks(Wish::Forward("0.0.0.0", 8080, Some(5))),
-        ACCEPTED,
-        Out(b"\x50\0\0\0\x0dtcpip-forward\x01\0\0\0\x070.0.0.0\0\0\x1f\x90"),
-    ],
-    &[
-        Asks(Wish::Forward("", 0, Some(0))),
-        ACCEPTED,
-        Out(b"\x50\0\0\0\x0dtcpip-forward\x01\0\0\0\0\0\0\0\0"),
-    ],
-    &[
-        Asks(Wish::Cancel("localhost", 22, None)),
-        ACCEPTED,
-        Out(b"\x50\0\0\0\x14cancel-tcpip-forward\0\0\0\0\x09localhost\0\0\0\x16"),
-    ],
-    &[
-        Asks(Wish::Cancel("localhost", u32::MAX, Some(u64::MAX))),
-        ACCEPTED,
-        Out(b"\x50\0\0\0\x14cancel-tcpip-forward\x01\0\0\0\x09localhost\xff\xff\xff\xff"),
-    ],
-    KEEPALIVE_ASKED,
-    &[Asks(Wish::Ping(3)), ACCEPTED, ALIVE],
-    &[
-        Asks(Wish::Debug(true, "hi", "en")),
-        ACCEPTED,
-        Out(b"\x04\x01\0\0\0\x02hi\0\0\0\x02en"),
-    ],
-    &[
-        Asks(Wish::Debug(false, "", "")),
-        ACCEPTED,
-        Out(b"\x04\0\0\0\0\0\0\0\0\0"),
-    ],
+static SAID: [(Wish, Turn); 12] = [
+    (
+        Wish::Forward("0.0.0.0", 8080, None),
+        &[
+            ACCEPTED,
+            Out(b"\x50\0\0\0\x0dtcpip-forward\0\0\0\0\x070.0.0.0\0\0\x1f\x90"),
+        ],
+    ),
+    (
+        Wish::Forward("0.0.0.0", 8080, Some(5)),
+        &[
+            ACCEPTED,
+            Out(b"\x50\0\0\0\x0dtcpip-forward\x01\0\0\0\x070.0.0.0\0\0\x1f\x90"),
+        ],
+    ),
+    (
+        Wish::Forward("", 0, Some(0)),
+        &[
+            ACCEPTED,
+            Out(b"\x50\0\0\0\x0dtcpip-forward\x01\0\0\0\0\0\0\0\0"),
+        ],
+    ),
+    (
+        Wish::Cancel("localhost", 22, None),
+        &[
+            ACCEPTED,
+            Out(b"\x50\0\0\0\x14cancel-tcpip-forward\0\0\0\0\x09localhost\0\0\0\x16"),
+        ],
+    ),
+    (
+        Wish::Cancel("localhost", u32::MAX, Some(u64::MAX)),
+        &[
+            ACCEPTED,
+            Out(b"\x50\0\0\0\x14cancel-tcpip-forward\x01\0\0\0\x09localhost\xff\xff\xff\xff"),
+        ],
+    ),
+    (Wish::Keepalive, &[ACCEPTED, ALIVE]),
+    (Wish::Ping(3), &[ACCEPTED, ALIVE]),
+    (
+        Wish::Debug(true, "hi", "en"),
+        &[ACCEPTED, Out(b"\x04\x01\0\0\0\x02hi\0\0\0\x02en")],
+    ),
+    (
+        Wish::Debug(false, "", ""),
+        &[ACCEPTED, Out(b"\x04\0\0\0\0\0\0\0\0\0")],
+    ),
     // A text of three bytes.
-    &[
-        Asks(Wish::Debug(false, "\u{20ac}", "de")),
-        ACCEPTED,
-        Out(b"\x04\0\0\0\0\x03\xe2\x82\xac\0\0\0\x02de"),
-    ],
+    (
+        Wish::Debug(false, "\u{20ac}", "de"),
+        &[ACCEPTED, Out(b"\x04\0\0\0\0\x03\xe2\x82\xac\0\0\0\x02de")],
+    ),
     // No reply goes out where the peer wants none.
-    &[Asks(Wish::Success), ACCEPTED],
-    &[Asks(Wish::Failure), ACCEPTED],
+    (Wish::Success, &[ACCEPTED]),
+    (Wish::Failure, &[ACCEPTED]),
 ];
 
-// Whether these turns are told, one behind the other, and the handler is asked nothing.
-fn are_told(alloc: Global, turns: &[&[Line<'_>]]) -> bool {
-    let story = Story { turns, ..STANDARD };
-    story.holds(alloc)
+// Whether that is told of the line behind these, and the handler is asked nothing.
+fn is_told(alloc: Global, first: Turn, line: Line<'_>, then: Turn) -> bool {
+    let around = Around {
+        first,
+        line: Some(line),
+        then,
+        ..NOTHING
+    };
+    around.holds(alloc)
 }
 
 #[test]
 fn what_goes_out_for_commands(rt: HostRuntime) {
-    for (place, turn) in SAID.iter().enumerate() {
-        assert!(rt; are_told(rt.alloc(), &[*turn]), "{place}");
+    for (place, (wish, told)) in SAID.iter().enumerate() {
+        assert!(rt; is_told(rt.alloc(), &[], Asks(*wish), *told), "{place}");
     }
 }
 
@@ -92,7 +104,7 @@ const SUCCESS: Turn = &[In(b"\x51")];
 
 const FAILURE: Turn = &[In(b"\x52")];
 
-static REPLIED: [Story<'static>; 6] = [
+static REPLIED: [Story; 6] = [
     Story {
         shows: "successes come in the order of the requests; behind the last they do nothing",
         turns: &[
@@ -224,7 +236,7 @@ static RESTS: [(Turn, &[u8], Turn); 16] = [
 #[test]
 fn what_stands_behind_the_number_of_a_reply(rt: HostRuntime) {
     for (place, (asked, reply, comes)) in RESTS.iter().enumerate() {
-        let are_told = are_told(rt.alloc(), &[*asked, &[In(*reply)], *comes]);
-        assert!(rt; are_told, "{place}");
+        let is_told = is_told(rt.alloc(), *asked, In(*reply), *comes);
+        assert!(rt; is_told, "{place}");
     }
 }

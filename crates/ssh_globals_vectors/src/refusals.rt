@@ -3,8 +3,8 @@
 use ssh_link::{CommandOutcome, Refusal};
 use ssh_stories::Line::{Asks, Done, Ends, In, Noted, Out, Pong};
 use ssh_stories::{
-    ACCEPT, ACCEPTED, ALIVE, CONFIRMED, End, Line, Message, OPEN, PASSWORD, Plan, QUIET, SERVICE,
-    STANDARD, Story, Turn, Wish,
+    ACCEPT, ACCEPTED, ALIVE, Around, CONFIRMED, End, Line, Message, NOTHING, OPEN, PASSWORD, Plan,
+    QUIET, SERVICE, STANDARD, Story, Turn, Wish,
 };
 use ssh_wire::Disconnect;
 use std::alloc::Global;
@@ -12,7 +12,7 @@ use std::test::*;
 
 const NOT_IN: Line<'static> = Done(CommandOutcome::Refused(Refusal::NotAuthenticated));
 
-static BEFORE_LOGIN: Story<'static> = Story {
+static BEFORE_LOGIN: Story = Story {
     shows: "nobody forwards before a user is let in, and all else of no channel is done",
     logged_in: false,
     turns: &[
@@ -53,53 +53,60 @@ fn nobody_forwards_before_a_user_is_let_in(rt: HostRuntime) {
 // A user is let in.
 const LOGIN: Turn = &[In(SERVICE), Out(ACCEPT), In(PASSWORD), Out(b"\x34")];
 
+// A message is refused so by the command that it means, and as one of a client.
+macro_rules! refused {
+    ($message:ident, $why:ident) => {
+        &[
+            Asks(Wish::Means(9, Message::$message)),
+            Done(CommandOutcome::Refused(Refusal::$why)),
+            Asks(Wish::OfClient(9, Message::$message)),
+            Done(CommandOutcome::Refused(Refusal::ClientOnly)),
+        ]
+    };
+}
+
 // Each message, and why the command that it means is refused where there is no channel: one that
 // only a client sends is refused for that.
-static MESSAGES: [(Message, Refusal); 21] = [
-    (Message::Open, Refusal::ClientOnly),
-    (Message::OpenFailure, Refusal::ClientOnly),
-    (Message::Data, Refusal::UnknownChannel),
-    (Message::ExtendedData, Refusal::UnknownChannel),
-    (Message::Eof, Refusal::UnknownChannel),
-    (Message::Close, Refusal::UnknownChannel),
-    (Message::Success, Refusal::UnknownChannel),
-    (Message::Failure, Refusal::UnknownChannel),
-    (Message::WindowAdjusted, Refusal::ClientOnly),
-    (Message::RequestPty, Refusal::ClientOnly),
-    (Message::RequestShell, Refusal::ClientOnly),
-    (Message::Exec, Refusal::ClientOnly),
-    (Message::Signal, Refusal::ClientOnly),
-    (Message::RequestSubsystem, Refusal::ClientOnly),
-    (Message::RequestX11, Refusal::ClientOnly),
-    (Message::SetEnv, Refusal::ClientOnly),
-    (Message::WindowChange, Refusal::ClientOnly),
-    (Message::AgentForward, Refusal::ClientOnly),
-    (Message::XonXoff, Refusal::UnknownChannel),
-    (Message::ExitStatus, Refusal::UnknownChannel),
-    (Message::ExitSignal, Refusal::UnknownChannel),
+static MESSAGES: [(&str, Turn); 21] = [
+    ("Open", refused!(Open, ClientOnly)),
+    ("OpenFailure", refused!(OpenFailure, ClientOnly)),
+    ("Data", refused!(Data, UnknownChannel)),
+    ("ExtendedData", refused!(ExtendedData, UnknownChannel)),
+    ("Eof", refused!(Eof, UnknownChannel)),
+    ("Close", refused!(Close, UnknownChannel)),
+    ("Success", refused!(Success, UnknownChannel)),
+    ("Failure", refused!(Failure, UnknownChannel)),
+    ("WindowAdjusted", refused!(WindowAdjusted, ClientOnly)),
+    ("RequestPty", refused!(RequestPty, ClientOnly)),
+    ("RequestShell", refused!(RequestShell, ClientOnly)),
+    ("Exec", refused!(Exec, ClientOnly)),
+    ("Signal", refused!(Signal, ClientOnly)),
+    ("RequestSubsystem", refused!(RequestSubsystem, ClientOnly)),
+    ("RequestX11", refused!(RequestX11, ClientOnly)),
+    ("SetEnv", refused!(SetEnv, ClientOnly)),
+    ("WindowChange", refused!(WindowChange, ClientOnly)),
+    ("AgentForward", refused!(AgentForward, ClientOnly)),
+    ("XonXoff", refused!(XonXoff, UnknownChannel)),
+    ("ExitStatus", refused!(ExitStatus, UnknownChannel)),
+    ("ExitSignal", refused!(ExitSignal, UnknownChannel)),
 ];
 
-// Whether a message is refused so, by the command that it means and as one of a client, before a
-// login and behind it, and nothing goes out.
-fn is_refused(alloc: Global, message: Message, why: Refusal) -> bool {
-    let refused = [
-        Asks(Wish::Means(9, message)),
-        Done(CommandOutcome::Refused(why)),
-        Asks(Wish::OfClient(9, message)),
-        Done(CommandOutcome::Refused(Refusal::ClientOnly)),
-    ];
-    let story = Story {
+// Whether that is so before a login and behind it, and nothing goes out.
+fn is_refused(alloc: Global, refused: Turn) -> bool {
+    let around = Around {
         logged_in: false,
-        turns: &[&refused, LOGIN, &refused],
-        ..STANDARD
+        first: refused,
+        then: LOGIN,
+        last: refused,
+        ..NOTHING
     };
-    story.holds(alloc)
+    around.holds(alloc)
 }
 
 #[test]
 fn what_a_client_alone_may_say(rt: HostRuntime) {
-    for (place, (message, why)) in MESSAGES.iter().enumerate() {
-        assert!(rt; is_refused(rt.alloc(), *message, *why), "{place}");
+    for (message, refused) in &MESSAGES {
+        assert!(rt; is_refused(rt.alloc(), *refused), "{message}");
     }
 }
 
@@ -129,7 +136,7 @@ const OVER: Plan = Plan {
 
 const DISCONNECTED: CommandOutcome = CommandOutcome::Refused(Refusal::Disconnected);
 
-static BEHIND_THE_END: Story<'static> = Story {
+static BEHIND_THE_END: Story = Story {
     shows: "whatever a callback records behind the end of the connection is refused",
     plan: OVER,
     turns: &[

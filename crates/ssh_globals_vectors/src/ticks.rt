@@ -10,7 +10,7 @@ const TIMEOUT: Turn = &[Keepalive, Ends(End::KeepaliveTimeout)];
 // It ends a run by an error, whatever was done before.
 const SILENCE: Turn = &[Inactivity, Ends(End::InactivityTimeout)];
 
-static TICKS: [Story<'static>; 11] = [
+static TICKS: [Story; 11] = [
     Story {
         shows: "one tick asks for a sign of life, and the second ends the run where one is allowed",
         ticks: Some(1),

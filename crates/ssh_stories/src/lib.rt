@@ -4,6 +4,7 @@
 #![tactic(auto)]
 
 mod answering;
+mod around;
 mod calls;
 mod messages;
 mod recording;
@@ -13,6 +14,7 @@ mod stories;
 mod wishes;
 
 pub use answering::{Answering, Lent, Plan, QUIET, Tired, Told};
+pub use around::{Around, NOTHING, are_true};
 pub use messages::Message;
 pub use recording::record;
 pub use runs::{BEHIND_LOGIN, Run};

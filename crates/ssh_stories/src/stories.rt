@@ -63,7 +63,7 @@ pub type Turn = &'static [Line<'static>];
 /// A story, and what the handler was told of channels, asked, and told of its commands; none where
 /// that is not looked at.
 #[derive(Clone, Copy)]
-pub struct Story<'a> {
+pub struct Story {
     pub shows: &'static str,
     pub logged_in: bool,
     /// The size of windows, and how many keepalive ticks are allowed; none where nothing is set.
@@ -74,17 +74,17 @@ pub struct Story<'a> {
     /// Whether the frames alone are looked at of what the link is told.
     pub frames_alone: bool,
     pub plan: Plan,
-    pub turns: &'a [&'a [Line<'a>]],
-    pub told: Option<&'a [Told]>,
-    pub asked: Option<&'a [u8]>,
-    pub done: Option<&'a [(usize, CommandOutcome)]>,
+    pub turns: &'static [Turn],
+    pub told: Option<&'static [Told]>,
+    pub asked: Option<&'static [u8]>,
+    pub done: Option<&'static [(usize, CommandOutcome)]>,
     /// How many callbacks were called.
     pub calls: Option<usize>,
 }
 
 /// Behind a login, with a handler that grants nothing, of which all is looked at but what it is
 /// told of channels.
-pub const STANDARD: Story<'static> = Story {
+pub const STANDARD: Story = Story {
     shows: "",
     logged_in: true,
     window: None,
@@ -100,7 +100,7 @@ pub const STANDARD: Story<'static> = Story {
 };
 
 /// Such a one, of which the frames are looked at and what the handler is told of channels.
-pub const CHANNELS: Story<'static> = Story {
+pub const CHANNELS: Story = Story {
     repeatable: false,
     frames_alone: true,
     told: Some(&[]),
@@ -353,7 +353,7 @@ fn play_all(side: &mut Side, story: &Story) -> Result<bool, WireError> {
     Ok(place.is_at_the_end(&side.link))
 }
 
-impl Story<'_> {
+impl Story {
     // Whether the handler was told and asked as the story says.
     fn was_heard(&self, handler: &Answering) -> bool {
         let told = handler.told.as_slice();

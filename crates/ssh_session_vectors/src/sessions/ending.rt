@@ -6,7 +6,7 @@ use ssh_stories::{
 };
 use std::test::*;
 
-static ENDINGS: [Story<'static>; 7] = [
+static ENDINGS: [Story; 7] = [
     Story {
         shows: "an end of file and a close of one callback wait behind its data",
         plan: Plan {

@@ -36,7 +36,7 @@ const ENDED: Lent = Lent {
     ..CHANNEL
 };
 
-static CALLBACKS: Story<'static> = Story {
+static CALLBACKS: Story = Story {
     shows: "a callback reads the channels and what is taken from outside as they are at its call",
     window: Some(8),
     plan: Plan {

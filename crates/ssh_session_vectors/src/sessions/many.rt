@@ -2,7 +2,7 @@
 use ssh_stories::Line::{Asks, Confirms, Ends, Flood, In, On};
 use ssh_stories::{
     BEHIND_LOGIN, CHANNELS, CONFIRMED, End, Line, OPEN, OPEN_SMALL, Plan, QUIET, Run,
-    SMALL_CONFIRMED, Story, Told, Wish,
+    SMALL_CONFIRMED, Story, Told, Wish, are_true,
 };
 use std::alloc::{AllocError, Global};
 use std::test::*;
@@ -12,7 +12,7 @@ const ECHO: Plan = Plan {
     ..QUIET
 };
 
-static SIDE_BY_SIDE: [Story<'static>; 2] = [
+static SIDE_BY_SIDE: [Story; 2] = [
     Story {
         shows: "two opens of one peer number are two channels",
         turns: &[
@@ -110,13 +110,7 @@ fn push_hundred(lines: &mut Vec<Line<'static>>) -> Result<(), AllocError> {
 fn hundred_echo(alloc: Global) -> bool {
     let mut lines = Vec::new(alloc);
     let are_pushed = push_hundred(&mut lines) == Ok(());
-    let story = Story {
-        plan: ECHO,
-        turns: &[lines.as_slice()],
-        told: None,
-        ..CHANNELS
-    };
-    are_pushed && story.holds(alloc)
+    are_pushed && are_true(alloc, ECHO, lines.as_slice())
 }
 
 #[test]

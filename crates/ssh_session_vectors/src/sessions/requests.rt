@@ -18,13 +18,13 @@ const KILLED: Line<'static> = On(
 );
 
 // A request for the agent, on which the handler has opened a channel and is told of nothing more.
-const AGENT: Story<'static> = Story {
+const AGENT: Story = Story {
     plan: GENEROUS,
     told: Some(&[Told::Open(2)]),
     ..CHANNELS
 };
 
-static REQUESTS: [Story<'static>; 4] = [
+static REQUESTS: [Story; 4] = [
     Story {
         shows: "flow control, and the signal that ended a program; nothing goes out behind a close",
         plan: Plan {

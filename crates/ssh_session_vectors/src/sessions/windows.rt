@@ -12,7 +12,7 @@ const FIVE_MORE: Line<'static> = On(2, b"\x5d\0\0\0\x07\0\0\0\x05");
 
 const ABCDE: Line<'static> = In(b"\x5e\0\0\0\x02\0\0\0\x05abcde");
 
-static WINDOWS: [Story<'static>; 6] = [
+static WINDOWS: [Story; 6] = [
     Story {
         shows: "the room is filled up once less than half of it is left; larger data are dropped",
         window: Some(8),
