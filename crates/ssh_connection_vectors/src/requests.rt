@@ -5,7 +5,7 @@ mod modes;
 mod programs;
 mod replies;
 
-use ssh_scripted::{LOGIN, LOGIN_CALLS, LOGIN_TRACE, Part, SETTINGS, writes};
+use ssh_scripted::{Hex, LOGIN, LOGIN_CALLS, LOGIN_TRACE, SETTINGS, writes};
 use std::alloc::Global;
 
 // The peer opens a session under its number 7.
@@ -52,12 +52,13 @@ fn length(request: Request<'_>) -> usize {
     length
 }
 
-// What comes of a payload: the exit status, the callbacks, and what the trace has for it.
+// What comes of a payload: the exit status, the callbacks, and what the trace has for it, each in
+// pieces.
 #[derive(Clone, Copy)]
 struct Outcome<'a> {
     status: u8,
-    calls: &'a [&'a [u8]],
-    trace: &'a [&'a [u8]],
+    calls: [&'a [u8]; 3],
+    trace: [&'a [u8]; 3],
 }
 
 // Whether this comes of so many bytes of the request and a byte behind it, behind the login and the
@@ -69,33 +70,30 @@ fn comes_of_bytes(
     count: usize,
     wanted: Outcome<'_>,
 ) -> bool {
-    let name_length = u32::try_from(request.name.len()).unwrap_or(0).to_be_bytes();
-    let [one, two, three] = request.rest;
-    let payload: [&[u8]; 8] = [
-        b"\x62\0\0\0\x02",
-        &name_length,
-        request.name,
-        &[request.flag],
-        one,
-        two,
-        three,
-        b"\0",
+    let length = u32::try_from(request.name.len()).unwrap_or(0).to_be_bytes();
+    let flag = [request.flag];
+    let (name, [one, two, three]) = (request.name, request.rest);
+    let channel = b"\x62\0\0\0\x02";
+    let pieces: [&[u8]; 8] = [channel, &length, name, &flag, one, two, three, b"\0"];
+    let hex = Hex {
+        pieces: &pieces,
+        count,
+    };
+    let script = [setting, SETTINGS, LOGIN, OPEN];
+    let ([a, b, c], [d, e, f]) = (wanted.calls, wanted.trace);
+    let written = [
+        LOGIN_CALLS,
+        OPEN_CALL,
+        a,
+        b,
+        c,
+        LOGIN_TRACE,
+        OPEN_TRACE,
+        d,
+        e,
+        f,
     ];
-    writes(
-        alloc,
-        &["run"],
-        &[
-            Part::Bytes(&[setting, SETTINGS, LOGIN, OPEN]),
-            Part::Hex(&payload, count),
-        ],
-        wanted.status,
-        &[
-            Part::Bytes(&[LOGIN_CALLS, OPEN_CALL]),
-            Part::Bytes(wanted.calls),
-            Part::Bytes(&[LOGIN_TRACE, OPEN_TRACE]),
-            Part::Bytes(wanted.trace),
-        ],
-    )
+    writes(alloc, &script, &hex, wanted.status, &written)
 }
 
 // Whether this comes of the request.
@@ -106,12 +104,12 @@ fn comes_to(alloc: Global, setting: &[u8], request: Request<'_>, wanted: Outcome
 // Nothing but the end of the run.
 static NO_ENCODING: Outcome<'static> = Outcome {
     status: 1,
-    calls: &[],
-    trace: &[b"error Encoding\n"],
+    calls: [b"", b"", b""],
+    trace: [b"error Encoding\n", b"", b""],
 };
 
 static INCONSISTENT: Outcome<'static> = Outcome {
     status: 1,
-    calls: &[],
-    trace: &[b"error Inconsistent\n"],
+    calls: [b"", b"", b""],
+    trace: [b"error Inconsistent\n", b"", b""],
 };

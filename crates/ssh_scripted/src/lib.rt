@@ -40,9 +40,11 @@ pub struct Case {
 impl Case {
     /// Whether this comes of the script; without memory it does not.
     pub fn holds(self, alloc: Global) -> bool {
-        let (script, written) = ([self.script], [self.written]);
-        let (script, written) = ([Part::Bytes(&script)], [Part::Bytes(&written)]);
-        writes(alloc, &["run"], &script, self.status, &written)
+        let outcome = Outcome {
+            status: self.status,
+            written: self.written,
+        };
+        comes_to(alloc, &["run"], self.script, (&[], &[]), outcome)
     }
 }
 
@@ -68,49 +70,41 @@ impl Row {
     pub fn holds(self, alloc: Global) -> bool {
         let script = [self.settings, SETTINGS, LOGIN, self.inputs];
         let written = [LOGIN_CALLS, self.calls, LOGIN_TRACE, self.trace];
-        let (script, written) = ([Part::Bytes(&script)], [Part::Bytes(&written)]);
-        writes(alloc, &["run"], &script, self.status, &written)
+        writes(alloc, &script, &NO_BYTES, self.status, &written)
     }
 }
 
-/// A part of a script, or of what is written for one.
+/// Bytes that a script has in hex: so many of these pieces, one after another.
 #[derive(Clone, Copy)]
-pub enum Part<'a> {
-    /// These pieces, one after another.
-    Bytes(&'a [&'a [u8]]),
-    /// So many bytes of these pieces, two hex digits each.
-    Hex(&'a [&'a [u8]], usize),
+pub struct Hex<'a> {
+    /// The pieces.
+    pub pieces: &'a [&'a [u8]],
+    /// How many bytes of them.
+    pub count: usize,
 }
 
-fn add_pieces(whole: &mut Vec<u8>, pieces: &[&[u8]]) -> Result<(), WireError> {
+const NO_BYTES: Hex<'static> = Hex {
+    pieces: &[],
+    count: 0,
+};
+
+fn add(whole: &mut Vec<u8>, pieces: &[&[u8]]) -> Result<(), WireError> {
     for piece in pieces {
         whole.extend_from_slice(*piece)?;
     }
     Ok(())
 }
 
-fn add_hex(whole: &mut Vec<u8>, alloc: Global, bytes: &[u8]) -> Result<(), WireError> {
+fn add_digits(whole: &mut Vec<u8>, alloc: Global, bytes: &[u8]) -> Result<(), WireError> {
     let digits = hex::encode(alloc, bytes)?;
     Ok(whole.extend_from_slice(digits.as_bytes())?)
 }
 
-fn add(whole: &mut Vec<u8>, alloc: Global, part: Part<'_>) -> Result<(), WireError> {
-    match part {
-        Part::Bytes(pieces) => add_pieces(whole, pieces),
-        Part::Hex(pieces, count) => {
-            let mut bytes = Vec::new(alloc);
-            let added = add_pieces(&mut bytes, pieces);
-            bytes.truncate(count);
-            added.and(add_hex(whole, alloc, bytes.as_slice()))
-        }
-    }
-}
-
-fn add_each(whole: &mut Vec<u8>, alloc: Global, parts: &[Part<'_>]) -> Result<(), WireError> {
-    for part in parts {
-        add(whole, alloc, *part)?;
-    }
-    Ok(())
+fn add_hex(whole: &mut Vec<u8>, alloc: Global, hex: &Hex<'_>) -> Result<(), WireError> {
+    let mut bytes = Vec::new(alloc);
+    let added = add(&mut bytes, hex.pieces);
+    bytes.truncate(hex.count);
+    added.and(add_digits(whole, alloc, bytes.as_slice()))
 }
 
 fn calls(alloc: Global, numbers: &[u64]) -> Result<Calls, WireError> {
@@ -160,22 +154,22 @@ pub fn comes_to(
     }
 }
 
-/// Whether a run with these words and this script ends by this status and has written this; without
-/// memory it does not.
+/// Whether a run with the script of these pieces, and this in hex behind them, ends by this status
+/// and has written these pieces; without memory it does not.
 pub fn writes(
     alloc: Global,
-    words: &[&str],
-    script: &[Part<'_>],
+    script: &[&[u8]],
+    hex: &Hex<'_>,
     status: u8,
-    written: &[Part<'_>],
+    written: &[&[u8]],
 ) -> bool {
     let mut input = Vec::new(alloc);
+    let is_input = add(&mut input, script).and(add_hex(&mut input, alloc, hex)) == Ok(());
     let mut output = Vec::new(alloc);
-    let is_input = add_each(&mut input, alloc, script) == Ok(());
-    let is_output = add_each(&mut output, alloc, written) == Ok(());
+    let is_output = add(&mut output, written) == Ok(());
     let outcome = Outcome {
         status,
         written: output.as_slice(),
     };
-    is_input && is_output && comes_to(alloc, words, input.as_slice(), (&[], &[]), outcome)
+    is_input && is_output && comes_to(alloc, &["run"], input.as_slice(), (&[], &[]), outcome)
 }

@@ -1,5 +1,6 @@
 // Lines that are no lines of a script.
-use ssh_scripted::writes;
+use ssh_scripted::{Outcome, comes_to};
+use std::alloc::Global;
 use std::test::*;
 
 static BAD_LINES: [&[u8]; 113] = [
@@ -132,18 +133,25 @@ static BAD_LINES: [&[u8]; 113] = [
     b"answer certificate Accept",
 ];
 
+// Whether this alone is written for the script, which has a bad line.
+fn is_bad(alloc: Global, script: &[u8], written: &[u8]) -> bool {
+    comes_to(
+        alloc,
+        &["run"],
+        script,
+        (&[], &[]),
+        Outcome { status: 2, written },
+    )
+}
+
 #[test]
 fn bad_lines(rt: HostRuntime) {
     for (place, line) in BAD_LINES.iter().enumerate() {
-        assert!(rt;
-            writes(rt.alloc(), &["run"], *line, 2, b"bad line 1\n") == Ok(true),
-            "{place}"
-        );
+        assert!(rt; is_bad(rt.alloc(), *line, b"bad line 1\n"), "{place}");
     }
 }
 
 #[test]
 fn a_bad_line_behind_another(rt: HostRuntime) {
-    let script = b"at 5\nbanner 68690a\n";
-    assert!(rt; writes(rt.alloc(), &["run"], script, 2, b"bad line 2\n") == Ok(true));
+    assert!(rt; is_bad(rt.alloc(), b"at 5\nbanner 68690a\n", b"bad line 2\n"));
 }

@@ -1,7 +1,7 @@
 // The examples of README.md and of docs/SCRIPT.md, as they stand there.
-use ssh_scripted::{Case, run};
+use ssh_scripted::{Case, Outcome, comes_to};
 use std::alloc::Global;
-use std::test::Fail;
+use std::test::*;
 
 static EXAMPLES: [Case; 14] = [
     Case {
@@ -405,14 +405,19 @@ static WORDS: [(&[&str], u8, &[u8]); 9] = [
 ];
 
 // Whether a run with these words comes to this. The first read fails: the source is not read.
-fn comes_to(alloc: Global, (words, status, line): (&[&str], u8, &[u8])) -> Result<bool, Fail> {
-    let (ended, sink) = run(alloc, words, b"end\n", &[1], &[])?;
-    Ok(ended == status && sink.bytes() == line)
+fn are_answered(alloc: Global, words: &[&str], status: u8, written: &[u8]) -> bool {
+    comes_to(
+        alloc,
+        words,
+        b"end\n",
+        (&[1], &[]),
+        Outcome { status, written },
+    )
 }
 
 #[test]
 fn words_other_than_run_print_one_line(rt: HostRuntime) {
-    for words in &WORDS {
-        assert!(rt; comes_to(rt.alloc(), *words) == Ok(true));
+    for (words, status, line) in &WORDS {
+        assert!(rt; are_answered(rt.alloc(), *words, *status, *line));
     }
 }

@@ -132,11 +132,11 @@ static ANSWERS: [(&[u8], Option<&[u8]>); 4] = [
 fn is_answered(alloc: Global, known: Known, setting: &[u8], frame: &[u8]) -> bool {
     let answered = Outcome {
         status: 0,
-        calls: &[known.call],
-        trace: &[known.notice, frame, OVER],
+        calls: [known.call, b"", b""],
+        trace: [known.notice, frame, OVER],
     };
     let silent = Outcome {
-        trace: &[known.notice, OVER],
+        trace: [known.notice, b"", OVER],
         ..answered
     };
     comes_to(alloc, setting, request(known.name, 1, known.rest), answered)
@@ -217,14 +217,14 @@ static UNKNOWN: [(&[u8], &[u8]); 8] = [
 
 static REFUSED: Outcome<'static> = Outcome {
     status: 0,
-    calls: &[],
-    trace: &[FAILURE, OVER],
+    calls: [b"", b"", b""],
+    trace: [FAILURE, b"", OVER],
 };
 
 static NOTHING: Outcome<'static> = Outcome {
     status: 0,
-    calls: &[],
-    trace: &[OVER],
+    calls: [b"", b"", b""],
+    trace: [b"", b"", OVER],
 };
 
 // Whether it is told to nobody, and refused where the peer wants an answer.

@@ -1,5 +1,5 @@
 // The modes of a terminal (RFC 4254 section 8).
-use super::{INCONSISTENT, OVER, Outcome, Request, SUCCESS, comes_to};
+use super::{INCONSISTENT, Outcome, Request, comes_to};
 use std::alloc::{AllocError, Global};
 use std::test::*;
 
@@ -20,18 +20,14 @@ fn comes_of_modes(alloc: Global, modes: &[u8], wanted: Outcome<'_>) -> bool {
 
 // Whether the callback is told these modes.
 fn are_told(alloc: Global, modes: &[u8], told: &[u8]) -> bool {
-    let call: [&[u8]; 3] = [b"call pty_request 2 787465726d 80 24 0 0 ", told, b"\n"];
-    let trace: [&[u8]; 5] = [
-        b"notice 2 RequestPty 1 787465726d 80 24 0 0 ",
-        told,
-        b"\n",
-        SUCCESS,
-        OVER,
-    ];
     let wanted = Outcome {
         status: 0,
-        calls: &call,
-        trace: &trace,
+        calls: [b"call pty_request 2 787465726d 80 24 0 0 ", told, b"\n"],
+        trace: [
+            b"notice 2 RequestPty 1 787465726d 80 24 0 0 ",
+            told,
+            b"\nsend 2 6300000007\ninput 5\nok\n",
+        ],
     };
     comes_of_modes(alloc, modes, wanted)
 }
