@@ -5,9 +5,8 @@ mod modes;
 mod programs;
 mod replies;
 
-use ssh_scripted::{LOGIN, LOGIN_CALLS, LOGIN_TRACE, SETTINGS, joined, writes};
+use ssh_scripted::{Hex, LOGIN, LOGIN_CALLS, LOGIN_TRACE, SETTINGS, writes};
 use std::alloc::Global;
-use std::test::Fail;
 
 // The peer opens a session under its number 7.
 const OPEN: &[u8] = b"recv 5a0000000773657373696f6e000000070010000000008000\nrecv ";
@@ -27,58 +26,90 @@ const FAILURE: &[u8] = b"send 2 6400000007\n";
 
 const OVER: &[u8] = b"input 5\nok\n";
 
-const NO_ENCODING: &[u8] = b"error Encoding\n";
-
-const INCONSISTENT: &[u8] = b"error Inconsistent\n";
-
-// A request on channel 2: its type, its flag, and what stands behind the flag.
-fn request(alloc: Global, name: &[u8], flag: u8, rest: &[u8]) -> Result<Vec<u8>, Fail> {
-    let mut payload = Vec::new(alloc);
-    payload.extend_from_slice(b"\x62\0\0\0\x02")?;
-    payload.extend_from_slice(&u32::try_from(name.len()).unwrap_or(0).to_be_bytes())?;
-    payload.extend_from_slice(name)?;
-    payload.push(flag)?;
-    payload.extend_from_slice(rest)?;
-    Ok(payload)
-}
-
-// What comes of a payload: the exit status, the callbacks, and what the trace has for it.
+// A request on channel 2: its type, its flag, and what stands behind the flag, in three pieces.
 #[derive(Clone, Copy)]
-struct Outcome<'a> {
-    status: u8,
-    calls: &'a [u8],
-    trace: &'a [u8],
+struct Request<'a> {
+    name: &'a [u8],
+    flag: u8,
+    rest: [&'a [u8]; 3],
 }
 
-// Nothing but the end of the run.
-fn ends_by(error: &[u8]) -> Outcome<'_> {
-    Outcome {
-        status: 1,
-        calls: b"",
-        trace: error,
+// One with this behind its flag.
+fn request<'a>(name: &'a [u8], flag: u8, rest: &'a [u8]) -> Request<'a> {
+    Request {
+        name,
+        flag,
+        rest: [rest, b"", b""],
     }
 }
 
-// Whether this comes of the payload, behind the login and the open, under this setting.
-fn comes_to(
+// How many bytes it has.
+fn length(request: Request<'_>) -> usize {
+    let mut length = request.name.len().saturating_add(10);
+    for piece in &request.rest {
+        length = length.saturating_add(piece.len());
+    }
+    length
+}
+
+// What comes of a payload: the exit status, the callbacks, and what the trace has for it, each in
+// pieces.
+#[derive(Clone, Copy)]
+struct Outcome<'a> {
+    status: u8,
+    calls: [&'a [u8]; 3],
+    trace: [&'a [u8]; 3],
+}
+
+// Whether this comes of so many bytes of the request and a byte behind it, behind the login and the
+// open, under this setting.
+fn comes_of_bytes(
     alloc: Global,
     setting: &[u8],
-    payload: &[u8],
+    request: Request<'_>,
+    count: usize,
     wanted: Outcome<'_>,
-) -> Result<bool, Fail> {
-    let line = hex::encode(alloc, payload)?;
-    let script = joined(alloc, &[setting, SETTINGS, LOGIN, OPEN, line.as_bytes()])?;
-    let calls = joined(alloc, &[LOGIN_CALLS, OPEN_CALL, wanted.calls])?;
-    let written = joined(
-        alloc,
-        &[calls.as_slice(), LOGIN_TRACE, OPEN_TRACE, wanted.trace],
-    )?;
-    let is_written = writes(
-        alloc,
-        &["run"],
-        script.as_slice(),
-        wanted.status,
-        written.as_slice(),
-    )?;
-    Ok(is_written)
+) -> bool {
+    let length = u32::try_from(request.name.len()).unwrap_or(0).to_be_bytes();
+    let flag = [request.flag];
+    let (name, [one, two, three]) = (request.name, request.rest);
+    let channel = b"\x62\0\0\0\x02";
+    let pieces: [&[u8]; 8] = [channel, &length, name, &flag, one, two, three, b"\0"];
+    let hex = Hex {
+        pieces: &pieces,
+        count,
+    };
+    let script = [setting, SETTINGS, LOGIN, OPEN];
+    let ([a, b, c], [d, e, f]) = (wanted.calls, wanted.trace);
+    let written = [
+        LOGIN_CALLS,
+        OPEN_CALL,
+        a,
+        b,
+        c,
+        LOGIN_TRACE,
+        OPEN_TRACE,
+        d,
+        e,
+        f,
+    ];
+    writes(alloc, &script, &hex, wanted.status, &written)
 }
+
+// Whether this comes of the request.
+fn comes_to(alloc: Global, setting: &[u8], request: Request<'_>, wanted: Outcome<'_>) -> bool {
+    comes_of_bytes(alloc, setting, request, length(request), wanted)
+}
+
+// Nothing but the end of the run.
+static NO_ENCODING: Outcome<'static> = Outcome {
+    status: 1,
+    calls: [b"", b"", b""],
+    trace: [b"error Encoding\n", b"", b""],
+};
+
+static INCONSISTENT: Outcome<'static> = Outcome {
+    status: 1,
+    calls: [b"", b"", b""],
+    trace: [b"error Inconsistent\n", b"", b""],
+};

@@ -5,7 +5,7 @@ use crate::failing::{Failed, Failing};
 use crate::lender::Lender;
 use ssh_handler::{RecordError, Recorded, ask, judge};
 use ssh_link::{ChannelOpenHandle, Command, CommandList};
-use ssh_wire::WireError;
+use ssh_wire::{ChannelId, WireError};
 use std::alloc::Global;
 
 /// Why a recording handler over one of the handlers here cannot go on.
@@ -14,112 +14,162 @@ pub(crate) type Error = RecordError<Failed>;
 /// A call as such a handler tells it.
 pub(crate) type Call = ssh_auth::Call<Error>;
 
-// The callback and its answer, where it answers nothing but an error.
-fn heard(call: &Call) -> Option<(&'static str, Result<(), Error>)> {
-    let (name, answer) = match call {
-        Call::AuthSucceeded { answer, .. } => ("auth_succeeded", answer),
-        Call::ChannelClose { answer, .. } => ("channel_close", answer),
-        Call::ChannelEof { answer, .. } => ("channel_eof", answer),
-        Call::ChannelOpenSession { answer, .. } => ("channel_open_session", answer),
-        Call::ChannelOpenX11 { answer, .. } => ("channel_open_x11", answer),
-        Call::ChannelOpenDirectTcpip { answer, .. } => ("channel_open_direct_tcpip", answer),
-        Call::ChannelOpenForwardedTcpip { answer, .. } => ("channel_open_forwarded_tcpip", answer),
-        Call::ChannelOpenDirectStreamlocal { answer, .. } => (
-            "channel_open_direct_streamlocal",
-            answer,
-        ),
-        Call::ChannelOpenConfirmation { answer, .. } => ("channel_open_confirmation", answer),
-        Call::Data { answer, .. } => ("data", answer),
-        Call::ExtendedData { answer, .. } => ("extended_data", answer),
-        Call::WindowAdjusted {
-            new_size: 5,
+// What is told of a call that is lent commands: the callback, the channel that it is about, the
+// commands that were recorded, and the answer.
+type Told<'a, T> = (&'static str, ChannelId, &'a CommandList, Result<T, Error>);
+
+// Of a call that answers nothing but an error.
+fn heard(call: &Call) -> Option<Told<'_, ()>> {
+    Some(match call {
+        Call::AuthSucceeded { commands, answer } => ("auth_succeeded", CHANNEL, commands, *answer),
+        Call::ChannelOpenConfirmation {
+            id,
+            commands,
             answer,
             ..
-        } => ("window_adjusted", answer),
-        Call::PtyRequest { answer, .. } => ("pty_request", answer),
-        Call::X11Request { answer, .. } => ("x11_request", answer),
-        Call::EnvRequest { answer, .. } => ("env_request", answer),
-        Call::ShellRequest { answer, .. } => ("shell_request", answer),
-        Call::ExecRequest { answer, .. } => ("exec_request", answer),
-        Call::SubsystemRequest { answer, .. } => ("subsystem_request", answer),
-        Call::WindowChangeRequest { answer, .. } => ("window_change_request", answer),
-        Call::Signal { answer, .. } => ("signal", answer),
-        _ => return None,
-    };
-    Some((name, *answer))
-}
-
-// The callback and its answer, where it answers whether it grants what is asked.
-fn decided(call: &Call) -> Option<(&'static str, Result<bool, Error>)> {
-    match call {
-        Call::AgentRequest { answer, .. } => Some(("agent_request", *answer)),
-        Call::CancelTcpipForward { answer, .. } => Some(("cancel_tcpip_forward", *answer)),
-        Call::StreamlocalForward { answer, .. } => Some(("streamlocal_forward", *answer)),
-        Call::CancelStreamlocalForward { answer, .. } => Some((
-            "cancel_streamlocal_forward",
+        } => ("channel_open_confirmation", *id, commands, *answer),
+        Call::WindowAdjusted {
+            channel,
+            new_size: 5,
+            commands,
+            answer,
+        } => ("window_adjusted", *channel, commands, *answer),
+        Call::ChannelClose {
+            channel,
+            commands,
+            answer,
+            ..
+        } => ("channel_close", *channel, commands, *answer),
+        Call::ChannelEof {
+            channel,
+            commands,
+            answer,
+            ..
+        } => ("channel_eof", *channel, commands, *answer),
+        Call::ChannelOpenSession {
+            channel,
+            commands,
+            answer,
+            ..
+        } => ("channel_open_session", *channel, commands, *answer),
+        Call::ChannelOpenX11 {
+            channel,
+            commands,
+            answer,
+            ..
+        } => ("channel_open_x11", *channel, commands, *answer),
+        Call::ChannelOpenDirectTcpip {
+            channel,
+            commands,
+            answer,
+            ..
+        } => ("channel_open_direct_tcpip", *channel, commands, *answer),
+        Call::ChannelOpenForwardedTcpip {
+            channel,
+            commands,
+            answer,
+            ..
+        } => ("channel_open_forwarded_tcpip", *channel, commands, *answer),
+        Call::ChannelOpenDirectStreamlocal {
+            channel,
+            commands,
+            answer,
+            ..
+        } => (
+            "channel_open_direct_streamlocal",
+            *channel,
+            commands,
             *answer,
-        )),
-        _ => None,
-    }
+        ),
+        Call::Data {
+            channel,
+            commands,
+            answer,
+            ..
+        } => ("data", *channel, commands, *answer),
+        Call::ExtendedData {
+            channel,
+            commands,
+            answer,
+            ..
+        } => ("extended_data", *channel, commands, *answer),
+        Call::PtyRequest {
+            channel,
+            commands,
+            answer,
+            ..
+        } => ("pty_request", *channel, commands, *answer),
+        Call::X11Request {
+            channel,
+            commands,
+            answer,
+            ..
+        } => ("x11_request", *channel, commands, *answer),
+        Call::EnvRequest {
+            channel,
+            commands,
+            answer,
+            ..
+        } => ("env_request", *channel, commands, *answer),
+        Call::ShellRequest {
+            channel,
+            commands,
+            answer,
+            ..
+        } => ("shell_request", *channel, commands, *answer),
+        Call::ExecRequest {
+            channel,
+            commands,
+            answer,
+            ..
+        } => ("exec_request", *channel, commands, *answer),
+        Call::SubsystemRequest {
+            channel,
+            commands,
+            answer,
+            ..
+        } => ("subsystem_request", *channel, commands, *answer),
+        Call::WindowChangeRequest {
+            channel,
+            commands,
+            answer,
+            ..
+        } => ("window_change_request", *channel, commands, *answer),
+        Call::Signal {
+            channel,
+            commands,
+            answer,
+            ..
+        } => ("signal", *channel, commands, *answer),
+        _ => return None,
+    })
 }
 
-// The commands that were recorded, where it is lent them.
-fn commands(call: &Call) -> Option<&CommandList> {
-    match call {
-        Call::AuthSucceeded { commands, .. }
-        | Call::ChannelClose { commands, .. }
-        | Call::ChannelEof { commands, .. }
-        | Call::ChannelOpenSession { commands, .. }
-        | Call::ChannelOpenX11 { commands, .. }
-        | Call::ChannelOpenDirectTcpip { commands, .. }
-        | Call::ChannelOpenForwardedTcpip { commands, .. }
-        | Call::ChannelOpenDirectStreamlocal { commands, .. }
-        | Call::ChannelOpenConfirmation { commands, .. }
-        | Call::Data { commands, .. }
-        | Call::ExtendedData { commands, .. }
-        | Call::WindowAdjusted { commands, .. }
-        | Call::PtyRequest { commands, .. }
-        | Call::X11Request { commands, .. }
-        | Call::EnvRequest { commands, .. }
-        | Call::ShellRequest { commands, .. }
-        | Call::ExecRequest { commands, .. }
-        | Call::SubsystemRequest { commands, .. }
-        | Call::WindowChangeRequest { commands, .. }
-        | Call::Signal { commands, .. }
-        | Call::AgentRequest { commands, .. }
-        | Call::CancelTcpipForward { commands, .. }
-        | Call::StreamlocalForward { commands, .. }
-        | Call::CancelStreamlocalForward { commands, .. }
-        | Call::TcpipForward { commands, .. } => Some(commands),
-        _ => None,
-    }
-}
-
-// Whether it is told of channel 2, where it is told of one.
-fn is_of_channel(call: &Call) -> bool {
-    match call {
-        Call::ChannelOpenConfirmation { id: channel, .. }
-        | Call::ChannelClose { channel, .. }
-        | Call::ChannelEof { channel, .. }
-        | Call::ChannelOpenSession { channel, .. }
-        | Call::ChannelOpenX11 { channel, .. }
-        | Call::ChannelOpenDirectTcpip { channel, .. }
-        | Call::ChannelOpenForwardedTcpip { channel, .. }
-        | Call::ChannelOpenDirectStreamlocal { channel, .. }
-        | Call::Data { channel, .. }
-        | Call::ExtendedData { channel, .. }
-        | Call::WindowAdjusted { channel, .. }
-        | Call::PtyRequest { channel, .. }
-        | Call::X11Request { channel, .. }
-        | Call::EnvRequest { channel, .. }
-        | Call::ShellRequest { channel, .. }
-        | Call::ExecRequest { channel, .. }
-        | Call::SubsystemRequest { channel, .. }
-        | Call::WindowChangeRequest { channel, .. }
-        | Call::AgentRequest { channel, .. }
-        | Call::Signal { channel, .. } => *channel == CHANNEL,
-        _ => true,
-    }
+// Of one that answers whether it grants what is asked.
+fn decided(call: &Call) -> Option<Told<'_, bool>> {
+    Some(match call {
+        Call::AgentRequest {
+            channel,
+            commands,
+            answer,
+        } => ("agent_request", *channel, commands, *answer),
+        Call::CancelTcpipForward {
+            commands,
+            answer,
+            ..
+        } => ("cancel_tcpip_forward", CHANNEL, commands, *answer),
+        Call::StreamlocalForward {
+            commands,
+            answer,
+            ..
+        } => ("streamlocal_forward", CHANNEL, commands, *answer),
+        Call::CancelStreamlocalForward {
+            commands,
+            answer,
+            ..
+        } => ("cancel_streamlocal_forward", CHANNEL, commands, *answer),
+        _ => return None,
+    })
 }
 
 // Whether the list is empty, or the acceptance of channel 2 alone.
@@ -133,17 +183,25 @@ fn is_acceptance(commands: &CommandList, accepts: bool) -> bool {
     is_first && commands.len() == 1
 }
 
-// Whether the call is told of its channel with these commands.
-fn are_told(call: &Call, accepts: bool) -> bool {
-    match commands(call) {
-        Some(commands) => is_of_channel(call) && is_acceptance(commands, accepts),
+// Whether this callback of channel 2 is told, with this answer and its commands.
+fn is_told<T: PartialEq + Drop>(
+    told: Option<Told<'_, T>>,
+    name: &str,
+    answer: Result<T, Error>,
+    accepts: bool,
+) -> bool {
+    match told {
+        Some((callback, channel, commands, came)) => {
+            let is_named = callback == name && channel == CHANNEL;
+            is_named && came == answer && is_acceptance(commands, accepts)
+        }
         None => false,
     }
 }
 
 // Whether one call alone is told, by this callback, with this answer and its commands.
 fn is_heard(calls: &[Call], name: &str, answer: Result<(), Error>, accepts: bool) -> bool {
-    matches!(calls, [call] if heard(call) == Some((name, answer)) && are_told(call, accepts))
+    matches!(calls, [call] if is_told(heard(call), name, answer, accepts))
 }
 
 // Whether a handler that fails is told it by this callback, in a session of this window.
@@ -230,7 +288,7 @@ fn what_comes_is_passed_on_and_told(rt: HostRuntime) {
 
 // Whether one call alone is told, by this callback, with this answer and no commands.
 fn is_decided(calls: &[Call], name: &str, answer: Result<bool, Error>) -> bool {
-    matches!(calls, [call] if decided(call) == Some((name, answer)) && are_told(call, false))
+    matches!(calls, [call] if is_told(decided(call), name, answer, false))
 }
 
 // Whether a handler that fails is asked it by this callback, in a session of this window.

@@ -91,7 +91,7 @@ fn is_command(alloc: Global, sent: Sent) -> Result<bool, WireError> {
     Ok(is_copied(sent_command(alloc, sent)?)? && is_this)
 }
 
-const SENT: [(&str, Sent); 5] = [
+static SENT: [(&str, Sent); 5] = [
     ("data", Sent::Data),
     ("extended data", Sent::ExtendedData),
     ("an end of file", Sent::Eof),
@@ -101,8 +101,8 @@ const SENT: [(&str, Sent); 5] = [
 
 #[test]
 fn a_message_that_a_server_may_send_is_its_command(rt: HostRuntime) {
-    for (shows, sent) in SENT {
-        assert!(rt; is_command(rt.alloc(), sent) == Ok(true), "{shows}");
+    for (shows, sent) in &SENT {
+        assert!(rt; is_command(rt.alloc(), *sent) == Ok(true), "{shows}");
     }
 }
 
@@ -183,7 +183,7 @@ fn is_refused(alloc: Global, asked: Asked) -> Result<bool, WireError> {
     Ok(notice_is_copied(notice)? && is_refused)
 }
 
-const ASKED: [(&str, Asked); 6] = [
+static ASKED: [(&str, Asked); 6] = [
     ("an open", Asked::Open),
     ("a refusal of an open", Asked::OpenFailure),
     ("a terminal", Asked::Pty),
@@ -194,8 +194,8 @@ const ASKED: [(&str, Asked); 6] = [
 
 #[test]
 fn a_message_of_a_client_is_no_server_command(rt: HostRuntime) {
-    for (shows, asked) in ASKED {
-        assert!(rt; is_refused(rt.alloc(), asked) == Ok(true), "{shows}");
+    for (shows, asked) in &ASKED {
+        assert!(rt; is_refused(rt.alloc(), *asked) == Ok(true), "{shows}");
     }
 }
 
@@ -249,7 +249,7 @@ fn equals_its_copy(alloc: Global, other: Other) -> Result<bool, WireError> {
     Ok(!equals(eof, other_command(alloc, other))? && is_copied)
 }
 
-const OTHERS: [(&str, Other); 6] = [
+static OTHERS: [(&str, Other); 6] = [
     ("an open of a connection", Other::OpenTcpip),
     ("an open to a path", Other::OpenStreamlocal),
     ("a forward", Other::Forward),
@@ -260,16 +260,29 @@ const OTHERS: [(&str, Other); 6] = [
 
 #[test]
 fn a_copy_of_a_command_equals_it_and_no_other(rt: HostRuntime) {
-    for (shows, other) in OTHERS {
-        assert!(rt; equals_its_copy(rt.alloc(), other) == Ok(true), "{shows}");
+    for (shows, other) in &OTHERS {
+        assert!(rt; equals_its_copy(rt.alloc(), *other) == Ok(true), "{shows}");
     }
+}
+
+fn forwarded() -> Notice {
+    Notice::Forwarded {
+        slot: 5,
+        port: Some(4022),
+    }
+}
+
+fn cancelled() -> Notice {
+    Notice::Cancelled { slot: 6, ok: true }
+}
+
+// Whether a reply equals its copy, and no other reply.
+fn reply_is_copied() -> Result<bool, WireError> {
+    let is_other = are_equal(forwarded(), cancelled());
+    Ok(notice_is_copied(forwarded())? && notice_is_copied(cancelled())? && !is_other)
 }
 
 #[test]
 fn a_copy_of_a_reply_to_a_command_equals_it(rt: HostRuntime) {
-    let (slot, port) = (5, Some(4022));
-    assert!(rt; notice_is_copied(Notice::Forwarded { slot, port }) == Ok(true));
-    assert!(rt; notice_is_copied(Notice::Cancelled { slot: 6, ok: true }) == Ok(true));
-    let cancelled = Notice::Cancelled { slot: 6, ok: true };
-    assert!(rt; !are_equal(Notice::Forwarded { slot, port }, cancelled));
+    assert!(rt; reply_is_copied() == Ok(true));
 }

@@ -49,7 +49,7 @@ fn has_parts(alloc: Global, made: Made, head: &[u8], body: &[u8]) -> Result<bool
 }
 
 // Of each way to make a frame: the head, and the body.
-const PARTS: [(Made, &[u8], &[u8]); 5] = [
+static PARTS: [(Made, &[u8], &[u8]); 5] = [
     (Made::Whole(DATA), b"", DATA),
     (Made::Hello, b"\x5e\0\0\0\x07\0\0\0\x05", b"hello"),
     (
@@ -63,8 +63,8 @@ const PARTS: [(Made, &[u8], &[u8]); 5] = [
 
 #[test]
 fn a_frame_has_a_head_and_shares_its_body(rt: HostRuntime) {
-    for (made, head, body) in PARTS {
-        assert!(rt; has_parts(rt.alloc(), made, head, body) == Ok(true));
+    for (made, head, body) in &PARTS {
+        assert!(rt; has_parts(rt.alloc(), *made, *head, *body) == Ok(true));
     }
 }
 
@@ -74,12 +74,13 @@ fn is_copied(alloc: Global, made: Made) -> Result<bool, WireError> {
     equals(frame, copy)
 }
 
-fn compare(alloc: Global, one: Made, other: Made) -> Result<bool, WireError> {
-    let one = frame(alloc, one)?;
-    equals(one, frame(alloc, other))
+// Whether the one equals the other where that is wanted, and equals its copy.
+fn is_so(alloc: Global, one: Made, other: Made, wanted: bool) -> Result<bool, WireError> {
+    let are_equal = equals(frame(alloc, one)?, frame(alloc, other))?;
+    Ok(is_copied(alloc, one)? && are_equal == wanted)
 }
 
-const PAIRS: [(&str, Made, Made, bool); 6] = [
+static PAIRS: [(&str, Made, Made, bool); 6] = [
     ("data", Made::Whole(DATA), Made::Hello, true),
     (
         "extended data",
@@ -105,9 +106,9 @@ const PAIRS: [(&str, Made, Made, bool); 6] = [
 
 #[test]
 fn frames_are_equal_however_they_were_made(rt: HostRuntime) {
-    for (shows, one, other, wanted) in PAIRS {
-        assert!(rt; compare(rt.alloc(), one, other) == Ok(wanted), "{shows}");
-        assert!(rt; is_copied(rt.alloc(), one) == Ok(true), "{shows}");
+    for (shows, one, other, wanted) in &PAIRS {
+        let is_so = is_so(rt.alloc(), *one, *other, *wanted);
+        assert!(rt; is_so == Ok(true), "{shows}");
     }
 }
 
@@ -119,6 +120,5 @@ fn equals_held(hold_until: Option<u64>, channel: Option<ChannelId>) -> bool {
 #[test]
 fn a_hold_and_a_channel_count_too(rt: HostRuntime) {
     assert!(rt; equals_held(Some(9), None));
-    assert!(rt; !equals_held(None, None));
-    assert!(rt; !equals_held(Some(9), Some(OWN)));
+    assert!(rt; !equals_held(None, None) && !equals_held(Some(9), Some(OWN)));
 }

@@ -38,9 +38,13 @@ pub struct Case {
 }
 
 impl Case {
-    /// Whether this comes of the script.
-    pub fn holds(self, alloc: Global) -> Result<bool, WireError> {
-        writes(alloc, &["run"], self.script, self.status, self.written)
+    /// Whether this comes of the script; without memory it does not.
+    pub fn holds(self, alloc: Global) -> bool {
+        let outcome = Outcome {
+            status: self.status,
+            written: self.written,
+        };
+        comes_to(alloc, &["run"], self.script, (&[], &[]), outcome)
     }
 }
 
@@ -62,27 +66,45 @@ pub struct Row {
 }
 
 impl Row {
-    /// Whether this comes of the script.
-    pub fn holds(self, alloc: Global) -> Result<bool, WireError> {
-        let script = joined(alloc, &[self.settings, SETTINGS, LOGIN, self.inputs])?;
-        let written = joined(alloc, &[LOGIN_CALLS, self.calls, LOGIN_TRACE, self.trace])?;
-        writes(
-            alloc,
-            &["run"],
-            script.as_slice(),
-            self.status,
-            written.as_slice(),
-        )
+    /// Whether this comes of the script; without memory it does not.
+    pub fn holds(self, alloc: Global) -> bool {
+        let script = [self.settings, SETTINGS, LOGIN, self.inputs];
+        let written = [LOGIN_CALLS, self.calls, LOGIN_TRACE, self.trace];
+        writes(alloc, &script, &NO_BYTES, self.status, &written)
     }
 }
 
-/// The parts, one after another.
-pub fn joined(alloc: Global, parts: &[&[u8]]) -> Result<Vec<u8>, WireError> {
-    let mut whole = Vec::new(alloc);
-    for part in parts {
-        whole.extend_from_slice(*part)?;
+/// Bytes that a script has in hex: so many of these pieces, one after another.
+#[derive(Clone, Copy)]
+pub struct Hex<'a> {
+    /// The pieces.
+    pub pieces: &'a [&'a [u8]],
+    /// How many bytes of them.
+    pub count: usize,
+}
+
+const NO_BYTES: Hex<'static> = Hex {
+    pieces: &[],
+    count: 0,
+};
+
+fn add(whole: &mut Vec<u8>, pieces: &[&[u8]]) -> Result<(), WireError> {
+    for piece in pieces {
+        whole.extend_from_slice(*piece)?;
     }
-    Ok(whole)
+    Ok(())
+}
+
+fn add_digits(whole: &mut Vec<u8>, alloc: Global, bytes: &[u8]) -> Result<(), WireError> {
+    let digits = hex::encode(alloc, bytes)?;
+    Ok(whole.extend_from_slice(digits.as_bytes())?)
+}
+
+fn add_hex(whole: &mut Vec<u8>, alloc: Global, hex: &Hex<'_>) -> Result<(), WireError> {
+    let mut bytes = Vec::new(alloc);
+    let added = add(&mut bytes, hex.pieces);
+    bytes.truncate(hex.count);
+    added.and(add_digits(whole, alloc, bytes.as_slice()))
 }
 
 fn calls(alloc: Global, numbers: &[u64]) -> Result<Calls, WireError> {
@@ -93,29 +115,61 @@ fn calls(alloc: Global, numbers: &[u64]) -> Result<Calls, WireError> {
     Ok(calls)
 }
 
-/// Runs the program with these words and a script; the reads and writes of these numbers fail.
-pub fn run(
-    alloc: Global,
-    words: &[&str],
-    script: &[u8],
-    failing_reads: &[u64],
-    failing_writes: &[u64],
-) -> Result<(u8, MemorySink), WireError> {
-    let reads = calls(alloc, failing_reads)?;
-    let mut sink = MemorySink::new(alloc, calls(alloc, failing_writes)?);
-    let mut source = MemorySource::new(Bytes::copy_from_slice(alloc, script)?, reads);
-    let status = run_script(alloc, words, &mut source, &mut sink);
-    Ok((status, sink))
+fn source(alloc: Global, script: &[u8], failing: &[u64]) -> Result<MemorySource, WireError> {
+    let script = Bytes::copy_from_slice(alloc, script)?;
+    Ok(MemorySource::new(script, calls(alloc, failing)?))
 }
 
-/// Whether a run with these words and this script ends by this status and has written this.
-pub fn writes(
+fn sink(alloc: Global, failing: &[u64]) -> Result<MemorySink, WireError> {
+    Ok(MemorySink::new(alloc, calls(alloc, failing)?))
+}
+
+/// What comes of a run.
+#[derive(Clone, Copy)]
+pub struct Outcome<'a> {
+    /// The exit status.
+    pub status: u8,
+    /// The bytes that it writes.
+    pub written: &'a [u8],
+}
+
+/// Whether this comes of a run of the program with these words and a script, whose reads and writes
+/// of these numbers fail; without memory it does not.
+pub fn comes_to(
     alloc: Global,
     words: &[&str],
     script: &[u8],
+    (failing_reads, failing_writes): (&[u64], &[u64]),
+    outcome: Outcome<'_>,
+) -> bool {
+    match (
+        source(alloc, script, failing_reads),
+        sink(alloc, failing_writes),
+    ) {
+        (Ok(mut source), Ok(mut sink)) => {
+            let status = run_script(alloc, words, &mut source, &mut sink);
+            status == outcome.status && sink.bytes() == outcome.written
+        }
+        _ => false,
+    }
+}
+
+/// Whether a run with the script of these pieces, and this in hex behind them, ends by this status
+/// and has written these pieces; without memory it does not.
+pub fn writes(
+    alloc: Global,
+    script: &[&[u8]],
+    hex: &Hex<'_>,
     status: u8,
-    written: &[u8],
-) -> Result<bool, WireError> {
-    let (ended, sink) = run(alloc, words, script, &[], &[])?;
-    Ok(ended == status && sink.bytes() == written)
+    written: &[&[u8]],
+) -> bool {
+    let mut input = Vec::new(alloc);
+    let is_input = add(&mut input, script).and(add_hex(&mut input, alloc, hex)) == Ok(());
+    let mut output = Vec::new(alloc);
+    let is_output = add(&mut output, written) == Ok(());
+    let outcome = Outcome {
+        status,
+        written: output.as_slice(),
+    };
+    is_input && is_output && comes_to(alloc, &["run"], input.as_slice(), (&[], &[]), outcome)
 }

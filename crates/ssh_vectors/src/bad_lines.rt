@@ -1,8 +1,8 @@
 // Lines that are no lines of a script.
 use ssh_scene::{BadLine, LineFault, bad_line};
-use ssh_scripted::writes;
-use std::alloc::{AllocError, Global};
-use std::test::Fail;
+use ssh_scripted::{Outcome, comes_to};
+use std::alloc::Global;
+use std::test::*;
 
 static BAD_LINES: [&[u8]; 113] = [
     b"recv",
@@ -134,22 +134,27 @@ static BAD_LINES: [&[u8]; 113] = [
     b"answer certificate Accept",
 ];
 
-#[test]
-fn bad_lines(rt: HostRuntime) -> Result<(), Fail> {
-    for (place, line) in BAD_LINES.iter().enumerate() {
-        assert!(rt;
-            writes(rt.alloc(), &["run"], *line, 2, b"bad line 1\n")?,
-            "{place}"
-        );
-    }
-    Ok(())
+// Whether this alone is written for the script, which has a bad line.
+fn is_bad(alloc: Global, script: &[u8], written: &[u8]) -> bool {
+    comes_to(
+        alloc,
+        &["run"],
+        script,
+        (&[], &[]),
+        Outcome { status: 2, written },
+    )
 }
 
 #[test]
-fn a_bad_line_behind_another(rt: HostRuntime) -> Result<(), Fail> {
-    let script = b"at 5\nbanner 68690a\n";
-    assert!(rt; writes(rt.alloc(), &["run"], script, 2, b"bad line 2\n")?);
-    Ok(())
+fn bad_lines(rt: HostRuntime) {
+    for (place, line) in BAD_LINES.iter().enumerate() {
+        assert!(rt; is_bad(rt.alloc(), *line, b"bad line 1\n"), "{place}");
+    }
+}
+
+#[test]
+fn a_bad_line_behind_another(rt: HostRuntime) {
+    assert!(rt; is_bad(rt.alloc(), b"at 5\nbanner 68690a\n", b"bad line 2\n"));
 }
 
 // Scripts, the number of the first bad line, and why it is bad.
@@ -175,19 +180,15 @@ static FAULTS: [(&[u8], u64, LineFault); 19] = [
     (b"at 1\ninputs 5", 2, LineFault::SettingAfterInput),
 ];
 
-// Whether the first bad line of this script is told so.
-fn is_told(
-    alloc: Global,
-    (script, number, fault): (&[u8], u64, LineFault),
-) -> Result<bool, AllocError> {
-    Ok(bad_line(alloc, script)? == Some(BadLine { number, fault }))
+// Whether the first bad line of this script is told so; without memory it is not.
+fn is_told(alloc: Global, script: &[u8], number: u64, fault: LineFault) -> bool {
+    bad_line(alloc, script) == Ok(Some(BadLine { number, fault }))
 }
 
 #[test]
-fn a_bad_line_is_told_with_its_fault(rt: HostRuntime) -> Result<(), Fail> {
-    for (place, case) in FAULTS.iter().enumerate() {
-        assert!(rt; is_told(rt.alloc(), *case)?, "{place}");
+fn a_bad_line_is_told_with_its_fault(rt: HostRuntime) {
+    for (script, number, fault) in &FAULTS {
+        assert!(rt; is_told(rt.alloc(), *script, *number, *fault));
     }
-    assert!(rt; bad_line(rt.alloc(), b"at 1\nend\n")? == None);
-    Ok(())
+    assert!(rt; bad_line(rt.alloc(), b"at 1\nend\n") == Ok(None));
 }

@@ -1,7 +1,7 @@
 // The examples of README.md and of docs/SCRIPT.md, as they stand there.
-use ssh_scripted::{Case, run};
+use ssh_scripted::{Case, Outcome, comes_to};
 use std::alloc::Global;
-use std::test::Fail;
+use std::test::*;
 
 static EXAMPLES: [Case; 14] = [
     Case {
@@ -382,11 +382,10 @@ static EXAMPLES: [Case; 14] = [
 ];
 
 #[test]
-fn the_examples_of_the_page_print_what_it_says(rt: HostRuntime) -> Result<(), Fail> {
+fn the_examples_of_the_page_print_what_it_says(rt: HostRuntime) {
     for case in &EXAMPLES {
-        assert!(rt; case.holds(rt.alloc())?, "{}", case.shows);
+        assert!(rt; case.holds(rt.alloc()), "{}", case.shows);
     }
-    Ok(())
 }
 
 const USAGE: &[u8] = b"usage: ssh_script run | generate <n> | threads <n>\n";
@@ -417,22 +416,25 @@ static WORDS: [(&[&str], u8, &[u8]); 15] = [
 ];
 
 // Whether a run with these words comes to this. The first read fails: the source is not read.
-fn comes_to(alloc: Global, (words, status, line): (&[&str], u8, &[u8])) -> Result<bool, Fail> {
-    let (ended, sink) = run(alloc, words, b"end\n", &[1], &[])?;
-    Ok(ended == status && sink.bytes() == line)
+fn are_answered(alloc: Global, words: &[&str], status: u8, written: &[u8]) -> bool {
+    comes_to(
+        alloc,
+        words,
+        b"end\n",
+        (&[1], &[]),
+        Outcome { status, written },
+    )
 }
 
 #[test]
-fn words_other_than_run_read_no_script(rt: HostRuntime) -> Result<(), Fail> {
-    for words in &WORDS {
-        assert!(rt; comes_to(rt.alloc(), *words)?);
+fn words_other_than_run_read_no_script(rt: HostRuntime) {
+    for (words, status, line) in &WORDS {
+        assert!(rt; are_answered(rt.alloc(), *words, *status, *line));
     }
-    Ok(())
 }
 
 #[test]
-fn a_session_of_a_thousand_channels_is_told_in_numbers(rt: HostRuntime) -> Result<(), Fail> {
+fn a_session_of_a_thousand_channels_is_told_in_numbers(rt: HostRuntime) {
     let told = b"channels 1000\nframes 3002\nbytes 65536000\nok\n";
-    assert!(rt; comes_to(rt.alloc(), (&["generate", "1000"], 0, told))?);
-    Ok(())
+    assert!(rt; are_answered(rt.alloc(), &["generate", "1000"], 0, told));
 }

@@ -1,6 +1,6 @@
 // Scripts with an exchange of keys, and what the program writes.
 use ssh_scripted::{Case, Row};
-use std::test::Fail;
+use std::test::*;
 
 static BEFORE_LOGIN: [Case; 2] = [
     Case {
@@ -25,11 +25,10 @@ static BEFORE_LOGIN: [Case; 2] = [
 ];
 
 #[test]
-fn exchanges_before_a_login(rt: HostRuntime) -> Result<(), Fail> {
+fn exchanges_before_a_login(rt: HostRuntime) {
     for case in &BEFORE_LOGIN {
-        assert!(rt; case.holds(rt.alloc())?, "{}", case.shows);
+        assert!(rt; case.holds(rt.alloc()), "{}", case.shows);
     }
-    Ok(())
 }
 
 static BEHIND_LOGIN: [Row; 5] = [
@@ -90,11 +89,10 @@ static BEHIND_LOGIN: [Row; 5] = [
 ];
 
 #[test]
-fn exchanges_behind_a_login(rt: HostRuntime) -> Result<(), Fail> {
+fn exchanges_behind_a_login(rt: HostRuntime) {
     for row in &BEHIND_LOGIN {
-        assert!(rt; row.holds(rt.alloc())?, "{}", row.shows);
+        assert!(rt; row.holds(rt.alloc()), "{}", row.shows);
     }
-    Ok(())
 }
 
 static ON_A_CHANNEL: [Row; 6] = [
@@ -215,9 +213,8 @@ static ON_A_CHANNEL: [Row; 6] = [
 ];
 
 #[test]
-fn exchanges_beside_a_channel(rt: HostRuntime) -> Result<(), Fail> {
+fn exchanges_beside_a_channel(rt: HostRuntime) {
     for row in &ON_A_CHANNEL {
-        assert!(rt; row.holds(rt.alloc())?, "{}", row.shows);
+        assert!(rt; row.holds(rt.alloc()), "{}", row.shows);
     }
-    Ok(())
 }

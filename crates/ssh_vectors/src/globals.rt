@@ -1,6 +1,6 @@
 // Scripts with global requests, ticks and the end of a connection, and what the program writes.
 use ssh_scripted::{Case, Row};
-use std::test::Fail;
+use std::test::*;
 
 static BEFORE_LOGIN: [Case; 4] = [
     Case {
@@ -59,11 +59,10 @@ static BEFORE_LOGIN: [Case; 4] = [
 ];
 
 #[test]
-fn scripts_without_a_login_or_before_it(rt: HostRuntime) -> Result<(), Fail> {
+fn scripts_without_a_login_or_before_it(rt: HostRuntime) {
     for case in &BEFORE_LOGIN {
-        assert!(rt; case.holds(rt.alloc())?, "{}", case.shows);
+        assert!(rt; case.holds(rt.alloc()), "{}", case.shows);
     }
-    Ok(())
 }
 
 static BEHIND_LOGIN: [Row; 6] = [
@@ -229,9 +228,8 @@ static BEHIND_LOGIN: [Row; 6] = [
 ];
 
 #[test]
-fn scripts_behind_a_login(rt: HostRuntime) -> Result<(), Fail> {
+fn scripts_behind_a_login(rt: HostRuntime) {
     for row in &BEHIND_LOGIN {
-        assert!(rt; row.holds(rt.alloc())?, "{}", row.shows);
+        assert!(rt; row.holds(rt.alloc()), "{}", row.shows);
     }
-    Ok(())
 }

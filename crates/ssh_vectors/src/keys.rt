@@ -2,7 +2,7 @@
 mod certificates;
 
 use ssh_scripted::Case;
-use std::test::Fail;
+use std::test::*;
 
 static KEYS: [Case; 18] = [
     Case {
@@ -465,9 +465,8 @@ static KEYS: [Case; 18] = [
 ];
 
 #[test]
-fn keys(rt: HostRuntime) -> Result<(), Fail> {
+fn keys(rt: HostRuntime) {
     for case in &KEYS {
-        assert!(rt; case.holds(rt.alloc())?, "{}", case.shows);
+        assert!(rt; case.holds(rt.alloc()), "{}", case.shows);
     }
-    Ok(())
 }

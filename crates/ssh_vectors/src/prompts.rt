@@ -1,6 +1,6 @@
 // Banners and rounds of keyboard-interactive: scripts, and what the program writes for them.
 use ssh_scripted::Case;
-use std::test::Fail;
+use std::test::*;
 
 static ROUNDS: [Case; 14] = [
     Case {
@@ -250,9 +250,8 @@ static ROUNDS: [Case; 14] = [
 ];
 
 #[test]
-fn prompts(rt: HostRuntime) -> Result<(), Fail> {
+fn prompts(rt: HostRuntime) {
     for case in &ROUNDS {
-        assert!(rt; case.holds(rt.alloc())?, "{}", case.shows);
+        assert!(rt; case.holds(rt.alloc()), "{}", case.shows);
     }
-    Ok(())
 }

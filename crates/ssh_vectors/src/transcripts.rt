@@ -4,9 +4,9 @@ ghost use Rattle.std.specs.Prelude.{None};
 use bytes::Bytes;
 use ssh_link::{Calls, IoFailed, MemorySource, Sink};
 use ssh_script::run_script;
-use ssh_scripted::{Case, run, writes};
-use std::alloc::Global;
-use std::test::Fail;
+use ssh_scripted::{Case, Outcome, comes_to};
+use std::alloc::{AllocError, Global};
+use std::test::*;
 
 // The request for the service ssh-userauth.
 const SERVICE: &[u8] = b"recv 050000000c7373682d7573657261757468\n";
@@ -267,11 +267,10 @@ static RUNS: [Case; 16] = [
 ];
 
 #[test]
-fn runs(rt: HostRuntime) -> Result<(), Fail> {
+fn runs(rt: HostRuntime) {
     for case in &RUNS {
-        assert!(rt; case.holds(rt.alloc())?, "{}", case.shows);
+        assert!(rt; case.holds(rt.alloc()), "{}", case.shows);
     }
-    Ok(())
 }
 
 // A wrong password of alice.
@@ -280,11 +279,13 @@ const WRONG_PASSWORD: &[u8] = b"\
     0577726f6e67\n";
 
 const TOLD_WRONG: &[u8] = b"call auth_password 616c696365 77726f6e67\n";
-// The refusal that is written for it.
+
+// The refusal that is written for it, and the beginning of the next line.
 const REFUSED: &[u8] = b"\
     \n\
     send - 330000002d6e6f6e652c7075626c69636b65792c686f737462617365642c6b6579626f6172642d696e7465\
-    7261637469766500 hold 1000\n";
+    7261637469766500 hold 1000\n\
+    input ";
 
 const TOO_MANY: &[u8] = b"\
     \n\
@@ -292,10 +293,32 @@ const TOO_MANY: &[u8] = b"\
     0000\n\
     ok\n";
 
+// A run with this script ends so, and has written this.
+fn runs_to(alloc: Global, script: &[u8], status: u8, written: &[u8]) -> bool {
+    comes_to(
+        alloc,
+        &["run"],
+        script,
+        (&[], &[]),
+        Outcome { status, written },
+    )
+}
+
+// A number, and what is written behind it.
+fn add_numbered(
+    alloc: Global,
+    written: &mut Vec<u8>,
+    number: u64,
+    rest: &[u8],
+) -> Result<(), AllocError> {
+    let digits = number.to_string(alloc)?;
+    written.extend_from_slice(digits.as_bytes())?;
+    written.extend_from_slice(rest)
+}
+
 // What is written where a peer sends wrong passwords, of which so many are read, and the next ends
 // the run.
-fn refusals(alloc: Global, read: usize) -> Result<Vec<u8>, Fail> {
-    let mut written = Vec::new(alloc);
+fn add_refusals(alloc: Global, written: &mut Vec<u8>, read: usize) -> Result<(), AllocError> {
     written.extend_from_slice(b"call authentication_banner\n")?;
     for _ in 0..read {
         written.extend_from_slice(TOLD_WRONG)?;
@@ -303,14 +326,10 @@ fn refusals(alloc: Global, read: usize) -> Result<Vec<u8>, Fail> {
     written.extend_from_slice(b"input 1\nsend - 060000000c7373682d7573657261757468\ninput ")?;
     let mut number: u64 = 2;
     for _ in 0..read {
-        written.extend_from_slice(number.to_string(alloc)?.as_bytes())?;
-        written.extend_from_slice(REFUSED)?;
-        written.extend_from_slice(b"input ")?;
+        add_numbered(alloc, written, number, REFUSED)?;
         number = number.saturating_add(1);
     }
-    written.extend_from_slice(number.to_string(alloc)?.as_bytes())?;
-    written.extend_from_slice(TOO_MANY)?;
-    Ok(written)
+    add_numbered(alloc, written, number, TOO_MANY)
 }
 
 // The cap in the settings, and how many wrong passwords are read under it.
@@ -321,30 +340,29 @@ static CAPS: [(&[u8], usize); 3] = [
 ];
 
 // Eleven wrong passwords, behind this setting.
-fn wrong_passwords(alloc: Global, setting: &[u8]) -> Result<Vec<u8>, Fail> {
-    let mut script = Vec::new(alloc);
+fn add_wrong_passwords(script: &mut Vec<u8>, setting: &[u8]) -> Result<(), AllocError> {
     script.extend_from_slice(setting)?;
     script.extend_from_slice(SERVICE)?;
     for _ in 0..11 {
         script.extend_from_slice(WRONG_PASSWORD)?;
     }
-    Ok(script)
+    Ok(())
 }
 
 // Whether so many wrong passwords are read under this setting.
-fn are_read(alloc: Global, setting: &[u8], read: usize) -> Result<bool, Fail> {
-    let script = wrong_passwords(alloc, setting)?;
-    let written = refusals(alloc, read)?;
-    let is_written = writes(alloc, &["run"], script.as_slice(), 0, written.as_slice())?;
-    Ok(is_written)
+fn are_read(alloc: Global, setting: &[u8], read: usize) -> bool {
+    let mut script = Vec::new(alloc);
+    let is_script = add_wrong_passwords(&mut script, setting) == Ok(());
+    let mut written = Vec::new(alloc);
+    let is_written = add_refusals(alloc, &mut written, read) == Ok(());
+    is_script && is_written && runs_to(alloc, script.as_slice(), 0, written.as_slice())
 }
 
 #[test]
-fn too_many_attempts(rt: HostRuntime) -> Result<(), Fail> {
+fn too_many_attempts(rt: HostRuntime) {
     for (setting, read) in &CAPS {
-        assert!(rt; are_read(rt.alloc(), *setting, *read)?, "{read}");
+        assert!(rt; are_read(rt.alloc(), *setting, *read), "{read}");
     }
-    Ok(())
 }
 
 static LATE_SETTING: Case = Case {
@@ -355,9 +373,8 @@ static LATE_SETTING: Case = Case {
 };
 
 #[test]
-fn a_setting_after_an_input_line(rt: HostRuntime) -> Result<(), Fail> {
-    assert!(rt; LATE_SETTING.holds(rt.alloc())?, "{}", LATE_SETTING.shows);
-    Ok(())
+fn a_setting_after_an_input_line(rt: HostRuntime) {
+    assert!(rt; LATE_SETTING.holds(rt.alloc()), "{}", LATE_SETTING.shows);
 }
 
 // The reads and the writes that fail, the status, and what is written.
@@ -367,21 +384,16 @@ static FAULTS: [(&[u64], &[u64], u8, &[u8]); 3] = [
     (&[], &[1], 4, b""),
 ];
 
-// Whether the service request comes to this where these reads and writes fail.
-fn fails(
-    alloc: Global,
-    (reads, writes, status, written): (&[u64], &[u64], u8, &[u8]),
-) -> Result<bool, Fail> {
-    let (ended, sink) = run(alloc, &["run"], SERVICE, reads, writes)?;
-    Ok(ended == status && sink.bytes() == written)
-}
-
 #[test]
-fn failing_sources_and_sinks(rt: HostRuntime) -> Result<(), Fail> {
-    for fault in &FAULTS {
-        assert!(rt; fails(rt.alloc(), *fault)?);
+fn failing_sources_and_sinks(rt: HostRuntime) {
+    for (reads, writes, status, written) in &FAULTS {
+        let outcome = Outcome {
+            status: *status,
+            written: *written,
+        };
+        let failing = (*reads, *writes);
+        assert!(rt; comes_to(rt.alloc(), &["run"], SERVICE, failing, outcome));
     }
-    Ok(())
 }
 
 // A sink that takes four bytes at a time, and fails from its fourth call on.
@@ -408,42 +420,32 @@ impl Sink for SlowSink {
     }
 }
 
-// The status of a run over such a sink, and what it has then.
-fn run_slowly(alloc: Global) -> Result<(u8, Vec<u8>), Fail> {
-    let mut source = MemorySource::new(Bytes::copy_from_slice(alloc, SERVICE)?, Calls::new(alloc));
+// Whether a run over such a sink ends by status 4, and has written three times four bytes.
+fn fails_on_the_way(alloc: Global) -> bool {
+    let mut source = MemorySource::new(Bytes::from_static(SERVICE), Calls::new(alloc));
     let mut sink = SlowSink {
         bytes: Vec::new(alloc),
         calls: 0,
         faults: 0,
     };
     let status = run_script(alloc, &["run"], &mut source, &mut sink);
-    Ok((status, sink.bytes))
+    status == 4 && sink.bytes.as_slice() == b"call authent".as_slice()
 }
 
 #[test]
-fn a_sink_that_fails_on_the_way(rt: HostRuntime) -> Result<(), Fail> {
-    let (status, bytes) = run_slowly(rt.alloc())?;
-    assert!(rt; status == 4 && bytes.as_slice() == b"call authent".as_slice());
-    Ok(())
+fn a_sink_that_fails_on_the_way(rt: HostRuntime) {
+    assert!(rt; fails_on_the_way(rt.alloc()));
 }
 
-// A comment of 2^24 bytes.
-fn comment(alloc: Global) -> Result<Vec<u8>, Fail> {
-    let mut script = Vec::new(alloc);
-    for _ in 0..262144 {
-        script.extend_from_slice(
-            b"################################################################",
-        )?;
-    }
-    Ok(script)
+// Whether a comment of 2^24 bytes is read, and one of a byte more is not.
+fn is_longest(alloc: Global) -> Result<bool, AllocError> {
+    let mut script = b"#".repeat(alloc, 16_777_216)?;
+    let is_read = runs_to(alloc, script.as_slice(), 0, b"input 1\nok\n");
+    script.extend_from_slice(b"#")?;
+    Ok(runs_to(alloc, script.as_slice(), 2, b"script too long\n") && is_read)
 }
 
 #[test]
-fn a_script_that_is_too_long(rt: HostRuntime) -> Result<(), Fail> {
-    let alloc = rt.alloc();
-    let mut script = comment(alloc)?;
-    assert!(rt; writes(alloc, &["run"], script.as_slice(), 0, b"input 1\nok\n")?);
-    script.push(b'#')?;
-    assert!(rt; writes(alloc, &["run"], script.as_slice(), 2, b"script too long\n")?);
-    Ok(())
+fn a_script_that_is_too_long(rt: HostRuntime) {
+    assert!(rt; is_longest(rt.alloc()) == Ok(true));
 }

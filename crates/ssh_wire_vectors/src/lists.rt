@@ -29,7 +29,7 @@ fn push(alloc: Global, names: &mut NameList, more: &[&str]) -> Result<(), WireEr
     Ok(())
 }
 
-const TEXTS: [(&str, &[&str]); 5] = [
+static TEXTS: [(&str, &[&str]); 5] = [
     ("", &[]),
     (",", &["", ""]),
     ("none", &["none"]),
@@ -37,22 +37,35 @@ const TEXTS: [(&str, &[&str]); 5] = [
     ("password,publickey", &["password", "publickey"]),
 ];
 
-#[test]
-fn a_text_is_cut_at_its_commas_and_joined_again(rt: HostRuntime) {
-    for (text, wanted) in TEXTS {
-        assert!(rt; is_cut(rt.alloc(), text, wanted) == Ok(true), "{text}");
-        let mut pushed = NameList::new(rt.alloc());
-        assert!(rt; push(rt.alloc(), &mut pushed, wanted) == Ok(()));
-        assert!(rt; is_list(&pushed, wanted, text) == Ok(true), "{text}");
-    }
+// Whether names that are pushed, one behind the other, are joined to this text.
+fn is_joined(alloc: Global, text: &str, names: &[&str]) -> Result<bool, WireError> {
+    let mut pushed = NameList::new(alloc);
+    let done = push(alloc, &mut pushed, names);
+    let is_list = is_list(&pushed, names, text);
+    drop(pushed);
+    done.and(is_list)
 }
 
 #[test]
-fn a_pushed_name_stands_last_and_may_hold_a_comma(rt: HostRuntime) -> Result<(), Fail> {
-    let mut names = NameList::parse(rt.alloc(), "a")?;
-    assert!(rt; push(rt.alloc(), &mut names, &["b,c", ""]) == Ok(()));
-    assert!(rt; is_list(&names, &["a", "b,c", ""], "a,b,c,") == Ok(true));
-    Ok(())
+fn a_text_is_cut_at_its_commas_and_joined_again(rt: HostRuntime) {
+    for (text, names) in &TEXTS {
+        assert!(rt; is_cut(rt.alloc(), *text, *names) == Ok(true), "{text}");
+        assert!(rt; is_joined(rt.alloc(), *text, *names) == Ok(true), "{text}");
+    }
+}
+
+// Whether two names that are pushed behind the first stand there, and what they are joined to.
+fn stand_last(alloc: Global) -> Result<bool, WireError> {
+    let mut names = NameList::parse(alloc, "a")?;
+    let done = push(alloc, &mut names, &["b,c", ""]);
+    let is_list = is_list(&names, &["a", "b,c", ""], "a,b,c,");
+    drop(names);
+    done.and(is_list)
+}
+
+#[test]
+fn a_pushed_name_stands_last_and_may_hold_a_comma(rt: HostRuntime) {
+    assert!(rt; stand_last(rt.alloc()) == Ok(true));
 }
 
 fn are_kept(blobs: &[Bytes]) -> bool {

@@ -16,13 +16,18 @@ const INTERACTIVE: MethodKind = MethodKind::KeyboardInteractive;
 
 const GSSAPI: MethodKind = MethodKind::GssapiWithMic;
 
-const NAMES: [(MethodKind, &str); 6] = [
-    (NONE, "none"),
-    (PASSWORD, "password"),
-    (PUBLIC_KEY, "publickey"),
-    (HOST_BASED, "hostbased"),
-    (INTERACTIVE, "keyboard-interactive"),
-    (GSSAPI, "gssapi-with-mic"),
+// Names, and the method of each.
+static NAMES: [(&str, Option<MethodKind>); 10] = [
+    ("none", Some(NONE)),
+    ("password", Some(PASSWORD)),
+    ("publickey", Some(PUBLIC_KEY)),
+    ("hostbased", Some(HOST_BASED)),
+    ("keyboard-interactive", Some(INTERACTIVE)),
+    ("gssapi-with-mic", Some(GSSAPI)),
+    ("", None),
+    ("Password", None),
+    ("password ", None),
+    ("none,password", None),
 ];
 
 fn read(name: &str) -> Result<MethodKind, ()> {
@@ -35,18 +40,23 @@ fn is_named(method: MethodKind, name: &str) -> bool {
     names == (name, name) && read(name) == Ok(method) && method_from_own_name(method) == Ok(method)
 }
 
+// Whether it is the name of this method, or of none.
+fn is_name_of(name: &str, method: Option<MethodKind>) -> bool {
+    match method {
+        Some(method) => is_named(method, name),
+        None => read(name) == Err(()),
+    }
+}
+
 #[test]
 fn a_method_is_read_by_its_own_name_alone(rt: HostRuntime) {
-    for (method, name) in NAMES {
-        assert!(rt; is_named(method, name), "{name}");
-    }
-    for name in ["", "Password", "password ", "none,password"] {
-        assert!(rt; read(name) == Err(()), "{name} is no method's");
+    for (name, method) in &NAMES {
+        assert!(rt; is_name_of(*name, *method), "{name}");
     }
 }
 
 // A list of names, the methods that it names, and their own list.
-const SETS: [(&str, &[MethodKind], &str); 5] = [
+static SETS: [(&str, &[MethodKind], &str); 5] = [
     ("", &[], ""),
     (
         "password,publickey",
@@ -80,31 +90,71 @@ fn is_set(
 
 #[test]
 fn a_set_of_names_has_each_method_at_its_last_place(rt: HostRuntime) {
-    for (names, wanted, listed) in SETS {
+    for (names, wanted, listed) in &SETS {
         assert!(rt;
-            is_set(rt.alloc(), names, wanted, listed) == Ok(true),
+            is_set(rt.alloc(), *names, *wanted, *listed) == Ok(true),
             "{names}"
         );
     }
 }
 
+// What is done with a set.
+#[derive(Clone, Copy)]
+enum Change {
+    Push(MethodKind),
+    Remove(MethodKind),
+}
+
+// What is done, beginning with all methods of a server and none, and the methods that are then in
+// the set, in order.
+static CHANGES: [(Change, &[MethodKind]); 4] = [
+    (
+        Change::Push(NONE),
+        &[PASSWORD, PUBLIC_KEY, HOST_BASED, INTERACTIVE, NONE],
+    ),
+    (
+        Change::Push(GSSAPI),
+        &[PASSWORD, PUBLIC_KEY, HOST_BASED, INTERACTIVE, NONE, GSSAPI],
+    ),
+    (
+        Change::Remove(PASSWORD),
+        &[PUBLIC_KEY, HOST_BASED, INTERACTIVE, NONE, GSSAPI],
+    ),
+    (
+        Change::Remove(PASSWORD),
+        &[PUBLIC_KEY, HOST_BASED, INTERACTIVE, NONE, GSSAPI],
+    ),
+];
+
+static ALL: [MethodKind; 6] = [NONE, PASSWORD, PUBLIC_KEY, HOST_BASED, INTERACTIVE, GSSAPI];
+
+// All methods of a client, which are those of a server once the last is taken out.
+fn of_client_and_server() -> (bool, MethodSet) {
+    let mut methods = MethodSet::client_supported();
+    let are_all = methods == MethodSet::from_slice(&ALL);
+    methods.remove(GSSAPI);
+    (are_all && methods == MethodSet::server_supported(), methods)
+}
+
+fn make(methods: &mut MethodSet, change: Change) {
+    match change {
+        Change::Push(method) => methods.push(method),
+        Change::Remove(method) => methods.remove(method),
+    }
+}
+
 #[test]
 fn a_method_is_moved_to_the_end_or_taken_out(rt: HostRuntime) {
-    let all = [NONE, PASSWORD, PUBLIC_KEY, HOST_BASED, INTERACTIVE, GSSAPI];
-    let mut methods = MethodSet::client_supported();
-    assert!(rt; methods == MethodSet::from_slice(&all));
-    methods.remove(GSSAPI);
-    assert!(rt; methods == MethodSet::server_supported());
-    methods.push(NONE);
-    let moved = [PASSWORD, PUBLIC_KEY, HOST_BASED, INTERACTIVE, NONE];
-    assert!(rt; methods.as_slice() == moved.as_slice());
-    methods.push(GSSAPI);
-    let added = [PASSWORD, PUBLIC_KEY, HOST_BASED, INTERACTIVE, NONE, GSSAPI];
-    assert!(rt; methods.as_slice() == added.as_slice());
-    methods.remove(PASSWORD);
-    methods.remove(PASSWORD);
-    let left = [PUBLIC_KEY, HOST_BASED, INTERACTIVE, NONE, GSSAPI];
-    assert!(rt; methods.as_slice() == left.as_slice());
+    let (are_supported, mut methods) = of_client_and_server();
+    assert!(rt; are_supported);
+    for (done, wanted) in &CHANGES {
+        make(&mut methods, *done);
+        assert!(rt; methods.as_slice() == *wanted);
+    }
+}
+
+#[test]
+fn sets_of_other_methods_or_in_another_order_differ(rt: HostRuntime) {
     let mut one = MethodSet::empty();
     one.push(PASSWORD);
     assert!(rt; one != MethodSet::from_slice(&[PUBLIC_KEY]));

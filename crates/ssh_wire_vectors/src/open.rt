@@ -37,7 +37,7 @@ const HERE: &[u8] = b"\0\0\0\x04here\0\0\x17\x70";
 // Of an open: its type's name with its length, and behind the numbers above the type's own fields.
 type Row = (Kind, &'static [u8], &'static [u8]);
 
-const ROWS: [Row; 8] = [
+static ROWS: [Row; 8] = [
     (Kind::Session, b"\0\0\0\x07session", b""),
     (Kind::X11, b"\0\0\0\x03x11", HERE),
     (Kind::Direct, b"\0\0\0\x0cdirect-tcpip", ENDS),
@@ -56,7 +56,7 @@ const ROWS: [Row; 8] = [
     (Kind::Unknown, b"\0\0\0\x13unknown@example.com", b"opaque"),
 ];
 
-fn tcpip(alloc: Global) -> Result<TcpChannelInfo, Fail> {
+fn tcpip(alloc: Global) -> Result<TcpChannelInfo, WireError> {
     Ok(TcpChannelInfo {
         host_to_connect: Text::new(alloc, "far")?,
         port_to_connect: 80,
@@ -65,13 +65,13 @@ fn tcpip(alloc: Global) -> Result<TcpChannelInfo, Fail> {
     })
 }
 
-fn socket(alloc: Global) -> Result<StreamLocalChannelInfo, Fail> {
+fn socket(alloc: Global) -> Result<StreamLocalChannelInfo, WireError> {
     Ok(StreamLocalChannelInfo {
         socket_path: Text::new(alloc, "/s")?,
     })
 }
 
-fn type_of(alloc: Global, kind: Kind) -> Result<ChannelType, Fail> {
+fn type_of(alloc: Global, kind: Kind) -> Result<ChannelType, WireError> {
     Ok(match kind {
         Kind::Session => ChannelType::Session,
         Kind::X11 => ChannelType::X11 {
@@ -89,7 +89,7 @@ fn type_of(alloc: Global, kind: Kind) -> Result<ChannelType, Fail> {
     })
 }
 
-fn bytes_of(alloc: Global, row: Row) -> Result<Vec<u8>, Fail> {
+fn bytes_of(alloc: Global, row: Row) -> Result<Vec<u8>, WireError> {
     let mut bytes = Vec::new(alloc);
     bytes.extend_from_slice(row.1)?;
     bytes.extend_from_slice(NUMBERS)?;
@@ -98,7 +98,7 @@ fn bytes_of(alloc: Global, row: Row) -> Result<Vec<u8>, Fail> {
 }
 
 // Whether the open is read as what it is; of one of no known type its own fields are left.
-fn is_read(alloc: Global, row: Row) -> Result<bool, Fail> {
+fn is_read(alloc: Global, row: Row) -> Result<bool, WireError> {
     let (kind, _, own) = row;
     let bytes = bytes_of(alloc, row)?;
     let wanted = OpenChannelMessage {
@@ -123,15 +123,14 @@ fn is_read(alloc: Global, row: Row) -> Result<bool, Fail> {
 }
 
 #[test]
-fn each_known_type_is_read_whole_and_of_another_the_numbers(rt: HostRuntime) -> Result<(), Fail> {
-    for row in ROWS {
-        assert!(rt; is_read(rt.alloc(), row)?);
+fn each_known_type_is_read_whole_and_of_another_the_numbers(rt: HostRuntime) {
+    for row in &ROWS {
+        assert!(rt; is_read(rt.alloc(), *row) == Ok(true));
     }
-    Ok(())
 }
 
 // What an open is not, its bytes, and why it is refused.
-const REFUSED: [(&str, &[u8], LayoutError); 5] = [
+static REFUSED: [(&str, &[u8], LayoutError); 5] = [
     (
         "a packet size of 0 before fields cut short",
         b"\0\0\0\x03x11\0\0\0\0\0\x10\0\0\0\0\0\0\xff",
@@ -168,8 +167,8 @@ fn refused(alloc: Global, bytes: &[u8]) -> (Option<LayoutError>, usize) {
 
 #[test]
 fn what_is_no_open_is_refused_at_the_first_field_that_does_not_fit(rt: HostRuntime) {
-    for (shows, bytes, why) in REFUSED {
-        assert!(rt; refused(rt.alloc(), bytes) == (Some(why), 0), "{shows}");
+    for (shows, bytes, why) in &REFUSED {
+        assert!(rt; refused(rt.alloc(), *bytes) == (Some(*why), 0), "{shows}");
     }
 }
 
@@ -181,7 +180,7 @@ const CONFIRMATION: ChannelOpenConfirmation = ChannelOpenConfirmation {
 };
 
 // What bytes are, the bytes, what is read of them, and how many of them are read.
-const CONFIRMED: [(
+static CONFIRMED: [(
     &str,
     &[u8],
     Result<ChannelOpenConfirmation, LayoutError>,
@@ -215,8 +214,8 @@ fn confirmed(bytes: &[u8]) -> (Result<ChannelOpenConfirmation, LayoutError>, usi
 
 #[test]
 fn a_confirmation_has_a_packet_size_and_its_end_is_not_tested(rt: HostRuntime) {
-    for (shows, bytes, read, position) in CONFIRMED {
-        assert!(rt; confirmed(bytes) == (read, position), "{shows}");
+    for (shows, bytes, read, position) in &CONFIRMED {
+        assert!(rt; confirmed(*bytes) == (*read, *position), "{shows}");
     }
 }
 

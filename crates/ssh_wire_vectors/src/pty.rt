@@ -2,7 +2,7 @@
 use ssh_wire::{Modes, Pty, WireError};
 use std::test::*;
 
-const CODES: [(&str, u8, Option<Pty>); 20] = [
+static CODES: [(&str, u8, Option<Pty>); 20] = [
     ("the end of the modes is no mode", 0, None),
     ("the first special character", 1, Some(Pty::VINTR)),
     ("the last special character", 18, Some(Pty::VDISCARD)),
@@ -27,12 +27,12 @@ const CODES: [(&str, u8, Option<Pty>); 20] = [
 
 #[test]
 fn a_code_gives_the_mode_that_the_standard_gives_it(rt: HostRuntime) {
-    for (shows, code, wanted) in CODES {
-        assert!(rt; Pty::from_u8(code) == wanted, "{shows}");
+    for (shows, code, wanted) in &CODES {
+        assert!(rt; Pty::from_u8(*code) == *wanted, "{shows}");
     }
 }
 
-const MODES: [(Pty, u32); 3] = [(Pty::ECHO, 1), (Pty::ECHO, 0), (Pty::TTY_OP_END, 0)];
+static MODES: [(Pty, u32); 3] = [(Pty::ECHO, 1), (Pty::ECHO, 0), (Pty::TTY_OP_END, 0)];
 
 fn is_copied(modes: &Modes) -> Result<bool, WireError> {
     Ok(modes.copy()?.as_slice() == MODES.as_slice())
@@ -41,8 +41,8 @@ fn is_copied(modes: &Modes) -> Result<bool, WireError> {
 #[test]
 fn modes_are_kept_and_copied_in_order(rt: HostRuntime) {
     let mut modes = Modes::new(rt.alloc());
-    for mode in MODES {
-        assert!(rt; modes.push(mode) == Ok(()));
+    for mode in &MODES {
+        assert!(rt; modes.push(*mode) == Ok(()));
     }
     assert!(rt; modes.as_slice() == MODES.as_slice());
     assert!(rt; is_copied(&modes) == Ok(true));

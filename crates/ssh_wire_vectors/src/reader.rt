@@ -1,5 +1,6 @@
 // The fields of messages (RFC 4251 section 5).
 use ssh_wire::{Reader, WireError, put_bytes, put_text, put_u8, put_u32, put_u64};
+use std::alloc::Global;
 use std::test::*;
 
 // The first two are the examples of RFC 4251 section 5.
@@ -31,14 +32,16 @@ fn is_end(r: &mut Reader<'_>) -> bool {
         && r.end() == Ok(())
 }
 
+fn is_written(alloc: Global) -> bool {
+    let mut out = Vec::new(alloc);
+    put(&mut out) == Ok(()) && out.as_slice() == WRITTEN
+}
+
 #[test]
 fn a_written_field_is_read_again(rt: HostRuntime) {
-    let mut out = Vec::new(rt.alloc());
-    assert!(rt; put(&mut out) == Ok(()));
-    assert!(rt; out.as_slice() == WRITTEN);
+    assert!(rt; is_written(rt.alloc()));
     let mut r = Reader::new(WRITTEN);
-    assert!(rt; are_read(&mut r));
-    assert!(rt; is_end(&mut r));
+    assert!(rt; are_read(&mut r) && is_end(&mut r));
 }
 
 fn refusals() -> [Option<WireError>; 5] {

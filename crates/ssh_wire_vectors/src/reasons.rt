@@ -3,40 +3,45 @@
 use ssh_wire::{ChannelOpenFailure, Disconnect};
 use std::test::*;
 
-const REASONS: [(ChannelOpenFailure, u32, &str); 4] = [
+// Codes, the reason of each, and its words.
+static REASONS: [(u32, Option<ChannelOpenFailure>, &str); 7] = [
     (
-        ChannelOpenFailure::AdministrativelyProhibited,
         1,
+        Some(ChannelOpenFailure::AdministrativelyProhibited),
         "administratively prohibited",
     ),
-    (ChannelOpenFailure::ConnectFailed, 2, "connect failed"),
+    (2, Some(ChannelOpenFailure::ConnectFailed), "connect failed"),
     (
-        ChannelOpenFailure::UnknownChannelType,
         3,
+        Some(ChannelOpenFailure::UnknownChannelType),
         "unknown channel type",
     ),
-    (ChannelOpenFailure::ResourceShortage, 4, "resource shortage"),
+    (
+        4,
+        Some(ChannelOpenFailure::ResourceShortage),
+        "resource shortage",
+    ),
+    (0, None, ""),
+    (5, None, ""),
+    (u32::MAX, None, ""),
 ];
 
-fn is_so(reason: ChannelOpenFailure, code: u32, words: &str) -> bool {
-    (reason.code(), reason.description()) == (code, words)
-        && ChannelOpenFailure::from_u32(code) == Some(reason)
+fn is_so(code: u32, reason: Option<ChannelOpenFailure>, words: &str) -> bool {
+    let own = match reason {
+        Some(reason) => (reason.code(), reason.description()),
+        None => (code, words),
+    };
+    own == (code, words) && ChannelOpenFailure::from_u32(code) == reason
 }
 
 #[test]
 fn a_reason_has_its_code_and_its_words(rt: HostRuntime) {
-    for (reason, code, words) in REASONS {
-        assert!(rt; is_so(reason, code, words), "{words}");
-    }
-    for code in [0, 5, u32::MAX] {
-        assert!(rt;
-            ChannelOpenFailure::from_u32(code) == None,
-            "{code} is no reason's"
-        );
+    for (code, reason, words) in &REASONS {
+        assert!(rt; is_so(*code, *reason, *words), "{code}");
     }
 }
 
-const CODES: [(Disconnect, u32); 15] = [
+static CODES: [(Disconnect, u32); 15] = [
     (Disconnect::HostNotAllowedToConnect, 1),
     (Disconnect::ProtocolError, 2),
     (Disconnect::KeyExchangeFailed, 3),
@@ -56,7 +61,7 @@ const CODES: [(Disconnect, u32); 15] = [
 
 #[test]
 fn a_reason_has_the_code_that_the_standard_gives_it(rt: HostRuntime) {
-    for (reason, code) in CODES {
-        assert!(rt; reason.code() == code, "{code}");
+    for (reason, code) in &CODES {
+        assert!(rt; reason.code() == *code, "{code}");
     }
 }

@@ -37,6 +37,8 @@ fn a_name_of_the_standard_gives_its_signal(rt: HostRuntime) {
     }
 }
 
+static OTHERS: [&str; 4] = ["SIGHUP", "hup", "WINCH@example.com", ""];
+
 fn is_own(alloc: Global, name: &str) -> Result<bool, WireError> {
     let wanted = Sig::Custom(Text::new(alloc, name)?);
     let is_named = is_named(alloc, name, &wanted);
@@ -46,7 +48,7 @@ fn is_own(alloc: Global, name: &str) -> Result<bool, WireError> {
 
 #[test]
 fn any_other_name_is_a_signal_of_its_own(rt: HostRuntime) {
-    for name in ["SIGHUP", "hup", "WINCH@example.com", ""] {
-        assert!(rt; is_own(rt.alloc(), name) == Ok(true), "{name}");
+    for name in &OTHERS {
+        assert!(rt; is_own(rt.alloc(), *name) == Ok(true), "{name}");
     }
 }

@@ -1,7 +1,7 @@
 // Opens of the peer that end the run: the handler hears nothing of them.
 use ssh_scripted::Row;
 use std::alloc::Global;
-use std::test::Fail;
+use std::test::*;
 
 // What is wrong with an open, and its line.
 type Misfit = (&'static str, &'static [u8]);
@@ -142,7 +142,7 @@ static WITHOUT_PACKETS: [Misfit; 8] = [
 ];
 
 // Whether the run ends at this open by the error that the trace has, without a callback.
-fn ends(alloc: Global, inputs: &'static [u8], trace: &'static [u8]) -> Result<bool, Fail> {
+fn ends(alloc: Global, inputs: &'static [u8], trace: &'static [u8]) -> bool {
     let row = Row {
         shows: "",
         settings: b"",
@@ -151,23 +151,21 @@ fn ends(alloc: Global, inputs: &'static [u8], trace: &'static [u8]) -> Result<bo
         calls: b"",
         trace,
     };
-    Ok(row.holds(alloc)?)
+    row.holds(alloc)
 }
 
 #[test]
-fn opens_that_do_not_fit_their_layout(rt: HostRuntime) -> Result<(), Fail> {
+fn opens_that_do_not_fit_their_layout(rt: HostRuntime) {
     for (shows, open) in &MISFITS {
-        let ended = ends(rt.alloc(), *open, b"input 3\nerror Encoding\n")?;
-        assert!(rt; ended, "{}", *shows);
+        let ended = ends(rt.alloc(), *open, b"input 3\nerror Encoding\n");
+        assert!(rt; ended, "{shows}");
     }
-    Ok(())
 }
 
 #[test]
-fn opens_whose_packets_have_no_bytes(rt: HostRuntime) -> Result<(), Fail> {
+fn opens_whose_packets_have_no_bytes(rt: HostRuntime) {
     for (shows, open) in &WITHOUT_PACKETS {
-        let ended = ends(rt.alloc(), *open, b"input 3\nerror Inconsistent\n")?;
-        assert!(rt; ended, "{}", *shows);
+        let ended = ends(rt.alloc(), *open, b"input 3\nerror Inconsistent\n");
+        assert!(rt; ended, "{shows}");
     }
-    Ok(())
 }

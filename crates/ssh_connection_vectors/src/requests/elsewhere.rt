@@ -1,6 +1,6 @@
 // Requests on numbers that are no channel, or not one yet.
 use ssh_scripted::Row;
-use std::test::Fail;
+use std::test::*;
 
 static ELSEWHERE: [Row; 6] = [
     Row {
@@ -150,9 +150,8 @@ static ELSEWHERE: [Row; 6] = [
 ];
 
 #[test]
-fn requests_on_no_channel(rt: HostRuntime) -> Result<(), Fail> {
+fn requests_on_no_channel(rt: HostRuntime) {
     for row in &ELSEWHERE {
-        assert!(rt; row.holds(rt.alloc())?, "{}", row.shows);
+        assert!(rt; row.holds(rt.alloc()), "{}", row.shows);
     }
-    Ok(())
 }

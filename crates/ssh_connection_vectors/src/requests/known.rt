@@ -1,8 +1,9 @@
 // Each request of a client: how it is told, read and answered.
-use super::{FAILURE, NO_ENCODING, OVER, Outcome, SUCCESS, comes_to, ends_by, request};
-use ssh_scripted::joined;
+use super::{
+    FAILURE, NO_ENCODING, OVER, Outcome, SUCCESS, comes_of_bytes, comes_to, length, request,
+};
 use std::alloc::Global;
-use std::test::Fail;
+use std::test::*;
 
 // A request that has a callback.
 #[derive(Clone, Copy)]
@@ -118,89 +119,67 @@ static KNOWN: [Known; 13] = [
     },
 ];
 
+// The settings, and what goes out under each for a request that is known; none where that is its own.
+static ANSWERS: [(&[u8], Option<&[u8]>); 4] = [
+    (b"", Some(SUCCESS)),
+    (b"answer request success\n", Some(SUCCESS)),
+    (b"answer request failure\n", Some(FAILURE)),
+    (b"answer request success\nanswer request silent\n", None),
+];
+
 // Whether a request is told and answered so under this setting, and without an answer where the
 // peer wants none.
-fn is_answered(
-    alloc: Global,
-    known: Known,
-    setting: &[u8],
-    frame: &'static [u8],
-) -> Result<bool, Fail> {
-    let wanted = request(alloc, known.name, 1, known.rest)?;
-    let trace = joined(alloc, &[known.notice, frame, OVER])?;
+fn is_answered(alloc: Global, known: Known, setting: &[u8], frame: &[u8]) -> bool {
     let answered = Outcome {
         status: 0,
-        calls: known.call,
-        trace: trace.as_slice(),
+        calls: [known.call, b"", b""],
+        trace: [known.notice, frame, OVER],
     };
-    if !comes_to(alloc, setting, wanted.as_slice(), answered)? {
-        return Ok(false);
-    }
-    let unwanted = request(alloc, known.name, 0, known.rest)?;
-    let trace = joined(alloc, &[known.notice, OVER])?;
     let silent = Outcome {
-        status: 0,
-        calls: known.call,
-        trace: trace.as_slice(),
+        trace: [known.notice, b"", OVER],
+        ..answered
     };
-    comes_to(alloc, setting, unwanted.as_slice(), silent)
+    comes_to(alloc, setting, request(known.name, 1, known.rest), answered)
+        && comes_to(alloc, setting, request(known.name, 0, known.rest), silent)
 }
 
 // Whether it is so under each setting.
-fn is_told(alloc: Global, known: Known) -> Result<bool, Fail> {
-    let settings: [(&'static [u8], &'static [u8]); 4] = [
-        (b"", SUCCESS),
-        (b"answer request success\n", SUCCESS),
-        (b"answer request failure\n", FAILURE),
-        (
-            b"answer request success\nanswer request silent\n",
-            known.unanswered,
-        ),
-    ];
-    for (setting, frame) in settings {
-        if !is_answered(alloc, known, setting, frame)? {
-            return Ok(false);
+fn is_told(alloc: Global, known: Known) -> bool {
+    for (setting, frame) in &ANSWERS {
+        if !is_answered(alloc, known, *setting, frame.unwrap_or(known.unanswered)) {
+            return false;
         }
     }
-    Ok(true)
+    true
 }
 
 #[test]
-fn requests_are_told_and_answered(rt: HostRuntime) -> Result<(), Fail> {
+fn requests_are_told_and_answered(rt: HostRuntime) {
     for known in &KNOWN {
-        assert!(rt;
-            is_told(rt.alloc(), *known)?,
-            "{}",
-            known.call.escape_ascii()
-        );
+        let is_told = is_told(rt.alloc(), *known);
+        assert!(rt; is_told, "{}", known.call.escape_ascii());
     }
-    Ok(())
 }
 
 // Whether it fits no more without its last bytes, however many, or with a byte behind it.
-fn fits_alone(alloc: Global, known: Known) -> Result<bool, Fail> {
-    let whole = request(alloc, known.name, 1, known.rest)?;
-    let mut front = Vec::new(alloc);
-    for byte in whole.as_slice() {
-        if !front.is_empty() && !comes_to(alloc, b"", front.as_slice(), ends_by(NO_ENCODING))? {
-            return Ok(false);
+fn fits_alone(alloc: Global, known: Known) -> bool {
+    let request = request(known.name, 1, known.rest);
+    let whole = length(request);
+    for count in 1..whole.saturating_add(2) {
+        let is_misfit = comes_of_bytes(alloc, b"", request, count, NO_ENCODING);
+        if is_misfit == (count == whole) {
+            return false;
         }
-        front.push(*byte)?;
     }
-    front.push(0)?;
-    comes_to(alloc, b"", front.as_slice(), ends_by(NO_ENCODING))
+    true
 }
 
 #[test]
-fn requests_that_do_not_fit_their_layout(rt: HostRuntime) -> Result<(), Fail> {
+fn requests_that_do_not_fit_their_layout(rt: HostRuntime) {
     for known in &KNOWN {
-        assert!(rt;
-            fits_alone(rt.alloc(), *known)?,
-            "{}",
-            known.call.escape_ascii()
-        );
+        let fits = fits_alone(rt.alloc(), *known);
+        assert!(rt; fits, "{}", known.call.escape_ascii());
     }
-    Ok(())
 }
 
 // Types and what stands behind the flag of requests that are texts, but hold bytes that are none.
@@ -216,17 +195,12 @@ static NO_TEXTS: [(&[u8], &[u8]); 6] = [
     (b"signal", b"\0\0\0\x01\xff"),
 ];
 
-fn is_no_text(alloc: Global, name: &[u8], rest: &[u8]) -> Result<bool, Fail> {
-    let payload = request(alloc, name, 1, rest)?;
-    comes_to(alloc, b"", payload.as_slice(), ends_by(NO_ENCODING))
-}
-
 #[test]
-fn requests_whose_texts_are_none(rt: HostRuntime) -> Result<(), Fail> {
+fn requests_whose_texts_are_none(rt: HostRuntime) {
     for (name, rest) in &NO_TEXTS {
-        assert!(rt; is_no_text(rt.alloc(), *name, *rest)?);
+        let is_misfit = comes_to(rt.alloc(), b"", request(*name, 1, *rest), NO_ENCODING);
+        assert!(rt; is_misfit, "{}", name.escape_ascii());
     }
-    Ok(())
 }
 
 // Types that no callback is for, those of messages to a client among them, and what stands behind.
@@ -241,31 +215,28 @@ static UNKNOWN: [(&[u8], &[u8]); 8] = [
     (b"xon-xoff", b"\x01"),
 ];
 
+static REFUSED: Outcome<'static> = Outcome {
+    status: 0,
+    calls: [b"", b"", b""],
+    trace: [FAILURE, b"", OVER],
+};
+
+static NOTHING: Outcome<'static> = Outcome {
+    status: 0,
+    calls: [b"", b"", b""],
+    trace: [b"", b"", OVER],
+};
+
 // Whether it is told to nobody, and refused where the peer wants an answer.
-fn is_refused(alloc: Global, name: &[u8], rest: &[u8]) -> Result<bool, Fail> {
-    let wanted = request(alloc, name, 1, rest)?;
-    let trace = joined(alloc, &[FAILURE, OVER])?;
-    let refused = Outcome {
-        status: 0,
-        calls: b"",
-        trace: trace.as_slice(),
-    };
-    if !comes_to(alloc, b"", wanted.as_slice(), refused)? {
-        return Ok(false);
-    }
-    let unwanted = request(alloc, name, 0, rest)?;
-    let nothing = Outcome {
-        status: 0,
-        calls: b"",
-        trace: OVER,
-    };
-    comes_to(alloc, b"", unwanted.as_slice(), nothing)
+fn is_refused(alloc: Global, name: &[u8], rest: &[u8]) -> bool {
+    comes_to(alloc, b"", request(name, 1, rest), REFUSED)
+        && comes_to(alloc, b"", request(name, 0, rest), NOTHING)
 }
 
 #[test]
-fn requests_that_are_not_known(rt: HostRuntime) -> Result<(), Fail> {
+fn requests_that_are_not_known(rt: HostRuntime) {
     for (name, rest) in &UNKNOWN {
-        assert!(rt; is_refused(rt.alloc(), *name, *rest)?);
+        let is_refused = is_refused(rt.alloc(), *name, *rest);
+        assert!(rt; is_refused, "{}", name.escape_ascii());
     }
-    Ok(())
 }

@@ -1,6 +1,6 @@
 // Replies to requests (RFC 4254 section 5.4): at most one for each request that wants one.
 use ssh_scripted::Row;
-use std::test::Fail;
+use std::test::*;
 
 static REPLIES: [Row; 13] = [
     Row {
@@ -363,9 +363,8 @@ static REPLIES: [Row; 13] = [
 ];
 
 #[test]
-fn replies_to_requests(rt: HostRuntime) -> Result<(), Fail> {
+fn replies_to_requests(rt: HostRuntime) {
     for row in &REPLIES {
-        assert!(rt; row.holds(rt.alloc())?, "{}", row.shows);
+        assert!(rt; row.holds(rt.alloc()), "{}", row.shows);
     }
-    Ok(())
 }
