@@ -16,3 +16,7 @@ pub mod Made
 pub mod Did
 pub mod Order
 pub mod Ends
+pub mod Following
+pub mod Fitting
+pub mod OwnAfter
+pub mod SeatCalls

@@ -12,3 +12,6 @@ pub mod Words
 pub mod Does
 pub mod Legality
 pub mod Laws
+pub mod Follow
+pub mod Fits
+pub mod SeatLaws

@@ -11,6 +11,7 @@ mod channel;
 mod history;
 mod hub;
 mod laws;
+mod laws_of_seats;
 mod lock;
 mod queued;
 mod reservations;
@@ -24,6 +25,10 @@ pub use laws::{
     answers_before_commands, beginnings_are_legal, bytes_are_conserved, bytes_fit, calls_add_up,
     commands_in_order, ends_at_the_first_end, inboxes_are_of_one_size, one_call_does,
     replies_in_order, reservations_add_up, reserved_by_own_calls,
+};
+pub use laws_of_seats::{
+    all_answers_fit, answers_fit_their_calls, ends_are_named, learning_is_no_call,
+    meeting_is_no_call, others_stay, own_takes_in_order, puts_spend_whole, reserved_call_by_call,
 };
 pub use lock::{HubLock, Seat, crosses};
 pub use reservations::Reservation;
