@@ -1,0 +1,12 @@
+pub mod Tries
+pub mod Awaits
+pub mod Said
+pub mod DataCommands
+pub mod Callers
+pub mod Parts
+pub mod Writing
+pub mod Written
+pub mod Staging
+pub mod Reading
+pub mod Handles
+pub mod Writers

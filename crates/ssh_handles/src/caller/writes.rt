@@ -1,0 +1,123 @@
+// Bytes that are written on a channel.
+ghost use Rattle.std.specs.Prelude.{◌≡◌, ◌<◌, [], ◌∷◌, length};
+ghost use Rattle.ssh_hub.specs.Reserved.{reservation};
+ghost use Rattle.ssh_hub.specs.Views.{own_reservations};
+ghost use Rattle.ssh_hub.specs.Words.{room_of};
+ghost use Rattle.ssh_handles.specs.DataCommands.{data_command};
+ghost use Rattle.ssh_handles.specs.Callers.{hub_of, seen_by, PutsOrReleases};
+ghost use Rattle.ssh_handles.specs.Writing.{Writes, WritesFrom, asking};
+
+use super::Caller;
+use crate::gate::Gate;
+use crate::tags::{data_command, wanted};
+use bytes::Bytes;
+use ssh_hub::{HandleError, Reserve};
+use ssh_link::Refusal;
+use ssh_wire::ChannelId;
+use std::sync::Wait;
+
+impl Caller {
+    // Writes all these bytes on the channel. Nothing is reserved before, nor afterwards.
+    pub fn write<R: Wait, G: Gate>(
+        &mut self,
+        rt: &R,
+        gate: &G,
+        channel: ChannelId,
+        ext: Option<u32>,
+        bytes: Bytes,
+    ) -> Result<(), HandleError>
+        requires none { own_reservations (seen_by self.old) ≡ [] }
+        requires room { 0 < room_of self.old.seat }
+        ensures hub { hub_of self.new ≡ hub_of self.old }
+        ensures room { room_of self.new.seat ≡ room_of self.old.seat }
+        ensures none { own_reservations (seen_by self.new) ≡ [] }
+        ensures entries { Writes channel ext bytes (seen_by self.old) result (seen_by self.new) }
+    {
+        if bytes.is_empty() {
+            return Ok(());
+        }
+        let Some(look) = self.lock.look(rt, &mut self.seat, channel) else {
+            return Err(HandleError::Refused(Refusal::UnknownChannel));
+        };
+        if look.packet == 0 {
+            return Err(HandleError::Inconsistent);
+        }
+        self.put_all(rt, gate, channel, ext, look.packet, bytes)
+    }
+
+    // Reserves and puts until no byte is left.
+    fn put_all<R: Wait, G: Gate>(
+        &mut self,
+        rt: &R,
+        gate: &G,
+        channel: ChannelId,
+        ext: Option<u32>,
+        packet: u32,
+        bytes: Bytes,
+    ) -> Result<(), HandleError>
+        requires none { own_reservations (seen_by self.old) ≡ [] }
+        requires room { 0 < room_of self.old.seat }
+        requires packet { 0 < packet }
+        requires some { 0 < length bytes }
+        ensures hub { hub_of self.new ≡ hub_of self.old }
+        ensures room { room_of self.new.seat ≡ room_of self.old.seat }
+        ensures none { own_reservations (seen_by self.new) ≡ [] }
+        ensures entries { WritesFrom channel ext (seen_by self.old) (asking packet bytes) result
+            (seen_by self.new) }
+    {
+        let mut rest = bytes;
+        for _ in rt.forever() {
+            let want = wanted(packet, rest.len());
+            let Ok(mut piece) = rest.slice(0..want as usize) else {
+                return Err(HandleError::NoMemory);
+            };
+            match self.lock.reserve(rt, &mut self.seat, channel, want) {
+                Reserve::Got(count) => {
+                    piece.truncate(count as usize);
+                    rest.advance(count as usize);
+                    if let Err(e) = self.put_piece(rt, gate, channel, ext, piece, count) {
+                        return Err(e);
+                    }
+                    if rest.is_empty() {
+                        return Ok(());
+                    }
+                }
+                Reserve::Empty => {
+                    gate.pass(1);
+                    self.pause(rt);
+                }
+                Reserve::Gone => return Err(HandleError::Refused(Refusal::UnknownChannel)),
+                Reserve::Ended { at } => return Err(HandleError::Ended { at }),
+            }
+        }
+        unreachable!()
+    }
+
+    // Puts these bytes, which are reserved. At the end of the hub they are given back.
+    fn put_piece<R: Wait, G: Gate>(
+        &mut self,
+        rt: &R,
+        gate: &G,
+        channel: ChannelId,
+        ext: Option<u32>,
+        piece: Bytes,
+        count: u32,
+    ) -> Result<(), HandleError>
+        requires { own_reservations (seen_by self.old) ≡ reservation channel.0 count ∷ [] }
+        ensures hub { hub_of self.new ≡ hub_of self.old }
+        ensures room { room_of self.new.seat ≡ room_of self.old.seat }
+        ensures none { own_reservations (seen_by self.new) ≡ [] }
+        ensures entries { PutsOrReleases (data_command channel ext piece) channel count
+            (seen_by self.old) result (seen_by self.new) }
+    {
+        let msg = data_command(channel, ext, piece);
+        match self.put(rt, gate, msg, count, false) {
+            Ok(_) => Ok(()),
+            Err((back, at)) => {
+                drop(back);
+                self.lock.release(rt, &mut self.seat, channel, count);
+                Err(HandleError::Ended { at })
+            }
+        }
+    }
+}

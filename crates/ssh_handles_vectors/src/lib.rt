@@ -1,0 +1,11 @@
+//! Tests of handles, halves, readers and writers.
+#![tactic(auto)]
+
+#[cfg(test)]
+mod polling;
+#[cfg(test)]
+mod scene;
+#[cfg(test)]
+mod threads;
+#[cfg(test)]
+mod writing;
