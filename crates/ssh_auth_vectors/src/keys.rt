@@ -156,7 +156,11 @@ fn is_certificate(alloc: Global, row: Row) -> Result<bool, Fail> {
 #[test]
 fn a_certificate_says_what_was_certified(rt: HostRuntime) {
     for row in ROWS {
-        assert!(rt; is_certificate(rt.alloc(), row) == Ok(true), "{}", row.certificate);
+        assert!(rt;
+            is_certificate(rt.alloc(), row) == Ok(true),
+            "{}",
+            row.certificate
+        );
     }
 }
 
