@@ -22,7 +22,7 @@ pub enum Told {
     Else,
 }
 
-pub fn told(poll: &Poll<Result<usize, HandleError>>) -> Told {
+pub fn told_by(poll: &Poll<Result<usize, HandleError>>) -> Told {
     match poll {
         Poll::Ready(Ok(count)) => Told::Bytes(*count),
         Poll::Ready(Err(HandleError::EmptyWrite)) => Told::EmptyWrite,
@@ -46,11 +46,11 @@ fn deliver<R: Wait>(rt: &R, lock: &HubLock, seat: &mut Seat, msg: ChannelMsg)
 fn five_reads<R: Wait>(rt: &R, half: &mut ChannelReadHalf) -> [Told; 5] {
     let mut reader = half.make_reader();
     let mut buf = [0u8; 1];
-    let first = told(&reader.poll_read(rt, &mut buf));
-    let second = told(&reader.poll_read(rt, &mut buf));
-    let third = told(&reader.poll_read(rt, &mut buf));
-    let fourth = told(&reader.poll_read(rt, &mut buf));
-    let none = told(&reader.poll_read(rt, &mut buf[..0]));
+    let first = told_by(&reader.poll_read(rt, &mut buf));
+    let second = told_by(&reader.poll_read(rt, &mut buf));
+    let third = told_by(&reader.poll_read(rt, &mut buf));
+    let fourth = told_by(&reader.poll_read(rt, &mut buf));
+    let none = told_by(&reader.poll_read(rt, &mut buf[..0]));
     [first, second, third, fourth, none]
 }
 
@@ -92,10 +92,10 @@ fn write_polls<R: Wait>(
 {
     let mut channel = channel(rt, lock, seat, A, 5, 4)?;
     let mut writer = channel.write.make_writer(rt)?;
-    let empty = told(&writer.poll_write(rt, alloc, b""));
-    let first = told(&writer.poll_write(rt, alloc, b"abcdefghi"));
-    let second = told(&writer.poll_write(rt, alloc, b"efghi"));
-    let third = told(&writer.poll_write(rt, alloc, b"fghi"));
+    let empty = told_by(&writer.poll_write(rt, alloc, b""));
+    let first = told_by(&writer.poll_write(rt, alloc, b"abcdefghi"));
+    let second = told_by(&writer.poll_write(rt, alloc, b"efghi"));
+    let third = told_by(&writer.poll_write(rt, alloc, b"fghi"));
     writer.finish(rt);
     Ok(
         [empty, first, second, third]

@@ -20,6 +20,7 @@ const LOOKS: u64 = 1_000_000_000;
 
 // What two threads tell each other: 1 once the first waits for its window, 2 once the second was
 // answered, 3 where one gave up.
+#[derive(Drop)]
 struct Flag {
     state: AtomicU64,
 }

@@ -60,7 +60,7 @@ fn gives_back<R: Wait>(
     channel.write.eof(rt)?;
     channel.write.eof(rt)?;
     let mut writer = channel.write.make_writer(rt)?;
-    let polled = crate::polling::told(&writer.poll_write(rt, alloc, b"abcdefghi"));
+    let polled = crate::polling::told_by(&writer.poll_write(rt, alloc, b"abcdefghi"));
     let reserved = left(rt, lock, seat, A);
     writer.finish(rt);
     Ok(
@@ -89,10 +89,10 @@ fn ends_full<R: Wait>(
     channel.write.eof(rt)?;
     channel.write.eof(rt)?;
     let mut writer = channel.write.make_writer(rt)?;
-    let full = crate::polling::told(&writer.poll_write(rt, alloc, b"abcdefghi"));
+    let full = crate::polling::told_by(&writer.poll_write(rt, alloc, b"abcdefghi"));
     lock.end(rt, seat);
     let place = seat.place();
-    let ended = crate::polling::told(&writer.poll_write(rt, alloc, b"x"));
+    let ended = crate::polling::told_by(&writer.poll_write(rt, alloc, b"x"));
     let now = left(rt, lock, seat, A);
     writer.finish(rt);
     Ok(
