@@ -35,7 +35,7 @@ struct Request<'a> {
 }
 
 // One with this behind its flag.
-fn request<'a>(name: &'a [u8], flag: u8, rest: &'a [u8]) -> Request<'a> {
+fn with_rest<'a>(name: &'a [u8], flag: u8, rest: &'a [u8]) -> Request<'a> {
     Request {
         name,
         flag,

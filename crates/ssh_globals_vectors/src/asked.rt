@@ -55,9 +55,9 @@ const GENEROUS: Plan = Plan {
 };
 
 // A request behind a login: the name with its length, the flag, and what stands behind it.
-type Request<'a> = (&'a [u8], u8, &'a [u8]);
+type Request = (&'static [u8], &'static [u8], &'static [u8]);
 
-fn length((name, _, rest): Request<'_>) -> usize {
+fn length((name, _, rest): Request) -> usize {
     name.len().saturating_add(rest.len()).saturating_add(2)
 }
 
@@ -66,52 +66,62 @@ fn length((name, _, rest): Request<'_>) -> usize {
 fn comes_of_bytes(
     alloc: Global,
     plan: Plan,
-    (name, flag, rest): Request<'_>,
+    (name, flag, rest): Request,
     count: usize,
-    (told, asked): (Turn, &[u8]),
+    (told, asked): (Turn, &'static [u8]),
 ) -> bool {
-    let flag = [flag];
-    let parts: [&[u8]; 5] = [b"\x50", name, &flag, rest, b"\0"];
     let around = Around {
         plan,
-        line: Some(Parts(&parts, count)),
         then: told,
         asked,
         ..NOTHING
     };
-    around.holds(alloc)
+    let parts: [&'static [u8]; 5] = [b"\x50", name, flag, rest, b"\0"];
+    around.holds(alloc, Some(Parts(&parts, count)))
 }
 
 // Whether this comes of the request.
-fn comes_of(alloc: Global, plan: Plan, request: Request<'_>, told: (Turn, &[u8])) -> bool {
+fn comes_of(alloc: Global, plan: Plan, request: Request, told: (Turn, &'static [u8])) -> bool {
     comes_of_bytes(alloc, plan, request, length(request), told)
 }
 
+// The flags of a request that wants a reply, and of one that wants none.
+const WANTS: &[u8] = b"\x01";
+
+const ANY: &[u8] = b"\xff";
+
+const WANTS_NONE: &[u8] = b"\0";
+
 // A flag, whether the callback grants it, what it records, and what goes out.
-static REPLIES: [(u8, bool, &[Wish], Turn); 11] = [
-    (1, true, &[], GRANTED),
-    (1, false, &[], REFUSED),
-    (0xff, true, &[], GRANTED),
-    (0xff, false, &[], REFUSED),
-    (0, true, &[], &[]),
-    (0, false, &[], &[]),
+static REPLIES: [(&[u8], bool, &[Wish], Turn); 11] = [
+    (WANTS, true, &[], GRANTED),
+    (WANTS, false, &[], REFUSED),
+    (ANY, true, &[], GRANTED),
+    (ANY, false, &[], REFUSED),
+    (WANTS_NONE, true, &[], &[]),
+    (WANTS_NONE, false, &[], &[]),
     // A reply that the callback records is the only one, and the first of two is.
-    (1, false, &[Wish::Success], GRANTED),
-    (1, true, &[Wish::Failure], REFUSED),
+    (WANTS, false, &[Wish::Success], GRANTED),
+    (WANTS, true, &[Wish::Failure], REFUSED),
     (
-        1,
+        WANTS,
         true,
         &[Wish::Failure, Wish::Success, Wish::Failure],
         REFUSED,
     ),
     // None is recorded where none is wanted.
-    (0, true, &[Wish::Success, Wish::Failure], &[]),
+    (WANTS_NONE, true, &[Wish::Success, Wish::Failure], &[]),
     // What it records goes out before the reply.
-    (1, true, &[Wish::Keepalive], &[ALIVE, Out(b"\x51")]),
+    (WANTS, true, &[Wish::Keepalive], &[ALIVE, Out(b"\x51")]),
 ];
 
 // Whether the request leads to each reply, and the handler is asked this.
-fn are_answered(alloc: Global, name: &[u8], rest: &[u8], asked: &[u8]) -> bool {
+fn are_answered(
+    alloc: Global,
+    name: &'static [u8],
+    rest: &'static [u8],
+    asked: &'static [u8],
+) -> bool {
     for (flag, grants, records, told) in &REPLIES {
         let plan = Plan {
             grants: *grants,
@@ -135,7 +145,7 @@ fn requests_are_asked_about_and_answered(rt: HostRuntime) {
 
 // Whether it fits no more without its last bytes, however many, or with a byte behind it; and
 // nobody is asked then.
-fn fits_alone(alloc: Global, request: Request<'_>) -> bool {
+fn fits_alone(alloc: Global, request: Request) -> bool {
     let whole = length(request);
     for count in 1..whole.saturating_add(2) {
         let is_misfit = comes_of_bytes(alloc, GENEROUS, request, count, (MISFIT, b""));
@@ -150,7 +160,8 @@ fn fits_alone(alloc: Global, request: Request<'_>) -> bool {
 fn requests_that_do_not_fit_their_layout(rt: HostRuntime) {
     let alloc = rt.alloc();
     for (name, rest, asked) in &KNOWN {
-        let fits = fits_alone(alloc, (*name, 1, *rest)) && fits_alone(alloc, (*name, 0, *rest));
+        let fits = fits_alone(alloc, (*name, WANTS, *rest))
+            && fits_alone(alloc, (*name, WANTS_NONE, *rest));
         assert!(rt; fits, "{}", asked.escape_ascii());
     }
 }
@@ -176,7 +187,7 @@ static NO_TEXTS: [(&[u8], &[u8]); 5] = [
 #[test]
 fn requests_whose_texts_are_none(rt: HostRuntime) {
     for (name, rest) in &NO_TEXTS {
-        let is_misfit = comes_of(rt.alloc(), GENEROUS, (*name, 1, *rest), (MISFIT, b""));
+        let is_misfit = comes_of(rt.alloc(), GENEROUS, (*name, WANTS, *rest), (MISFIT, b""));
         assert!(rt; is_misfit, "{}", rest.escape_ascii());
     }
 }
@@ -223,17 +234,19 @@ const PORT_22: &[u8] = b"\0\0\0\0\0\0\0\x16";
 
 const PORT_22_ASKED: &[u8] = b"tcpip_forward  \0\0\0\x16\n";
 
+const FORWARD: &[u8] = b"\0\0\0\x0dtcpip-forward";
+
 // Whether the reply to a request is this, and none where none is wanted; and the handler is asked
 // this.
 fn is_replied(
     alloc: Global,
     plan: Plan,
-    (name, rest): (&[u8], &[u8]),
+    (name, rest): (&'static [u8], &'static [u8]),
     reply: Turn,
-    asked: &[u8],
+    asked: &'static [u8],
 ) -> bool {
-    comes_of(alloc, plan, (name, 1, rest), (reply, asked))
-        && comes_of(alloc, plan, (name, 0, rest), (&[], asked))
+    comes_of(alloc, plan, (name, WANTS, rest), (reply, asked))
+        && comes_of(alloc, plan, (name, WANTS_NONE, rest), (&[], asked))
 }
 
 #[test]
@@ -244,7 +257,7 @@ fn the_port_is_told_where_this_side_chose_it(rt: HostRuntime) {
             port: *port,
             ..QUIET
         };
-        let request = (b"\0\0\0\x0dtcpip-forward".as_slice(), *rest);
+        let request = (FORWARD, *rest);
         assert!(rt;
             is_replied(rt.alloc(), plan, request, *reply, *asked),
             "{place}"

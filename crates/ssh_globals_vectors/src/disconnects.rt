@@ -156,17 +156,16 @@ static UNANSWERED: [(&[u8], Turn, &[u8]); 5] = [
 const SPENT: Turn = &[In(b"\x02"), Ends(End::Inconsistent)];
 
 // Whether behind an open the request leads to this and to the end.
-fn are_left(alloc: Global, request: &[u8], told: Turn, asked: &[u8]) -> bool {
+fn are_left(alloc: Global, request: &[u8], told: Turn, asked: &'static [u8]) -> bool {
     let around = Around {
         plan: LEAVING,
         first: OPENED,
-        line: Some(In(request)),
         then: told,
         last: SPENT,
         asked,
         ..NOTHING
     };
-    around.holds(alloc)
+    around.holds(alloc, Some(In(request)))
 }
 
 #[test]

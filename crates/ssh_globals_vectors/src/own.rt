@@ -66,11 +66,10 @@ static SAID: [(Wish, Turn); 12] = [
 fn is_told(alloc: Global, first: Turn, line: Line<'_>, then: Turn) -> bool {
     let around = Around {
         first,
-        line: Some(line),
         then,
         ..NOTHING
     };
-    around.holds(alloc)
+    around.holds(alloc, Some(line))
 }
 
 #[test]

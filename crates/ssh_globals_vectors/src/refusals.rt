@@ -100,7 +100,7 @@ fn is_refused(alloc: Global, refused: Turn) -> bool {
         last: refused,
         ..NOTHING
     };
-    around.holds(alloc)
+    around.holds(alloc, None)
 }
 
 #[test]

@@ -6,26 +6,24 @@ use ssh_handler::Config;
 use ssh_wire::WireError;
 use std::alloc::Global;
 
-/// Lines, one line more, and lines again: what comes, what is done, and all that the link is told of
-/// that. And what the handler is asked.
+/// Lines, and lines behind one more: what comes, what is done, and all that the link is told of that.
+/// And what the handler is asked.
 #[derive(Clone, Copy)]
-pub struct Around<'a> {
+pub struct Around {
     /// Whether a login comes first, of which nothing is looked at.
     pub logged_in: bool,
     pub plan: Plan,
     pub first: Turn,
-    pub line: Option<Line<'a>>,
     pub then: Turn,
     pub last: Turn,
-    pub asked: &'a [u8],
+    pub asked: &'static [u8],
 }
 
 /// Behind a login nothing comes, and nothing is told.
-pub const NOTHING: Around<'static> = Around {
+pub const NOTHING: Around = Around {
     logged_in: true,
     plan: QUIET,
     first: &[],
-    line: None,
     then: &[],
     last: &[],
     asked: b"",
@@ -35,7 +33,7 @@ fn play_line(side: &mut Side, place: &mut Place, line: Line<'_>) -> Result<bool,
     play(side, place, &[line])
 }
 
-fn play_around(side: &mut Side, around: Around<'_>) -> Result<bool, WireError> {
+fn play_around(side: &mut Side, around: Around, line: Option<Line<'_>>) -> Result<bool, WireError> {
     if around.logged_in && !is_logged_in(side)? {
         return Ok(false);
     }
@@ -43,7 +41,7 @@ fn play_around(side: &mut Side, around: Around<'_>) -> Result<bool, WireError> {
     if !play(side, &mut place, around.first)? {
         return Ok(false);
     }
-    if let Some(line) = around.line {
+    if let Some(line) = line {
         if !play_line(side, &mut place, line)? {
             return Ok(false);
         }
@@ -54,12 +52,12 @@ fn play_around(side: &mut Side, around: Around<'_>) -> Result<bool, WireError> {
     Ok(place.is_at_the_end(&side.link))
 }
 
-impl Around<'_> {
-    /// Whether it comes true; without memory it does not.
-    pub fn holds(self, alloc: Global) -> bool {
+impl Around {
+    /// Whether it comes true around this line, or around none; without memory it does not.
+    pub fn holds(self, alloc: Global, line: Option<Line<'_>>) -> bool {
         match Side::new(alloc, &Config::standard(), true, self.plan) {
             Ok(mut side) => {
-                let is_true = play_around(&mut side, self) == Ok(true);
+                let is_true = play_around(&mut side, self, line) == Ok(true);
                 let was_asked = side.handler.asked.as_slice() == self.asked;
                 drop(side);
                 is_true && was_asked

@@ -17,7 +17,7 @@ pub enum Line<'a> {
     /// An opened payload of the peer comes.
     In(&'a [u8]),
     /// One comes in parts, of which so many bytes are left.
-    Parts(&'a [&'a [u8]], usize),
+    Parts(&'a [&'static [u8]], usize),
     /// CHANNEL_DATA comes on this channel, with so many times this byte.
     Flood(u32, usize, u8),
     /// A command comes from outside.

@@ -1,6 +1,6 @@
 // Each request of a client: how it is told, read and answered.
 use super::{
-    FAILURE, NO_ENCODING, OVER, Outcome, SUCCESS, comes_of_bytes, comes_to, length, request,
+    FAILURE, NO_ENCODING, OVER, Outcome, SUCCESS, comes_of_bytes, comes_to, length, with_rest,
 };
 use std::alloc::Global;
 use std::test::*;
@@ -129,7 +129,7 @@ static ANSWERS: [(&[u8], Option<&[u8]>); 4] = [
 
 // Whether a request is told and answered so under this setting, and without an answer where the
 // peer wants none.
-fn is_answered(alloc: Global, known: Known, setting: &[u8], frame: &[u8]) -> bool {
+fn is_answered(alloc: Global, known: Known, setting: &[u8], frame: &'static [u8]) -> bool {
     let answered = Outcome {
         status: 0,
         calls: [known.call, b"", b""],
@@ -139,8 +139,12 @@ fn is_answered(alloc: Global, known: Known, setting: &[u8], frame: &[u8]) -> boo
         trace: [known.notice, b"", OVER],
         ..answered
     };
-    comes_to(alloc, setting, request(known.name, 1, known.rest), answered)
-        && comes_to(alloc, setting, request(known.name, 0, known.rest), silent)
+    comes_to(
+        alloc,
+        setting,
+        with_rest(known.name, 1, known.rest),
+        answered,
+    ) && comes_to(alloc, setting, with_rest(known.name, 0, known.rest), silent)
 }
 
 // Whether it is so under each setting.
@@ -163,7 +167,7 @@ fn requests_are_told_and_answered(rt: HostRuntime) {
 
 // Whether it fits no more without its last bytes, however many, or with a byte behind it.
 fn fits_alone(alloc: Global, known: Known) -> bool {
-    let request = request(known.name, 1, known.rest);
+    let request = with_rest(known.name, 1, known.rest);
     let whole = length(request);
     for count in 1..whole.saturating_add(2) {
         let is_misfit = comes_of_bytes(alloc, b"", request, count, NO_ENCODING);
@@ -198,7 +202,7 @@ static NO_TEXTS: [(&[u8], &[u8]); 6] = [
 #[test]
 fn requests_whose_texts_are_none(rt: HostRuntime) {
     for (name, rest) in &NO_TEXTS {
-        let is_misfit = comes_to(rt.alloc(), b"", request(*name, 1, *rest), NO_ENCODING);
+        let is_misfit = comes_to(rt.alloc(), b"", with_rest(*name, 1, *rest), NO_ENCODING);
         assert!(rt; is_misfit, "{}", name.escape_ascii());
     }
 }
@@ -229,8 +233,8 @@ static NOTHING: Outcome<'static> = Outcome {
 
 // Whether it is told to nobody, and refused where the peer wants an answer.
 fn is_refused(alloc: Global, name: &[u8], rest: &[u8]) -> bool {
-    comes_to(alloc, b"", request(name, 1, rest), REFUSED)
-        && comes_to(alloc, b"", request(name, 0, rest), NOTHING)
+    comes_to(alloc, b"", with_rest(name, 1, rest), REFUSED)
+        && comes_to(alloc, b"", with_rest(name, 0, rest), NOTHING)
 }
 
 #[test]
