@@ -192,8 +192,8 @@ fn requests_whose_texts_are_none(rt: HostRuntime) {
     }
 }
 
-// What stands behind the flag of a request to forward, how it is asked about, whether it is granted,
-// the port that is bound, and the reply.
+// What stands behind the flag of a request to forward, how it is asked about, whether it is
+// granted, the port that is bound, and the reply.
 static PORTS: [(&[u8], &[u8], bool, Option<u32>, Turn); 10] = [
     (
         NO_PORT,

@@ -6,7 +6,7 @@ use ssh_handler::Config;
 use ssh_wire::WireError;
 use std::alloc::Global;
 
-/// Lines, and lines behind one more: what comes, what is done, and all that the link is told of that.
+/// Lines, and lines behind one more: what comes, what is done, and all that the link is told of it.
 /// And what the handler is asked.
 #[derive(Clone, Copy)]
 pub struct Around {

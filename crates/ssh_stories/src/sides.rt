@@ -174,7 +174,7 @@ fn takes(alloc: Global, handler: &mut Answering, link: &mut MemoryLink, payload:
     goes_on
 }
 
-/// Whether a session takes a request for the service. The line of its peer is that of its making, so
+/// Whether a session takes a request for the service. Its peer's line is that of its making, so
 /// the handler is called without a look at it.
 pub fn takes_a_request(alloc: Global) -> bool {
     match MemoryLink::new(alloc, Inputs::new(alloc), Calls::new(alloc)) {

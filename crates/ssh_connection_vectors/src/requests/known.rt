@@ -119,7 +119,7 @@ static KNOWN: [Known; 13] = [
     },
 ];
 
-// The settings, and what goes out under each for a request that is known; none where that is its own.
+// The settings, and what goes out under each for a request; none where that is its own.
 static ANSWERS: [(&[u8], Option<&[u8]>); 4] = [
     (b"", Some(SUCCESS)),
     (b"answer request success\n", Some(SUCCESS)),
