@@ -1,7 +1,7 @@
 // Ticks of whoever keeps the time.
 use ssh_stories::Line::{Asks, Ends, In, Inactivity, Keepalive, Out};
 use ssh_stories::{ACCEPT, ACCEPTED, ALIVE, End, PASSWORD, SERVICE, STANDARD, Story, Turn, Wish};
-use std::test::*;
+use std::test::Fail;
 
 const TICK: Turn = &[Keepalive, ALIVE];
 
@@ -103,8 +103,9 @@ static TICKS: [Story; 11] = [
 ];
 
 #[test]
-fn signs_of_life(rt: HostRuntime) {
+fn signs_of_life(rt: HostRuntime) -> Result<(), Fail> {
     for story in &TICKS {
-        assert!(rt; story.holds(rt.alloc()), "{}", story.shows);
+        assert!(rt; story.holds(rt.alloc())?, "{}", story.shows);
     }
+    Ok(())
 }

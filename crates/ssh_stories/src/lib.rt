@@ -4,23 +4,17 @@
 #![tactic(auto)]
 
 mod answering;
-mod around;
 mod calls;
-mod messages;
-mod recording;
 mod runs;
 mod sides;
 mod stories;
 mod wishes;
 
 pub use answering::{Answering, Lent, Plan, QUIET, Tired, Told};
-pub use around::{Around, NOTHING, are_true};
-pub use messages::Message;
-pub use recording::record;
 pub use runs::{BEHIND_LOGIN, Run};
-pub use sides::{ACCEPT, End, PASSWORD, SERVICE, takes_a_request};
+pub use sides::{ACCEPT, End, PASSWORD, SERVICE, Side, give, is_logged_in, payload};
 pub use stories::{
-    ACCEPTED, ALIVE, CHANNELS, CONFIRMED, Line, OPEN, OPEN_SMALL, SMALL, SMALL_CONFIRMED, STANDARD,
-    Story, Turn, are_sent,
+    ACCEPTED, ALIVE, CHANNELS, CONFIRMED, Line, OPEN, OPEN_SMALL, Place, SMALL, SMALL_CONFIRMED,
+    STANDARD, Story, Turn, play,
 };
-pub use wishes::{Wish, command};
+pub use wishes::{Wish, command, record};

@@ -4,7 +4,7 @@ use ssh_stories::{
     ACCEPT, CHANNELS, CONFIRMED, End, OPEN, OPEN_SMALL, Plan, QUIET, SERVICE, SMALL_CONFIRMED,
     STANDARD, Story, Told, Wish,
 };
-use std::test::*;
+use std::test::Fail;
 
 static ENDINGS: [Story; 7] = [
     Story {
@@ -103,8 +103,9 @@ static ENDINGS: [Story; 7] = [
 ];
 
 #[test]
-fn ends_of_channels(rt: HostRuntime) {
+fn ends_of_channels(rt: HostRuntime) -> Result<(), Fail> {
     for story in &ENDINGS {
-        assert!(rt; story.holds(rt.alloc()), "{}", story.shows);
+        assert!(rt; story.holds(rt.alloc())?, "{}", story.shows);
     }
+    Ok(())
 }

@@ -1,7 +1,7 @@
 // What a session lends to its callbacks.
 use ssh_stories::Line::{Asks, In, On};
 use ssh_stories::{CHANNELS, Lent, OPEN_SMALL, Plan, QUIET, Story, Told, Wish};
-use std::test::*;
+use std::test::Fail;
 
 // Of no channel, while commands and answers are taken.
 const NO_CHANNEL: Lent = Lent {
@@ -77,6 +77,7 @@ static CALLBACKS: Story = Story {
 };
 
 #[test]
-fn what_callbacks_are_lent(rt: HostRuntime) {
-    assert!(rt; CALLBACKS.holds(rt.alloc()), "{}", CALLBACKS.shows);
+fn what_callbacks_are_lent(rt: HostRuntime) -> Result<(), Fail> {
+    assert!(rt; CALLBACKS.holds(rt.alloc())?, "{}", CALLBACKS.shows);
+    Ok(())
 }

@@ -1,7 +1,7 @@
 // What callbacks of requests ask for (RFC 4254 section 6).
 use ssh_stories::Line::{In, On};
 use ssh_stories::{CHANNELS, CONFIRMED, Line, OPEN, Plan, QUIET, Story, Told, Wish};
-use std::test::*;
+use std::test::Fail;
 
 const GENEROUS: Plan = Plan {
     grants: true,
@@ -31,7 +31,7 @@ static REQUESTS: [Story; 4] = [
             records: &[
                 Wish::ChannelSuccess(2),
                 Wish::FlowControl(2, true),
-                Wish::Signalled(2, true, "out of memory", "en"),
+                Wish::Killed(2, "out of memory", "en"),
                 Wish::Eof(2),
                 Wish::FlowControl(2, false),
                 Wish::Close(2),
@@ -80,8 +80,9 @@ static REQUESTS: [Story; 4] = [
 ];
 
 #[test]
-fn what_callbacks_of_requests_ask_for(rt: HostRuntime) {
+fn what_callbacks_of_requests_ask_for(rt: HostRuntime) -> Result<(), Fail> {
     for story in &REQUESTS {
-        assert!(rt; story.holds(rt.alloc()), "{}", story.shows);
+        assert!(rt; story.holds(rt.alloc())?, "{}", story.shows);
     }
+    Ok(())
 }
