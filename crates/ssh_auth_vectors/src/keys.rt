@@ -106,10 +106,11 @@ fn is_key(alloc: Global, row: Row) -> Result<bool, Fail> {
 }
 
 #[test]
-fn a_key_is_read_as_its_parts_and_written_as_its_blob(rt: HostRuntime) {
+fn a_key_is_read_as_its_parts_and_written_as_its_blob(rt: HostRuntime) -> Result<(), Fail> {
     for row in ROWS {
-        assert!(rt; is_key(rt.alloc(), row) == Ok(true), "{}", row.blob);
+        assert!(rt; is_key(rt.alloc(), row)?, "{}", row.blob);
     }
+    Ok(())
 }
 
 fn signature_of(alloc: Global, name: &str, blob: Bytes) -> Result<Signature, Fail> {
@@ -154,14 +155,11 @@ fn is_certificate(alloc: Global, row: Row) -> Result<bool, Fail> {
 }
 
 #[test]
-fn a_certificate_says_what_was_certified(rt: HostRuntime) {
+fn a_certificate_says_what_was_certified(rt: HostRuntime) -> Result<(), Fail> {
     for row in ROWS {
-        assert!(rt;
-            is_certificate(rt.alloc(), row) == Ok(true),
-            "{}",
-            row.certificate
-        );
+        assert!(rt; is_certificate(rt.alloc(), row)?, "{}", row.certificate);
     }
+    Ok(())
 }
 
 fn decoded(alloc: Global, digits: &str) -> Result<Certificate, Fail> {
