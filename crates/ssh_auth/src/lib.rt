@@ -6,6 +6,7 @@
 //! by line as `specs/Verdict.antt` says.
 #![tactic(auto)]
 
+mod asked;
 mod auth;
 mod auth_request;
 mod auth_result;
@@ -26,6 +27,7 @@ mod reply;
 mod request;
 mod response;
 
+pub use asked::{Asked, AskedMethod, asked_by_request, asked_by_response};
 pub use auth::Auth;
 pub use auth_request::{AuthRequest, CurrentRequest};
 pub use auth_result::AuthResult;
@@ -35,6 +37,7 @@ pub use error::AuthError;
 pub use gssapi::{GssapiError, GssapiStep};
 pub use handler::{AuthHandler, Unwritten};
 pub use interactive::serve_response;
+pub use key_request::Offer;
 pub use method::Method;
 pub use offer::{PublicKeyOffer, VerifiedPublicKey};
 pub use prompts::Prompts;
