@@ -6,6 +6,8 @@ ghost use Rattle.ssh_wire.specs.declared.error.WireError.TheVariants.{NoMemory};
 ghost use Rattle.ssh_keys.specs.declared.signature.Signature.{Signature};
 ghost use Rattle.ssh_keys.specs.Algorithms.{algorithm_name};
 ghost use Rattle.ssh_keys.specs.Signatures.{EndsInSignature};
+ghost use Rattle.ssh_wire.specs.Messages.{userauth_request};
+ghost use Rattle.ssh_wire.specs.Messages.{userauth_info_response};
 ghost use Rattle.ssh_auth.specs.Asked.{TellsRequest, TellsResponse, TellsMethod, TellsPlain};
 ghost use Rattle.ssh_auth.specs.Asked.{IsSilent};
 ghost use Rattle.ssh_auth.specs.Publickey.{IsOffered, offer_fields};
@@ -102,7 +104,7 @@ pub fn asked_by_request<'a, V: Verifier>(
     payload: &'a [u8],
 ) -> Result<Option<Asked<'a>>, WireError>
     requires session_id { length session_id.now < 2 ^ 32 }
-    requires numbered { IsNumbered 50 payload.now }
+    requires numbered { IsNumbered userauth_request.number payload.now }
     ensures asked { IfOk result (λ asked. (verifier : V) → TellsRequest
         (record { accepts = V.accepts verifier; session_id = session_id.now; moment = moment })
         auth.now (drop 1 payload.now) asked) }
@@ -139,7 +141,7 @@ pub fn asked_by_response<'a>(
     auth: &'a AuthRequest,
     payload: &'a [u8],
 ) -> Result<Option<Asked<'a>>, WireError>
-    requires numbered { IsNumbered 61 payload.now }
+    requires numbered { IsNumbered userauth_info_response.number payload.now }
     ensures asked { IfOk result (λ asked. TellsResponse auth.now (drop 1 payload.now) asked) }
     ensures memory { IfErr result (λ e. e ≡ NoMemory) }
 {
