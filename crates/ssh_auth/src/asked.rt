@@ -90,12 +90,14 @@ impl Verifier for Trusting {
     }
 }
 
-/// What `serve_request` asks, in this state, of its handler and its verifier for this
-/// USERAUTH_REQUEST, which is not served. None where it asks the handler nothing, whatever the
-/// verifier says: it is refused, or cannot be read. A certificate is told where its time holds; the
-/// verifier is asked about its own signature first, by `signature_key`, the algorithm that
-/// `signature` names, and `signed`, and where it is refused the handler is asked nothing.
-/// `NoMemory` is the only error.
+/// What `serve_request` asks of its handler and its verifier, in this state, for this
+/// USERAUTH_REQUEST, which is not served. No verifier is called: what is told holds for each of the
+/// type `V`. None where the handler is asked nothing, whatever the verifier says: the request is
+/// refused, or it cannot be read.
+///
+/// A certificate is told where its time holds. About its own signature the verifier is asked first,
+/// with its `signature_key`, the algorithm that its `signature` names, and its `signed` bytes; where
+/// that is refused the handler is asked nothing. `NoMemory` is the only error.
 pub fn asked_by_request<'a, V: Verifier>(
     alloc: Global,
     auth: &AuthRequest,

@@ -3,7 +3,8 @@
 //!
 //! What the crates above rely on are the contracts of [`serve_request`] and [`serve_response`]: one
 //! payload comes to its calls, its reply, its verdict and the changed state of authentication, line
-//! by line as `specs/Verdict.antt` says.
+//! by line as `specs/Verdict.antt` says. What a payload asks is told without serving it by
+//! [`asked_by_request`] and [`asked_by_response`].
 #![tactic(auto)]
 
 mod asked;
