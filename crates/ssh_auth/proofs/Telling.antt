@@ -64,10 +64,11 @@ pub told_more : (given : Circumstances) (auth : AuthRequest) (says more : Method
     → Tells given auth says user asked → Tells given auth more user asked
 told_more given auth says more user told.None f h = f _ h
 told_more given auth says more user (told.Password password) f h = f _ h
-told_more given auth says more user (told.Probe offer) f h = λ usable. f _ (h usable)
+told_more given auth says more user (told.Probe offer) f h = (h.0, λ usable. f _ (h.1 usable))
 told_more given auth says more user (told.Signed offer probed message signature) f h = (
   h.0,
-  λ accepted usable answer. f _ (h.1 accepted usable answer),
+  h.1,
+  λ accepted usable answer. f _ (h.2 accepted usable answer),
 )
 told_more given auth says more user (told.KeyboardInteractive submethods None) f h = f _ h
 told_more given auth says more user (told.KeyboardInteractive submethods (Some responses)) f h =

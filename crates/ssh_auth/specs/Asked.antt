@@ -1,6 +1,7 @@
 -- What is told of a request, or of a response, that is not served: what its fields say, and so what
 -- serving it asks.
 use Rattle.std.specs.Prelude.{◌≡◌, ℕ, List, map, Bool, codes, Option, Some, None}
+use Rattle.ssh_keys.specs.declared.key_or_certificate.PublicKeyOrCertificate.{PublicKeyOrCertificate}
 use Rattle.ssh_keys.specs.Offers.{offered_key}
 use Rattle.ssh_auth.specs.declared.asked.Asked.{Asked}
 use Rattle.ssh_auth.specs.declared.asked.AskedMethod.{AskedMethod}
@@ -32,15 +33,22 @@ TellsPlain says (told.Password password) = says (Password_method password.now)
 TellsPlain says (told.KeyboardInteractive submethods None) = says (Interactive_method submethods.now)
 TellsPlain says _ = ⊥
 
+-- it can be used where the verifier accepts what it is asked: a certificate is in its time, and the
+-- name in its own signature is known
+abbrev pub CanBeUsed : (moment : ℕ) → PublicKeyOrCertificate → Type 0
+CanBeUsed moment key = IsUsable (λ public algorithm message signature. Unit {0}) moment key
+
 -- what is told is what the request of this user says. A key or a certificate is asked about where it
 -- can be used; and where the request is signed, the answer of the verifier that counts is the one
 -- about this message and this signature
 abbrev pub Tells : Circumstances → AuthRequest → (says : Method → Type 0) → (user : List ℕ)
     → AskedMethod → Type 0
-Tells given auth says user (told.Probe offer) = IsUsable given.accepts given.moment offer.key
-    → says (Probe_method offer)
+Tells given auth says user (told.Probe offer) =
+    CanBeUsed given.moment offer.key
+    × (IsUsable given.accepts given.moment offer.key → says (Probe_method offer))
 Tells given auth says user (told.Signed offer probed message signature) =
-    (probed ≡ is_probed (begun auth user (codes "ssh-connection")).current offer.name offer.blob)
+    CanBeUsed given.moment offer.key
+    × (probed ≡ is_probed (begun auth user (codes "ssh-connection")).current offer.name offer.blob)
     × ((accepted : Option Bool) → IsUsable given.accepts given.moment offer.key
     → IsAnswer given.accepts (offered_key offer.key) offer.algorithm message signature accepted
     → says (Signed_method offer accepted))

@@ -9,7 +9,7 @@ ghost use Rattle.ssh_keys.specs.Signatures.{EndsInSignature};
 ghost use Rattle.ssh_wire.specs.Messages.{userauth_request};
 ghost use Rattle.ssh_wire.specs.Messages.{userauth_info_response};
 ghost use Rattle.ssh_auth.specs.Asked.{TellsRequest, TellsResponse, TellsMethod, TellsPlain};
-ghost use Rattle.ssh_auth.specs.Asked.{IsSilent};
+ghost use Rattle.ssh_auth.specs.Asked.{IsSilent, CanBeUsed};
 ghost use Rattle.ssh_auth.specs.Publickey.{IsOffered, offer_fields};
 ghost use Rattle.ssh_auth.specs.Read.{circumstances, all_fields, IsWhole};
 ghost use Rattle.ssh_auth.specs.Requested.{SaysMethod, SaysNone, SaysPassword, SaysPublickey};
@@ -282,6 +282,7 @@ fn asked_by_offer<'a, V: Verifier>(
         asked.rest.now }
     requires names { (offer.name ≡ asked.name.now) × (offer.blob ≡ asked.blob.now)
         × IsOffered offer }
+    requires usable { CanBeUsed request.now.moment offer.key }
     ensures ok { IfOk result (λ asked. (verifier : V) → TellsMethod
         (circumstances (V.accepts verifier) request.now) auth.now
         (SaysPublickey (circumstances (V.accepts verifier) request.now) (all_fields request.now)

@@ -36,6 +36,7 @@ returns-in-Ok-Some-clause-ok g c =
     let is : asked.signed ≡ true = search rules in
     let found = rw c.in-Ok-Some.field-0-is at c.in-Ok-Some.ensures.ok in
     λ verifier. (
+      c.requires.usable,
       c.was_probed-probed.ensures
           ∙ ap (λ o. is_probed (begun c.args.auth.now request.user.now (codes "ssh-connection")).current
           o.name o.blob) c.offer.view_is,
