@@ -1,6 +1,7 @@
 pub mod Asks
 pub mod Back
 pub mod Keys
+pub mod KeyFields
 pub mod Misfits
 pub mod Plans
 pub mod Proving
@@ -9,3 +10,6 @@ pub mod Signatures
 pub mod Responses
 pub mod Prompting
 pub mod Rounds
+pub mod RequestsOnce
+pub mod ResponsesOnce
+pub mod Telling

@@ -1,7 +1,9 @@
--- The answers to a request of authentication (RFC 4252 section 5.1).
+-- The answers to a request of authentication (RFC 4252 section 5.1), each by its layout.
 use Rattle.std.specs.Prelude.{ℕ, List, [], ◌∷◌, ◌++◌, length, flat_map, Bool, if◌then◌else◌}
 use Rattle.ssh_wire.specs.declared.method.MethodKind.{MethodKind}
-use Rattle.ssh_wire.specs.Field.{number, string}
+use Rattle.ssh_wire.specs.Field.{Number}
+use Rattle.ssh_wire.specs.Messages as message
+use Rattle.ssh_wire.specs.Messages.{spelling, spellings, written, written_before}
 use Rattle.ssh_wire.specs.Methods.{names_text}
 use Rattle.ssh_auth.specs.Prompts.{Prompt}
 
@@ -9,28 +11,27 @@ use Rattle.ssh_auth.specs.Prompts.{Prompt}
 abbrev pub flag : Bool → ℕ
 flag value = if value then 1 else 0
 
--- USERAUTH_FAILURE: byte 51, name-list of the methods that can continue, boolean partial success
+-- USERAUTH_FAILURE: the methods that can continue, and whether it is a partial success
 abbrev pub failure : List MethodKind → Bool → List ℕ
-failure methods partial = 51 ∷ string (names_text methods) ++ flag partial ∷ []
+failure methods partial = written message.userauth_failure (names_text methods, (partial, tt))
 
--- USERAUTH_SUCCESS: byte 52
+-- USERAUTH_SUCCESS
 abbrev pub success : List ℕ
-success = 52 ∷ []
+success = written message.userauth_success tt
 
--- PK_OK: byte 60, string algorithm name, string blob (RFC 4252 section 7)
+-- PK_OK: the name of the algorithm and the blob, as they were offered (RFC 4252 section 7)
 abbrev pub pk_ok : (name blob : List ℕ) → List ℕ
-pk_ok name blob = 60 ∷ string name ++ string blob
+pk_ok name blob = written message.userauth_pk_ok (name, (blob, tt))
 
--- string prompt, boolean echo
+-- the text of a prompt, and whether what is typed is shown
 abbrev pub prompt_fields : Prompt → List ℕ
-prompt_fields prompt = string prompt.0 ++ flag prompt.1 ∷ []
+prompt_fields prompt = spellings message.prompt_fields (prompt.0, (prompt.1, tt))
 
--- uint32 count, and as many prompts
+-- how many prompts there are, and the prompts
 abbrev pub prompts_fields : List Prompt → List ℕ
-prompts_fields prompts = number (length prompts) ++ flat_map prompt_fields prompts
+prompts_fields prompts = spelling Number (length prompts) ++ flat_map prompt_fields prompts
 
--- USERAUTH_INFO_REQUEST: byte 60, string name, string instruction, string language tag, which is
--- empty, and the prompts (RFC 4256 section 3.2)
+-- USERAUTH_INFO_REQUEST: the language tag is empty (RFC 4256 section 3.2)
 abbrev pub info_request : (name instructions : List ℕ) → List Prompt → List ℕ
-info_request name instructions prompts = 60 ∷ string name ++ string instructions ++ string []
-    ++ prompts_fields prompts
+info_request name instructions prompts = written_before message.userauth_info_request
+    (name, (instructions, ([], (length prompts, tt)))) (flat_map prompt_fields prompts)

@@ -3,8 +3,10 @@
 use Rattle.std.specs.Prelude.{◌≡◌, ◌≢◌, ◌↔◌, ◌⊎◌, ℕ, List, [], ◌∷◌, ◌++◌, Bool, IsTrue, Option}
 use Rattle.std.specs.Prelude.{Some, None}
 use Rattle.ssh_wire.specs.declared.error.WireError.{WireError}
-use Rattle.ssh_wire.specs.Field.{Field, Flag, Text, Bytes, SpellsAll, MisfitsAll, MisfitsWhole}
+use Rattle.ssh_wire.specs.Field.{Field, SpellsAll, MisfitsAll, MisfitsWhole}
 use Rattle.ssh_wire.specs.Field.{string}
+use Rattle.ssh_wire.specs.Messages.{userauth_request, publickey_fields}
+use Rattle.ssh_wire.specs.Messages.{publickey_signature_fields}
 use Rattle.ssh_keys.specs.declared.algorithm.Algorithm.{Algorithm}
 use Rattle.ssh_keys.specs.declared.error.KeyError.{KeyError}
 use Rattle.ssh_keys.specs.declared.error.KeyError.TheVariants.{Blob}
@@ -67,7 +69,7 @@ OffersNothing accepts moment name blob =
 
 -- boolean signed, string algorithm name, string blob
 abbrev pub offer_fields : List Field
-offer_fields = Flag ∷ Text ∷ Bytes ∷ []
+offer_fields = publickey_fields
 
 -- the bytes up to this rest offer this, to be asked about or signed, and it can be used
 abbrev pub Offers : Circumstances → (signed : Bool) → Offer → (bytes rest : List ℕ) → Type 0
@@ -75,10 +77,10 @@ Offers given signed offer bytes rest =
     SpellsAll offer_fields (signed, (offer.name, (offer.blob, tt))) bytes rest × IsOffered offer
     × IsUsable given.accepts given.moment offer.key
 
--- what a signature covers: string session id, then the request from its number 50 up to its
+-- what a signature covers: string session id, then the request from its number up to its
 -- signature field
 abbrev pub question : (session_id unsigned : List ℕ) → List ℕ
-question session_id unsigned = string session_id ++ 50 ∷ unsigned
+question session_id unsigned = string session_id ++ userauth_request.number ∷ unsigned
 
 -- what the verifier answers about a signature, where it is asked
 abbrev pub IsAnswer : Acceptance → PublicKey → Algorithm → (message signature : List ℕ)
@@ -91,13 +93,14 @@ IsAnswer accepts key algorithm message signature (Some answer) = IsTrue answer �
 -- that it holds, or bytes follow it
 abbrev pub MisfitsSignature : List ℕ → WireError → Type 0
 MisfitsSignature bytes why =
-    MisfitsAll (Bytes ∷ []) bytes why
-    ⊎ ((inner after : List ℕ) × (signature : Signature) × (rest : List ℕ) × SpellsAll (Bytes ∷ [])
-    (inner, tt) bytes after
+    MisfitsAll publickey_signature_fields bytes why
+    ⊎ ((inner after : List ℕ) × (signature : Signature) × (rest : List ℕ)
+    × SpellsAll publickey_signature_fields (inner, tt) bytes after
     × SpellsSignature signature inner rest
     × (MisfitsWhole [] rest why ⊎ ((rest ≡ []) × MisfitsWhole [] after why)))
 
 -- a signature field comes first, and the two strings of a signature do not begin it
 abbrev pub HoldsNoSignature : List ℕ → Type 0
-HoldsNoSignature bytes = (inner after : List ℕ) × SpellsAll (Bytes ∷ []) (inner, tt) bytes after
+HoldsNoSignature bytes =
+    (inner after : List ℕ) × SpellsAll publickey_signature_fields (inner, tt) bytes after
     × LacksFields signature_fields inner

@@ -1,5 +1,6 @@
 -- What the code has read, without its borrows, and why it has not.
 use Rattle.std.specs.Prelude.{◌≡◌, ◌<◌, ◌^◌, ℕ, List, ◌∷◌, ◌++◌, length, drop}
+use Rattle.ssh_wire.specs.Messages.{userauth_request}
 use Rattle.ssh_keys.specs.declared.error.KeyError.TheVariants.{Blob}
 use Rattle.ssh_auth.specs.declared.error.AuthError.{AuthError}
 use Rattle.ssh_auth.specs.declared.error.AuthError.TheVariants as error
@@ -32,9 +33,9 @@ circumstances accepts request = record {
 abbrev pub all_fields : Request → List ℕ
 all_fields request = drop 1 request.payload.now
 
--- the session id is no longer than a string can be, the payload's number is 50, and the fields of
+-- the session id is no longer than a string can be, the payload is a USERAUTH_REQUEST by its number, and the fields of
 -- the method end it
 abbrev pub IsWhole : Request → Type 0
 IsWhole request =
     (length request.session_id.now < 2 ^ 32)
-    × ((front : List ℕ) × (request.payload.now ≡ 50 ∷ front ++ request.fields.now))
+    × ((front : List ℕ) × (request.payload.now ≡ userauth_request.number ∷ front ++ request.fields.now))

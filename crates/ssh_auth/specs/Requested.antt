@@ -4,6 +4,7 @@ use Rattle.std.specs.Prelude.{bytes_eq, codes, if◌then◌else◌}
 use Rattle.ssh_wire.specs.declared.error.WireError.{WireError}
 use Rattle.ssh_wire.specs.Field.{Field, Flag, Text, SpellsAll, SpellsWhole, MisfitsAll}
 use Rattle.ssh_wire.specs.Field.{MisfitsWhole}
+use Rattle.ssh_wire.specs.Messages as message
 use Rattle.ssh_keys.specs.declared.error.KeyError.TheVariants.{Blob}
 use Rattle.ssh_keys.specs.declared.signature.Signature.{Signature}
 use Rattle.ssh_keys.specs.Algorithms.{algorithm_name}
@@ -14,7 +15,7 @@ use Rattle.ssh_auth.specs.Publickey.{question, IsAnswer, MisfitsSignature, Holds
 
 -- string user name, string service name, string method name
 abbrev pub head_fields : List Field
-head_fields = Text ∷ Text ∷ Text ∷ []
+head_fields = message.userauth_request.fields
 
 -- what is asked for, by the method's name and the fields after it
 pub data Method : Type 0 where
@@ -58,11 +59,12 @@ SaysNone fields _ = ⊥
 -- boolean change, string password, and where it is a change, string new password (RFC 4252 section
 -- 8)
 abbrev pub SaysPassword : List ℕ → Method → Type 0
-SaysPassword fields (Password_method password) = SpellsWhole (Flag ∷ Text ∷ []) (
+SaysPassword fields (Password_method password) = SpellsWhole message.password_fields (
   false,
   (password, tt),
 ) fields
-SaysPassword fields (Change_method password new_password) = SpellsWhole (Flag ∷ Text ∷ Text ∷ [])
+SaysPassword fields (Change_method password new_password) =
+    SpellsWhole message.password_change_fields
     (true, (password, (new_password, tt))) fields
 SaysPassword fields (Unfit_method why) =
     MisfitsAll (Flag ∷ []) fields why
@@ -110,8 +112,9 @@ SaysPublickey given all fields _ = ⊥
 -- string language tag, string submethods (RFC 4256 section 3.1)
 abbrev pub SaysInteractive : List ℕ → Method → Type 0
 SaysInteractive fields (Interactive_method submethods) = (language : List ℕ)
-    × SpellsWhole (Text ∷ Text ∷ []) (language, (submethods, tt)) fields
-SaysInteractive fields (Unfit_method why) = MisfitsWhole (Text ∷ Text ∷ []) fields why
+    × SpellsWhole message.keyboard_interactive_fields (language, (submethods, tt)) fields
+SaysInteractive fields (Unfit_method why) = MisfitsWhole message.keyboard_interactive_fields fields
+    why
 SaysInteractive fields _ = ⊥
 
 -- the methods whose fields are read, and the others, whose fields stay unread

@@ -3,7 +3,7 @@ ghost use Rattle.std.specs.Prelude.{◌≡◌, Some, None, true, false, not, IfO
 ghost use Rattle.ssh_wire.specs.declared.error.WireError.TheVariants.{NoMemory};
 ghost use Rattle.ssh_auth.specs.Request.{server_request, client_request, principal_of, pair_of};
 ghost use Rattle.ssh_auth.specs.Request.{initial_of, is_bound, bound_to, bound_anew, is_probed, prompt_of};
-ghost use Rattle.ssh_auth.specs.Request.{count_after};
+ghost use Rattle.ssh_auth.specs.Request.{begun, count_after};
 ghost use Rattle.ssh_auth.specs.declared.auth_request.CurrentRequest.TheVariants.{KeyboardInteractive};
 
 use crate::Method;
@@ -189,6 +189,14 @@ impl AuthRequest {
             ) => *sent_pk_ok && key.as_slice() == blob && algo.as_str() == name,
             _ => false,
         }
+    }
+
+    /// Whether it is so for a request that names this user and this service.
+    pub(crate) fn was_probed(&self, user: &str, service: &str, name: &str, blob: &[u8]) -> bool
+        ensures { result
+            ≡ is_probed (begun self.now user.now service.now).current name.now blob.now }
+    {
+        self.is_bound(user, service) && self.is_probed(name, blob)
     }
 
     /// The user whom prompts wait for, and the submethods of their round.

@@ -16,8 +16,8 @@ pub enum AuthError<E> {
     Encoding(WireError),
     /// The request names another service than `ssh-connection`.
     Inconsistent,
-    /// The blob of a key or a certificate does not fit its layout, or a signature does not: always
-    /// `KeyError::Blob`.
+    /// The blob of a key or a certificate does not fit its layout, or else the signature of one
+    /// that can be used does not: always `KeyError::Blob`.
     Key(KeyError),
     /// The handler answered `Auth::UnsupportedMethod` to a user of keyboard-interactive.
     UnsupportedAuthMethod,

@@ -1,5 +1,6 @@
 // Requests by keyboard-interactive, and the responses to prompts.
 ghost use Rattle.std.specs.Prelude.{drop};
+ghost use Rattle.ssh_wire.specs.Messages.{userauth_info_response};
 ghost use Rattle.ssh_auth.specs.Response.{Responded, SaysResponses};
 ghost use Rattle.ssh_auth.specs.Requested.{SaysInteractive, Interactive_method};
 ghost use Rattle.ssh_auth.specs.Verdict.{method_verdict, response_verdict};
@@ -59,7 +60,7 @@ pub fn serve_response<H: AuthHandler>(
     handler: &mut H,
     payload: &[u8],
 ) -> Result<AuthStep, AuthError<H::Error>>
-    requires numbered { IsNumbered 61 payload.now }
+    requires numbered { IsNumbered userauth_info_response.number payload.now }
     ensures verdict { (said : Responded) × SaysResponses (drop 1 payload.now) said
         × CarriesOut (response_verdict auth.old said) (H.told handler.old) (H.told handler.new)
         auth.new result }

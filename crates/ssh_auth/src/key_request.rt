@@ -31,9 +31,9 @@ pub(crate) struct OfferFields<'a> {
     pub rest: &'a [u8],
 }
 
-/// A key or a certificate that a request offers, and that can be used.
+/// A key or a certificate that a request offers (RFC 4252 section 7).
 #[derive(Drop)]
-pub(crate) struct Offer<'a> {
+pub struct Offer<'a> {
     /// The name of the algorithm, as it stands in the request.
     pub name: &'a str,
     /// The blob, as it stands in the request.
@@ -180,7 +180,11 @@ fn both_end(inner: &Reader<'_>, outer: &Reader<'_>) -> Result<(), WireError>
 
 /// What the signature of a request covers: the session id, and the payload up to the signature
 /// (RFC 4252 section 7).
-fn signed_message(alloc: Global, session_id: &[u8], unsigned: &[u8]) -> Result<Vec<u8>, WireError>
+pub(crate) fn signed_message(
+    alloc: Global,
+    session_id: &[u8],
+    unsigned: &[u8],
+) -> Result<Vec<u8>, WireError>
     requires { length session_id.now < 2 ^ 32 }
     ensures ok { IfOk result (λ message. message.items ≡ string session_id.now ++ unsigned.now) }
     ensures memory { IfErr result (λ e. e ≡ NoWireMemory) }

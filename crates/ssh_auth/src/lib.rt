@@ -3,9 +3,11 @@
 //!
 //! What the crates above rely on are the contracts of [`serve_request`] and [`serve_response`]: one
 //! payload comes to its calls, its reply, its verdict and the changed state of authentication, line
-//! by line as `specs/Verdict.antt` says.
+//! by line as `specs/Verdict.antt` says. What a payload asks is told without serving it by
+//! [`asked_by_request`] and [`asked_by_response`].
 #![tactic(auto)]
 
+mod asked;
 mod auth;
 mod auth_request;
 mod auth_result;
@@ -26,6 +28,7 @@ mod reply;
 mod request;
 mod response;
 
+pub use asked::{Asked, AskedMethod, asked_by_request, asked_by_response};
 pub use auth::Auth;
 pub use auth_request::{AuthRequest, CurrentRequest};
 pub use auth_result::AuthResult;
@@ -35,6 +38,7 @@ pub use error::AuthError;
 pub use gssapi::{GssapiError, GssapiStep};
 pub use handler::{AuthHandler, Unwritten};
 pub use interactive::serve_response;
+pub use key_request::Offer;
 pub use method::Method;
 pub use offer::{PublicKeyOffer, VerifiedPublicKey};
 pub use prompts::Prompts;

@@ -1,5 +1,6 @@
 // One request of authentication, from its payload to its verdict.
 ghost use Rattle.std.specs.Prelude.{◌≡◌, ◌<◌, ◌^◌, length, drop};
+ghost use Rattle.ssh_wire.specs.Messages.{userauth_request};
 ghost use Rattle.ssh_auth.specs.Requested.{Requested, SaysRequest, None_method, Password_method};
 ghost use Rattle.ssh_auth.specs.Requested.{SaysMethod, SaysNone, SaysPassword, named_by};
 ghost use Rattle.ssh_auth.specs.Verdict.{verdict, method_verdict};
@@ -46,7 +47,7 @@ pub fn serve_request<H: AuthHandler, V: Verifier>(
     payload: &[u8],
 ) -> Result<AuthStep, AuthError<H::Error>>
     requires session_id { length session_id.now < 2 ^ 32 }
-    requires numbered { IsNumbered 50 payload.now }
+    requires numbered { IsNumbered userauth_request.number payload.now }
     ensures verdict { (said : Requested) × SaysRequest
         (record { accepts = V.accepts verifier.now; session_id = session_id.now; moment = moment })
         (drop 1 payload.now) said

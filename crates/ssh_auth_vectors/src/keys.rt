@@ -1,5 +1,5 @@
 // What OpenSSH makes is read as what it says, and written as it was.
-mod vectors;
+pub(crate) mod vectors;
 
 use crate::values::is_this;
 use bytes::Bytes;

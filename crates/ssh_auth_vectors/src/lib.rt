@@ -3,6 +3,8 @@
 #![tactic(auto)]
 
 #[cfg(test)]
+mod asked;
+#[cfg(test)]
 mod auth_request;
 #[cfg(test)]
 mod auth_result;

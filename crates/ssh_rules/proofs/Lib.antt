@@ -25,7 +25,6 @@ pub mod Keeping
 pub mod Ledger
 pub mod Telling
 pub mod Books
-pub mod KeyFields
 pub mod Methods
 pub mod Responses
 pub mod FineVerdicts
@@ -66,8 +65,6 @@ pub mod LastWord
 pub mod Lawful
 pub mod Shorter
 pub mod LayoutsOnce
-pub mod ResponsesOnce
-pub mod RequestsOnce
 pub mod PlansOnce
 pub mod Walking
 pub mod RunsOnce

@@ -29,6 +29,17 @@ spellings (field ∷ next ∷ fields) values =
 abbrev pub written : (message : Message) → Values message.fields → List ℕ
 written message values = message.number ∷ spellings message.fields values
 
+-- the same, and then this rest
+abbrev pub spellings_before : (fields : List Field) → Values fields → (rest : List ℕ) → List ℕ
+spellings_before [] values rest = rest
+spellings_before (field ∷ fields) values rest =
+    spelling field values.0 ++ spellings_before fields values.1 rest
+
+-- the payload of a message that says this in the fields that come first, and this after them
+abbrev pub written_before : (message : Message) → Values message.fields → (rest : List ℕ) → List ℕ
+written_before message values rest =
+    message.number ∷ spellings_before message.fields values rest
+
 -- a value that its field can carry
 abbrev pub IsCarried : (field : Field) → Value field → Type 0
 IsCarried Byte n = n < 256
@@ -70,6 +81,28 @@ kexinit = 20
 abbrev pub userauth_request : Message
 userauth_request = record { number = 50; fields = Text ∷ Text ∷ Text ∷ [] }
 
+-- the own fields of method password: boolean change, which is false, string password (RFC 4252
+-- section 8)
+abbrev pub password_fields : List Field
+password_fields = Flag ∷ Text ∷ []
+
+-- where it is true: string password, string new password (RFC 4252 section 8)
+abbrev pub password_change_fields : List Field
+password_change_fields = Flag ∷ Text ∷ Text ∷ []
+
+-- those of method publickey: boolean signed, string algorithm, string blob, and where it is signed
+-- string signature after them (RFC 4252 section 7)
+abbrev pub publickey_fields : List Field
+publickey_fields = Flag ∷ Text ∷ Bytes ∷ []
+
+-- string signature, which holds string algorithm and string signature (RFC 4252 section 7)
+abbrev pub publickey_signature_fields : List Field
+publickey_signature_fields = Bytes ∷ []
+
+-- those of method keyboard-interactive: string language, string submethods (RFC 4256 section 3.1)
+abbrev pub keyboard_interactive_fields : List Field
+keyboard_interactive_fields = Text ∷ Text ∷ []
+
 -- name-list of the methods that can continue, boolean partial success (RFC 4252 section 5.1)
 abbrev pub userauth_failure : Message
 userauth_failure = record { number = 51; fields = Text ∷ Flag ∷ [] }
@@ -91,13 +124,17 @@ userauth_pk_ok = record { number = 60; fields = Text ∷ Bytes ∷ [] }
 abbrev pub userauth_info_request : Message
 userauth_info_request = record { number = 60; fields = Text ∷ Text ∷ Text ∷ Number ∷ [] }
 
--- string prompt, boolean echo (RFC 4256 section 3.2)
+-- a prompt: string prompt, boolean echo (RFC 4256 section 3.2)
 abbrev pub prompt_fields : List Field
 prompt_fields = Text ∷ Flag ∷ []
 
 -- uint32 count of responses, and then the responses, a string each (RFC 4256 section 3.4)
 abbrev pub userauth_info_response : Message
 userauth_info_response = record { number = 61; fields = Number ∷ [] }
+
+-- a response (RFC 4256 section 3.4)
+abbrev pub response_field : Field
+response_field = Bytes
 
 -- ---- the connection (RFC 4254)
 

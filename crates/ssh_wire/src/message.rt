@@ -1,9 +1,10 @@
 //! The numbers of the messages (RFC 4250 section 4.1.2). Their fields are in
 //! `specs/Messages.antt`, for reading and for writing alike.
 
-ghost use Rattle.std.specs.Prelude.{◌≡◌, drop};
-ghost use Rattle.ssh_wire.specs.Field.{Values, SpellsWhole};
-ghost use Rattle.ssh_wire.specs.Messages.{Message, written, AreCarried};
+ghost use Rattle.std.specs.Prelude.{◌≡◌, ℕ, List, drop};
+ghost use Rattle.ssh_wire.specs.Field.{Field, Values, SpellsAll, MisfitsAll, SpellsWhole};
+ghost use Rattle.ssh_wire.specs.Messages.{Message, written, spellings, AreCarried};
+ghost use Rattle.ssh_wire.specs.OneReading.{SaysOne, HasOneReason, NeverBoth};
 
 /// SSH_MSG_DISCONNECT: the connection ends (RFC 4253 section 11.1).
 pub const DISCONNECT: u8 = 1;
@@ -102,4 +103,20 @@ pub fn written_is_read()
     ensures { (message : Message) (values : Values message.fields)
         → AreCarried message.fields values
         → SpellsWhole message.fields values (drop 1 (written message values)) }
+{}
+
+/// Bytes say at most one thing by a list of fields, with one rest after it, or are refused for one
+/// reason, and never both; and so it is where nothing may follow the fields.
+pub fn fields_say_one_thing()
+    ensures value { (fields : List Field) → SaysOne (SpellsAll fields) }
+    ensures reason { (fields : List Field) → HasOneReason (MisfitsAll fields) }
+    ensures apart { (fields : List Field) → NeverBoth (SpellsAll fields) (MisfitsAll fields) }
+    ensures whole { (fields : List Field) (values others : Values fields) (bytes : List ℕ)
+        → SpellsWhole fields values bytes → SpellsWhole fields others bytes → values ≡ others }
+{}
+
+/// Fields as they are written, of values that they can carry, are read as these values.
+pub fn spelled_is_read()
+    ensures { (fields : List Field) (values : Values fields) → AreCarried fields values
+        → SpellsWhole fields values (spellings fields values) }
 {}
