@@ -83,11 +83,11 @@ pub enum Command {
         /// The language tag of that text.
         language: Text,
     },
-    /// Opens a session (RFC 4254 section 6.1).
+    /// For a client: opens a session (RFC 4254 section 6.1).
     OpenSession,
     /// Opens a channel to the agent of the client (OpenSSH's `auth-agent@openssh.com`).
     OpenAgent,
-    /// Opens a connection to this host (RFC 4254 section 7.2, direct-tcpip).
+    /// For a client: opens a connection to this host (RFC 4254 section 7.2, direct-tcpip).
     OpenDirectTcpip {
         /// The host to connect to.
         host: Text,
@@ -110,8 +110,8 @@ pub enum Command {
         /// The port there.
         originator_port: u32,
     },
-    /// Opens a connection to the socket of this path at the peer (OpenSSH PROTOCOL section 2.4,
-    /// direct-streamlocal).
+    /// For a client: opens a connection to the socket of this path at the peer (OpenSSH PROTOCOL
+    /// section 2.4, direct-streamlocal).
     OpenDirectStreamlocal {
         /// The path.
         path: Text,
@@ -129,7 +129,7 @@ pub enum Command {
         /// The port there.
         originator_port: u32,
     },
-    /// Asks the peer to forward connections to this address (RFC 4254 section 7.1).
+    /// For a client: asks the peer to forward connections to this address (RFC 4254 section 7.1).
     TcpipForward {
         /// The address that the peer is to listen at.
         address: Text,
@@ -138,7 +138,7 @@ pub enum Command {
         /// The slot under which the reply is told; none asks for no reply.
         reply: Option<u64>,
     },
-    /// Asks the peer to forward them no longer (RFC 4254 section 7.1).
+    /// For a client: asks the peer to forward them no longer (RFC 4254 section 7.1).
     CancelTcpipForward {
         /// The address.
         address: Text,
@@ -181,7 +181,7 @@ pub enum Command {
     },
     /// Answers an open of the peer (RFC 4254 section 5.1).
     Answer(OpenAnswer),
-    /// A message that only a client sends: it is refused.
+    /// For a client: a message that only it sends. A server's session refuses it.
     ClientOnly {
         /// The channel.
         channel: ChannelId,

@@ -37,9 +37,11 @@ pub enum ChannelMsg {
     Eof,
     /// The peer closed the channel (RFC 4254 section 5.3).
     Close,
-    /// The peer answered a request by success (RFC 4254 section 5.4).
+    /// For a client, as what a server sends: a request is answered by success (RFC 4254 section
+    /// 5.4).
     Success,
-    /// The peer answered a request by failure (RFC 4254 section 5.4).
+    /// For a client, as what a server sends: a request is answered by failure (RFC 4254 section
+    /// 5.4).
     Failure,
     /// The peer let more data through (RFC 4254 section 5.2).
     WindowAdjusted {
@@ -126,17 +128,18 @@ pub enum ChannelMsg {
         /// Whether the user is to answer: where the peer wants a reply, it is true.
         want_reply: bool,
     },
-    /// Whether the client may do the flow control itself (RFC 4254 section 6.8).
+    /// For a client, as what a server sends: whether the client may do the flow control itself (RFC
+    /// 4254 section 6.8).
     XonXoff {
         /// Whether it may.
         client_can_do: bool,
     },
-    /// How the program ended (RFC 4254 section 6.10).
+    /// For a client, as what a server sends: how the program ended (RFC 4254 section 6.10).
     ExitStatus {
         /// Its exit status.
         exit_status: u32,
     },
-    /// Which signal ended the program (RFC 4254 section 6.10).
+    /// For a client, as what a server sends: which signal ended the program (RFC 4254 section 6.10).
     ExitSignal {
         /// The signal.
         signal_name: Sig,
