@@ -85,50 +85,9 @@ impl Handler for ExecServer {
         Ok(())
     }
 
-    fn channel_open_x11(
+    // The opens that are not written here.
+    fn refuse_open(
         &mut self,
-        _channel: ChannelId,
-        _originator_address: &str,
-        _originator_port: u32,
-        reply: ChannelOpenHandle,
-        session: &mut Commands<'_>,
-    ) -> Result<(), NoMemory> {
-        session.answer_open(reply.reject_default())?;
-        Ok(())
-    }
-
-    fn channel_open_direct_tcpip(
-        &mut self,
-        _channel: ChannelId,
-        _host_to_connect: &str,
-        _port_to_connect: u32,
-        _originator_address: &str,
-        _originator_port: u32,
-        reply: ChannelOpenHandle,
-        session: &mut Commands<'_>,
-    ) -> Result<(), NoMemory> {
-        session.answer_open(reply.reject_default())?;
-        Ok(())
-    }
-
-    fn channel_open_forwarded_tcpip(
-        &mut self,
-        _channel: ChannelId,
-        _host_to_connect: &str,
-        _port_to_connect: u32,
-        _originator_address: &str,
-        _originator_port: u32,
-        reply: ChannelOpenHandle,
-        session: &mut Commands<'_>,
-    ) -> Result<(), NoMemory> {
-        session.answer_open(reply.reject_default())?;
-        Ok(())
-    }
-
-    fn channel_open_direct_streamlocal(
-        &mut self,
-        _channel: ChannelId,
-        _socket_path: &str,
         reply: ChannelOpenHandle,
         session: &mut Commands<'_>,
     ) -> Result<(), NoMemory> {

@@ -1,5 +1,5 @@
 -- What a session lends to a callback.
-use Rattle.std.specs.Prelude.{◌≡◌, ℕ, Bool, List, [], ◌∷◌, ◌++◌, Result, Ok, Err}
+use Rattle.std.specs.Prelude.{◌≡◌, ℕ, Bool, Option, List, [], ◌∷◌, ◌++◌, Result, Ok, Err}
 use Rattle.ssh_link.specs.declared.command.Command.{Command}
 use Rattle.ssh_channels.specs.Table.{Table}
 use Rattle.ssh_handler.specs.declared.config.Config.{Config}
@@ -16,6 +16,8 @@ pub record Loan : Type 0 where
   -- commands, and answers to opens, are taken from outside
   pub commands_wanted : Bool
   pub replies_wanted : Bool
+  -- the name of the user who was let in (RFC 4252 section 5), where it is told
+  pub user : Option (List ℕ)
 
 -- a callback may be lent it: nothing is recorded yet, and the server and the peer suit
 abbrev pub IsLent : (suits : Config → List ℕ → Type 0) → Loan → Type 0

@@ -1,14 +1,13 @@
 // What a callback may ask of its session.
-ghost use Rattle.std.specs.Prelude.{◌≡◌, [], IfOk, IfErr};
+ghost use Rattle.std.specs.Prelude.{◌≡◌, [], Some, None, IfOk, IfErr};
+ghost use Rattle.std.specs.Option.{option_copied};
 ghost use Rattle.ssh_wire.specs.declared.error.WireError.TheVariants.{NoMemory};
 ghost use Rattle.ssh_link.specs.declared.command.Command.TheVariants as command;
-ghost use Rattle.ssh_channels.specs.Line as line;
-ghost use Rattle.ssh_channels.specs.Table as table_of;
-ghost use Rattle.ssh_channels.specs.Calls as calls;
 ghost use Rattle.ssh_handler.specs.Loan.{TakesDown};
-ghost use Rattle.ssh_handler.specs.Receiving as receiving;
 
-use crate::{Config, receiving};
+mod channels;
+
+use crate::Config;
 use bytes::Bytes;
 use ssh_channels::Encrypted;
 use ssh_link::{Command, CommandList, OpenAnswer};
@@ -28,9 +27,11 @@ pub struct Commands<'a> {
     remote_sshid: &'a [u8],
     commands_wanted: bool,
     replies_wanted: bool,
+    user: Option<&'a str>,
 }
 
 impl<'a> Model for Commands<'a> {
+    ghost use Rattle.std.specs.Option.{option_copied};
     ghost use Rattle.ssh_handler.specs.Loan.{Loan};
 
     ghost Value = { Loan };
@@ -42,13 +43,14 @@ impl<'a> Model for Commands<'a> {
       remote_sshid = c.remote_sshid.now;
       commands_wanted = c.commands_wanted;
       replies_wanted = c.replies_wanted;
+      user = option_copied c.user;
     } };
 }
 
 impl<'a> Commands<'a> {
-    /// Lends these channels, this configuration, the line by which the peer's software named
-    /// itself, and whether the session takes commands and answers to opens from outside now. No
-    /// command is recorded yet.
+    /// For a session: lends these channels, this configuration, the line by which the peer's
+    /// software named itself, and whether the session takes commands and answers to opens from
+    /// outside now. It names no user. No command is recorded yet.
     pub fn new(
         alloc: Global,
         table: &'a Encrypted,
@@ -63,6 +65,7 @@ impl<'a> Commands<'a> {
         ensures remote_sshid { result.remote_sshid ≡ remote_sshid.now }
         ensures commands_wanted { result.commands_wanted ≡ commands_wanted }
         ensures replies_wanted { result.replies_wanted ≡ replies_wanted }
+        ensures user { result.user ≡ None }
     {
         Commands {
             recorded: CommandList::new(alloc),
@@ -71,6 +74,39 @@ impl<'a> Commands<'a> {
             remote_sshid,
             commands_wanted,
             replies_wanted,
+            user: None,
+        }
+    }
+
+    /// For a session: lends the same, and the name of the user who was let in.
+    pub fn for_user(
+        alloc: Global,
+        table: &'a Encrypted,
+        config: &'a Config,
+        remote_sshid: &'a [u8],
+        commands_wanted: bool,
+        replies_wanted: bool,
+        user: &'a str,
+    ) -> Commands<'a>
+        ensures recorded { result.recorded ≡ [] }
+        ensures table { result.table ≡ table.now }
+        ensures config { result.config ≡ config.now }
+        ensures remote_sshid { result.remote_sshid ≡ remote_sshid.now }
+        ensures commands_wanted { result.commands_wanted ≡ commands_wanted }
+        ensures replies_wanted { result.replies_wanted ≡ replies_wanted }
+        ensures user { result.user ≡ Some user.now }
+    {
+        let lent = Commands::new(
+            alloc,
+            table,
+            config,
+            remote_sshid,
+            commands_wanted,
+            replies_wanted,
+        );
+        Commands {
+            user: Some(user),
+            ..lent
         }
     }
 
@@ -104,14 +140,24 @@ impl<'a> Commands<'a> {
         self.replies_wanted
     }
 
-    /// The recorded commands, in order.
-    pub fn recorded(&self) -> &CommandList
-        ensures { result.now ≡ self.now.recorded }
+    /// The name of the user who was let in (RFC 4252 section 5), where whoever lends names one.
+    /// A session of this library names none yet: a handler that minds who the user is keeps the
+    /// name that its callback of authentication accepted.
+    pub fn user(&self) -> Option<&str>
+        ensures { option_copied result ≡ self.now.user }
     {
-        &self.recorded
+        self.user
     }
 
-    /// A copy of the recorded commands. `NoMemory` is the only error.
+    /// The recorded commands, in order.
+    pub fn recorded(&self) -> &[Command]
+        ensures { result.now ≡ self.now.recorded }
+    {
+        self.recorded.as_slice()
+    }
+
+    /// For whoever tells the callback: a copy of the recorded commands. `NoMemory` is the only
+    /// error.
     pub fn copy_recorded(&self) -> Result<CommandList, WireError>
         ensures ok { IfOk result (λ commands. commands ≡ self.now.recorded) }
         ensures memory { IfErr result (λ e. e ≡ NoMemory) }
@@ -119,60 +165,11 @@ impl<'a> Commands<'a> {
         self.recorded.copy()
     }
 
-    /// The recorded commands, in order, to keep.
+    /// For a session: the recorded commands, in order, to keep.
     pub fn into_list(self) -> CommandList
         ensures { result ≡ self.entry.recorded }
     {
         self.recorded
-    }
-}
-
-// The channels as they are at the call: what is recorded has not been done yet.
-impl<'a> Commands<'a> {
-    /// The most bytes of data that the peer may send on the channel in one message now, and 0 where
-    /// there is no such channel (RFC 4254 section 5.2).
-    pub fn writable_packet_size(&self, channel: &ChannelId) -> u32
-        ensures { result ≡ receiving.takes_at channel.now.0 self.now.table }
-    {
-        receiving::writable_packet_size(self.table, *channel)
-    }
-
-    /// How many bytes of data the peer may still send on the channel, and 0 where there is no such
-    /// channel (RFC 4254 section 5.2).
-    pub fn window_size(&self, channel: &ChannelId) -> u32
-        ensures { result ≡ calls.room_at channel.now.0 self.now.table }
-    {
-        receiving::window_size(self.table, *channel)
-    }
-
-    /// The most bytes of data that this side takes on the channel in one message, and 0 where there
-    /// is no such channel (RFC 4254 section 5.1).
-    pub fn max_packet_size(&self, channel: &ChannelId) -> u32
-        ensures { result ≡ receiving.packet_at channel.now.0 self.now.table }
-    {
-        receiving::max_packet_size(self.table, *channel)
-    }
-
-    /// `window_size`, as a count.
-    pub fn sender_window_size(&self, channel: ChannelId) -> usize
-        ensures { result ≡ calls.room_at channel.0 self.now.table }
-    {
-        self.table.sender_window_size(channel)
-    }
-
-    /// Whether data wait on the channel to be sent.
-    pub fn has_pending_data(&self, channel: ChannelId) -> bool
-        ensures { result ≡ table_of.has line.data_waits channel.0 self.now.table }
-    {
-        self.table.has_pending_data(channel)
-    }
-
-    /// Whether data would be accepted on the channel: it is established, and neither an EOF nor a
-    /// CLOSE was accepted on it.
-    pub fn can_send(&self, channel: ChannelId) -> bool
-        ensures { result ≡ table_of.has line.may_send channel.0 self.now.table }
-    {
-        self.table.can_send(channel)
     }
 }
 
@@ -217,16 +214,18 @@ impl<'a> Commands<'a> {
         self.recorded.try_push(Command::Close { channel })
     }
 
-    /// Answers the peer's last request on the channel by success, where that wants an answer and
-    /// has none yet (RFC 4254 section 5.4).
+    /// Answers a request of the peer on the channel by success (RFC 4254 section 5.4). In the
+    /// callback of a request on that channel it answers that one, where a reply is wanted and has
+    /// not been given. In any other it answers the request whose reply the channel owes next. Where
+    /// no such reply is owed it does nothing, and is accepted.
     pub fn channel_success(&mut self, channel: ChannelId) -> Result<(), Command>
         ensures { TakesDown self.old self.new result (command.ChannelSuccess channel) }
     {
         self.recorded.try_push(Command::ChannelSuccess { channel })
     }
 
-    /// Answers the peer's last request on the channel by failure, where that wants an answer and
-    /// has none yet (RFC 4254 section 5.4).
+    /// Answers a request of the peer on the channel by failure, the one that `channel_success` would
+    /// answer (RFC 4254 section 5.4).
     pub fn channel_failure(&mut self, channel: ChannelId) -> Result<(), Command>
         ensures { TakesDown self.old self.new result (command.ChannelFailure channel) }
     {
@@ -283,7 +282,7 @@ impl<'a> Commands<'a> {
         })
     }
 
-    /// Opens a session (RFC 4254 section 6.1).
+    /// For a client: opens a session (RFC 4254 section 6.1). A peer that is one should refuse it.
     pub fn channel_open_session(&mut self) -> Result<(), Command>
         ensures { TakesDown self.old self.new result command.OpenSession }
     {
@@ -297,8 +296,8 @@ impl<'a> Commands<'a> {
         self.recorded.try_push(Command::OpenAgent)
     }
 
-    /// Opens a connection to this host and port, which comes from the originator (RFC 4254 section
-    /// 7.2, direct-tcpip).
+    /// For a client: opens a connection to this host and port, which comes from the originator (RFC
+    /// 4254 section 7.2, direct-tcpip). A peer that is one should refuse it.
     pub fn channel_open_direct_tcpip(
         &mut self,
         host: Text,
@@ -337,7 +336,8 @@ impl<'a> Commands<'a> {
         })
     }
 
-    /// Opens a connection to the socket of this path at the peer (OpenSSH PROTOCOL section 2.4).
+    /// For a client: opens a connection to the socket of this path at the peer (OpenSSH PROTOCOL
+    /// section 2.4).
     pub fn channel_open_direct_streamlocal(&mut self, path: Text) -> Result<(), Command>
         ensures { TakesDown self.old self.new result (command.OpenDirectStreamlocal path) }
     {
@@ -369,9 +369,9 @@ impl<'a> Commands<'a> {
         })
     }
 
-    /// Asks the peer to forward connections to this address and port; port 0 leaves it to the peer.
-    /// With a slot the peer is to answer, and its answer is told under the slot (RFC 4254 section
-    /// 7.1).
+    /// For a client: asks the peer to forward connections to this address and port; port 0 leaves it
+    /// to the peer. With a slot the peer is to answer, and its answer is told under the slot (RFC
+    /// 4254 section 7.1). A peer that is a client should refuse it.
     pub fn tcpip_forward(
         &mut self,
         address: Text,
@@ -387,8 +387,8 @@ impl<'a> Commands<'a> {
         })
     }
 
-    /// Asks the peer to forward them no longer. With a slot the peer is to answer, and its answer
-    /// is told under the slot (RFC 4254 section 7.1).
+    /// For a client: asks the peer to forward them no longer. With a slot the peer is to answer, and
+    /// its answer is told under the slot (RFC 4254 section 7.1).
     pub fn cancel_tcpip_forward(
         &mut self,
         address: Text,

@@ -14,8 +14,8 @@ pub struct Config {
     /// How long the refusal of a first request by method none is held, in milliseconds; None
     /// holds it as any other.
     pub auth_rejection_time_initial: Option<u64>,
-    /// After how many bytes, or how long, keys are exchanged again; the time is told to whoever
-    /// builds the link.
+    /// After how many bytes keys are exchanged again. The time is for whoever builds the link, who
+    /// gives the tick: a session measures none.
     pub limits: Limits,
     /// The window that each channel grants its peer, in bytes (RFC 4254 section 5.1). Where more
     /// than twice as many come between this side's KEXINIT and the peer's, the run ends.
@@ -23,23 +23,26 @@ pub struct Config {
     /// The most bytes of data in one message that the peer is told this side takes (RFC 4254
     /// section 5.1). Of data that come in only the room counts.
     pub maximum_packet_size: u32,
-    /// How many messages wait for the user of a channel. Nothing reads it yet.
+    /// For whoever makes a hub: how many messages may wait for the user of a channel. A session
+    /// does not use it.
     pub channel_buffer_size: usize,
-    /// How many commands wait for the session. Nothing reads it yet.
+    /// For whoever makes a hub: how many commands may wait for the session, which does not use it
+    /// itself.
     pub event_buffer_size: usize,
     /// After how many rejections the next request or response is answered by a DISCONNECT; 0 sets
     /// no end.
     pub max_auth_attempts: usize,
-    /// After how many milliseconds without an input the application is to give the inactivity tick,
-    /// which ends the run; None for never. Nothing here measures time.
+    /// For whoever builds the link: after how many milliseconds without an input it is to give the
+    /// inactivity tick, which ends the run; None for never. A session does not use it.
     pub inactivity_timeout: Option<u64>,
-    /// How many milliseconds the application is to wait between keepalive ticks; None where it
-    /// gives none.
+    /// For whoever builds the link: how many milliseconds it is to wait between keepalive ticks;
+    /// None where it gives none. A session does not use it.
     pub keepalive_interval: Option<u64>,
     /// How many keepalive ticks may come while the peer is not heard: one more ends the run. 0 sets
     /// no end.
     pub keepalive_max: usize,
-    /// Whether the socket sends small packets at once; told to whoever builds the link.
+    /// For whoever builds the link: whether the socket sends small packets at once. A session does
+    /// not use it.
     pub nodelay: bool,
 }
 

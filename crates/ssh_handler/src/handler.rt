@@ -1,6 +1,6 @@
 // The callbacks of a session.
 ghost use Rattle.std.specs.Prelude.{◌≡◌, ℕ, List, []};
-ghost use Rattle.ssh_link.specs.Told.{Tells};
+ghost use Rattle.ssh_link.specs.Told.{Tells, IsUntold};
 ghost use Rattle.ssh_auth.specs.declared.call.Call.TheVariants as call;
 ghost use Rattle.ssh_handler.specs.declared.config.Config.{Config as ConfigOf};
 
@@ -29,8 +29,7 @@ pub trait Handler: AuthHandler {
         ensures { Tells (Self.told self.old) (Self.told self.new) result
             (call.AuthSucceeded result session.new.recorded) }
     {
-        self.untold(Unwritten::new())?;
-        Ok(())
+        self.untold(Unwritten::new())
     }
 
     /// The peer closed the channel: what had still to be sent on it is dropped, and its number is
@@ -45,8 +44,7 @@ pub trait Handler: AuthHandler {
         ensures { Tells (Self.told self.old) (Self.told self.new) result
             (call.ChannelClose channel result session.new.recorded) }
     {
-        self.untold(Unwritten::new())?;
-        Ok(())
+        self.untold(Unwritten::new())
     }
 
     /// The peer sends no more data on the channel (RFC 4254 section 5.3).
@@ -60,13 +58,13 @@ pub trait Handler: AuthHandler {
         ensures { Tells (Self.told self.old) (Self.told self.new) result
             (call.ChannelEof channel result session.new.recorded) }
     {
-        self.untold(Unwritten::new())?;
-        Ok(())
+        self.untold(Unwritten::new())
     }
 
     /// The peer opens a session channel, which has this number on this side (RFC 4254 section
     /// 6.1). The open is answered by `session.answer_open(reply.accept())` or a rejection, or later
-    /// by whoever kept the number. It has no body of its own, since the handle has to be spent.
+    /// by whoever kept the number. It is the one callback beside `untold` that has no body of its
+    /// own.
     fn channel_open_session(
         &mut self,
         channel: ChannelId,
@@ -80,7 +78,8 @@ pub trait Handler: AuthHandler {
             (call.ChannelOpenSession channel result session.new.recorded) };
 
     /// The peer opens a channel for a connection to an X server (RFC 4254 section 6.3.2), which
-    /// comes from this address and port. It is answered as a session is.
+    /// comes from this address and port. It is answered as a session is, and by `refuse_open` where
+    /// it is not written.
     fn channel_open_x11(
         &mut self,
         channel: ChannelId,
@@ -94,11 +93,14 @@ pub trait Handler: AuthHandler {
         requires suits { Self.suits session.old.config session.old.remote_sshid }
         ensures { Tells (Self.told self.old) (Self.told self.new) result
             (call.ChannelOpenX11 channel originator_address.now originator_port result
-            session.new.recorded) };
+            session.new.recorded) }
+    {
+        self.refuse_open(reply, session)
+    }
 
     /// The peer asks for a connection to this host and port, and opens a channel for it (RFC 4254
     /// section 7.2, direct-tcpip); the connection comes from the originator's address and port. It
-    /// is answered as a session is.
+    /// is answered as a session is, and by `refuse_open` where it is not written.
     fn channel_open_direct_tcpip(
         &mut self,
         channel: ChannelId,
@@ -114,11 +116,15 @@ pub trait Handler: AuthHandler {
         requires suits { Self.suits session.old.config session.old.remote_sshid }
         ensures { Tells (Self.told self.old) (Self.told self.new) result
             (call.ChannelOpenDirectTcpip channel host_to_connect.now port_to_connect
-            originator_address.now originator_port result session.new.recorded) };
+            originator_address.now originator_port result session.new.recorded) }
+    {
+        self.refuse_open(reply, session)
+    }
 
     /// The peer opens a channel for a connection that came to this address and port, which it
     /// listens at for this side (RFC 4254 section 7.2, forwarded-tcpip); the connection comes from
-    /// the originator's address and port. It is answered as a session is.
+    /// the originator's address and port. It is answered as a session is, and by `refuse_open` where
+    /// it is not written.
     fn channel_open_forwarded_tcpip(
         &mut self,
         channel: ChannelId,
@@ -134,10 +140,14 @@ pub trait Handler: AuthHandler {
         requires suits { Self.suits session.old.config session.old.remote_sshid }
         ensures { Tells (Self.told self.old) (Self.told self.new) result
             (call.ChannelOpenForwardedTcpip channel host_to_connect.now port_to_connect
-            originator_address.now originator_port result session.new.recorded) };
+            originator_address.now originator_port result session.new.recorded) }
+    {
+        self.refuse_open(reply, session)
+    }
 
     /// The peer asks for a connection to the socket of this path, and opens a channel for it
-    /// (OpenSSH PROTOCOL section 2.4, direct-streamlocal). It is answered as a session is.
+    /// (OpenSSH PROTOCOL section 2.4, direct-streamlocal). It is answered as a session is, and by
+    /// `refuse_open` where it is not written.
     fn channel_open_direct_streamlocal(
         &mut self,
         channel: ChannelId,
@@ -150,7 +160,28 @@ pub trait Handler: AuthHandler {
         requires suits { Self.suits session.old.config session.old.remote_sshid }
         ensures { Tells (Self.told self.old) (Self.told self.new) result
             (call.ChannelOpenDirectStreamlocal channel socket_path.now result
-            session.new.recorded) };
+            session.new.recorded) }
+    {
+        self.refuse_open(reply, session)
+    }
+
+    /// Answers an open of the peer whose callback is not written, so that a handler that serves
+    /// sessions alone writes `channel_open_session` and no other: by `reject_default`. Where there
+    /// is no memory to record that, the open stays unanswered; a handler that would rather end the
+    /// run, or refuse for another reason, writes this. As `untold`, which the body here calls, it
+    /// is not told: a handler that tells its calls writes each open.
+    fn refuse_open(
+        &mut self,
+        reply: ChannelOpenHandle,
+        session: &mut Commands<'_>,
+    ) -> Result<(), Self::Error>
+        requires fresh { session.old.recorded ≡ [] }
+        requires suits { Self.suits session.old.config session.old.remote_sshid }
+        ensures { IsUntold (Self.told self.old) (Self.told self.new) result }
+    {
+        drop(session.answer_open(reply.reject_default()));
+        self.untold(Unwritten::new())
+    }
 
     /// The peer confirmed the open of this channel (RFC 4254 section 5.1): one message to it may
     /// have `max_packet_size` bytes of data, and it takes `window_size` bytes at first.
@@ -167,8 +198,7 @@ pub trait Handler: AuthHandler {
             (call.ChannelOpenConfirmation id max_packet_size window_size result
             session.new.recorded) }
     {
-        self.untold(Unwritten::new())?;
-        Ok(())
+        self.untold(Unwritten::new())
     }
 
     /// Data came on the channel, maybe none (RFC 4254 section 5.2).
@@ -183,8 +213,7 @@ pub trait Handler: AuthHandler {
         ensures { Tells (Self.told self.old) (Self.told self.new) result
             (call.Data channel bytes.now result session.new.recorded) }
     {
-        self.untold(Unwritten::new())?;
-        Ok(())
+        self.untold(Unwritten::new())
     }
 
     /// Data of another type came on the channel (RFC 4254 section 5.2); `code` 1 is standard error.
@@ -200,8 +229,7 @@ pub trait Handler: AuthHandler {
         ensures { Tells (Self.told self.old) (Self.told self.new) result
             (call.ExtendedData channel code bytes.now result session.new.recorded) }
     {
-        self.untold(Unwritten::new())?;
-        Ok(())
+        self.untold(Unwritten::new())
     }
 
     /// The peer lets more data through: `new_size` bytes may still be sent on the channel (RFC
@@ -217,13 +245,13 @@ pub trait Handler: AuthHandler {
         ensures { Tells (Self.told self.old) (Self.told self.new) result
             (call.WindowAdjusted channel new_size result session.new.recorded) }
     {
-        self.untold(Unwritten::new())?;
-        Ok(())
+        self.untold(Unwritten::new())
     }
 
     /// The window that this side grants on the channel was just filled up to `current` bytes (RFC
-    /// 4254 section 5.2). The answer is what the windows of the session are filled up to from now
-    /// on, in bytes; 0 leaves it as it is, and so does a callback that is not written.
+    /// 4254 section 5.2). The answer is what the window of this channel is filled up to from now on,
+    /// in bytes, until a later answer; those of other channels may follow it. 0 leaves it as it is,
+    /// and so does a callback that is not written.
     fn adjust_window(&mut self, channel: ChannelId, current: u32) -> Result<u32, Self::Error>
         ensures { Tells (Self.told self.old) (Self.told self.new) result
             (call.AdjustWindow channel current result) }
@@ -251,8 +279,7 @@ pub trait Handler: AuthHandler {
             (call.PtyRequest channel term.now col_width row_height pix_width pix_height modes.now
             result session.new.recorded) }
     {
-        self.untold(Unwritten::new())?;
-        Ok(())
+        self.untold(Unwritten::new())
     }
 
     /// The peer asks that X11 is forwarded to it, for one connection alone or for each, and names
@@ -273,8 +300,7 @@ pub trait Handler: AuthHandler {
             (call.X11Request channel single_connection x11_auth_protocol.now x11_auth_cookie.now
             x11_screen_number result session.new.recorded) }
     {
-        self.untold(Unwritten::new())?;
-        Ok(())
+        self.untold(Unwritten::new())
     }
 
     /// The peer sets a variable of the environment (RFC 4254 section 6.4).
@@ -291,8 +317,7 @@ pub trait Handler: AuthHandler {
             (call.EnvRequest channel variable_name.now variable_value.now result
             session.new.recorded) }
     {
-        self.untold(Unwritten::new())?;
-        Ok(())
+        self.untold(Unwritten::new())
     }
 
     /// The peer asks for the user's shell (RFC 4254 section 6.5).
@@ -306,8 +331,7 @@ pub trait Handler: AuthHandler {
         ensures { Tells (Self.told self.old) (Self.told self.new) result
             (call.ShellRequest channel result session.new.recorded) }
     {
-        self.untold(Unwritten::new())?;
-        Ok(())
+        self.untold(Unwritten::new())
     }
 
     /// The peer asks that this program is run, with its arguments as it wrote them (RFC 4254
@@ -323,8 +347,7 @@ pub trait Handler: AuthHandler {
         ensures { Tells (Self.told self.old) (Self.told self.new) result
             (call.ExecRequest channel bytes.now result session.new.recorded) }
     {
-        self.untold(Unwritten::new())?;
-        Ok(())
+        self.untold(Unwritten::new())
     }
 
     /// The peer asks for the subsystem of this name, as `sftp` (RFC 4254 section 6.5).
@@ -339,8 +362,7 @@ pub trait Handler: AuthHandler {
         ensures { Tells (Self.told self.old) (Self.told self.new) result
             (call.SubsystemRequest channel name.now result session.new.recorded) }
     {
-        self.untold(Unwritten::new())?;
-        Ok(())
+        self.untold(Unwritten::new())
     }
 
     /// The peer's terminal has another size, in characters and rows and in pixels (RFC 4254 section
@@ -360,8 +382,7 @@ pub trait Handler: AuthHandler {
             (call.WindowChangeRequest channel col_width row_height pix_width pix_height result
             session.new.recorded) }
     {
-        self.untold(Unwritten::new())?;
-        Ok(())
+        self.untold(Unwritten::new())
     }
 
     /// The peer asks that its agent may be reached (OpenSSH's `auth-agent-req@openssh.com`). The
@@ -393,8 +414,7 @@ pub trait Handler: AuthHandler {
         ensures { Tells (Self.told self.old) (Self.told self.new) result
             (call.Signal channel signal result session.new.recorded) }
     {
-        self.untold(Unwritten::new())?;
-        Ok(())
+        self.untold(Unwritten::new())
     }
 
     /// The peer asks that connections to this address are forwarded to it (RFC 4254 section 7.1).
@@ -471,7 +491,6 @@ pub trait Handler: AuthHandler {
         ensures { Tells (Self.told self.old) (Self.told self.new) result
             (call.CommandDone place outcome result) }
     {
-        self.untold(Unwritten::new())?;
-        Ok(())
+        self.untold(Unwritten::new())
     }
 }

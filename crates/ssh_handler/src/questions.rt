@@ -8,8 +8,8 @@ use ssh_auth::{Happening, Judged, Lent, OpenType};
 use ssh_link::ChannelOpenHandle;
 use ssh_wire::ChannelId;
 
-/// Tells the handler this by the callback that is made for it. The commands that it records are
-/// to be done unless it answers an error.
+/// For a session: tells the handler this by the callback that is made for it. The commands that it
+/// records are to be done unless it answers an error.
 pub fn ask<H: Handler>(
     handler: &mut H,
     lent: Lent,
@@ -216,8 +216,8 @@ fn ask_happened<H: Handler>(
     }
 }
 
-/// Asks the handler whether this is granted, by the callback that is made for it. The commands that
-/// it records may be done unless it answers an error.
+/// For a session: asks the handler whether this is granted, by the callback that is made for it. The
+/// commands that it records may be done unless it answers an error.
 pub fn judge<H: Handler>(
     handler: &mut H,
     judged: Judged,

@@ -6,8 +6,8 @@ ghost use Rattle.ssh_handler.specs.Receiving as receiving;
 use ssh_channels::Encrypted;
 use ssh_wire::ChannelId;
 
-/// How many bytes of data the peer may still send on the channel, and 0 where there is no such
-/// channel (RFC 4254 section 5.2).
+/// For a session: how many bytes of data the peer may still send on the channel, and 0 where there
+/// is no such channel (RFC 4254 section 5.2).
 pub fn window_size(table: &Encrypted, channel: ChannelId) -> u32
     ensures { result ≡ calls.room_at channel.0 table.now }
 {
@@ -17,8 +17,8 @@ pub fn window_size(table: &Encrypted, channel: ChannelId) -> u32
     }
 }
 
-/// The most bytes of data that this side takes on the channel in one message, and 0 where there is
-/// no such channel (RFC 4254 section 5.1).
+/// For a session: the most bytes of data that this side takes on the channel in one message, and 0
+/// where there is no such channel (RFC 4254 section 5.1).
 pub fn max_packet_size(table: &Encrypted, channel: ChannelId) -> u32
     ensures { result ≡ receiving.packet_at channel.0 table.now }
 {
@@ -28,8 +28,8 @@ pub fn max_packet_size(table: &Encrypted, channel: ChannelId) -> u32
     }
 }
 
-/// The most bytes of data that the peer may send on the channel in one message now, and 0 where
-/// there is no such channel (RFC 4254 section 5.2).
+/// For a session: the most bytes of data that the peer may send on the channel in one message now,
+/// and 0 where there is no such channel (RFC 4254 section 5.2).
 pub fn writable_packet_size(table: &Encrypted, channel: ChannelId) -> u32
     ensures { result ≡ receiving.takes_at channel.0 table.now }
 {

@@ -1,8 +1,8 @@
 // A handler that tells the calls that it passes on.
-ghost use Rattle.std.specs.Prelude.{◌≡◌, [], ◌∷◌, ◌++◌, Some, None, OnOk, OnErr, IfOk, IfErr};
+ghost use Rattle.std.specs.Prelude.{◌≡◌, [], ◌∷◌, ◌++◌, Some, None, Err, OnOk, OnErr, IfOk, IfErr};
 ghost use Rattle.std.specs.Prelude.{IfSome, IsOk};
-ghost use Rattle.ssh_link.specs.Told.{AddsOne, Tells};
-ghost use Rattle.ssh_handler.specs.declared.recorded.RecordError.TheVariants.{NoMemory};
+ghost use Rattle.ssh_link.specs.Told.{AddsOne, Tells, IsUntold};
+ghost use Rattle.ssh_handler.specs.declared.recorded.RecordError.TheVariants.{NoMemory, Untold};
 ghost use Rattle.ssh_handler.specs.Recording.{IsPassed, Keeps, Passes, Records, passed_on};
 ghost use Rattle.ssh_auth.specs.declared.call.Call.TheVariants.{AuthenticationBanner, AuthNone};
 ghost use Rattle.ssh_auth.specs.declared.call.Call.TheVariants.{AuthPassword, AuthPublickeyOffered};
@@ -48,9 +48,11 @@ use std::marker::Model;
 /// Why a callback of a recording handler cannot go on.
 #[derive(Clone, Copy, Debug, Drop, PartialEq, Eq)]
 pub enum RecordError<E> {
-    /// There was no memory to record the call, or `untold` was called. From then on no call is
-    /// told.
+    /// There was no memory to record the call. From then on no call is told.
     NoMemory,
+    /// `untold` was called, as by a callback that is not written, and cannot be told. From then on
+    /// no call is told.
+    Untold,
     /// The inner handler answered this error.
     Inner(E),
 }
@@ -190,9 +192,13 @@ where
 
     ghost told = { λ r. r.told };
 
-    fn untold(&mut self, _by: Unwritten) -> Result<(), RecordError<H::Error>> {
+    fn untold(&mut self, _by: Unwritten) -> Result<(), RecordError<H::Error>>
+        ensures untold { result ≡ Err Untold }
+        ensures stops { self.new.told ≡ None }
+        ensures told { IsUntold self.old.told self.new.told result }
+    {
         self.told.stop();
-        Err(RecordError::NoMemory)
+        Err(RecordError::Untold)
     }
 
     fn authentication_banner(&mut self) -> Result<Option<Text>, RecordError<H::Error>>

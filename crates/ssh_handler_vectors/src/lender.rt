@@ -35,4 +35,19 @@ impl Lender {
             true,
         )
     }
+
+    /// The same, to a callback of this user.
+    pub(crate) fn lend_to<'a>(&'a self, user: &'a str) -> Commands<'a>
+        ensures fresh { result.recorded ≡ [] }
+    {
+        Commands::for_user(
+            self.alloc,
+            &self.table,
+            &self.config,
+            b"SSH-2.0-test",
+            true,
+            true,
+            user,
+        )
+    }
 }

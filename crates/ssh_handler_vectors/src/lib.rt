@@ -15,6 +15,8 @@ mod numbers;
 #[cfg(test)]
 mod responses;
 #[cfg(test)]
+mod sessions;
+#[cfg(test)]
 mod told;
 #[cfg(test)]
 mod users;

@@ -173,12 +173,12 @@ fn decided(call: &Call) -> Option<Told<'_, bool>> {
 }
 
 // Whether the list is empty, or the acceptance of channel 2 alone.
-fn is_acceptance(commands: &CommandList, accepts: bool) -> bool {
+fn is_acceptance(commands: &[Command], accepts: bool) -> bool {
     if !accepts {
         return commands.len() == 0;
     }
     let accepted = Command::Answer(ChannelOpenHandle::new(CHANNEL).accept());
-    let is_first = commands.get(0) == Some(&accepted);
+    let is_first = commands.first() == Some(&accepted);
     drop(accepted);
     is_first && commands.len() == 1
 }
@@ -193,7 +193,7 @@ fn is_told<T: PartialEq + Drop>(
     match told {
         Some((callback, channel, commands, came)) => {
             let is_named = callback == name && channel == CHANNEL;
-            is_named && came == answer && is_acceptance(commands, accepts)
+            is_named && came == answer && is_acceptance(commands.as_slice(), accepts)
         }
         None => false,
     }
@@ -238,7 +238,7 @@ fn goes_on(
     drop(handler);
     let is_recorded = is_acceptance(session.recorded(), accepts);
     let list = session.into_list();
-    let is_kept = is_acceptance(&list, accepts);
+    let is_kept = is_acceptance(list.as_slice(), accepts);
     drop(list);
     drop(lender);
     Ok(answer == Ok(()) && is_told && is_recorded && is_kept)

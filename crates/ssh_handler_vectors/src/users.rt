@@ -263,7 +263,7 @@ fn is_passed_on_untold(alloc: Global) -> bool {
     let untold = handler.untold(Unwritten::new());
     let anna = spent(handler.auth_none("anna"));
     drop(handler);
-    untold == Err(RecordError::NoMemory) && anna == Verdict::Accepted
+    untold == Err(RecordError::Untold) && anna == Verdict::Accepted
 }
 
 #[test]

@@ -19,6 +19,9 @@ same_lists a b c d f g =
     same_test _ _ (λ t. (bytes_eq-Decides c d).1 (f ((bytes_eq-Decides a b).0 t)))
     (λ t. (bytes_eq-Decides a b).1 (g ((bytes_eq-Decides c d).0 t)))
 
+pub either_way : (a b : List ℕ) → bytes_eq a b ≡ bytes_eq b a
+either_way a b = same_lists a b b a sym sym
+
 differ : (a b : List ℕ) → (a ≡ b → ⊥) → false ≡ bytes_eq a b
 differ a b other = ⊎_elim (λ t. absurd (other ((bytes_eq-Decides a b).0 t))) (λ f. sym f)
     (cases_Bool (bytes_eq a b))

@@ -1,5 +1,7 @@
--- A frame as definitions see it, and the messages whose data it may share (RFC 4254 section 5.2).
-use Rattle.std.specs.Prelude.{ℕ, List, Option, Bool, ◌&&◌, nat_eq, bytes_eq}
+-- A frame as definitions see it, its head and its body, and the messages whose data it may share
+-- (RFC 4254 section 5.2).
+use Rattle.std.specs.Prelude.{◌≡◌, ◌⊎◌, ◌==◌, ◌&&◌, ◌++◌, ℕ, Bool, if◌then◌else◌, nat_eq, bytes_eq}
+use Rattle.std.specs.Prelude.{Option, List, [], ◌∷◌, length, take, drop}
 use Rattle.std.specs.Option.{option_eq}
 use Rattle.std.specs.Cmp.{IsEquivalence, and_equiv, on_equiv, nat_eq_equiv}
 use Rattle.std.specs.Cmp.Lexicographic.{options_equiv, nat_list_eq_equiv}
@@ -26,6 +28,26 @@ are_same-laws =
     (on_equiv (λ frame. frame.hold_until) (options_equiv nat_eq_equiv)))
     (on_equiv (λ frame. frame.channel) (options_equiv
     (on_equiv (λ channel. channel.0) nat_eq_equiv)))
+
+-- where a payload is cut into a head and a body: before the data of a CHANNEL_DATA, which has a
+-- number, a recipient channel and the length of the data there, and of any other message behind its
+-- first 13 bytes, as many as stand before the data of a CHANNEL_EXTENDED_DATA
+abbrev pub cut : List ℕ → ℕ
+cut [] = 13
+cut (number ∷ fields) = if number == message.channel_data.number then 9 else 13
+
+-- what stands before the cut: the whole payload where it has no more
+abbrev pub head_of : List ℕ → List ℕ
+head_of payload = take (cut payload) payload
+
+-- what stands behind it
+abbrev pub body_of : List ℕ → List ℕ
+body_of payload = drop (cut payload) payload
+
+-- the bytes in place and those that are shared: one of the two is empty, or they meet at the cut
+abbrev pub IsParted : (in_place shared : List ℕ) → Type 0
+IsParted in_place shared =
+    (in_place ≡ []) ⊎ ((shared ≡ []) ⊎ (length in_place ≡ cut (in_place ++ shared)))
 
 -- the data of a channel
 abbrev pub channel_data : (recipient : ℕ) → (bytes : List ℕ) → List ℕ

@@ -9,8 +9,8 @@ use crate::{ChannelMsg, OpenAnswer};
 use bytes::Bytes;
 use ssh_wire::{ChannelId, Disconnect, Sig, Text, WireError};
 use std::alloc::Global;
-use std::collections::VecDeque;
 use std::marker::Model;
+use std::mem;
 
 /// What the server asks of its session, from a callback or from outside. Channels go by this
 /// side's numbers.
@@ -42,14 +42,16 @@ pub enum Command {
         /// The channel.
         channel: ChannelId,
     },
-    /// Answers the peer's last request on the channel by success, where that wants an answer and
-    /// has none yet (RFC 4254 section 5.4).
+    /// Answers a request of the peer on the channel by success (RFC 4254 section 5.4). Recorded in
+    /// the callback of a request on that channel, it answers that one, where a reply is wanted and
+    /// has not been given. From anywhere else it answers the request whose reply the channel owes
+    /// next. Where no such reply is owed it does nothing, and is accepted.
     ChannelSuccess {
         /// The channel.
         channel: ChannelId,
     },
-    /// Answers the peer's last request on the channel by failure, where that wants an answer and
-    /// has none yet (RFC 4254 section 5.4).
+    /// Answers a request of the peer on the channel by failure, the one that `ChannelSuccess` would
+    /// answer (RFC 4254 section 5.4).
     ChannelFailure {
         /// The channel.
         channel: ChannelId,
@@ -81,11 +83,11 @@ pub enum Command {
         /// The language tag of that text.
         language: Text,
     },
-    /// Opens a session (RFC 4254 section 6.1).
+    /// For a client: opens a session (RFC 4254 section 6.1).
     OpenSession,
     /// Opens a channel to the agent of the client (OpenSSH's `auth-agent@openssh.com`).
     OpenAgent,
-    /// Opens a connection to this host (RFC 4254 section 7.2, direct-tcpip).
+    /// For a client: opens a connection to this host (RFC 4254 section 7.2, direct-tcpip).
     OpenDirectTcpip {
         /// The host to connect to.
         host: Text,
@@ -108,8 +110,8 @@ pub enum Command {
         /// The port there.
         originator_port: u32,
     },
-    /// Opens a connection to the socket of this path at the peer (OpenSSH PROTOCOL section 2.4,
-    /// direct-streamlocal).
+    /// For a client: opens a connection to the socket of this path at the peer (OpenSSH PROTOCOL
+    /// section 2.4, direct-streamlocal).
     OpenDirectStreamlocal {
         /// The path.
         path: Text,
@@ -127,7 +129,7 @@ pub enum Command {
         /// The port there.
         originator_port: u32,
     },
-    /// Asks the peer to forward connections to this address (RFC 4254 section 7.1).
+    /// For a client: asks the peer to forward connections to this address (RFC 4254 section 7.1).
     TcpipForward {
         /// The address that the peer is to listen at.
         address: Text,
@@ -136,7 +138,7 @@ pub enum Command {
         /// The slot under which the reply is told; none asks for no reply.
         reply: Option<u64>,
     },
-    /// Asks the peer to forward them no longer (RFC 4254 section 7.1).
+    /// For a client: asks the peer to forward them no longer (RFC 4254 section 7.1).
     CancelTcpipForward {
         /// The address.
         address: Text,
@@ -179,7 +181,7 @@ pub enum Command {
     },
     /// Answers an open of the peer (RFC 4254 section 5.1).
     Answer(OpenAnswer),
-    /// A message that only a client sends: it is refused.
+    /// For a client: a message that only it sends. A server's session refuses it.
     ClientOnly {
         /// The channel.
         channel: ChannelId,
@@ -373,19 +375,25 @@ impl From<(ChannelId, ChannelMsg)> for Command {
     }
 }
 
-/// Commands, in the order in which they were given. A clause sees the list.
+/// Commands, in the order in which they were given. A clause sees the list. The memory of commands
+/// that were taken serves again once the list is empty.
 #[derive(Debug, Drop)]
 pub struct CommandList {
-    items: VecDeque<Command>,
+    // The commands, behind a keepalive in the place of each that was taken.
+    items: Vec<Command>,
+    // How many were taken since the list was empty.
+    taken: usize,
 }
 
 impl Model for CommandList {
-    ghost use Rattle.std.specs.Prelude.{List};
+    ghost use Rattle.std.specs.Prelude.{List, ◌≤◌, drop, length};
     ghost use Rattle.ssh_link.specs.declared.command.Command.{Command};
 
     ghost Value = { List Command };
 
-    ghost view = { λ commands. commands.items.items };
+    ghost view = { λ commands. drop commands.taken commands.items.items };
+
+    ghost invariant = { λ commands. commands.taken ≤ length commands.items.items };
 }
 
 impl CommandList {
@@ -394,15 +402,23 @@ impl CommandList {
         ensures { result ≡ [] }
     {
         CommandList {
-            items: VecDeque::new(alloc),
+            items: Vec::new(alloc),
+            taken: 0,
         }
+    }
+
+    /// The commands, in order.
+    pub fn as_slice(&self) -> &[Command]
+        ensures { result.now ≡ self.now }
+    {
+        &self.items.as_slice()[self.taken..]
     }
 
     /// The command at this place, the first being at 0; none where the list is shorter.
     pub fn get(&self, place: usize) -> Option<&Command>
         ensures { option_copied result ≡ slice_get self.now place }
     {
-        self.items.get(place)
+        self.as_slice().get(place)
     }
 
     /// Adds a command at the end. `NoMemory` is the only error, and leaves the list as it was.
@@ -411,7 +427,7 @@ impl CommandList {
         ensures err { OnErr result (self.new ≡ self.old) }
         ensures memory { IfErr result (λ e. e ≡ NoMemory) }
     {
-        self.items.push_back(command)?;
+        self.items.push(command)?;
         Ok(())
     }
 
@@ -422,7 +438,7 @@ impl CommandList {
         ensures err { OnErr result (self.new ≡ self.old) }
         ensures back { IfErr result (λ e. e ≡ command) }
     {
-        match self.items.push_back(command) {
+        match self.items.push(command) {
             Ok(()) => Ok(()),
             Err(failed) => Err(failed.value),
         }
@@ -432,14 +448,14 @@ impl CommandList {
     pub fn len(&self) -> usize
         ensures { result ≡ length self.now }
     {
-        self.items.len()
+        self.as_slice().len()
     }
 
     /// Whether there is no command.
     pub fn is_empty(&self) -> bool
         ensures { result ≡ (length self.now == 0) }
     {
-        self.items.is_empty()
+        self.as_slice().is_empty()
     }
 
     /// Takes the first command out of the list; none where the list is empty.
@@ -447,7 +463,17 @@ impl CommandList {
         ensures { MatchOption result ((self.old ≡ []) × (self.new ≡ []))
             (λ command. self.old ≡ command ∷ self.new) }
     {
-        self.items.pop_front()
+        let place = self.taken;
+        if place == self.items.len() {
+            return None;
+        }
+        let first = mem::replace(&mut self.items[place], Command::Keepalive);
+        self.taken = place + 1;
+        if self.taken == self.items.len() {
+            self.items.clear();
+            self.taken = 0;
+        }
+        Some(first)
     }
 
     /// An equal list. `NoMemory` is the only error.
@@ -456,7 +482,7 @@ impl CommandList {
         ensures memory { IfErr result (λ e. e ≡ NoMemory) }
     {
         let mut copies = CommandList::new(*self.items.allocator());
-        for command in &self.items {
+        for command in self.as_slice() {
             copies.push(command.copy()?)?;
         }
         Ok(copies)

@@ -35,7 +35,14 @@ impl PlannedFailures {
         }
     }
 
-    // How many calls failed.
+    // How many calls were made.
+    pub(crate) fn calls(&self) -> u64
+        ensures { result ≡ self.now.calls }
+    {
+        self.calls
+    }
+
+    // How many of them failed.
     pub(crate) fn faults(&self) -> u64
         ensures { result ≡ self.now.faults }
     {

@@ -2,7 +2,7 @@
 ghost use Rattle.std.specs.Prelude.{◌≡◌, ◌≤◌, ◌-◌, ◌+◌, ◌^◌, ◌++◌, None, Some, IfOk, IfErr, IsOk};
 ghost use Rattle.std.specs.Prelude.{bytes_eq, length, take, drop};
 ghost use Rattle.ssh_wire.specs.declared.error.WireError.TheVariants.{NoMemory};
-ghost use Rattle.ssh_link.specs.Frames.{channel_data, channel_extended_data};
+ghost use Rattle.ssh_link.specs.Frames.{channel_data, channel_extended_data, head_of, body_of};
 ghost use Rattle.ssh_link.specs.Asked.{is_asked};
 ghost use Rattle.ssh_link.specs.Supply.{is_reply};
 
@@ -16,37 +16,41 @@ use std::marker::Model;
 /// CHANNEL_EXTENDED_DATA.
 const ROOM: usize = 13;
 
+/// How many bytes stand before the data of a CHANNEL_DATA.
+const BEFORE_DATA: usize = 9;
+
 /// A payload for the peer (RFC 4253 section 6: what one binary packet carries), in two parts: a
-/// head of at most 13 bytes in place, and a body, which may share its bytes. A clause sees
-/// `payload`, the message from its number on; `hold_until`, the moment before which it is not to go
-/// out, in milliseconds since 1970; and `channel`, this side's number of the channel that it was
-/// written for (for the messages 90 to 100 alone).
+/// head of at most 13 bytes, and a body behind it, which may share its bytes. Of a CHANNEL_DATA the
+/// body is the data, and so of a CHANNEL_EXTENDED_DATA; of any other message the head has the first
+/// 13 bytes, or the whole. A clause sees `payload`, the message from its number on; `hold_until`,
+/// the moment before which it is not to go out, in milliseconds since 1970; and `channel`, this
+/// side's number of the channel that it was written for (for the messages 90 to 100 alone).
 #[derive(Debug, Drop)]
 pub struct Frame {
     // The first bytes of the payload, and zeros.
-    head: [u8; ROOM],
+    in_place: [u8; ROOM],
     // How many of them there are.
-    head_length: usize,
+    count: usize,
     // The rest of the payload.
-    body: Bytes,
+    shared: Bytes,
     hold_until: Option<u64>,
     channel: Option<ChannelId>,
 }
 
 impl Model for Frame {
     ghost use Rattle.std.specs.Prelude.{◌≤◌, ◌++◌, take};
-    ghost use Rattle.ssh_link.specs.Frames.{Frame};
+    ghost use Rattle.ssh_link.specs.Frames.{Frame, IsParted};
 
     ghost Value = { Frame };
 
     ghost view = { λ f. record {
-      payload = take f.head_length f.head ++ f.body;
+      payload = take f.count f.in_place ++ f.shared;
       hold_until =
           f.hold_until;
       channel = f.channel;
     } };
 
-    ghost invariant = { λ f. f.head_length ≤ 13 };
+    ghost invariant = { λ f. (f.count ≤ 13) × IsParted (take f.count f.in_place) f.shared };
 }
 
 // These bytes one after another, and zeros.
@@ -54,12 +58,27 @@ fn in_place(front: &[u8], back: &[u8]) -> [u8; ROOM]
     requires { length front.now + length back.now ≤ 13 }
     ensures { take (length front.now + length back.now) result ≡ front.now ++ back.now }
 {
-    let mut head = [0; ROOM];
-    let (first, rest) = head.split_at_mut(front.len());
+    let mut bytes = [0; ROOM];
+    let (first, rest) = bytes.split_at_mut(front.len());
     first.copy_from_slice(front);
     let (second, _) = rest.split_at_mut(back.len());
     second.copy_from_slice(back);
-    head
+    bytes
+}
+
+// The head and the body of a payload.
+fn cut(payload: &[u8]) -> (&[u8], &[u8])
+    ensures head { result.0.now ≡ head_of payload.now }
+    ensures body { result.1.now ≡ body_of payload.now }
+{
+    let at = match payload.first() {
+        Some(&CHANNEL_DATA) => BEFORE_DATA,
+        _ => ROOM,
+    };
+    match payload.split_at_checked(at) {
+        Some(parts) => parts,
+        None => (payload, &[]),
+    }
 }
 
 impl Frame {
@@ -72,9 +91,9 @@ impl Frame {
         } }
     {
         Frame {
-            head: [0; ROOM],
-            head_length: 0,
-            body: payload,
+            in_place: [0; ROOM],
+            count: 0,
+            shared: payload,
             hold_until,
             channel,
         }
@@ -91,9 +110,9 @@ impl Frame {
         } }
     {
         Frame {
-            head: in_place(payload, &[]),
-            head_length: payload.len(),
-            body: Bytes::new(),
+            in_place: in_place(payload, &[]),
+            count: payload.len(),
+            shared: Bytes::new(),
             hold_until,
             channel,
         }
@@ -113,9 +132,9 @@ impl Frame {
         let [a, b, c, d] = peer.to_be_bytes();
         let [e, f, g, h] = (bytes.len() as u32).to_be_bytes();
         Frame {
-            head: [CHANNEL_DATA, a, b, c, d, e, f, g, h, 0, 0, 0, 0],
-            head_length: 9,
-            body: bytes,
+            in_place: [CHANNEL_DATA, a, b, c, d, e, f, g, h, 0, 0, 0, 0],
+            count: BEFORE_DATA,
+            shared: bytes,
             hold_until: None,
             channel: Some(channel),
         }
@@ -137,9 +156,9 @@ impl Frame {
         let [e, f, g, h] = ext.to_be_bytes();
         let [i, j, k, l] = (bytes.len() as u32).to_be_bytes();
         Frame {
-            head: [CHANNEL_EXTENDED_DATA, a, b, c, d, e, f, g, h, i, j, k, l],
-            head_length: 13,
-            body: bytes,
+            in_place: [CHANNEL_EXTENDED_DATA, a, b, c, d, e, f, g, h, i, j, k, l],
+            count: ROOM,
+            shared: bytes,
             hold_until: None,
             channel: Some(channel),
         }
@@ -148,25 +167,33 @@ impl Frame {
     /// The head and the body: the payload is the one and then the other.
     pub fn parts(&self) -> (&[u8], &[u8])
         ensures payload { result.0.now ++ result.1.now ≡ self.now.payload }
-        ensures head { length result.0.now ≤ 13 }
+        ensures head { result.0.now ≡ head_of self.now.payload }
+        ensures body { result.1.now ≡ body_of self.now.payload }
+        ensures length { length result.0.now ≤ 13 }
     {
-        let (head, _) = self.head.split_at(self.head_length);
-        (head, self.body.as_slice())
+        let (first, _) = self.in_place.split_at(self.count);
+        let rest = self.shared.as_slice();
+        if first.is_empty() {
+            cut(rest)
+        } else if rest.is_empty() {
+            cut(first)
+        } else {
+            (first, rest)
+        }
     }
 
-    /// The bytes before the body: the first of the payload.
+    /// The head, in which the message's number stands: the payload is this and then the body.
     pub fn head(&self) -> &[u8]
-        ensures first { take (length result.now) self.now.payload ≡ result.now }
+        ensures head { result.now ≡ head_of self.now.payload }
         ensures length { length result.now ≤ 13 }
     {
         let (head, _) = self.parts();
         head
     }
 
-    /// The bytes behind the head: all but at most the first 13 of the payload.
+    /// The body: all of the payload that stands behind the head.
     pub fn body(&self) -> &[u8]
-        ensures last { drop (length self.now.payload - length result.now) self.now.payload
-            ≡ result.now }
+        ensures body { result.now ≡ body_of self.now.payload }
         ensures length { length self.now.payload ≤ 13 + length result.now }
     {
         let (_, body) = self.parts();
@@ -197,17 +224,17 @@ impl Frame {
         let (head, body) = self.parts();
         if body.len() <= ROOM - head.len() {
             return Ok(Frame {
-                head: in_place(head, body),
-                head_length: head.len() + body.len(),
-                body: Bytes::new(),
+                in_place: in_place(head, body),
+                count: head.len() + body.len(),
+                shared: Bytes::new(),
                 hold_until: self.hold_until,
                 channel: self.channel,
             });
         }
         Ok(Frame {
-            head: self.head,
-            head_length: self.head_length,
-            body: self.body.clone()?,
+            in_place: self.in_place,
+            count: self.count,
+            shared: self.shared.clone()?,
             hold_until: self.hold_until,
             channel: self.channel,
         })

@@ -1,5 +1,5 @@
 // The exchange of keys, as a session sees it.
-ghost use Rattle.std.specs.Prelude.{◌≡◌, List, Bool, Option, All, IfOk, IfErr};
+ghost use Rattle.std.specs.Prelude.{◌≡◌, List, Bool, Option, None, All, IfOk, IfErr};
 ghost use Rattle.ssh_wire.specs.declared.error.WireError.TheVariants as wire_error;
 ghost use Rattle.ssh_link.specs.declared.kex.KexCall.{KexCall};
 ghost use Rattle.ssh_link.specs.declared.kex.KexCall.TheVariants.{Begun, Stepped};
@@ -63,8 +63,8 @@ pub trait Kex {
     /// Why an exchange cannot go on.
     type Error: Drop;
 
-    /// The finished calls in order, where the exchange tells them.
-    ghost steps: { Self → Option (List (KexCall Self.Error)) };
+    /// The finished calls in order, where the exchange tells them: none, where it is not written.
+    ghost steps: { Self → Option (List (KexCall Self.Error)) } = { λ _. None };
 
     /// Whether this side can begin an exchange by itself, which no call changes.
     ghost repeats: { Self → Bool };

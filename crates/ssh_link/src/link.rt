@@ -1,5 +1,6 @@
 // The link of a session to its peer.
-ghost use Rattle.std.specs.Prelude.{◌≡◌, ◌≤◌, ℕ, List, Option, IfOk, IfErr, OnOk, OnErr, IsErrOf};
+ghost use Rattle.std.specs.Prelude.{◌≡◌, ◌≤◌, ℕ, List, Option, None, IfOk, IfErr, OnOk, OnErr};
+ghost use Rattle.std.specs.Prelude.{IsErrOf};
 ghost use Rattle.ssh_wire.specs.declared.error.WireError.TheVariants.{NoMemory};
 ghost use Rattle.ssh_link.specs.declared.link.TraceEntry.{TraceEntry};
 ghost use Rattle.ssh_link.specs.declared.link.TraceEntry.TheVariants.{Took, Sent, Noticed};
@@ -69,11 +70,10 @@ pub enum LinkFault {
 /// Where inputs come from, and where frames go to. A link that tells its calls goes on telling
 /// them.
 pub trait Link {
-    /// The finished calls in order, where the link tells them.
-    ghost trace: { Self → Option (List TraceEntry) };
+    /// The finished calls in order, where the link tells them: none, where it is not written.
+    ghost trace: { Self → Option (List TraceEntry) } = { λ _. None };
 
-    /// How often the outside has failed: it rises where a call fails so, and not where one is
-    /// finished.
+    /// How often the outside has failed: it rises where a call fails so, and never falls.
     ghost faults: { Self → ℕ };
 
     /// The next input. A link gives a command only where `commands` asks for it, and a reply to
@@ -84,7 +84,6 @@ pub trait Link {
         ensures asked { IfOk result (λ input. IsAsked commands replies input.kind) }
         ensures err { OnErr result (AddsNothing (trace self.old) (trace self.new)) }
         ensures cause { IsErrOf result LinkFault.Failed → Rose (faults self.old) (faults self.new) }
-        ensures quiet { OnOk result (faults self.new ≡ faults self.old) }
         ensures later { faults self.old ≤ faults self.new };
 
     /// Hands a frame on to the peer.
@@ -92,7 +91,6 @@ pub trait Link {
         ensures sent { OnOk result (AddsOne (trace self.old) (trace self.new) (Sent frame)) }
         ensures err { OnErr result (AddsNothing (trace self.old) (trace self.new)) }
         ensures cause { IsErrOf result LinkFault.Failed → Rose (faults self.old) (faults self.new) }
-        ensures quiet { OnOk result (faults self.new ≡ faults self.old) }
         ensures later { faults self.old ≤ faults self.new };
 
     /// Tells the users of the channels what happened.
@@ -100,7 +98,6 @@ pub trait Link {
         ensures noticed { OnOk result (AddsOne (trace self.old) (trace self.new) (Noticed notice)) }
         ensures err { OnErr result (AddsNothing (trace self.old) (trace self.new)) }
         ensures cause { IsErrOf result LinkFault.Failed → Rose (faults self.old) (faults self.new) }
-        ensures quiet { OnOk result (faults self.new ≡ faults self.old) }
         ensures later { faults self.old ≤ faults self.new };
 
     /// Answers what came of the command or the reply with this ticket.
@@ -109,6 +106,5 @@ pub trait Link {
             (Answered ticket outcome)) }
         ensures err { OnErr result (AddsNothing (trace self.old) (trace self.new)) }
         ensures cause { IsErrOf result LinkFault.Failed → Rose (faults self.old) (faults self.new) }
-        ensures quiet { OnOk result (faults self.new ≡ faults self.old) }
         ensures later { faults self.old ≤ faults self.new };
 }

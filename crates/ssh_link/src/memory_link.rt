@@ -80,6 +80,14 @@ impl MemoryLink {
         self.trace.as_slice()
     }
 
+    /// How many calls were made so far, finished or not, all kinds counted together: the number of
+    /// the last one.
+    pub fn calls(&self) -> u64
+        ensures { result ≡ self.now.failures.calls }
+    {
+        self.failures.calls()
+    }
+
     /// How many of its calls failed as planned.
     pub fn faults(&self) -> u64
         ensures { result ≡ self.now.failures.faults }

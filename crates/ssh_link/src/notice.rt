@@ -6,8 +6,8 @@ use bytes::Bytes;
 use ssh_wire::{ChannelId, ChannelOpenFailure, Modes, Sig, Text, WireError};
 
 /// What happened on a channel, as its user is told: data, its end, and the requests with their
-/// fields (RFC 4254 sections 5 and 6). Of a request `want_reply` is always true: it asks for an
-/// answer of the user, and whether one goes out is decided by the peer's flag, when it is given.
+/// fields (RFC 4254 sections 5 and 6). Of a request `want_reply` is true wherever the peer wants a
+/// reply. Whether one goes out is decided by the peer's flag, so an answer may be given either way.
 #[derive(Debug, Drop, PartialEq, Eq)]
 pub enum ChannelMsg {
     /// The peer confirmed an open of this side (RFC 4254 section 5.1).
@@ -37,9 +37,11 @@ pub enum ChannelMsg {
     Eof,
     /// The peer closed the channel (RFC 4254 section 5.3).
     Close,
-    /// The peer answered a request by success (RFC 4254 section 5.4).
+    /// For a client, as what a server sends: a request is answered by success (RFC 4254 section
+    /// 5.4).
     Success,
-    /// The peer answered a request by failure (RFC 4254 section 5.4).
+    /// For a client, as what a server sends: a request is answered by failure (RFC 4254 section
+    /// 5.4).
     Failure,
     /// The peer let more data through (RFC 4254 section 5.2).
     WindowAdjusted {
@@ -48,7 +50,7 @@ pub enum ChannelMsg {
     },
     /// A terminal is asked for (RFC 4254 section 6.2).
     RequestPty {
-        /// That an answer is asked for: always true.
+        /// Whether the user is to answer: where the peer wants a reply, it is true.
         want_reply: bool,
         /// The terminal's type, as `vt100`.
         term: Text,
@@ -65,12 +67,12 @@ pub enum ChannelMsg {
     },
     /// The user's shell is asked for (RFC 4254 section 6.5).
     RequestShell {
-        /// That an answer is asked for: always true.
+        /// Whether the user is to answer: where the peer wants a reply, it is true.
         want_reply: bool,
     },
     /// A program is to be run (RFC 4254 section 6.5).
     Exec {
-        /// That an answer is asked for: always true.
+        /// Whether the user is to answer: where the peer wants a reply, it is true.
         want_reply: bool,
         /// The program and its arguments.
         command: Bytes,
@@ -82,14 +84,14 @@ pub enum ChannelMsg {
     },
     /// A subsystem is asked for (RFC 4254 section 6.5).
     RequestSubsystem {
-        /// That an answer is asked for: always true.
+        /// Whether the user is to answer: where the peer wants a reply, it is true.
         want_reply: bool,
         /// Its name.
         name: Text,
     },
     /// X11 is to be forwarded (RFC 4254 section 6.3.1).
     RequestX11 {
-        /// That an answer is asked for: always true.
+        /// Whether the user is to answer: where the peer wants a reply, it is true.
         want_reply: bool,
         /// Whether for one connection alone.
         single_connection: bool,
@@ -102,7 +104,7 @@ pub enum ChannelMsg {
     },
     /// A variable of the environment (RFC 4254 section 6.4).
     SetEnv {
-        /// That an answer is asked for: always true.
+        /// Whether the user is to answer: where the peer wants a reply, it is true.
         want_reply: bool,
         /// Its name.
         variable_name: Text,
@@ -123,20 +125,21 @@ pub enum ChannelMsg {
     /// The peer asks that its agent may be reached from here (OpenSSH's
     /// `auth-agent-req@openssh.com`).
     AgentForward {
-        /// That an answer is asked for: always true.
+        /// Whether the user is to answer: where the peer wants a reply, it is true.
         want_reply: bool,
     },
-    /// Whether the client may do the flow control itself (RFC 4254 section 6.8).
+    /// For a client, as what a server sends: whether the client may do the flow control itself (RFC
+    /// 4254 section 6.8).
     XonXoff {
         /// Whether it may.
         client_can_do: bool,
     },
-    /// How the program ended (RFC 4254 section 6.10).
+    /// For a client, as what a server sends: how the program ended (RFC 4254 section 6.10).
     ExitStatus {
         /// Its exit status.
         exit_status: u32,
     },
-    /// Which signal ended the program (RFC 4254 section 6.10).
+    /// For a client, as what a server sends: which signal ended the program (RFC 4254 section 6.10).
     ExitSignal {
         /// The signal.
         signal_name: Sig,

@@ -1,4 +1,4 @@
-// A frame has a head and a body, and equals each one of the same payload, hold and channel.
+// A frame has a head and a body, cut by its payload alone, and equals each one of the same payload, hold and channel.
 use crate::values::{are_equal, equals};
 use bytes::Bytes;
 use ssh_link::Frame;
@@ -45,12 +45,23 @@ fn frame(alloc: Global, made: Made) -> Result<Frame, WireError> {
 fn has_parts(alloc: Global, made: Made, head: &[u8], body: &[u8]) -> Result<bool, WireError> {
     let frame = frame(alloc, made)?;
     let goes_out = (frame.hold_until(), frame.channel()) == (None, Some(OWN));
-    Ok(frame.parts() == (head, body) && goes_out)
+    let are_parts = (frame.head(), frame.body()) == (head, body);
+    Ok(are_parts && frame.parts() == (head, body) && goes_out)
 }
 
 // Of each way to make a frame: the head, and the body.
-static PARTS: [(Made, &[u8], &[u8]); 5] = [
-    (Made::Whole(DATA), b"", DATA),
+static PARTS: [(Made, &[u8], &[u8]); 7] = [
+    (Made::Whole(DATA), b"\x5e\0\0\0\x07\0\0\0\x05", b"hello"),
+    (
+        Made::Whole(EXTENDED),
+        b"\x5f\0\0\0\x07\0\0\0\x01\0\0\0\x02",
+        b"no",
+    ),
+    (
+        Made::Whole(b"\x04 a message to show"),
+        b"\x04 a message t",
+        b"o show",
+    ),
     (Made::Hello, b"\x5e\0\0\0\x07\0\0\0\x05", b"hello"),
     (
         Made::ExtendedNo,

@@ -1,13 +1,12 @@
-// The outsides in memory by example, the values that they carry, and the standard edge once.
-use crate::command::{notice_is_copied, texts};
-use crate::values::{are_equal, equals, filled, is_copy, is_held};
+// The outsides in memory by example, and the standard edge once.
+use crate::values::{are_equal, filled, is_copy};
 use bytes::Bytes;
 use ssh_link::{
-    Calls, ChannelMsg, ChannelOpenHandle, Command, CommandList, CommandOutcome, Frame, Input,
-    InputKind, Inputs, IoFailed, Link, LinkFault, MemoryLink, MemorySink, MemorySource, Notice,
-    OpenAnswer, Refusal, Sink, Source, StdSink, StdSource, TraceEntry,
+    Calls, ChannelOpenHandle, Command, CommandOutcome, Frame, Input, InputKind, Inputs, IoFailed,
+    Link, LinkFault, MemoryLink, MemorySink, MemorySource, Notice, Refusal, Sink, Source, StdSink,
+    StdSource, TraceEntry,
 };
-use ssh_wire::{ChannelId, ChannelOpenFailure, Text, WireError};
+use ssh_wire::{ChannelId, WireError};
 use std::alloc::Global;
 use std::fmt::Display;
 use std::io;
@@ -135,14 +134,15 @@ fn link(
     }
 }
 
-// Whether the link answers as the row says, and as many calls failed.
+// Whether the link answers as the row says, and as many calls were made and failed.
 fn gives(alloc: Global, row: Row) -> Result<bool, WireError> {
     let mut link = link(alloc, row.inputs, row.fails, row.end)?;
     let mut is_so = true;
     for answer in row.answers {
         is_so = answers(&mut link, *answer) && is_so;
     }
-    Ok(is_so && link.faults() == row.fails.len() as u64)
+    let counts = (link.calls(), link.faults());
+    Ok(is_so && counts == (row.answers.len() as u64, row.fails.len() as u64))
 }
 
 static LINKS: [Row; 4] = [
@@ -247,7 +247,7 @@ fn a_link_tells_its_finished_calls_and_no_others(rt: HostRuntime) -> Result<(), 
     assert!(rt; answers(&mut link, (false, true, Some(Given::Reply(10, 7)))));
     assert!(rt; answered(rt.alloc(), &mut link) == Ok([true; 5]));
     assert!(rt; tells_the_finished(link.trace()));
-    assert!(rt; link.faults() == 2);
+    assert!(rt; (link.calls(), link.faults()) == (6, 2));
     for entry in link.trace() {
         assert!(rt; is_copy(entry.copy(), entry) == Ok(true));
     }
@@ -308,191 +308,6 @@ fn the_standard_edge_reads_and_writes(rt: HostRuntime) -> Result<(), Fail> {
     let mut sink = StdSink::new(io::writer(&rt));
     assert!(rt; sink.write(b"edge\n").is_ok());
     Ok(())
-}
-
-fn answer(rejection: Option<ChannelOpenFailure>, texts: Option<(Text, Text)>) -> OpenAnswer {
-    OpenAnswer {
-        channel: CHANNEL,
-        rejection,
-        texts,
-    }
-}
-
-fn handle() -> ChannelOpenHandle {
-    ChannelOpenHandle::new(CHANNEL)
-}
-
-// What a handle is used for.
-#[derive(Clone, Copy)]
-enum Used {
-    Accept,
-    Reject(ChannelOpenFailure),
-    RejectDefault,
-}
-
-fn answer_by(used: Used) -> OpenAnswer {
-    match used {
-        Used::Accept => handle().accept(),
-        Used::Reject(why) => handle().reject(why),
-        Used::RejectDefault => handle().reject_default(),
-    }
-}
-
-const SHORTAGE: ChannelOpenFailure = ChannelOpenFailure::ResourceShortage;
-
-const FORBIDDEN: ChannelOpenFailure = ChannelOpenFailure::AdministrativelyProhibited;
-
-static USES: [(Used, Option<ChannelOpenFailure>); 3] = [
-    (Used::Accept, None),
-    (Used::Reject(SHORTAGE), Some(SHORTAGE)),
-    (Used::RejectDefault, Some(FORBIDDEN)),
-];
-
-#[test]
-fn a_handle_makes_its_answer_or_keeps_its_number(rt: HostRuntime) {
-    let handed = handle();
-    assert!(rt; handed.channel() == CHANNEL);
-    assert!(rt; handed.into_channel() == CHANNEL);
-    for (made, rejection) in &USES {
-        assert!(rt; are_equal(answer_by(*made), answer(*rejection, None)));
-    }
-}
-
-// A refusal with a text, as a handle makes it, or field by field.
-fn described(alloc: Global, by_handle: bool) -> Result<OpenAnswer, WireError> {
-    let reason = SHORTAGE;
-    let (busy, english) = texts(alloc, "busy", "en")?;
-    Ok(if by_handle {
-        handle().reject_with(reason, busy, english)
-    } else {
-        answer(Some(reason), Some((busy, english)))
-    })
-}
-
-fn answer_is_copied(answer: OpenAnswer) -> Result<bool, WireError> {
-    let copy = answer.copy();
-    equals(answer, copy)
-}
-
-fn texts_are_kept(alloc: Global) -> Result<bool, WireError> {
-    let made = described(alloc, true)?;
-    let is_same = equals(made, described(alloc, false))?;
-    Ok(answer_is_copied(described(alloc, true)?)? && is_same)
-}
-
-#[test]
-fn a_refusal_keeps_its_texts(rt: HostRuntime) {
-    assert!(rt; texts_are_kept(rt.alloc()) == Ok(true));
-}
-
-#[derive(Clone, Copy)]
-enum Listed {
-    Eof,
-    Hello,
-    Accepted,
-    Close,
-}
-
-fn hello(bytes: Bytes) -> Command {
-    Command::Data {
-        channel: CHANNEL,
-        bytes,
-    }
-}
-
-fn listed_command(listed: Listed) -> Command {
-    match listed {
-        Listed::Eof => Command::Eof { channel: CHANNEL },
-        Listed::Hello => hello(Bytes::from_static(b"hello")),
-        Listed::Accepted => Command::Answer(handle().accept()),
-        Listed::Close => Command::Close { channel: CHANNEL },
-    }
-}
-
-fn wanted_command(listed: Option<Listed>) -> Option<Command> {
-    match listed {
-        Some(listed) => Some(listed_command(listed)),
-        None => None,
-    }
-}
-
-// Three commands, the bytes standing on the heap.
-fn push_three(alloc: Global, commands: &mut CommandList) -> Result<(), WireError> {
-    let bytes = Bytes::copy_from_slice(alloc, b"hello")?;
-    commands.push(listed_command(Listed::Eof))?;
-    commands.push(hello(bytes))?;
-    commands.push(listed_command(Listed::Accepted))
-}
-
-fn takes(commands: &mut CommandList, wanted: Option<Listed>) -> bool {
-    are_equal(commands.take_first(), wanted_command(wanted))
-}
-
-fn adds(commands: &mut CommandList, added: Listed) -> bool {
-    are_equal(commands.try_push(listed_command(added)), Ok(()))
-}
-
-fn holds(commands: &CommandList, place: usize, wanted: Listed) -> bool {
-    is_held(commands.get(place), listed_command(wanted))
-}
-
-fn copies_are_taken(commands: &CommandList) -> Result<bool, WireError> {
-    let mut copies = commands.copy()?;
-    Ok(
-        takes(&mut copies, Some(Listed::Hello))
-            && takes(&mut copies, Some(Listed::Accepted))
-            && takes(&mut copies, Some(Listed::Close))
-            && takes(&mut copies, None),
-    )
-}
-
-#[test]
-fn a_command_list_gives_its_commands_in_order(rt: HostRuntime) {
-    let mut commands = CommandList::new(rt.alloc());
-    assert!(rt; commands.is_empty());
-    assert!(rt; push_three(rt.alloc(), &mut commands) == Ok(()));
-    assert!(rt; takes(&mut commands, Some(Listed::Eof)));
-    assert!(rt; adds(&mut commands, Listed::Close));
-    assert!(rt; commands.len() == 3);
-    assert!(rt; holds(&commands, 2, Listed::Close));
-    assert!(rt; commands.get(3).is_none());
-    assert!(rt; copies_are_taken(&commands) == Ok(true));
-}
-
-// What a notice tells.
-#[derive(Clone, Copy)]
-enum Told {
-    Adjusted,
-    Eof,
-    Close,
-    Granted,
-    Ready,
-}
-
-fn notice(told: Told) -> Notice {
-    let channel = CHANNEL;
-    match told {
-        Told::Adjusted => Notice::Channel(channel, ChannelMsg::WindowAdjusted { new_size: 5 }),
-        Told::Eof => Notice::Channel(channel, ChannelMsg::Eof),
-        Told::Close => Notice::Channel(channel, ChannelMsg::Close),
-        Told::Granted => Notice::Granted { channel, amount: 5 },
-        Told::Ready => ready(256),
-    }
-}
-
-static NOTICES: [Told; 5] = [
-    Told::Adjusted,
-    Told::Eof,
-    Told::Close,
-    Told::Granted,
-    Told::Ready,
-];
-
-#[test]
-fn a_notice_is_copied_whole(rt: HostRuntime) {
-    for told in &NOTICES {
-        assert!(rt; notice_is_copied(notice(*told)) == Ok(true));
-    }
 }
 
 fn says<T: Display>(alloc: Global, fault: &T, wanted: &str) -> bool {

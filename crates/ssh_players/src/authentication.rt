@@ -19,7 +19,7 @@ impl AuthHandler for ScriptHandler {
 
     fn untold(&mut self, _by: Unwritten) -> Result<(), RecordError<ScriptError>> {
         self.lost = true;
-        Err(RecordError::NoMemory)
+        Err(RecordError::Untold)
     }
 
     fn authentication_banner(&mut self) -> Result<Option<Text>, RecordError<ScriptError>> {

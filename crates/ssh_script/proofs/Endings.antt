@@ -43,6 +43,8 @@ status_small (Err (error.Key why)) status h = some_small 1 status (omega arith) 
 status_small (Err error.UnsupportedAuthMethod) status h = some_small 1 status (omega arith) h
 status_small (Err (error.Handler record_error.NoMemory)) status h =
     absurd (let z : None ≡ Some status = h in cc)
+status_small (Err (error.Handler record_error.Untold)) status h = some_small 1 status (omega arith)
+    h
 status_small (Err (error.Handler (record_error.Inner e))) status h = some_small 1 status
     (omega arith) h
 status_small (Err (error.Kex e)) status h = some_small 1 status (omega arith) h

@@ -125,6 +125,7 @@ run_not_two (Err error.Inconsistent) h = not_two 1 (omega arith) h
 run_not_two (Err (error.Key why)) h = not_two 1 (omega arith) h
 run_not_two (Err error.UnsupportedAuthMethod) h = not_two 1 (omega arith) h
 run_not_two (Err (error.Handler record_error.NoMemory)) h = absurd (none_is_some 2 h)
+run_not_two (Err (error.Handler record_error.Untold)) h = not_two 1 (omega arith) h
 run_not_two (Err (error.Handler (record_error.Inner e))) h = not_two 1 (omega arith) h
 run_not_two (Err (error.Kex e)) h = not_two 1 (omega arith) h
 run_not_two (Err error.ChannelsFull) h = not_two 1 (omega arith) h

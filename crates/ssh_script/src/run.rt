@@ -66,7 +66,7 @@ fn error_status(error: &RunError<RecordError<ScriptError>, PlainKexError>) -> Op
         | RunError::Pending
         | RunError::Key(_)
         | RunError::UnsupportedAuthMethod
-        | RunError::Handler(RecordError::Inner(_))
+        | RunError::Handler(RecordError::Inner(_) | RecordError::Untold)
         | RunError::Kex(_)
         | RunError::ChannelsFull
         | RunError::KeepaliveTimeout

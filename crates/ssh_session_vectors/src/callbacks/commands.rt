@@ -1,6 +1,6 @@
 // Each command is recorded, behind the others.
 use super::lending::Lender;
-use ssh_link::CommandList;
+use ssh_link::Command;
 use ssh_stories::{Wish, command, record};
 use ssh_wire::Disconnect;
 use std::alloc::Global;
@@ -35,7 +35,7 @@ static WISHES: [Wish; 25] = [
 ];
 
 // Whether the last of this many commands is this one.
-fn is_last(alloc: Global, commands: &CommandList, count: usize, wish: Wish) -> Result<bool, Fail> {
+fn is_last(alloc: Global, commands: &[Command], count: usize, wish: Wish) -> Result<bool, Fail> {
     let expected = command(alloc, wish)?;
     let is_last = commands.get(count.saturating_sub(1)) == Some(&expected);
     drop(expected);
