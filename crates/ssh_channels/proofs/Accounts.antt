@@ -14,19 +14,20 @@ use Rattle.ssh_channels.specs.declared.chunk.Chunk.{Chunk}
 use Rattle.ssh_channels.specs.declared.chunk.DataKind.{DataKind}
 use Rattle.ssh_channels.specs.declared.chunk.DataKind.TheVariants.{Plain, Extended}
 use Rattle.ssh_channels.specs.Layout.{chunk, data_frame, eof_frame, close_frame, bare_frame}
-use Rattle.ssh_channels.specs.Layout.{adjust_frame}
+use Rattle.ssh_channels.specs.Layout.{adjust_frame, reply_frame}
 use Rattle.ssh_channels.specs.Cut.{piece_limit, cut, left_of}
 use Rattle.ssh_channels.specs.Entry.{Entry, agreed, all_framed, more_may_come, close_may_come}
 use Rattle.ssh_channels.specs.Entry.{flush_out}
 use Rattle.ssh_channels.specs.Entry.{flushed, granting, accepting, tells_eof, closes_now, eof_out}
-use Rattle.ssh_channels.specs.Entry.{after_eof}
+use Rattle.ssh_channels.specs.Entry.{after_eof, requesting, reply_may_come, replying, replies_out}
 use Rattle.ssh_channels.specs.Room.{coming, having, adjust_out}
 use Rattle.ssh_channels.specs.Lines.{Left, Lines, find, put, without, added, last_left, write}
 use Rattle.ssh_channels.specs.Lines.{turns, leaves, closes}
 use Rattle.ssh_channels.specs.Lines.{settles}
 use Rattle.ssh_channels.specs.Lines.{where_found, at, takes_data, takes_eof, takes_close}
 use Rattle.ssh_channels.specs.Lines.{peer_closes, goes_on}
-use Rattle.ssh_channels.specs.Lines.{takes_grant, takes_in, says, wants, confirms, fails}
+use Rattle.ssh_channels.specs.Lines.{takes_grant, takes_in, says, wants, aims, takes_request}
+use Rattle.ssh_channels.specs.Lines.{takes_reply, confirms, fails}
 use Rattle.ssh_channels.specs.Sent.{is_opening, is_refusal, is_flow, is_beside, since, Before}
 use Rattle.ssh_channels.specs.Sent.{IsLeft, IsGone, IsKept}
 use Rattle.ssh_channels.specs.Sent.{AllKept}
@@ -36,7 +37,8 @@ use Rattle.ssh_channels.proofs.Entries.{and_left, and_right, more_confirmed}
 use Rattle.ssh_channels.proofs.Befores.{before_flush, before_grant, before_accept, before_eof}
 use Rattle.ssh_channels.proofs.Befores.{before_close}
 use Rattle.ssh_channels.proofs.Befores.{before_beside}
-use Rattle.ssh_channels.proofs.Befores.{before_room, before_wanting, before_told}
+use Rattle.ssh_channels.proofs.Befores.{before_room, before_wanting, before_aimed, before_request}
+use Rattle.ssh_channels.proofs.Befores.{before_reply, before_told}
 use Rattle.ssh_channels.proofs.Befores.{before_agreed, left_after_all, left_by_peer, left_refused}
 use Rattle.ssh_channels.proofs.Listed.{one_number, found_put, find_other, find_again, find_without}
 use Rattle.ssh_channels.proofs.Listed.{without_other}
@@ -338,6 +340,37 @@ module _ (l : Lines) (past : List TraceEntry) (h : Ledgered l past) where
       (λ e is k. turns_kept (record e { wants_reply = wanted }) e [] is tt
       (still e (Before (record e { wants_reply = wanted }))
       (before_wanting wanted e (since e.number sent) k)))
+
+  pub aims_kept : (n target : ℕ) → target < 2 ^ 32 → Ledgered (aims n target l) past
+  aims_kept n target small = at_kept n (λ e. turns (record e { target = target }) [])
+      (λ e is k. turns_kept (record e { target = target }) e [] is tt
+      (still e (Before (record e { target = target }))
+      (before_aimed target e (since e.number sent) small k)))
+
+  pub request_kept : (n : ℕ) → Ledgered (takes_request n l) past
+  request_kept n = at_kept n (λ e l. cond e.confirmed (turns (requesting e) [] l) l)
+      (λ e is k. where_may e.confirmed (turns (requesting e) [] l)
+      (λ c. turns_kept (requesting e) e [] is tt
+      (still e (Before (requesting e)) (before_request e (since e.number sent) c k))))
+
+  reply_opens_none : (n peer : ℕ) (success : Bool) →
+      is_opening (reply_frame n peer success).payload ≡ false
+  reply_opens_none n peer true = refl
+  reply_opens_none n peer false = refl
+
+  replies_on : (n peer : ℕ) (said : List Bool) → AllOn n (map (reply_frame n peer) said)
+  replies_on n peer [] = tt
+  replies_on n peer (success ∷ said) =
+      (refl, reply_opens_none n peer success, replies_on n peer said)
+
+  pub reply_kept : (n : ℕ) (place : Option ℕ) (success : Bool)
+      → Ledgered (takes_reply n place success l) past
+  reply_kept n place success = at_kept n (λ e l. cond (reply_may_come place e)
+      (turns (replying place success e) (replies_out place success e) l) l)
+      (λ e is k. where_may (reply_may_come place e)
+      (turns (replying place success e) (replies_out place success e) l)
+      (λ m. turns_kept (replying place success e) e (replies_out place success e) is
+      (replies_on e.number e.peer _) (before_reply place success e (since e.number sent) k)))
 
   pub confirms_kept : (n peer window limit : ℕ) → 0 < limit → window < 2 ^ 32 →
       Ledgered (confirms n peer window limit l) past

@@ -6,7 +6,7 @@ use Rattle.ssh_channels.specs.Table.{Table}
 use Rattle.ssh_channels.specs.Calls.{Op, Byte, Send, Eof, Close, Peer_close, Flush_line, Flush_all}
 use Rattle.ssh_channels.specs.Calls.{Grant, Adjust, Draw}
 use Rattle.ssh_channels.specs.Calls.{Open_next, Drop_pending, Insert, Confirm, Fail_open}
-use Rattle.ssh_channels.specs.Calls.{Set_wants_reply, Stage, op}
+use Rattle.ssh_channels.specs.Calls.{Set_wants_reply, Set_target, Request, Settle, Stage, op}
 use Rattle.ssh_channels.specs.Paths.{Out, is_direct, kept, passed_on, put_out, by_sink, by_table}
 use Rattle.ssh_channels.specs.Paths.{plain, written, flush}
 use Rattle.ssh_channels.specs.Paths.{answer, run, answers, PutsOutTheSame}
@@ -47,6 +47,9 @@ each_agrees (Insert l) out = (refl, refl)
 each_agrees (Confirm msg) out = (refl, refl)
 each_agrees (Fail_open n) out = (refl, refl)
 each_agrees (Set_wants_reply n wanted) out = (refl, refl)
+each_agrees (Set_target n target) out = (refl, refl)
+each_agrees (Request n) out = (refl, refl)
+each_agrees (Settle n place success) out = (refl, refl)
 each_agrees (Stage frame) out = (refl, refl)
 
 -- so the flush after it leaves the same

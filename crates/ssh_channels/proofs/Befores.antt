@@ -1,6 +1,6 @@
 -- What was sent on one channel stays what has to be sent there.
 use Rattle.std.proofs.Common.{◌≡◌, ◌<◌, ◌≤◌, ◌+◌, ◌-◌, ◌^◌, ◌==◌, ◌&&◌, ◌||◌, ℕ, min, Bool, true}
-use Rattle.std.proofs.Common.{false, not}
+use Rattle.std.proofs.Common.{false, not, Option, append_assoc}
 use Rattle.std.proofs.Common.{List, [], ◌∷◌, ◌++◌, map, length, take, drop, refl, sym, ◌∙◌, ap}
 use Rattle.std.proofs.Common.{subst, inl, inr, arith}
 use Rattle.std.specs.List.{filter}
@@ -10,13 +10,13 @@ use Rattle.ssh_link.specs.Frames.{Frame}
 use Rattle.ssh_channels.specs.declared.chunk.Chunk.{Chunk}
 use Rattle.ssh_channels.specs.declared.chunk.DataKind.{DataKind}
 use Rattle.ssh_channels.specs.declared.chunk.DataKind.TheVariants.{Plain, Extended}
-use Rattle.ssh_channels.specs.Layout.{chunk, data_frame, eof_frame, close_frame}
+use Rattle.ssh_channels.specs.Layout.{chunk, data_frame, eof_frame, close_frame, reply_frame}
 use Rattle.ssh_channels.specs.Cut.{piece_limit, cut, left_of}
 use Rattle.ssh_channels.specs.Entry.{Entry, opened, asked, agreed, joined, accepted, all_framed}
 use Rattle.ssh_channels.specs.Entry.{more_may_come}
 use Rattle.ssh_channels.specs.Entry.{flush_out}
 use Rattle.ssh_channels.specs.Entry.{flushed, granting, accepting, tells_eof, closes_now, eof_out}
-use Rattle.ssh_channels.specs.Entry.{after_eof, IsDue}
+use Rattle.ssh_channels.specs.Entry.{after_eof, IsDue, requesting, replying, replies_out}
 use Rattle.ssh_channels.specs.Entry.{Sound}
 use Rattle.ssh_channels.specs.Sent.{is_flow, AllFit, ending, Before, farewell, IsLeft}
 use Rattle.ssh_channels.proofs.Joined.{joined_both, joined_cut, joined_left, left_none, cut_fit}
@@ -26,7 +26,8 @@ use Rattle.ssh_channels.proofs.Entries.{and_left, and_right, sound_opened, sound
 use Rattle.ssh_channels.proofs.Entries.{sound_agreed, sound_flushed}
 use Rattle.ssh_channels.proofs.Entries.{sound_granting, sound_accepting, sound_eof, sound_close}
 use Rattle.ssh_channels.proofs.Entries.{sound_told, sound_room}
-use Rattle.ssh_channels.proofs.Entries.{sound_wanting, framed_all}
+use Rattle.ssh_channels.proofs.Entries.{sound_wanting, sound_aimed, sound_requesting}
+use Rattle.ssh_channels.proofs.Entries.{sound_replying, framed_all}
 
 -- data frames belong to the flow
 flow_one : (own peer : ℕ) (kind : DataKind) (bytes : List ℕ)
@@ -209,6 +210,59 @@ before_wanting wanted e frames b = record {
   };
   sound = sound_wanting wanted e b.sound;
 }
+
+-- what does not touch the flow of data
+pub before_aimed : (target : ℕ) (e : Entry) (frames : List Frame) → target < 2 ^ 32
+    → Before e frames → Before (record e { target = target }) frames
+before_aimed target e frames h b = record {
+  sends = record {
+    pieces = b.sends.pieces;
+    flow = b.sends.flow;
+    fit = b.sends.fit;
+    sum = b.sends.sum;
+  };
+  sound = sound_aimed target e h b.sound;
+}
+
+pub before_request : (e : Entry) (frames : List Frame) → e.confirmed ≡ true → Before e frames →
+    Before (requesting e) frames
+before_request e frames c b = record {
+  sends = record {
+    pieces = b.sends.pieces;
+    flow = b.sends.flow;
+    fit = b.sends.fit;
+    sum = b.sends.sum;
+  };
+  sound = sound_requesting e c b.sound;
+}
+
+-- replies are no part of it
+reply_beside : (own peer : ℕ) (success : Bool) → is_flow (reply_frame own peer success) ≡ false
+reply_beside own peer true = refl
+reply_beside own peer false = refl
+
+before_said : (said : List Bool) (e : Entry) (frames : List Frame) → Before e frames →
+    Before e (frames ++ map (reply_frame e.number e.peer) said)
+before_said [] e frames b = subst (Before e) (sym (append-nil frames)) b
+before_said (success ∷ said) e frames b =
+    let one = reply_frame e.number e.peer success in
+    subst (Before e) (append_assoc frames (one ∷ []) (map (reply_frame e.number e.peer) said))
+    (before_said said e (frames ++ one ∷ [])
+    (before_beside e frames one (reply_beside e.number e.peer success) b))
+
+pub before_reply : (place : Option ℕ) (success : Bool) (e : Entry) (frames : List Frame)
+    → Before e frames → Before (replying place success e) (frames ++ replies_out place success e)
+before_reply place success e frames b =
+    let k : Before e (frames ++ replies_out place success e) = before_said _ e frames b in
+    record {
+      sends = record {
+        pieces = k.sends.pieces;
+        flow = k.sends.flow;
+        fit = k.sends.fit;
+        sum = k.sends.sum;
+      };
+      sound = sound_replying place success e k.sound;
+    }
 
 -- an EOF that is owed
 told_cases : (eof told all : Bool) → (eof && not told && all) ≡ true → told ≡ false

@@ -13,7 +13,7 @@ use Rattle.ssh_channels.specs.Layout.{on_channel}
 use Rattle.ssh_channels.specs.Calls.{Op, Byte, Send, Eof, Close, Peer_close, Flush_line, Flush_all}
 use Rattle.ssh_channels.specs.Calls.{Grant, Adjust, Draw}
 use Rattle.ssh_channels.specs.Calls.{Open_next, Drop_pending, Insert, Confirm, Fail_open}
-use Rattle.ssh_channels.specs.Calls.{Set_wants_reply, Stage}
+use Rattle.ssh_channels.specs.Calls.{Set_wants_reply, Set_target, Request, Settle, Stage}
 use Rattle.ssh_channels.specs.Entry.{Entry, opened, asked}
 use Rattle.ssh_channels.specs.Lines.{Lines, find, last_left, write, goes_on, each_goes_on, numbers}
 use Rattle.ssh_channels.specs.Lines.{drawn}
@@ -65,6 +65,9 @@ op_kept (Confirm msg) l past f h =
     msg.maximum_packet_size p f)
 op_kept (Fail_open n) l past f h = accounts.fails_kept l past h n
 op_kept (Set_wants_reply n wanted) l past f h = accounts.wants_kept l past h n wanted
+op_kept (Set_target n target) l past f h = accounts.aims_kept l past h n target f
+op_kept (Request n) l past f h = accounts.request_kept l past h n
+op_kept (Settle n place success) l past f h = accounts.reply_kept l past h n place success
 op_kept (Stage frame) l past f h = accounts.stage_kept l past h frame f
 
 -- an open of the peer's is accepted

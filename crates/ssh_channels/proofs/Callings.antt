@@ -1,6 +1,6 @@
 -- Each call of a table, as it is for the channels.
 use Rattle.std.proofs.Common.{◌≡◌, ◌<◌, ◌≤◌, ◌-◌, ◌^◌, ◌==◌, ◌&&◌, ◌||◌, ℕ, List, [], ◌∷◌, ◌++◌}
-use Rattle.std.proofs.Common.{length, map, Bool}
+use Rattle.std.proofs.Common.{length, map, Bool, Option}
 use Rattle.std.proofs.Common.{true}
 use Rattle.std.proofs.Common.{false, not, cond, nat_le, Some, None, rules, refl, sym, ◌∙◌, ap}
 use Rattle.std.proofs.Common.{subst, arith}
@@ -10,7 +10,10 @@ use Rattle.ssh_channels.specs.declared.params.ChannelParams.{ChannelParams}
 use Rattle.ssh_channels.specs.declared.chunk.Chunk.{Chunk}
 use Rattle.ssh_channels.specs.declared.adjusted.Adjusted.{Adjusted}
 use Rattle.ssh_channels.specs.declared.adjusted.Adjusted.TheVariants.{Dropped, Kept, Granted}
-use Rattle.ssh_channels.specs.Layout.{bare_frame, data_frame, close_frame}
+use Rattle.ssh_channels.specs.declared.replies.Reply.{Reply}
+use Rattle.ssh_channels.specs.Replies as replies
+use Rattle.ssh_channels.specs.Replies.{Wanted, one_more, owes, sent}
+use Rattle.ssh_channels.specs.Layout.{bare_frame, data_frame, close_frame, reply_frame}
 use Rattle.ssh_channels.specs.Cut.{piece_limit, pieces, cut, left_of, credit_left}
 use Rattle.ssh_channels.specs.Line as line
 use Rattle.ssh_channels.specs.Window as window
@@ -20,16 +23,19 @@ use Rattle.ssh_channels.specs.Calls as calls
 use Rattle.ssh_channels.specs.Entry.{Entry, agreed, all_framed, more_may_come, close_may_come}
 use Rattle.ssh_channels.specs.Entry.{flush_out, flushed}
 use Rattle.ssh_channels.specs.Entry.{granting, accepting, tells_eof, closes_now, eof_out, after_eof}
-use Rattle.ssh_channels.specs.Entry.{IsDeferred}
+use Rattle.ssh_channels.specs.Entry.{IsDeferred, Sound, requesting, reply_may_come, replying}
+use Rattle.ssh_channels.specs.Entry.{replies_out}
 use Rattle.ssh_channels.specs.Room.{coming, having, adjust_out}
 use Rattle.ssh_channels.specs.Lines.{Lines, turns, closes, leaves, settles, takes_data, takes_eof}
 use Rattle.ssh_channels.specs.Lines.{takes_close}
 use Rattle.ssh_channels.specs.Lines.{peer_closes}
 use Rattle.ssh_channels.specs.Lines.{goes_on, each_goes_on, all_go_on, takes_grant, takes_in, says}
-use Rattle.ssh_channels.specs.Lines.{wants, confirms}
+use Rattle.ssh_channels.specs.Lines.{wants, aims, takes_request, takes_reply, confirms}
 use Rattle.ssh_channels.specs.Lines.{fails}
-use Rattle.ssh_channels.specs.Stands.{Holds, Stands}
+use Rattle.ssh_channels.specs.Stands.{Holds, Stands, kept_of}
 use Rattle.ssh_channels.proofs.Entries.{and_left, more_eof, more_close, sound_room, sound_wanting}
+use Rattle.ssh_channels.proofs.Entries.{sound_aimed, sound_requesting, sound_replying}
+use Rattle.ssh_channels.proofs.Replying.{more_kept, owed_kept, settled_kept, sent_kept}
 use Rattle.ssh_channels.proofs.Holding as holding
 use Rattle.ssh_channels.proofs.Standing.{same_numbers}
 use Rattle.ssh_channels.proofs.Steps.{turned, parts, settled, acts, acts_all}
@@ -343,7 +349,9 @@ roomy n room p e h = record {
   limit = h.limit;
   confirmed = h.confirmed;
   room = refl;
+  target = h.target;
   wants_reply = h.wants_reply;
+  replies = h.replies;
   credit = h.credit;
   waiting = h.waiting;
   pending_eof = h.pending_eof;
@@ -412,7 +420,9 @@ wanting_holds n wanted p e h = record {
   limit = h.limit;
   confirmed = h.confirmed;
   room = h.room;
+  target = h.target;
   wants_reply = refl;
+  replies = h.replies;
   credit = h.credit;
   waiting = h.waiting;
   pending_eof = h.pending_eof;
@@ -428,3 +438,88 @@ wants_stands n wanted t l s =
     (λ e. turns (record e { wants_reply = wanted }) []) s
     (λ p e h d. turned t l n (line.wanting wanted p) (record e { wants_reply = wanted }) [] [] s
     (wanting_holds n wanted p e h) d refl)
+
+-- the room is filled up to another number of bytes
+aiming_holds : (n target : ℕ) (p : ChannelParams) (e : Entry) → target < 2 ^ 32 → Holds n p e →
+    Holds n (window.aimed target p) (record e { target = target })
+aiming_holds n target p e small h = record {
+  number = h.number;
+  own = h.own;
+  peer = h.peer;
+  limit = h.limit;
+  confirmed = h.confirmed;
+  room = h.room;
+  target = refl;
+  wants_reply = h.wants_reply;
+  replies = h.replies;
+  credit = h.credit;
+  waiting = h.waiting;
+  pending_eof = h.pending_eof;
+  pending_close = h.pending_close;
+  ended = h.ended;
+  sound = sound_aimed target e small h.sound;
+}
+
+pub aims_stands : (n target : ℕ) (t : Table) (l : Lines) → target < 2 ^ 32 → Stands t l →
+    Stands (calls.set_target n target t) (aims n target l)
+aims_stands n target t l small s =
+    acts_all (λ p. []) (λ p. Some (window.aimed target p)) n t l
+    (λ e. turns (record e { target = target }) []) s
+    (λ p e h d. turned t l n (window.aimed target p) (record e { target = target }) [] [] s
+    (aiming_holds n target p e small h) d refl)
+
+-- other replies are wanted
+wanted_holds : (n : ℕ) (w : Wanted) (replies : List Reply) (p : ChannelParams) (e : Entry)
+    → w ≡ kept_of replies → Sound (record e { replies = replies }) → Holds n p e →
+    Holds n (record p { replies = w }) (record e { replies = replies })
+wanted_holds n w replies p e is s h = record {
+  number = h.number;
+  own = h.own;
+  peer = h.peer;
+  limit = h.limit;
+  confirmed = h.confirmed;
+  room = h.room;
+  target = h.target;
+  wants_reply = h.wants_reply;
+  replies = is;
+  credit = h.credit;
+  waiting = h.waiting;
+  pending_eof = h.pending_eof;
+  pending_close = h.pending_close;
+  ended = h.ended;
+  sound = s;
+}
+
+pub request_stands : (n : ℕ) (t : Table) (l : Lines) → Stands t l →
+    Stands (calls.request n t) (takes_request n l)
+request_stands n t l s =
+    acts line.is_established (λ p. []) (λ p. Some (line.requested p)) n t l (λ e. e.confirmed)
+    (λ e. turns (requesting e) []) s (λ p e h d. h.confirmed)
+    (λ p e h d m. turned t l n (line.requested p) (requesting e) [] [] s
+    (wanted_holds n _ (requesting e).replies p e (ap one_more h.replies ∙ more_kept e.replies)
+    (sound_requesting e m h.sound) h) d refl)
+
+pub owes_same : (n : ℕ) (place : Option ℕ) (p : ChannelParams) (e : Entry) → Holds n p e →
+    line.owes_reply place p ≡ reply_may_come place e
+owes_same n place p e h = ap (owes place) h.replies ∙ owed_kept place e.replies
+
+reply_said : (n : ℕ) (place : Option ℕ) (success : Bool) (p : ChannelParams) (e : Entry)
+    → Holds n p e → line.reply_frames n place success p ≡ replies_out place success e
+reply_said n place success p e h =
+    ap (λ k. map (reply_frame k p.recipient_channel) (sent place success p.replies)) h.number
+    ∙ ap (λ k. map (reply_frame e.number k) (sent place success p.replies)) h.peer
+    ∙ ap (map (reply_frame e.number e.peer))
+    (ap (sent place success) h.replies ∙ sent_kept place success e.replies)
+
+pub reply_stands : (n : ℕ) (place : Option ℕ) (success : Bool) (t : Table) (l : Lines)
+    → Stands t l → Stands (calls.settle n place success t) (takes_reply n place success l)
+reply_stands n place success t l s =
+    acts (line.owes_reply place) (line.reply_frames n place success)
+    (λ p. Some (line.replied place success p)) n t l (reply_may_come place)
+    (λ e. turns (replying place success e) (replies_out place success e)) s
+    (λ p e h d. owes_same n place p e h)
+    (λ p e h d m. turned t l n (line.replied place success p) (replying place success e)
+    (line.reply_frames n place success p) (replies_out place success e) s
+    (wanted_holds n _ (replying place success e).replies p e
+    (ap (replies.settled place success) h.replies ∙ settled_kept place success e.replies)
+    (sound_replying place success e h.sound) h) d (reply_said n place success p e h))

@@ -1,11 +1,14 @@
 -- What holds of a channel at every moment goes on holding.
 use Rattle.std.proofs.Common.{◌≡◌, ◌<◌, ◌≤◌, ◌+◌, ◌^◌, ◌==◌, ◌&&◌, ◌||◌, ℕ, [], ◌∷◌, ◌++◌, length}
-use Rattle.std.proofs.Common.{Bool, true}
+use Rattle.std.proofs.Common.{Bool, true, List, Option}
 use Rattle.std.proofs.Common.{false, not, rules, refl, ◌∙◌, ap, arith, length-append}
 use Rattle.ssh_channels.specs.declared.chunk.Chunk.{Chunk}
+use Rattle.ssh_channels.specs.declared.replies.Reply.{Reply}
+use Rattle.ssh_channels.specs.Replies.{settling}
 use Rattle.ssh_channels.specs.Entry.{Entry, opened, asked, agreed, accepted, joined, all_framed}
 use Rattle.ssh_channels.specs.Entry.{more_may_come, flushed}
 use Rattle.ssh_channels.specs.Entry.{granting, accepting, tells_eof, closes_now, after_eof}
+use Rattle.ssh_channels.specs.Entry.{requesting, replying}
 use Rattle.ssh_channels.specs.Entry.{IsDeferred, IsDue, Sound}
 use Rattle.ssh_channels.proofs.Joined.{joined_both, joined_length}
 
@@ -53,6 +56,8 @@ sound_opened number peer window room limit h k = record {
   low = omega arith;
   within = omega arith;
   small = omega arith;
+  aimed = omega arith;
+  silent = λ t. absurd (cc);
   positive = λ t. h;
   waits = λ t. absurd (cc);
   ended = λ t. absurd (cc);
@@ -63,6 +68,8 @@ sound_asked number room = record {
   low = omega arith;
   within = omega arith;
   small = omega arith;
+  aimed = omega arith;
+  silent = λ t. refl;
   positive = λ t. absurd (cc);
   waits = λ t. (refl, refl, refl, refl);
   ended = λ t. absurd (cc);
@@ -79,6 +86,8 @@ sound_agreed peer window limit e c h k s =
       low = s.low;
       within = omega arith;
       small = omega arith;
+      aimed = s.aimed;
+      silent = λ t. absurd (cc);
       positive = λ t. h;
       waits = λ t. absurd (cc);
       ended = s.ended;
@@ -93,6 +102,8 @@ sound_flushed e s =
       low = omega arith;
       within = omega arith;
       small = omega arith;
+      aimed = s.aimed;
+      silent = s.silent;
       positive = s.positive;
       waits = s.waits;
       ended = λ t. let k = (s.ended t).1 in ((s.ended t).0, omega arith);
@@ -108,6 +119,8 @@ sound_granting amount e c d s =
       low = s.low;
       within = omega arith;
       small = omega arith;
+      aimed = s.aimed;
+      silent = s.silent;
       positive = s.positive;
       waits = λ t. absurd (cc);
       ended = s.ended;
@@ -142,6 +155,8 @@ sound_accepting chunk e h s =
       low = omega (arith, accepted_length chunk e);
       within = s.within;
       small = s.small;
+      aimed = s.aimed;
+      silent = s.silent;
       positive = s.positive;
       waits = λ u. absurd (cc);
       ended = λ u. absurd (cc);
@@ -152,6 +167,8 @@ sound_eof e c s = record {
   low = s.low;
   within = s.within;
   small = s.small;
+  aimed = s.aimed;
+  silent = s.silent;
   positive = s.positive;
   waits = λ u. absurd (cc);
   ended = λ u. (refl, (s.ended u).1);
@@ -162,6 +179,8 @@ sound_close e c s = record {
   low = s.low;
   within = s.within;
   small = s.small;
+  aimed = s.aimed;
+  silent = s.silent;
   positive = s.positive;
   waits = λ u. absurd (cc);
   ended = s.ended;
@@ -189,6 +208,8 @@ sound_told e s = record {
   low = s.low;
   within = s.within;
   small = s.small;
+  aimed = s.aimed;
+  silent = s.silent;
   positive = s.positive;
   waits = s.waits;
   ended = ended_at e.told e refl s;
@@ -199,6 +220,8 @@ sound_room room e s = record {
   low = s.low;
   within = s.within;
   small = s.small;
+  aimed = s.aimed;
+  silent = s.silent;
   positive = s.positive;
   waits = s.waits;
   ended = s.ended;
@@ -210,10 +233,48 @@ sound_wanting wanted e s = record {
   low = s.low;
   within = s.within;
   small = s.small;
+  aimed = s.aimed;
+  silent = s.silent;
   positive = s.positive;
   waits = s.waits;
   ended = s.ended;
 }
+
+pub sound_aimed : (target : ℕ) (e : Entry) → target < 2 ^ 32 → Sound e
+    → Sound (record e { target = target })
+sound_aimed target e h s = record {
+  low = s.low;
+  within = s.within;
+  small = s.small;
+  aimed = h;
+  silent = s.silent;
+  positive = s.positive;
+  waits = s.waits;
+  ended = s.ended;
+}
+
+-- other replies are wanted, and none on a channel that waits
+pub sound_replies : (replies : List Reply) (e : Entry) → (e.confirmed ≡ false → replies ≡ [])
+    → Sound e → Sound (record e { replies = replies })
+sound_replies replies e h s = record {
+  low = s.low;
+  within = s.within;
+  small = s.small;
+  aimed = s.aimed;
+  silent = h;
+  positive = s.positive;
+  waits = s.waits;
+  ended = s.ended;
+}
+
+pub sound_requesting : (e : Entry) → e.confirmed ≡ true → Sound e → Sound (requesting e)
+sound_requesting e c s = sound_replies (requesting e).replies e (λ t. absurd (cc)) s
+
+pub sound_replying : (place : Option ℕ) (success : Bool) (e : Entry) → Sound e
+    → Sound (replying place success e)
+sound_replying place success e s =
+    sound_replies (replying place success e).replies e
+    (λ t. ap (settling place success 0) (s.silent t)) s
 
 -- once an EOF that was owed is told, only a CLOSE may be owed
 not_twice : (a b c : Bool) → (a && not (b || (a && not b && c)) && c) ≡ false

@@ -73,7 +73,9 @@ module _ (n : ℕ) (l : ChannelParams) (e : Entry) (h : Holds n l e) where
         limit = h.limit;
         confirmed = h.confirmed;
         room = h.room;
+        target = h.target;
         wants_reply = h.wants_reply;
+        replies = h.replies;
         credit = omega arith;
         waiting = ap (left_of l.recipient_window_size) h.waiting
             ∙ left_left e.framed l.recipient_window_size e.chunks ∙ ap (λ k. left_of k e.chunks)
@@ -97,7 +99,9 @@ module _ (n : ℕ) (l : ChannelParams) (e : Entry) (h : Holds n l e) where
         limit = h.limit;
         confirmed = h.confirmed;
         room = h.room;
+        target = h.target;
         wants_reply = h.wants_reply;
+        replies = h.replies;
         credit = omega arith;
         waiting = h.waiting;
         pending_eof = h.pending_eof;
@@ -126,7 +130,9 @@ module _ (n : ℕ) (l : ChannelParams) (e : Entry) (h : Holds n l e) where
     limit = h.limit;
     confirmed = h.confirmed;
     room = h.room;
+    target = h.target;
     wants_reply = h.wants_reply;
+    replies = h.replies;
     credit = h.credit;
     waiting = behind_at (length chunk.bytes == 0) chunk refl;
     pending_eof = h.pending_eof;
@@ -153,7 +159,9 @@ module _ (n : ℕ) (l : ChannelParams) (e : Entry) (h : Holds n l e) where
     limit = h.limit;
     confirmed = h.confirmed;
     room = h.room;
+    target = h.target;
     wants_reply = h.wants_reply;
+    replies = h.replies;
     credit = h.credit;
     waiting = h.waiting;
     pending_eof = ap (λ b. b && not done) h.pending_eof ∙ ap (λ b. (e.eof && not e.told) && not b) d
@@ -201,7 +209,9 @@ module _ (n : ℕ) (l : ChannelParams) (e : Entry) (h : Holds n l e) where
         limit = refl;
         confirmed = refl;
         room = h.room;
+        target = h.target;
         wants_reply = h.wants_reply;
+        replies = h.replies;
         credit = omega arith;
         waiting = h.waiting;
         pending_eof = h.pending_eof;
@@ -228,7 +238,9 @@ module _ (n : ℕ) (l : ChannelParams) (e : Entry) (h : Holds n l e) where
         limit = h.limit;
         confirmed = h.confirmed;
         room = h.room;
+        target = h.target;
         wants_reply = h.wants_reply;
+        replies = h.replies;
         credit = h.credit;
         waiting = h.waiting;
         pending_eof = ap not waits_same ∙ fresh e.eof e.told (all_framed e) (more_eof e m) t;
@@ -268,7 +280,9 @@ module _ (n : ℕ) (l : ChannelParams) (e : Entry) (h : Holds n l e) where
     limit = h.limit;
     confirmed = h.confirmed;
     room = h.room;
+    target = h.target;
     wants_reply = h.wants_reply;
+    replies = h.replies;
     credit = h.credit;
     waiting = h.waiting;
     pending_eof = h.pending_eof ∙ ap (λ b. e.eof && not b) (none_told e.told (tells_eof e) t);

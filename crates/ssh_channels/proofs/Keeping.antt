@@ -11,13 +11,14 @@ use Rattle.ssh_channels.specs.Calls.{Op, Byte, Send, Eof, Close, Peer_close, Flu
 use Rattle.ssh_channels.specs.Calls.{Grant, Adjust}
 use Rattle.ssh_channels.specs.Calls.{Draw, op}
 use Rattle.ssh_channels.specs.Calls.{Open_next, Drop_pending, Insert, Confirm, Fail_open}
-use Rattle.ssh_channels.specs.Calls.{Set_wants_reply, Stage}
-use Rattle.ssh_channels.specs.Paths.{Accepts, Framed, Credit, Room, Number, Refused, answer}
-use Rattle.ssh_channels.specs.Entry.{Entry, flushed, granting}
+use Rattle.ssh_channels.specs.Calls.{Set_wants_reply, Set_target, Request, Settle, Stage}
+use Rattle.ssh_channels.specs.Paths.{Accepts, Framed, Credit, Room, Number, Place, Refused, answer}
+use Rattle.ssh_channels.specs.Entry.{Entry, flushed, granting, reply_may_come}
+use Rattle.ssh_channels.specs.Replies.{Wanted}
 use Rattle.ssh_channels.specs.Lines.{Lines, find}
 use Rattle.ssh_channels.specs.Stands.{Holds, Stands}
 use Rattle.ssh_channels.specs.Does as does
-use Rattle.ssh_channels.specs.Does.{IsMeant, goes_out, credit_after, coming_of, answers}
+use Rattle.ssh_channels.specs.Does.{IsMeant, goes_out, credit_after, coming_of, place_of, answers}
 use Rattle.ssh_channels.proofs.Holding as holding
 use Rattle.ssh_channels.proofs.Standing.{Found, found}
 use Rattle.ssh_channels.proofs.Callings as callings
@@ -67,6 +68,9 @@ op_stands (Insert p) t l m s = insert_stands p t l m s
 op_stands (Confirm msg) t l m s = confirm_stands msg t l m s
 op_stands (Fail_open n) t l m s = callings.fail_stands n t l s
 op_stands (Set_wants_reply n wanted) t l m s = callings.wants_stands n wanted t l s
+op_stands (Set_target n target) t l m s = callings.aims_stands n target t l m s
+op_stands (Request n) t l m s = callings.request_stands n t l s
+op_stands (Settle n place success) t l m s = callings.reply_stands n place success t l s
 op_stands (Stage frame) t l m s = record {
   entries = s.entries;
   pending = s.pending;
@@ -123,6 +127,18 @@ coming_same n count target None (Some e) f = absurd f
 coming_same n count target (Some p) None f = absurd f
 coming_same n count target (Some p) (Some e) f = callings.coming_same n count target p e f.0
 
+place_at : (b : Bool) (n : ℕ) (p : ChannelParams) (e : Entry) → Holds n p e → p.confirmed ≡ b →
+    e.confirmed ≡ b → calls.place_of (Some p) ≡ place_of (Some e)
+place_at true n p e h x y = rw (x, y) (ap (λ (w : Wanted). Some w.count) h.replies)
+place_at false n p e h x y = rw (x, y) refl
+
+place_same : (n : ℕ) (p : Option ChannelParams) (e : Option Entry) → Found n p e →
+    calls.place_of p ≡ place_of e
+place_same n None None f = refl
+place_same n None (Some e) f = absurd f
+place_same n (Some p) None f = absurd f
+place_same n (Some p) (Some e) f = place_at e.confirmed n p e f.0 f.0.confirmed refl
+
 module _ (t : Table) (l : Lines) (s : Stands t l) where
   at : (n : ℕ) → Found n (line_at n t) (find n l.entries)
   at n = found 0 n t.lines l.entries s.entries
@@ -165,4 +181,9 @@ module _ (t : Table) (l : Lines) (s : Stands t l) where
       (opens msg.recipient_channel)
   op_answers (Fail_open n) = ap Accepts (opens n)
   op_answers (Set_wants_reply n wanted) = ap Accepts (opening.live_same t l s n)
+  op_answers (Set_target n target) = ap Accepts (opening.live_same t l s n)
+  op_answers (Request n) = ap Place (place_same n (line_at n t) (find n l.entries) (at n))
+  op_answers (Settle n place success) =
+      ap Accepts (has_same n (line.owes_reply place) (reply_may_come place)
+      (λ p e h. callings.owes_same n place p e h))
   op_answers (Stage frame) = refl

@@ -8,6 +8,7 @@ pub mod Moves
 pub mod Agreeing
 pub mod Joined
 pub mod Entries
+pub mod Replying
 pub mod Holding
 pub mod Standing
 pub mod Steps

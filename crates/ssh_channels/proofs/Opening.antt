@@ -96,7 +96,9 @@ module _ (t : Table) (l : Lines) (s : Stands t l) where
     limit = refl;
     confirmed = refl;
     room = refl;
+    target = refl;
     wants_reply = refl;
+    replies = refl;
     credit = omega arith;
     waiting = refl;
     pending_eof = refl;
@@ -141,7 +143,9 @@ module _ (t : Table) (l : Lines) (s : Stands t l) where
     limit = refl;
     confirmed = refl;
     room = refl;
+    target = refl;
     wants_reply = refl;
+    replies = refl;
     credit = omega arith;
     waiting = refl;
     pending_eof = refl;

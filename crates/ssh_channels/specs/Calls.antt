@@ -12,8 +12,9 @@ use Rattle.ssh_channels.specs.Line.{is_established, is_opening, may_send, may_cl
 use Rattle.ssh_channels.specs.Line.{framed, settled}
 use Rattle.ssh_channels.specs.Line.{granted, granting_frames, taking, taking_frames, ending}
 use Rattle.ssh_channels.specs.Line.{ending_frames, closing}
-use Rattle.ssh_channels.specs.Line.{closing_frames, confirmed_by, wanting}
-use Rattle.ssh_channels.specs.Window.{adjusting, adjusted, adjusted_frames}
+use Rattle.ssh_channels.specs.Line.{closing_frames, confirmed_by, wanting, requested, owes_reply}
+use Rattle.ssh_channels.specs.Line.{replied, reply_frames}
+use Rattle.ssh_channels.specs.Window.{adjusting, adjusted, adjusted_frames, aimed}
 use Rattle.ssh_channels.specs.Table.{Table, line_at, write, act}
 use Rattle.ssh_channels.specs.Numbers.{draw, open_next, drop_pending, insert}
 
@@ -93,6 +94,17 @@ room_of (Some l) = l.sender_window_size
 abbrev pub room_at : ℕ → Table → ℕ
 room_at n t = room_of (line_at n t)
 
+-- up to how many bytes that room is filled, and 0 where there is none
+abbrev pub target_of : Option ChannelParams → ℕ
+target_of None = 0
+target_of (Some l) = l.target
+
+abbrev pub target_at : ℕ → Table → ℕ
+target_at n t = target_of (line_at n t)
+
+abbrev pub set_target : (n target : ℕ) → Table → Table
+set_target n target = act (λ l. true) (λ l. []) (λ l. Some (aimed target l)) n
+
 -- the peer confirms a channel that this side opened: recipient is this side's number, sender the
 -- peer's
 abbrev pub confirm : ChannelOpenConfirmation → Table → Table
@@ -108,6 +120,23 @@ fail_open n = act is_opening (λ l. []) (λ l. None) n
 -- whether the channel's last request wants a reply
 abbrev pub set_wants_reply : (n : ℕ) → (wanted : Bool) → Table → Table
 set_wants_reply n wanted = act (λ l. true) (λ l. []) (λ l. Some (wanting wanted l)) n
+
+-- a request of the peer's on the channel wants a reply
+abbrev pub request : (n : ℕ) → Table → Table
+request n = act is_established (λ l. []) (λ l. Some (requested l)) n
+
+-- the place of that reply: how many were wanted on the channel before it
+abbrev pub place_of : Option ChannelParams → Option ℕ
+place_of None = None
+place_of (Some l) = cond l.confirmed (Some l.replies.count) None
+
+abbrev pub place_at : ℕ → Table → Option ℕ
+place_at n t = place_of (line_at n t)
+
+-- the reply of this place, or the first that is owed, is settled; those that are ready go out
+abbrev pub settle : (n : ℕ) → (place : Option ℕ) → (success : Bool) → Table → Table
+settle n place success = act (owes_reply place) (reply_frames n place success)
+    (λ l. Some (replied place success l)) n
 
 abbrev pub stage : Frame → Table → Table
 stage frame = write (frame ∷ [])
@@ -141,6 +170,9 @@ pub data Op : Type 0 where
   Confirm : ChannelOpenConfirmation → Op
   Fail_open : (n : ℕ) → Op
   Set_wants_reply : (n : ℕ) → (wanted : Bool) → Op
+  Set_target : (n target : ℕ) → Op
+  Request : (n : ℕ) → Op
+  Settle : (n : ℕ) → (place : Option ℕ) → (success : Bool) → Op
   Stage : Frame → Op
 
 -- the table after a call, whose frames are staged
@@ -161,4 +193,7 @@ op (Insert l) = unless_zero l.recipient_maximum_packet_size (insert l)
 op (Confirm msg) = unless_zero msg.maximum_packet_size (confirm msg)
 op (Fail_open n) = fail_open n
 op (Set_wants_reply n wanted) = set_wants_reply n wanted
+op (Set_target n target) = set_target n target
+op (Request n) = request n
+op (Settle n place success) = settle n place success
 op (Stage frame) = stage frame

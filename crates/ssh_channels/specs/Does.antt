@@ -1,7 +1,7 @@
 -- The calls of a table as the standard sees them: what each makes of the channels, and what it
 -- answers (RFC 4254 section 5).
 use Rattle.std.specs.Prelude.{◌≡◌, ◌<◌, ◌-◌, ◌^◌, ◌==◌, ℕ, Bool, true, false, not, cond, [], ◌∷◌}
-use Rattle.std.specs.Prelude.{Option, Some, None, is_some}
+use Rattle.std.specs.Prelude.{length, Option, Some, None, is_some}
 use Rattle.std.specs.List.{list_any}
 use Rattle.std.specs.Ordering.{nat_cmp}
 use Rattle.std.specs.BTreeMap.{is_at}
@@ -12,14 +12,16 @@ use Rattle.ssh_channels.specs.Line.{established}
 use Rattle.ssh_channels.specs.Calls.{Op, Byte, Send, Eof, Close, Peer_close, Flush_line, Flush_all}
 use Rattle.ssh_channels.specs.Calls.{Grant, Adjust, Draw}
 use Rattle.ssh_channels.specs.Calls.{Open_next, Drop_pending, Insert, Confirm, Fail_open}
-use Rattle.ssh_channels.specs.Calls.{Set_wants_reply, Stage}
-use Rattle.ssh_channels.specs.Paths.{Answer, Done, Accepts, Framed, Credit, Room, Number, Refused}
+use Rattle.ssh_channels.specs.Calls.{Set_wants_reply, Set_target, Request, Settle, Stage}
+use Rattle.ssh_channels.specs.Paths.{Answer, Done, Accepts, Framed, Credit, Room, Number, Place}
+use Rattle.ssh_channels.specs.Paths.{Refused}
 use Rattle.ssh_channels.specs.Entry.{Entry, opened, more_may_come, close_may_come, flushed}
-use Rattle.ssh_channels.specs.Entry.{granting}
+use Rattle.ssh_channels.specs.Entry.{granting, reply_may_come}
 use Rattle.ssh_channels.specs.Room.{coming}
 use Rattle.ssh_channels.specs.Lines.{Lines, find, write, takes_data, takes_eof, takes_close}
 use Rattle.ssh_channels.specs.Lines.{peer_closes, goes_on}
-use Rattle.ssh_channels.specs.Lines.{all_go_on, takes_grant, takes_in, says, wants, confirms, fails}
+use Rattle.ssh_channels.specs.Lines.{all_go_on, takes_grant, takes_in, says, wants, aims}
+use Rattle.ssh_channels.specs.Lines.{takes_request, takes_reply, confirms, fails}
 use Rattle.ssh_channels.specs.Lines.{next_number, draws}
 use Rattle.ssh_channels.specs.Lines.{drops_pending, asks_next, adds}
 use Rattle.ssh_channels.specs.Layout.{bare_frame}
@@ -55,6 +57,9 @@ does (Confirm msg) = unless_zero msg.maximum_packet_size
     msg.maximum_packet_size)
 does (Fail_open n) = fails n
 does (Set_wants_reply n wanted) = wants n wanted
+does (Set_target n target) = aims n target
+does (Request n) = takes_request n
+does (Settle n place success) = takes_reply n place success
 does (Stage frame) = write (frame ∷ [])
 
 -- the channel of that number is there, and of this kind
@@ -81,6 +86,11 @@ abbrev pub coming_of : (count target : ℕ) → Option Entry → Adjusted
 coming_of count target None = adjusted.Dropped
 coming_of count target (Some e) = coming count target e
 
+-- the place of a reply that one more request wants
+abbrev pub place_of : Option Entry → Option ℕ
+place_of None = None
+place_of (Some e) = cond e.confirmed (Some (length e.replies)) None
+
 abbrev pub answers : Op → Lines → Answer
 answers (Byte n message) l = Accepts (has (λ e. e.confirmed) n l)
 answers (Send n chunk is_rekeying) l = Accepts (has more_may_come n l)
@@ -100,6 +110,9 @@ answers (Confirm msg) l = cond (msg.maximum_packet_size == 0) Refused
     (Accepts (has (λ e. not e.confirmed) msg.recipient_channel l))
 answers (Fail_open n) l = Accepts (has (λ e. not e.confirmed) n l)
 answers (Set_wants_reply n wanted) l = Accepts (is_some (find n l.entries))
+answers (Set_target n target) l = Accepts (is_some (find n l.entries))
+answers (Request n) l = Place (place_of (find n l.entries))
+answers (Settle n place success) l = Accepts (has (reply_may_come place) n l)
 answers (Stage frame) l = Done
 
 -- what a caller hands in: established params, and windows that are numbers of four bytes
@@ -107,6 +120,7 @@ abbrev pub IsMeant : Op → Type 0
 IsMeant (Insert line) = (peer room packet own_packet window : ℕ) × (window < 2 ^ 32)
     × (line ≡ established peer line.sender_channel window room packet own_packet)
 IsMeant (Confirm msg) = msg.initial_window_size < 2 ^ 32
+IsMeant (Set_target n target) = target < 2 ^ 32
 IsMeant _ = Unit {0}
 
 -- calls after which what was sent is still what has to be; a channel comes together with the
@@ -116,6 +130,7 @@ IsFair (Byte n message) l = is_beside (bare_frame message n 0) ≡ true
 IsFair (Open_next window packet) l = ⊥
 IsFair (Insert line) l = ⊥
 IsFair (Confirm msg) l = msg.initial_window_size < 2 ^ 32
+IsFair (Set_target n target) l = target < 2 ^ 32
 IsFair (Stage frame) l = may_stage frame l ≡ true
 IsFair _ l = Unit {0}
 

@@ -2,13 +2,16 @@
 -- opened (RFC 4254 section 5).
 use Rattle.std.specs.Prelude.{◌≡◌, ◌≤◌, ◌<◌, ◌+◌, ◌-◌, ◌^◌, ◌==◌, ◌&&◌, ◌||◌, ℕ, min, nat_le, Bool}
 use Rattle.std.specs.Prelude.{true, false, not}
-use Rattle.std.specs.Prelude.{cond, List, [], ◌∷◌, ◌++◌, length, map, take}
+use Rattle.std.specs.Prelude.{cond, List, [], ◌∷◌, ◌++◌, length, map, take, drop, Option}
 use Rattle.std.specs.List.{flat_map}
 use Rattle.ssh_link.specs.Frames.{Frame}
 use Rattle.ssh_channels.specs.declared.chunk.Chunk.{Chunk}
 use Rattle.ssh_channels.specs.declared.chunk.DataKind.{DataKind}
+use Rattle.ssh_channels.specs.declared.replies.Reply.{Reply}
+use Rattle.ssh_channels.specs.declared.replies.Reply.TheVariants.{Owed}
 use Rattle.ssh_channels.specs.Cut.{piece_limit, cut, left_of}
-use Rattle.ssh_channels.specs.Layout.{data_frame, eof_frame}
+use Rattle.ssh_channels.specs.Layout.{as_uint32, data_frame, eof_frame, reply_frame}
+use Rattle.ssh_channels.specs.Replies.{calls_one, settling, ready}
 
 pub record Entry : Type 0 where
   -- this side's number of it, and the peer's (section 5.1)
@@ -26,8 +29,13 @@ pub record Entry : Type 0 where
   pub framed : ℕ
   -- how many bytes the peer may still send (section 5.2)
   pub room : ℕ
+  -- up to how many bytes its room is filled (section 5.2)
+  pub target : ℕ
   -- its last request wants a reply (section 5.4)
   pub wants_reply : Bool
+  -- the reply of each request that wanted one, in the order of the requests; those before the first
+  -- that is owed went out (section 5.4)
+  pub replies : List Reply
   -- an EOF and a CLOSE were accepted, and an EOF frame was written (section 5.3)
   pub eof : Bool
   pub close : Bool
@@ -45,7 +53,9 @@ opened number peer window room limit = record {
   granted = window;
   framed = 0;
   room = room;
+  target = as_uint32 room;
   wants_reply = false;
+  replies = [];
   eof = false;
   close = false;
   told = false;
@@ -109,6 +119,22 @@ accepting chunk e = record e {
       ∷ []);
 }
 
+-- one more request wants a reply (section 5.4)
+abbrev pub requesting : Entry → Entry
+requesting e = record e { replies = e.replies ++ Owed ∷ [] }
+
+-- the reply of this place, or any where no place is given, is owed; that one, or the first, is
+-- settled, and what is ready with it goes out behind what went out before (section 5.4)
+abbrev pub reply_may_come : (place : Option ℕ) → Entry → Bool
+reply_may_come place e = calls_one place 0 e.replies
+
+abbrev pub replying : (place : Option ℕ) → (success : Bool) → Entry → Entry
+replying place success e = record e { replies = settling place success 0 e.replies }
+
+abbrev pub replies_out : (place : Option ℕ) → (success : Bool) → Entry → List Frame
+replies_out place success e = map (reply_frame e.number e.peer)
+    (drop (length (ready e.replies)) (ready (settling place success 0 e.replies)))
+
 -- an EOF and a CLOSE that are owed, as nothing waits before them (section 5.3)
 abbrev pub tells_eof : Entry → Bool
 tells_eof e = e.eof && not e.told && all_framed e
@@ -138,10 +164,14 @@ pub record Sound (e : Entry) : Type 0 where
   pub within : e.framed ≤ e.granted
   -- the credit is a number of four bytes (section 5.2)
   pub small : e.granted - e.framed < 2 ^ 32
+  -- so is what its room is filled up to
+  pub aimed : e.target < 2 ^ 32
   -- the peer takes data at all
   pub positive : e.confirmed ≡ true → 0 < e.limit
   -- nothing is accepted or granted on a channel that waits
   pub waits : e.confirmed ≡ false → (e.chunks ≡ []) × (e.granted ≡ 0) × (e.eof ≡ false)
       × (e.close ≡ false)
+  -- and no request wants a reply there
+  pub silent : e.confirmed ≡ false → e.replies ≡ []
   -- an EOF frame came after all data
   pub ended : e.told ≡ true → (e.eof ≡ true) × (length (accepted e) ≤ e.framed)

@@ -1,8 +1,9 @@
 -- The messages that a table of channels writes, and the frames that carry them (RFC 4254 section
 -- 5).
-use Rattle.std.specs.Prelude.{ℕ, List, ◌∷◌, Some, None}
+use Rattle.std.specs.Prelude.{ℕ, ◌-◌, ◌^◌, min, Bool, true, false, List, ◌∷◌, Some, None}
 use Rattle.ssh_wire.specs.Field.{number}
 use Rattle.ssh_wire.specs.Messages.{written, channel_window_adjust, channel_eof, channel_close}
+use Rattle.ssh_wire.specs.Messages.{channel_success, channel_failure}
 use Rattle.ssh_link.specs.Frames.{Frame, channel_data, channel_extended_data}
 use Rattle.ssh_channels.specs.declared.chunk.Chunk.{Chunk}
 use Rattle.ssh_channels.specs.declared.chunk.DataKind.{DataKind}
@@ -10,6 +11,10 @@ use Rattle.ssh_channels.specs.declared.chunk.DataKind.TheVariants.{Plain, Extend
 
 abbrev pub chunk : DataKind → List ℕ → Chunk
 chunk kind bytes = record { kind = kind; bytes = bytes }
+
+-- a window is told by a number of four bytes (RFC 4251 section 5, section 5.1)
+abbrev pub as_uint32 : ℕ → ℕ
+as_uint32 window = min window (2 ^ 32 - 1)
 
 -- data of either kind (section 5.2)
 abbrev pub data_message : (recipient : ℕ) → DataKind → List ℕ → List ℕ
@@ -50,3 +55,11 @@ close_frame = bare_frame channel_close.number
 
 abbrev pub adjust_frame : (own peer amount : ℕ) → Frame
 adjust_frame own peer amount = on_channel own (window_adjust peer amount)
+
+-- CHANNEL_SUCCESS or CHANNEL_FAILURE (section 5.4)
+abbrev pub reply_number : (success : Bool) → ℕ
+reply_number true = channel_success.number
+reply_number false = channel_failure.number
+
+abbrev pub reply_frame : (own peer : ℕ) → (success : Bool) → Frame
+reply_frame own peer success = bare_frame (reply_number success) own peer

@@ -6,11 +6,12 @@ use Rattle.ssh_wire.specs.declared.channel_id.ChannelId.{ChannelId}
 use Rattle.ssh_link.specs.Frames.{Frame}
 use Rattle.ssh_channels.specs.declared.params.ChannelParams.{ChannelParams}
 use Rattle.ssh_channels.specs.declared.chunk.Chunk.{Chunk}
-use Rattle.ssh_channels.specs.Layout.{data_frame, eof_frame, close_frame}
+use Rattle.ssh_channels.specs.Layout.{as_uint32, data_frame, eof_frame, close_frame, reply_frame}
+use Rattle.ssh_channels.specs.Replies as replies
 use Rattle.ssh_channels.specs.Cut.{piece_limit, cut, left_of, credit_left, raised}
 
 -- an established channel: the peer's number, this side's, the peer's window, this side's, and their
--- packet sizes
+-- packet sizes; its room is filled up to this side's window
 abbrev pub established : (peer : ℕ) → ChannelId → (window room packet own_packet : ℕ)
     → ChannelParams
 established peer own window room packet own_packet = record {
@@ -18,6 +19,7 @@ established peer own window room packet own_packet = record {
   sender_channel = own;
   recipient_window_size = window;
   sender_window_size = room;
+  target = as_uint32 room;
   recipient_maximum_packet_size = packet;
   sender_maximum_packet_size = own_packet;
   confirmed = true;
@@ -26,6 +28,7 @@ established peer own window room packet own_packet = record {
   pending_close = false;
   ended = false;
   waiting = [];
+  replies = replies.none_wanted;
 }
 
 -- a channel that this side opens with this window and packet size, and that the peer has not
@@ -161,3 +164,20 @@ confirmed_by peer window packet l = record l {
 -- whether its last request wants a reply
 abbrev pub wanting : Bool → ChannelParams → ChannelParams
 wanting wanted l = record l { wants_reply = wanted }
+
+-- one more request wants a reply, which is owed
+abbrev pub requested : ChannelParams → ChannelParams
+requested l = record l { replies = replies.one_more l.replies }
+
+-- the reply of this place, or any where no place is given, is owed
+abbrev pub owes_reply : (place : Option ℕ) → ChannelParams → Bool
+owes_reply place l = replies.owes place l.replies
+
+-- that one, or the first that is owed, is settled; those that are ready go out
+abbrev pub replied : (place : Option ℕ) → (success : Bool) → ChannelParams → ChannelParams
+replied place success l = record l { replies = replies.settled place success l.replies }
+
+abbrev pub reply_frames : (own : ℕ) → (place : Option ℕ) → (success : Bool) → ChannelParams
+    → List Frame
+reply_frames own place success l =
+    map (reply_frame own l.recipient_channel) (replies.sent place success l.replies)

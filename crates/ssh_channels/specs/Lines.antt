@@ -13,7 +13,8 @@ use Rattle.ssh_channels.specs.declared.chunk.Chunk.{Chunk}
 use Rattle.ssh_channels.specs.Layout.{bare_frame, close_frame}
 use Rattle.ssh_channels.specs.Numbers.{first_free}
 use Rattle.ssh_channels.specs.Entry.{Entry, asked, agreed, all_framed, more_may_come}
-use Rattle.ssh_channels.specs.Entry.{close_may_come, flush_out}
+use Rattle.ssh_channels.specs.Entry.{close_may_come, flush_out, requesting, reply_may_come}
+use Rattle.ssh_channels.specs.Entry.{replying, replies_out}
 use Rattle.ssh_channels.specs.Entry.{flushed, granting, accepting, closes_now, eof_out, after_eof}
 use Rattle.ssh_channels.specs.Room.{coming, having, adjust_out}
 
@@ -153,6 +154,20 @@ says number message l = at number
 
 abbrev pub wants : (number : ℕ) → (wanted : Bool) → Lines → Lines
 wants number wanted l = at number (λ e. turns (record e { wants_reply = wanted }) []) l
+
+-- its room is filled up to so many bytes from now on (section 5.2)
+abbrev pub aims : (number target : ℕ) → Lines → Lines
+aims number target l = at number (λ e. turns (record e { target = target }) []) l
+
+-- a request on it wants a reply (section 5.4)
+abbrev pub takes_request : (number : ℕ) → Lines → Lines
+takes_request number l = at number (λ e l. cond e.confirmed (turns (requesting e) [] l) l) l
+
+-- the reply of this place, or the first that is owed, is settled (section 5.4)
+abbrev pub takes_reply : (number : ℕ) → (place : Option ℕ) → (success : Bool) → Lines → Lines
+takes_reply number place success l = at number (λ e l. cond (reply_may_come place e)
+    (turns (replying place success e) (replies_out place success e) l)
+    l) l
 
 -- the peer agrees to an open of this side's, or refuses it (section 5.1)
 abbrev pub confirms : (number peer window limit : ℕ) → Lines → Lines

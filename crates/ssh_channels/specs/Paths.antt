@@ -4,14 +4,14 @@ use Rattle.std.specs.Prelude.{◌≡◌, ◌&&◌, ◌==◌, Bool, not, cond, Li
 use Rattle.std.specs.Prelude.{Option}
 use Rattle.ssh_link.specs.Frames.{Frame}
 use Rattle.ssh_channels.specs.declared.adjusted.Adjusted.{Adjusted}
-use Rattle.ssh_channels.specs.Line.{is_established, is_opening, may_send, may_close}
+use Rattle.ssh_channels.specs.Line.{is_established, is_opening, may_send, may_close, owes_reply}
 use Rattle.ssh_channels.specs.Numbers.{next_number}
 use Rattle.ssh_channels.specs.Table.{Table, is_live, is_pending, has}
 use Rattle.ssh_channels.specs.Calls.{Op, Byte, Send, Eof, Close, Peer_close, Flush_line, Flush_all}
 use Rattle.ssh_channels.specs.Calls.{Grant, Adjust, Draw}
 use Rattle.ssh_channels.specs.Calls.{Open_next, Drop_pending, Insert, Confirm, Fail_open}
-use Rattle.ssh_channels.specs.Calls.{Set_wants_reply, Stage, op}
-use Rattle.ssh_channels.specs.Calls.{flush_first, framed_at, credit_after, adjusting_at}
+use Rattle.ssh_channels.specs.Calls.{Set_wants_reply, Set_target, Request, Settle, Stage, op}
+use Rattle.ssh_channels.specs.Calls.{flush_first, framed_at, credit_after, adjusting_at, place_at}
 
 -- a call's frames go to the sink where none is staged before it and no exchange runs
 abbrev pub is_direct : (is_rekeying : Bool) → Table → Bool
@@ -67,6 +67,7 @@ pub data Answer : Type 0 where
   Credit : Option ℕ → Answer
   Room : Adjusted → Answer
   Number : Option ℕ → Answer
+  Place : Option ℕ → Answer
   -- a packet size of 0
   Refused : Answer
 
@@ -89,6 +90,9 @@ answer (Confirm msg) t = cond (msg.maximum_packet_size == 0) Refused
     (Accepts (has is_opening msg.recipient_channel t))
 answer (Fail_open n) t = Accepts (has is_opening n t)
 answer (Set_wants_reply n wanted) t = Accepts (is_live n t)
+answer (Set_target n target) t = Accepts (is_live n t)
+answer (Request n) t = Place (place_at n t)
+answer (Settle n place success) t = Accepts (has (owes_reply place) n t)
 answer (Stage frame) t = Done
 
 -- what a list of calls leaves, each flushed before the next one, and what they answer

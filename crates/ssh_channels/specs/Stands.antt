@@ -1,10 +1,16 @@
 -- How a table keeps the channels of a connection: it forgets what was sent (RFC 4254 section 5).
-use Rattle.std.specs.Prelude.{◌≡◌, ◌≤◌, ◌+◌, ◌&&◌, ◌||◌, ℕ, not, List, [], ◌∷◌}
+use Rattle.std.specs.Prelude.{◌≡◌, ◌≤◌, ◌+◌, ◌&&◌, ◌||◌, ℕ, not, List, [], ◌∷◌, length}
 use Rattle.ssh_channels.specs.declared.params.ChannelParams.{ChannelParams}
+use Rattle.ssh_channels.specs.declared.replies.Reply.{Reply}
+use Rattle.ssh_channels.specs.Replies.{Wanted, held}
 use Rattle.ssh_channels.specs.Cut.{left_of}
 use Rattle.ssh_channels.specs.Entry.{Entry, IsDeferred, Sound}
 use Rattle.ssh_channels.specs.Lines.{Lines}
 use Rattle.ssh_channels.specs.Table.{Table}
+
+-- of all replies a table keeps how many they are, and those that did not go out
+abbrev pub kept_of : List Reply → Wanted
+kept_of replies = record { count = length replies; unsent = held replies }
 
 -- a line of a table is this channel: its credit is what is granted and not framed, what waits is
 -- what is left of the accepted chunks after the framed bytes, and an EOF or a CLOSE is deferred
@@ -16,7 +22,9 @@ pub record Holds (key : ℕ) (line : ChannelParams) (e : Entry) : Type 0 where
   pub limit : line.recipient_maximum_packet_size ≡ e.limit
   pub confirmed : line.confirmed ≡ e.confirmed
   pub room : line.sender_window_size ≡ e.room
+  pub target : line.target ≡ e.target
   pub wants_reply : line.wants_reply ≡ e.wants_reply
+  pub replies : line.replies ≡ kept_of e.replies
   pub credit : e.granted ≡ e.framed + line.recipient_window_size
   pub waiting : line.waiting ≡ left_of e.framed e.chunks
   pub pending_eof : line.pending_eof ≡ e.eof && not e.told

@@ -33,3 +33,7 @@ adjusted count target l = room_after (adjusting count target l) count target l
 
 abbrev pub adjusted_frames : (own count target : ℕ) → ChannelParams → List Frame
 adjusted_frames own count target l = adjust_frames (adjusting count target l) own l
+
+-- the room is filled up to so many bytes from now on
+abbrev pub aimed : (target : ℕ) → ChannelParams → ChannelParams
+aimed target l = record l { target = target }

@@ -6,7 +6,9 @@ use crate::DataKind;
 use bytes::Bytes;
 use ssh_link::Frame;
 use ssh_wire::ChannelId;
-use ssh_wire::message::{CHANNEL_CLOSE, CHANNEL_EOF, CHANNEL_WINDOW_ADJUST};
+use ssh_wire::message::{
+    CHANNEL_CLOSE, CHANNEL_EOF, CHANNEL_FAILURE, CHANNEL_SUCCESS, CHANNEL_WINDOW_ADJUST,
+};
 
 /// The channel that a frame is for.
 #[derive(Clone, Copy)]
@@ -59,4 +61,14 @@ pub(crate) fn adjust_frame(to: Recipient, amount: u32) -> Frame
     let [e, f, g, h] = amount.to_be_bytes();
     let payload = [CHANNEL_WINDOW_ADJUST, a, b, c, d, e, f, g, h];
     Frame::short(&payload, None, Some(to.own))
+}
+
+/// CHANNEL_SUCCESS or CHANNEL_FAILURE: what became of a request (RFC 4254 section 5.4).
+pub(crate) fn reply_frame(to: Recipient, success: bool) -> Frame
+    ensures { result ≡ layout.reply_frame to.own.0 to.peer success }
+{
+    match success {
+        true => bare_frame(to, CHANNEL_SUCCESS),
+        false => bare_frame(to, CHANNEL_FAILURE),
+    }
 }

@@ -6,6 +6,7 @@ ghost use Rattle.ssh_channels.specs.Line as line;
 ghost use Rattle.ssh_channels.specs.Window as window;
 
 use crate::frames::{Recipient, adjust_frame, close_frame, data_frame, eof_frame};
+use crate::replies::Replies;
 use crate::waiting::{Waiting, longest_piece};
 use crate::{Adjusted, Chunk, TableError};
 use bytes::Bytes;
@@ -14,8 +15,9 @@ use ssh_wire::ChannelId;
 use std::alloc::Global;
 
 /// A channel that this side opened and the peer has not confirmed, or that is established (RFC 4254
-/// section 5.1). What waits to be sent on it is private; a definition sees it as the list of its
-/// chunks. Sizes are in bytes.
+/// section 5.1). What waits to be sent on it is private, and so are the replies that the peer's
+/// requests want; a definition sees the list of the chunks, and that of the replies. Sizes are in
+/// bytes.
 #[derive(Drop)]
 pub struct ChannelParams {
     /// The peer's number of the channel, and 0 until it confirmed it.
@@ -26,13 +28,15 @@ pub struct ChannelParams {
     pub recipient_window_size: u32,
     /// The room: what this side granted and the peer has not used up.
     pub sender_window_size: u32,
+    /// Up to how many bytes the room is filled.
+    pub target: u32,
     /// The most data that the peer takes in one message.
     pub recipient_maximum_packet_size: u32,
     /// The most data that this side takes in one message.
     pub sender_maximum_packet_size: u32,
     /// It is established.
     pub confirmed: bool,
-    /// The last request on it wants a reply.
+    /// The last request on it wants a reply. The list of `Encrypted::request` does not rest on it.
     pub wants_reply: bool,
     /// An EOF waits behind data.
     pub pending_eof: bool,
@@ -41,12 +45,14 @@ pub struct ChannelParams {
     /// An EOF or a CLOSE was accepted, so no data are any more.
     pub ended: bool,
     pub(crate) waiting: Waiting,
+    pub(crate) replies: Replies,
 }
 
 impl ChannelParams {
     ghost use Rattle.ssh_channels.specs.Line.{established};
 
-    /// An established channel on which nothing waits and nothing ended.
+    /// An established channel on which nothing waits, nothing ended and no reply is wanted. Its
+    /// room is filled up to what it is.
     pub fn new(
         alloc: Global,
         recipient_channel: u32,
@@ -65,6 +71,7 @@ impl ChannelParams {
             sender_channel,
             recipient_window_size,
             sender_window_size,
+            target: sender_window_size,
             recipient_maximum_packet_size,
             sender_maximum_packet_size,
             confirmed: true,
@@ -73,6 +80,7 @@ impl ChannelParams {
             pending_close: false,
             ended: false,
             waiting: Waiting::new(alloc),
+            replies: Replies::new(alloc),
         }
     }
 
@@ -347,5 +355,47 @@ impl ChannelParams {
         }
         self.sender_window_size = room;
         Ok(Adjusted::Kept)
+    }
+
+    /// A request wants a reply. Answers how many were wanted before it. Where there is no memory,
+    /// all is as before.
+    pub(crate) fn want_reply(&mut self) -> Result<u64, TableError>
+        ensures place { IfOk result (λ place. place ≡ self.old.replies.count) }
+        ensures line { OnOk result (self.new ≡ line.requested self.old) }
+        ensures waiting { self.new.waiting ≡ self.old.waiting }
+        ensures unchanged { OnErr result (self.new ≡ self.old) }
+        ensures memory { IfErr result (λ e. e ≡ NoMemory) }
+    {
+        self.replies.want()
+    }
+
+    /// Whether the reply of this place, or any where none is given, is owed.
+    pub(crate) fn owes_reply(&self, place: Option<u64>) -> bool
+        ensures { result ≡ line.owes_reply place self.now }
+    {
+        self.replies.owes(place)
+    }
+
+    /// The owed reply of this place, or the first that is owed, is settled, and those that are
+    /// ready go out. Where there is no memory, all is as before.
+    pub(crate) fn settle_reply(
+        &mut self,
+        alloc: Global,
+        own: ChannelId,
+        place: Option<u64>,
+        success: bool,
+        staged: &mut Vec<Frame>,
+    ) -> Result<(), TableError>
+        requires owed { line.owes_reply place self.old ≡ true }
+        ensures line { OnOk result (self.new ≡ line.replied place success self.old) }
+        ensures waiting { self.new.waiting ≡ self.old.waiting }
+        ensures staged { OnOk result (staged.new.items
+            ≡ staged.old.items ++ line.reply_frames own.0 place success self.old) }
+        ensures unchanged { OnErr result (self.new ≡ self.old) }
+        ensures kept { OnErr result (staged.new.items ≡ staged.old.items) }
+        ensures memory { IfErr result (λ e. e ≡ NoMemory) }
+    {
+        let to = self.recipient(own);
+        self.replies.settle(alloc, to, place, success, staged)
     }
 }

@@ -1,6 +1,7 @@
 // What each side grants the other.
 ghost use Rattle.std.specs.Prelude.{◌≡◌, length, IfOk, IfErr, OnOk, OnErr};
 ghost use Rattle.ssh_channels.specs.declared.error.TableError.TheVariants.{NoMemory};
+ghost use Rattle.ssh_channels.specs.Table as table;
 ghost use Rattle.ssh_channels.specs.Calls as calls;
 
 use crate::table::recounted;
@@ -40,6 +41,29 @@ impl Encrypted {
             let _ = self.lines.remove(&channel.0);
         }
         Ok(Some(credit))
+    }
+
+    /// Up to how many bytes the room of the channel is filled, and 0 where there is no such channel.
+    pub fn target(&self, channel: ChannelId) -> u32
+        ensures { result ≡ calls.target_at channel.0 self.now }
+    {
+        match self.lines.get(&channel.0) {
+            Some(line) => line.target,
+            None => 0,
+        }
+    }
+
+    /// The room of the channel is filled up to so many bytes from now on: what is handed to
+    /// `adjust_window_size`. `false` exactly where there is no such channel.
+    pub fn set_target(&mut self, channel: ChannelId, target: u32) -> bool
+        ensures answer { result ≡ table.is_live channel.0 self.old }
+        ensures table { self.new ≡ calls.set_target channel.0 target self.old }
+    {
+        let Some(line) = self.lines.get_mut(&channel.0) else {
+            return false;
+        };
+        line.target = target;
+        true
     }
 
     /// These bytes of data came in on the channel, whose room is to be kept at `target`, in bytes

@@ -1,5 +1,6 @@
 // The table by example: what goes out for lists of calls, in the bytes of the standard's messages.
 mod opening;
+mod replies;
 mod sending;
 mod windows;
 
@@ -31,8 +32,11 @@ enum Call {
     PeerClose(u32),
     Grant(u32, u32),
     GrantInExchange(u32, u32),
-    // As many bytes came in, and the target is 8.
+    // As many bytes came in, and the target is the channel's.
     Adjust(u32, &'static [u8]),
+    // Channel and target.
+    Aim(u32, u32),
+    Target(u32),
     FlushPending(u32),
     FlushPendingToSink(u32),
     FlushAll,
@@ -48,6 +52,9 @@ enum Call {
     Confirm(u32, u32),
     FailOpen(u32),
     SetWantsReply(u32),
+    Request(u32),
+    // Channel, place and success.
+    Settle(u32, Option<u64>, bool),
     Look(u32),
     AnyWaits,
     CanSend(u32),
@@ -62,6 +69,8 @@ enum Answer {
     Credit(Option<u32>),
     Room(Adjusted),
     Number(u32),
+    Target(u32),
+    Place(Option<u64>),
     // The room, the credit, whether data wait, and an EOF, and a CLOSE, and whether a reply is
     // wanted.
     Line(usize, u32, bool, bool, bool, bool),
@@ -109,6 +118,18 @@ fn room(answered: Result<Adjusted, TableError>) -> Answer {
         Ok(adjusted) => Answer::Room(adjusted),
         Err(why) => Answer::Refused(why),
     }
+}
+
+fn place(answered: Result<Option<u64>, TableError>) -> Answer {
+    match answered {
+        Ok(place) => Answer::Place(place),
+        Err(why) => Answer::Refused(why),
+    }
+}
+
+fn adjusted(table: &mut Encrypted, channel: ChannelId, bytes: &[u8]) -> Answer {
+    let target = table.target(channel);
+    room(table.adjust_window_size(channel, bytes, target))
 }
 
 fn line(table: &Encrypted, channel: ChannelId) -> Answer {
@@ -197,7 +218,9 @@ fn made_without_bytes(table: &mut Encrypted, sink: &mut FrameSink, call: Call) -
         Call::PeerClose(n) => is(table.peer_close(ChannelId(n))),
         Call::Grant(n, amount) => credit(table.grant(ChannelId(n), amount, false)),
         Call::GrantInExchange(n, amount) => credit(table.grant(ChannelId(n), amount, true)),
-        Call::Adjust(n, bytes) => room(table.adjust_window_size(ChannelId(n), bytes, 8)),
+        Call::Adjust(n, bytes) => adjusted(table, ChannelId(n), bytes),
+        Call::Aim(n, target) => Answer::Is(table.set_target(ChannelId(n), target)),
+        Call::Target(n) => Answer::Target(table.target(ChannelId(n))),
         Call::FlushPending(n) => framed(table.flush_pending(ChannelId(n))),
         Call::FlushPendingToSink(n) => {
             framed(table.flush_pending_with_writer(sink, ChannelId(n), false))
@@ -213,6 +236,8 @@ fn made_without_bytes(table: &mut Encrypted, sink: &mut FrameSink, call: Call) -
         Call::Confirm(n, packet) => is(table.confirm(&confirmation(n, packet))),
         Call::FailOpen(n) => Answer::Is(table.fail_open(ChannelId(n))),
         Call::SetWantsReply(n) => Answer::Is(table.set_wants_reply(ChannelId(n), true)),
+        Call::Request(n) => place(table.request(ChannelId(n))),
+        Call::Settle(n, at, success) => is(table.settle(ChannelId(n), at, success)),
         Call::Look(n) => line(table, ChannelId(n)),
         Call::AnyWaits => Answer::Is(table.has_any_pending_data()),
         Call::CanSend(n) => Answer::Is(table.can_send(ChannelId(n))),

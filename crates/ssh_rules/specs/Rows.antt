@@ -38,6 +38,7 @@ use Rattle.ssh_channels.specs.Entry.{Entry, flushed, granting}
 use Rattle.ssh_channels.specs.Lines.{find, takes_grant, takes_in, peer_closes, wants, drawn}
 use Rattle.ssh_channels.specs.Lines.{next_number, drops_pending, confirms, fails}
 use Rattle.ssh_channels.specs.Does.{coming_of, has}
+use Rattle.ssh_channels.specs.Layout.{as_uint32}
 use Rattle.ssh_channels.specs.declared.adjusted.Adjusted.{Adjusted}
 use Rattle.ssh_channels.specs.declared.adjusted.Adjusted.TheVariants.{Dropped, Kept}
 use Rattle.ssh_channels.specs.declared.adjusted.Adjusted.TheVariants.{Granted as Filled}
@@ -60,7 +61,7 @@ use Rattle.ssh_rules.specs.Outcome.{Channels_full, Pending, Outcome}
 use Rattle.ssh_rules.specs.Reading.{Said, Disconnect, Over_cap, Service, Request, Response, Open}
 use Rattle.ssh_rules.specs.Reading.{Agreed, Connection, Unread, Unfit, Without_packets}
 use Rattle.ssh_rules.specs.World.{World, waits_for, lined, writes, replies, wants_global}
-use Rattle.ssh_rules.specs.World.{settles_global, settled_first, unless_ended, as_uint32}
+use Rattle.ssh_rules.specs.World.{settles_global, settled_first, unless_ended}
 use Rattle.ssh_rules.specs.Acts.{Act, Notes, Calls, Judges_by, Listens_by, Adjusts_by, Turns}
 use Rattle.ssh_rules.specs.Acts.{Exchanges, Beginning, Stepping, Is_over, Stops, acts}
 use Rattle.ssh_rules.specs.declared.exchange.Passage.{Passage}

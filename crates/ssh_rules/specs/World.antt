@@ -1,12 +1,13 @@
 -- The state of a session in the standard's terms. It is a record of the definitions alone: the code
 -- has what it needs of it, and the relation `Refines` of `ssh_session` ties the two.
 use Rattle.std.specs.Prelude.{◌&&◌, ◌||◌, ◌++◌, ◌∷◌, ℕ, Bool, List, [], true, false, not, cond}
-use Rattle.std.specs.Prelude.{◌-◌, ◌^◌, min, drop}
+use Rattle.std.specs.Prelude.{drop}
 use Rattle.std.specs.Prelude.{Option, option_to_list}
 use Rattle.ssh_link.specs.Frames.{Frame}
 use Rattle.ssh_handler.specs.declared.config.Config.{Config}
 use Rattle.ssh_auth.specs.Publickey.{Acceptance, Circumstances}
 use Rattle.ssh_channels.specs.Does.{has}
+use Rattle.ssh_channels.specs.Layout.{as_uint32}
 use Rattle.ssh_channels.specs.Lines.{Lines, no_lines, write, wants, says}
 use Rattle.ssh_rules.specs.declared.exchange.ExchangeState.TheVariants.{Idle}
 use Rattle.ssh_rules.specs.declared.exchange.Keys.{Keys}
@@ -74,10 +75,6 @@ pub record World : Type 0 where
   pub disconnected : Bool
   -- the exchange of keys, and how much passed under the keys in use (RFC 4253 sections 7 and 9)
   pub keys : Keys
-
--- a window is told by a number of four bytes (RFC 4251 section 5, RFC 4254 section 5.2)
-abbrev pub as_uint32 : ℕ → ℕ
-as_uint32 window = min window (2 ^ 32 - 1)
 
 -- before the first input
 abbrev pub opening_world : Settings → World

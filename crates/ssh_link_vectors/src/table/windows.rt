@@ -3,7 +3,7 @@ use super::{Answer, Call, Row, Way, holds};
 use ssh_channels::Adjusted;
 use std::test::*;
 
-static RAISED: [Row; 2] = [
+static RAISED: [Row; 3] = [
     Row {
         shows: "the room is raised once less than half of it is left, and larger data are dropped",
         calls: &[
@@ -25,6 +25,25 @@ static RAISED: [Row; 2] = [
         ],
         sink: &[],
         staged: &[(Some(2), b"\x5d\0\0\0\x07\0\0\0\x05")],
+    },
+    Row {
+        shows: "each channel is filled up to a target of its own, which is its first room",
+        calls: &[
+            (Call::Insert(2, 7, 1024, 1024), Answer::Is(true)),
+            (Call::Insert(3, 9, 1024, 1024), Answer::Is(true)),
+            (Call::Target(2), Answer::Target(8)),
+            (Call::Aim(2, 16), Answer::Is(true)),
+            (Call::Adjust(2, b"a"), Answer::Room(Adjusted::Granted(9))),
+            (Call::Adjust(3, b"a"), Answer::Room(Adjusted::Kept)),
+            (Call::Target(2), Answer::Target(16)),
+            (Call::Target(3), Answer::Target(8)),
+            (Call::Aim(4, 16), Answer::Is(false)),
+            (Call::Target(4), Answer::Target(0)),
+            (Call::Open, Answer::Number(4)),
+            (Call::Target(4), Answer::Target(8)),
+        ],
+        sink: &[],
+        staged: &[(Some(2), b"\x5d\0\0\0\x07\0\0\0\x09")],
     },
     Row {
         shows: "the credit stays at its end, and a grant lets out first what waits",
