@@ -5,3 +5,5 @@ pub mod Seats
 pub mod Stages
 pub mod Finds
 pub mod Ordered
+pub mod Sending
+pub mod Faultless

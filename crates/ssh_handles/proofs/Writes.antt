@@ -32,10 +32,16 @@ use Rattle.std.proofs.Common.{
 use Rattle.std.specs.Prelude.{slice_range}
 use Rattle.std.proofs.lemmas.List.{take-take}
 use Rattle.ssh_wire.specs.declared.channel_id.ChannelId.{ChannelId}
+use Rattle.ssh_link.specs.declared.outcome.Refusal.TheVariants.{UnknownChannel}
 use Rattle.ssh_hub.specs.Step.{opening}
 use Rattle.ssh_hub.specs.History.{IsLegal}
 use Rattle.ssh_hub.specs.declared.answers.HandleError.{HandleError}
-use Rattle.ssh_hub.specs.declared.answers.HandleError.TheVariants.{Ended, NoMemory}
+use Rattle.ssh_hub.specs.declared.answers.HandleError.TheVariants.{
+  Ended,
+  Inconsistent,
+  NoMemory,
+  Refused,
+}
 use Rattle.ssh_hub.specs.declared.answers.Look.{Look}
 use Rattle.ssh_hub.specs.declared.history.HubCall.{HubCall}
 use Rattle.ssh_hub.specs.declared.history.HubCall.TheVariants.{
@@ -72,6 +78,8 @@ use Rattle.ssh_handles.specs.Writing.{
   stopped,
   writing_asks,
   writing_told,
+  packet_if,
+  packet_seen,
   begun,
   after_look,
   goes_on,
@@ -184,6 +192,49 @@ module _ (c : ChannelId) (ext : Option ℕ) where
   nothing_to_write v [] legal none = acts_none (writes c ext) v written legal
   nothing_to_write v (b ∷ bs) legal none = absurd (omega arith)
 
+-- how a look that says how many bytes go into a message leads on, and one that does not
+seen_if : (b : Bool) (q p : ℕ) (bytes : List ℕ) → Ok p ≡ packet_if b q
+    → begun b q bytes ≡ asking p bytes
+seen_if true q p bytes e = absurd (cc e)
+seen_if false q p bytes e =
+    let is : q ≡ p = cc e in
+    ap (λ (k : ℕ). asking k bytes) is
+
+seen_well : (bytes : List ℕ) (o : Option Look) (p : ℕ) → Ok p ≡ packet_seen o
+    → after_look bytes o ≡ asking p bytes
+seen_well bytes None p e = absurd (cc e)
+seen_well bytes (Some look) p e = seen_if (eqb look.packet 0) look.packet p bytes e
+
+stands_if : (b : Bool) (q : ℕ) (why : HandleError) (bytes : List ℕ) → Err why ≡ packet_if b q
+    → begun b q bytes ≡ stands why 0 bytes
+stands_if true q why bytes e =
+    let is : Inconsistent ≡ why = cc e in
+    ap (λ (k : HandleError). stands k 0 bytes) is
+stands_if false q why bytes e = absurd (cc e)
+
+seen_badly : (bytes : List ℕ) (o : Option Look) (why : HandleError) → Err why ≡ packet_seen o
+    → after_look bytes o ≡ stands why 0 bytes
+seen_badly bytes None why e =
+    let is : Refused UnknownChannel ≡ why = cc e in
+    ap (λ (k : HandleError). stands k 0 bytes) is
+seen_badly bytes (Some look) why e = stands_if (eqb look.packet 0) look.packet why bytes e
+
+module _ (c : ChannelId) (ext : Option ℕ) where
+  pub begins : (v : View) (bytes : List ℕ) (o : Option Look) (x : View) (p : ℕ)
+      → IsLegal (opening v.config) v.seen → 0 < length bytes → Makes v (LookAt c) (Saw o) x
+      → Ok p ≡ packet_seen o → Acts (writes c ext) v (to_write bytes) (asking p bytes) x
+  begins v bytes o x p legal some made is =
+      looked c ext v bytes o o x (asking p bytes) legal some made refl (seen_well bytes o p is)
+
+  pub stops_first : (v : View) (bytes : List ℕ) (o : Option Look) (x : View) (why : HandleError)
+      → IsLegal (opening v.config) v.seen → 0 < length bytes → Makes v (LookAt c) (Saw o) x
+      → Err why ≡ packet_seen o → StopsBy c ext v (to_write bytes) why x
+  stops_first v bytes o x why legal some made is = (
+    0,
+    bytes,
+    looked c ext v bytes o o x (stands why 0 bytes) legal some made refl (seen_badly bytes o why is),
+  )
+
 pub nothing_left : (p : ℕ) (xs : List ℕ) → length xs ≡ 0 → goes_on p xs ≡ written
 nothing_left p [] e = refl
 nothing_left p (x ∷ xs) e = absurd (omega arith)
@@ -191,10 +242,6 @@ nothing_left p (x ∷ xs) e = absurd (omega arith)
 pub something_left : (p : ℕ) (xs : List ℕ) → 0 < length xs → goes_on p xs ≡ asking p xs
 something_left p [] e = absurd (omega arith)
 something_left p (x ∷ xs) e = refl
-
-pub look_packet : (rest : List ℕ) (look : Look) (b : Bool) → eqb look.packet 0 ≡ b
-    → after_look rest (Some look) ≡ begun b look.packet rest
-look_packet rest look b is = ap (λ (x : Bool). begun x look.packet rest) is
 
 pub within_rest : (n w p k : ℕ) (rest : List ℕ) → n ≤ w → w ≡ min p k → k ≡ length rest
     → n ≤ length rest

@@ -69,6 +69,18 @@ pub record IsChannelOf (lock : HubLock) (id : ChannelId) (c : Channel) : Type 0 
   pub read_id : reader_id c.read ≡ id
   pub write_id : writer_id c.write ≡ id
 
+-- the half that reads made no call, and the other is of the same hub and channel
+pub record OnlyWrites (c d : Channel) : Type 0 where
+  pub read : d.read ≡ c.read
+  pub hub : writer_hub d.write ≡ writer_hub c.write
+  pub id : writer_id d.write ≡ writer_id c.write
+
+-- the half that writes made no call, and the other is of the same hub and channel
+pub record OnlyReads (c d : Channel) : Type 0 where
+  pub write : d.write ≡ c.write
+  pub hub : reader_hub d.read ≡ reader_hub c.read
+  pub id : reader_id d.read ≡ reader_id c.read
+
 -- the answer to a put of bytes, which come back with an error
 abbrev pub without_bytes : Result ℕ PutError → Result ℕ HandleError
 without_bytes (Ok ticket) = Ok ticket

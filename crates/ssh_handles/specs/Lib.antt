@@ -6,7 +6,9 @@ pub mod Callers
 pub mod Parts
 pub mod Writing
 pub mod Written
+pub mod Sending
 pub mod Staging
 pub mod Reading
 pub mod Handles
 pub mod Writers
+pub mod Readers

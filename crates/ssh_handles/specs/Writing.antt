@@ -57,6 +57,15 @@ writing_asks c ext (releasing n at rest) = Some (ReleaseBytes c n)
 writing_asks c ext written = None
 writing_asks c ext (stopped e rest) = None
 
+-- how many bytes go into one message at most, by what a look saw
+abbrev pub packet_if : Bool → ℕ → Result ℕ HandleError
+packet_if true packet = Err Inconsistent
+packet_if false packet = Ok packet
+
+abbrev pub packet_seen : Option Look → Result ℕ HandleError
+packet_seen None = Err (Refused UnknownChannel)
+packet_seen (Some look) = packet_if (eqb look.packet 0) look.packet
+
 abbrev pub begun : Bool → ℕ → List ℕ → Writing
 begun true packet rest = stopped Inconsistent rest
 begun false packet rest = asking packet rest

@@ -7,6 +7,7 @@ use ssh_hub::{HubLock, Seat};
 use std::sync::Arc;
 
 mod halves;
+mod sends;
 mod tries;
 mod waits;
 mod writes;

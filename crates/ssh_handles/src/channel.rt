@@ -3,6 +3,8 @@ use crate::caller::Caller;
 use crate::stream::ChannelStream;
 use ssh_wire::ChannelId;
 
+mod calls;
+mod client_calls;
 mod client_only;
 mod read_half;
 mod write_half;
@@ -10,7 +12,8 @@ mod write_half;
 pub use read_half::ChannelReadHalf;
 pub use write_half::ChannelWriteHalf;
 
-/// A channel that is open on both sides, as its two halves: its calls are theirs.
+/// A channel that is open on both sides, as its two halves. Each of its calls is one of a half, and
+/// the other half makes none in it.
 #[derive(Drop)]
 pub struct Channel {
     /// What reads.
@@ -25,6 +28,7 @@ impl Channel {
     ghost use Rattle.ssh_hub.specs.Words.{room_of};
     ghost use Rattle.ssh_handles.specs.Callers.{hub_of, seen_by};
     ghost use Rattle.ssh_handles.specs.Handles.{reader_view, writer_view, IsChannelOf};
+    ghost use Rattle.ssh_handles.specs.Readers.{IsStreamOf};
 
     // A channel by two callers on one hub, the second of which is new.
     pub(crate) fn new(reading: Caller, writing: Caller, id: ChannelId) -> Channel
@@ -50,7 +54,9 @@ impl Channel {
     }
 
     /// The channel as a stream of bytes.
-    pub fn into_stream(self) -> ChannelStream {
+    pub fn into_stream(self) -> ChannelStream
+        ensures { IsStreamOf self.read self.write result }
+    {
         let Channel { read, write } = self;
         ChannelStream::new(read, write)
     }

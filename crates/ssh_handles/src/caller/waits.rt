@@ -11,6 +11,17 @@ use ssh_wire::ChannelId;
 use std::sync::Wait;
 
 impl Caller {
+    // Waits for an entry behind the newest one of the seat, which follows the one at `tried`. Where
+    // an entry of another seat stands between the two, it may be what is waited for.
+    fn pause_after<R: Wait>(&self, rt: &R, tried: Option<u64>) {
+        if let Some(tried) = tried {
+            let next = tried.saturating_add(1);
+            if self.seat.place() == Some(next) {
+                self.lock.pause(rt, next);
+            }
+        }
+    }
+
     // Waits for the outcome of the command with this ticket. `Ended` is the only error.
     pub fn outcome<R: Wait>(&mut self, rt: &R, ticket: u64) -> Result<CommandOutcome, HandleError>
         ensures hub { hub_of self.new ≡ hub_of self.old }
@@ -20,10 +31,11 @@ impl Caller {
             if let Some(outcome) = self.lock.outcome(rt, &mut self.seat, ticket) {
                 return Ok(outcome);
             }
+            let tried = self.seat.place();
             if let Some(at) = self.lock.ended(rt, &mut self.seat) {
                 return Err(HandleError::Ended { at });
             }
-            self.pause(rt);
+            self.pause_after(rt, tried);
         }
         unreachable!()
     }
@@ -37,10 +49,11 @@ impl Caller {
             if let Some(answer) = self.lock.slot_outcome(rt, &mut self.seat, slot) {
                 return Ok(answer);
             }
+            let tried = self.seat.place();
             if let Some(at) = self.lock.ended(rt, &mut self.seat) {
                 return Err(HandleError::Ended { at });
             }
-            self.pause(rt);
+            self.pause_after(rt, tried);
         }
         unreachable!()
     }

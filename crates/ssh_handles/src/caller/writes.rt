@@ -1,19 +1,24 @@
 // Bytes that are written on a channel.
-ghost use Rattle.std.specs.Prelude.{◌≡◌, ◌<◌, [], ◌∷◌, length};
+ghost use Rattle.std.specs.Prelude.{◌≡◌, ◌<◌, [], ◌∷◌, length, IfOk, Option};
 ghost use Rattle.ssh_hub.specs.Reserved.{reservation};
 ghost use Rattle.ssh_hub.specs.Views.{own_reservations};
 ghost use Rattle.ssh_hub.specs.Words.{room_of};
 ghost use Rattle.ssh_handles.specs.DataCommands.{data_command};
 ghost use Rattle.ssh_handles.specs.Callers.{hub_of, seen_by, PutsOrReleases};
-ghost use Rattle.ssh_handles.specs.Writing.{Writes, WritesFrom, asking};
+ghost use Rattle.ssh_handles.specs.Writing.{Writes, WritesFrom, asking, packet_seen};
+ghost use Rattle.ssh_hub.specs.Words.{Makes};
+ghost use Rattle.ssh_hub.specs.declared.answers.Look.{Look};
+ghost use Rattle.ssh_hub.specs.declared.history.HubCall.TheVariants.{LookAt};
+ghost use Rattle.ssh_hub.specs.declared.history.HubReply.TheVariants.{Saw};
 
 use super::Caller;
-use crate::gate::Gate;
+use crate::gate::{Gate, NoGate};
 use crate::tags::{data_command, wanted};
 use bytes::Bytes;
 use ssh_hub::{HandleError, Reserve};
 use ssh_link::Refusal;
 use ssh_wire::ChannelId;
+use std::alloc::Global;
 use std::sync::Wait;
 
 impl Caller {
@@ -36,13 +41,57 @@ impl Caller {
         if bytes.is_empty() {
             return Ok(());
         }
-        let Some(look) = self.lock.look(rt, &mut self.seat, channel) else {
-            return Err(HandleError::Refused(Refusal::UnknownChannel));
+        let packet = self.packet_size(rt, channel)?;
+        self.put_all(rt, gate, channel, ext, packet, bytes)
+    }
+
+    // Writes a copy of these bytes, of which there are some. Nothing is reserved before, nor
+    // afterwards.
+    pub(super) fn write_copy<R: Wait>(
+        &mut self,
+        rt: &R,
+        alloc: Global,
+        channel: ChannelId,
+        ext: Option<u32>,
+        bytes: &[u8],
+    ) -> Result<(), HandleError>
+        requires none { own_reservations (seen_by self.old) ≡ [] }
+        requires room { 0 < room_of self.old.seat }
+        requires some { 0 < length bytes.now }
+        ensures hub { hub_of self.new ≡ hub_of self.old }
+        ensures room { room_of self.new.seat ≡ room_of self.old.seat }
+        ensures none { own_reservations (seen_by self.new) ≡ [] }
+        ensures entries { Writes channel ext bytes.now (seen_by self.old) result
+            (seen_by self.new) }
+    {
+        let packet = self.packet_size(rt, channel)?;
+        let Ok(bytes) = Bytes::copy_from_slice(alloc, bytes) else {
+            return Err(HandleError::NoMemory);
         };
-        if look.packet == 0 {
-            return Err(HandleError::Inconsistent);
+        self.put_all(rt, &NoGate, channel, ext, packet, bytes)
+    }
+
+    // Looks how many bytes go into one message at most.
+    fn packet_size<R: Wait>(&mut self, rt: &R, channel: ChannelId) -> Result<u32, HandleError>
+        ensures hub { hub_of self.new ≡ hub_of self.old }
+        ensures room { room_of self.new.seat ≡ room_of self.old.seat }
+        ensures reserved { own_reservations (seen_by self.new)
+            ≡ own_reservations (seen_by self.old) }
+        ensures entries { (look : Option Look)
+            × Makes (seen_by self.old) (LookAt channel) (Saw look) (seen_by self.new)
+            × (result ≡ packet_seen look) }
+        ensures some { IfOk result (λ packet. 0 < packet) }
+    {
+        match self.lock.look(rt, &mut self.seat, channel) {
+            Some(look) => {
+                if look.packet == 0 {
+                    Err(HandleError::Inconsistent)
+                } else {
+                    Ok(look.packet)
+                }
+            }
+            None => Err(HandleError::Refused(Refusal::UnknownChannel)),
         }
-        self.put_all(rt, gate, channel, ext, look.packet, bytes)
     }
 
     // Reserves and puts until no byte is left.

@@ -18,6 +18,8 @@ impl ChannelReadHalf {
     ghost use Rattle.ssh_hub.specs.Words.{view_of, IsSeatOf};
     ghost use Rattle.ssh_handles.specs.Callers.{hub_of, seen_by, IsReceived};
     ghost use Rattle.ssh_handles.specs.Handles.{reader_hub, reader_view, reader_id};
+    ghost use Rattle.std.specs.Prelude.{None};
+    ghost use Rattle.ssh_handles.specs.Readers.{IsRxOf};
 
     pub(crate) fn new(caller: Caller, channel: ChannelId) -> ChannelReadHalf
         ensures hub { reader_hub result ≡ hub_of caller }
@@ -55,12 +57,20 @@ impl ChannelReadHalf {
     }
 
     /// A reader of the channel's data, which does not wait.
-    pub fn make_reader(&mut self) -> ChannelRx<&mut ChannelReadHalf> {
+    pub fn make_reader(&mut self) -> ChannelRx<&mut ChannelReadHalf>
+        ensures same_reference { result.half.ghost_name ≡ self.entry.ghost_name }
+        ensures half { result.half.now ≡ self.old }
+        ensures new { IsRxOf None result }
+    {
         ChannelRx::new(self, None)
     }
 
     /// The same for data of another type (RFC 4254 section 5.2), or for data where there is none.
-    pub fn make_reader_ext(&mut self, ext: Option<u32>) -> ChannelRx<&mut ChannelReadHalf> {
+    pub fn make_reader_ext(&mut self, ext: Option<u32>) -> ChannelRx<&mut ChannelReadHalf>
+        ensures same_reference { result.half.ghost_name ≡ self.entry.ghost_name }
+        ensures half { result.half.now ≡ self.old }
+        ensures new { IsRxOf ext result }
+    {
         ChannelRx::new(self, ext)
     }
 }

@@ -9,8 +9,9 @@ use crate::gate::{Gate, NoGate};
 use crate::writer::ChannelTx;
 use bytes::Bytes;
 use ssh_hub::{HandleError, Seat};
-use ssh_link::Command;
+use ssh_link::{Command, Source};
 use ssh_wire::ChannelId;
+use std::alloc::Global;
 use std::sync::Wait;
 
 /// The half of a channel that writes. What it reserves of the channel's window it spends or gives
@@ -25,9 +26,10 @@ pub struct ChannelWriteHalf {
 
 impl ChannelWriteHalf {
     ghost use Rattle.std.specs.Prelude.{false, None, Some, Option};
-    ghost use Rattle.std.specs.Prelude.{IfOk, IfErr, OnErr};
+    ghost use Rattle.std.specs.Prelude.{◌≤◌, IfOk, IfErr, OnErr, IsErrOf};
+    ghost use Rattle.ssh_link.specs.Faults.{RoseOrFull};
     ghost use Rattle.ssh_hub.specs.Words.{view_of, IsSeatOf, Makes};
-    ghost use Rattle.ssh_hub.specs.declared.answers.HandleError.TheVariants.{NoMemory};
+    ghost use Rattle.ssh_hub.specs.declared.answers.HandleError.TheVariants.{NoMemory, ReadFault};
     ghost use Rattle.ssh_hub.specs.declared.answers.Look.{Look};
     ghost use Rattle.ssh_hub.specs.declared.history.HubCall.TheVariants.{LookAt};
     ghost use Rattle.ssh_hub.specs.declared.history.HubReply.TheVariants.{Saw};
@@ -36,6 +38,7 @@ impl ChannelWriteHalf {
     ghost use Rattle.ssh_handles.specs.Handles.{writer_hub, writer_view, writer_id, writable};
     ghost use Rattle.ssh_handles.specs.Parts.{MakesSeat};
     ghost use Rattle.ssh_handles.specs.Writing.{Writes};
+    ghost use Rattle.ssh_handles.specs.Sending.{Sends};
     ghost use Rattle.ssh_handles.specs.Writers.{tx_view, IsTxOf};
 
     pub(crate) fn new(caller: Caller, channel: ChannelId) -> ChannelWriteHalf
@@ -135,6 +138,45 @@ impl ChannelWriteHalf {
             (writer_view self.new) }
     {
         self.caller.write(rt, gate, self.channel, None, bytes)
+    }
+
+    /// Sends all bytes of the source, up to its end, as `data_bytes` does, piece by piece. The
+    /// answer is how many these were, which stays at 2^64 - 1 once it has come there. Beside the
+    /// errors of `data_bytes`, `ReadFault` where the source failed: its count of faults rose.
+    pub fn data<R: Wait, S: Source>(
+        &mut self,
+        rt: &R,
+        alloc: Global,
+        reader: &mut S,
+    ) -> Result<u64, HandleError>
+        ensures hub { writer_hub self.new ≡ writer_hub self.old }
+        ensures id { writer_id self.new ≡ writer_id self.old }
+        ensures entries { Sends (writer_id self.old) None (S.left reader.old) (S.left reader.new)
+            (writer_view self.old) result (writer_view self.new) }
+        ensures cause { IsErrOf result ReadFault → RoseOrFull (S.faults reader.old)
+            (S.faults reader.new) }
+        ensures later { S.faults reader.old ≤ S.faults reader.new }
+    {
+        self.caller.send(rt, alloc, self.channel, None, reader)
+    }
+
+    /// The same for data of another type (RFC 4254 section 5.2); 1 is standard error.
+    pub fn extended_data<R: Wait, S: Source>(
+        &mut self,
+        rt: &R,
+        alloc: Global,
+        ext: u32,
+        reader: &mut S,
+    ) -> Result<u64, HandleError>
+        ensures hub { writer_hub self.new ≡ writer_hub self.old }
+        ensures id { writer_id self.new ≡ writer_id self.old }
+        ensures entries { Sends (writer_id self.old) (Some ext) (S.left reader.old)
+            (S.left reader.new) (writer_view self.old) result (writer_view self.new) }
+        ensures cause { IsErrOf result ReadFault → RoseOrFull (S.faults reader.old)
+            (S.faults reader.new) }
+        ensures later { S.faults reader.old ≤ S.faults reader.new }
+    {
+        self.caller.send(rt, alloc, self.channel, Some(ext), reader)
     }
 
     /// Tells the peer that no more data follow (RFC 4254 section 5.3). The answer is the ticket of
