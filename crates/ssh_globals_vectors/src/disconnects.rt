@@ -1,14 +1,14 @@
 // The end of a connection by this side (RFC 4253 section 11.1): what goes out before it, and that
 // nothing does behind it.
-use crate::playing::{Around, comes_true};
 use ssh_link::{CommandOutcome, Refusal};
 use ssh_stories::Line::{Asks, Ends, In, Keepalive, Noted, On, Out};
 use ssh_stories::{
-    ACCEPTED, ALIVE, BEHIND_LOGIN, CONFIRMED, End, Line, Plan, QUIET, Run, STANDARD, Story, Turn,
-    Wish,
+    ACCEPTED, ALIVE, Around, BEHIND_LOGIN, CONFIRMED, End, Line, NOTHING, Plan, QUIET, Run,
+    STANDARD, Story, Turn, Wish,
 };
 use ssh_wire::Disconnect;
-use std::test::Fail;
+use std::alloc::Global;
+use std::test::*;
 
 pub(crate) const BYE: Wish = Wish::Disconnect(Disconnect::ByApplication, "bye", "en");
 
@@ -108,11 +108,10 @@ static RUNS: [Run; 5] = [
 ];
 
 #[test]
-fn runs_that_this_side_ends(rt: HostRuntime) -> Result<(), Fail> {
+fn runs_that_this_side_ends(rt: HostRuntime) {
     for run in &RUNS {
-        assert!(rt; run.holds(rt.alloc())?, "{}", run.shows);
+        assert!(rt; run.holds(rt.alloc()), "{}", run.shows);
     }
-    Ok(())
 }
 
 // It ends the connection where it is asked something.
@@ -156,19 +155,25 @@ static UNANSWERED: [(&[u8], Turn, &[u8]); 5] = [
 // The session is spent: the next payload is an error.
 const SPENT: Turn = &[In(b"\x02"), Ends(End::Inconsistent)];
 
+// Whether behind an open the request leads to this and to the end.
+fn are_left(alloc: Global, request: &[u8], told: Turn, asked: &'static [u8]) -> bool {
+    let around = Around {
+        plan: LEAVING,
+        first: OPENED,
+        then: told,
+        last: SPENT,
+        asked,
+        ..NOTHING
+    };
+    around.holds(alloc, Some(In(request)))
+}
+
 #[test]
-fn requests_whose_callbacks_end_the_connection(rt: HostRuntime) -> Result<(), Fail> {
+fn requests_whose_callbacks_end_the_connection(rt: HostRuntime) {
     for (request, told, asked) in &UNANSWERED {
-        let around = Around {
-            first: OPENED,
-            payload: Some(*request),
-            then: *told,
-            last: SPENT,
-        };
-        let is_true = comes_true(rt.alloc(), LEAVING, around, *asked)?;
-        assert!(rt; is_true, "{}", asked.escape_ascii());
+        let are_left = are_left(rt.alloc(), *request, *told, *asked);
+        assert!(rt; are_left, "{}", asked.escape_ascii());
     }
-    Ok(())
 }
 
 static ANSWERED: Story = Story {
@@ -189,7 +194,6 @@ static ANSWERED: Story = Story {
 };
 
 #[test]
-fn a_reply_before_the_end(rt: HostRuntime) -> Result<(), Fail> {
-    assert!(rt; ANSWERED.holds(rt.alloc())?, "{}", ANSWERED.shows);
-    Ok(())
+fn a_reply_before_the_end(rt: HostRuntime) {
+    assert!(rt; ANSWERED.holds(rt.alloc()), "{}", ANSWERED.shows);
 }

@@ -13,8 +13,6 @@ mod exchanges;
 #[cfg(test)]
 mod own;
 #[cfg(test)]
-mod playing;
-#[cfg(test)]
 mod refusals;
 #[cfg(test)]
 mod ticks;

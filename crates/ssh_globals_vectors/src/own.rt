@@ -1,70 +1,82 @@
 // Messages of no channel that this side sends, and the peer's replies to them (RFC 4254 sections 4
 // and 7.1, RFC 4253 section 11.3).
-use crate::playing::{Around, NOTHING, comes_true};
 use ssh_stories::Line::{Asks, Cancelled, Ends, Forwarded, In, Keepalive, Out, Pong};
-use ssh_stories::{ACCEPTED, ALIVE, End, Line, QUIET, STANDARD, Story, Turn, Wish};
-use std::test::Fail;
+use ssh_stories::{ACCEPTED, ALIVE, Around, End, Line, NOTHING, STANDARD, Story, Turn, Wish};
+use std::alloc::Global;
+use std::test::*;
 
 // Commands from outside, and what the link is told of each, in a session of its own.
-static SAID: [Turn; 12] = [
-    &[
-        Asks(Wish::Forward("0.0.0.0", 8080, None)),
-        ACCEPTED,
-        Out(b"\x50\0\0\0\x0dtcpip-forward\0\0\0\0\x070.0.0.0\0\0\x1f\x90"),
-    ],
-    &[
-        Asks(Wish::Forward("0.0.0.0", 8080, Some(5))),
-        ACCEPTED,
-        Out(b"\x50\0\0\0\x0dtcpip-forward\x01\0\0\0\x070.0.0.0\0\0\x1f\x90"),
-    ],
-    &[
-        Asks(Wish::Forward("", 0, Some(0))),
-        ACCEPTED,
-        Out(b"\x50\0\0\0\x0dtcpip-forward\x01\0\0\0\0\0\0\0\0"),
-    ],
-    &[
-        Asks(Wish::Cancel("localhost", 22, None)),
-        ACCEPTED,
-        Out(b"\x50\0\0\0\x14cancel-tcpip-forward\0\0\0\0\x09localhost\0\0\0\x16"),
-    ],
-    &[
-        Asks(Wish::Cancel("localhost", u32::MAX, Some(u64::MAX))),
-        ACCEPTED,
-        Out(b"\x50\0\0\0\x14cancel-tcpip-forward\x01\0\0\0\x09localhost\xff\xff\xff\xff"),
-    ],
-    KEEPALIVE_ASKED,
-    &[Asks(Wish::Ping(3)), ACCEPTED, ALIVE],
-    &[
-        Asks(Wish::Debug(true, "hi", "en")),
-        ACCEPTED,
-        Out(b"\x04\x01\0\0\0\x02hi\0\0\0\x02en"),
-    ],
-    &[
-        Asks(Wish::Debug(false, "", "")),
-        ACCEPTED,
-        Out(b"\x04\0\0\0\0\0\0\0\0\0"),
-    ],
+static SAID: [(Wish, Turn); 12] = [
+    (
+        Wish::Forward("0.0.0.0", 8080, None),
+        &[
+            ACCEPTED,
+            Out(b"\x50\0\0\0\x0dtcpip-forward\0\0\0\0\x070.0.0.0\0\0\x1f\x90"),
+        ],
+    ),
+    (
+        Wish::Forward("0.0.0.0", 8080, Some(5)),
+        &[
+            ACCEPTED,
+            Out(b"\x50\0\0\0\x0dtcpip-forward\x01\0\0\0\x070.0.0.0\0\0\x1f\x90"),
+        ],
+    ),
+    (
+        Wish::Forward("", 0, Some(0)),
+        &[
+            ACCEPTED,
+            Out(b"\x50\0\0\0\x0dtcpip-forward\x01\0\0\0\0\0\0\0\0"),
+        ],
+    ),
+    (
+        Wish::Cancel("localhost", 22, None),
+        &[
+            ACCEPTED,
+            Out(b"\x50\0\0\0\x14cancel-tcpip-forward\0\0\0\0\x09localhost\0\0\0\x16"),
+        ],
+    ),
+    (
+        Wish::Cancel("localhost", u32::MAX, Some(u64::MAX)),
+        &[
+            ACCEPTED,
+            Out(b"\x50\0\0\0\x14cancel-tcpip-forward\x01\0\0\0\x09localhost\xff\xff\xff\xff"),
+        ],
+    ),
+    (Wish::Keepalive, &[ACCEPTED, ALIVE]),
+    (Wish::Ping(3), &[ACCEPTED, ALIVE]),
+    (
+        Wish::Debug(true, "hi", "en"),
+        &[ACCEPTED, Out(b"\x04\x01\0\0\0\x02hi\0\0\0\x02en")],
+    ),
+    (
+        Wish::Debug(false, "", ""),
+        &[ACCEPTED, Out(b"\x04\0\0\0\0\0\0\0\0\0")],
+    ),
     // A text of three bytes.
-    &[
-        Asks(Wish::Debug(false, "\u{20ac}", "de")),
-        ACCEPTED,
-        Out(b"\x04\0\0\0\0\x03\xe2\x82\xac\0\0\0\x02de"),
-    ],
+    (
+        Wish::Debug(false, "\u{20ac}", "de"),
+        &[ACCEPTED, Out(b"\x04\0\0\0\0\x03\xe2\x82\xac\0\0\0\x02de")],
+    ),
     // No reply goes out where the peer wants none.
-    &[Asks(Wish::Success), ACCEPTED],
-    &[Asks(Wish::Failure), ACCEPTED],
+    (Wish::Success, &[ACCEPTED]),
+    (Wish::Failure, &[ACCEPTED]),
 ];
 
+// Whether that is told of the line behind these, and the handler is asked nothing.
+fn is_told(alloc: Global, first: Turn, line: Line<'_>, then: Turn) -> bool {
+    let around = Around {
+        first,
+        then,
+        ..NOTHING
+    };
+    around.holds(alloc, Some(line))
+}
+
 #[test]
-fn what_goes_out_for_commands(rt: HostRuntime) -> Result<(), Fail> {
-    for (place, turn) in SAID.iter().enumerate() {
-        let around = Around {
-            first: *turn,
-            ..NOTHING
-        };
-        assert!(rt; comes_true(rt.alloc(), QUIET, around, b"")?, "{place}");
+fn what_goes_out_for_commands(rt: HostRuntime) {
+    for (place, (wish, told)) in SAID.iter().enumerate() {
+        assert!(rt; is_told(rt.alloc(), &[], Asks(*wish), *told), "{place}");
     }
-    Ok(())
 }
 
 // Requests of this side that wait for their replies, one of each kind.
@@ -183,11 +195,10 @@ static REPLIED: [Story; 6] = [
 ];
 
 #[test]
-fn replies_to_requests_of_this_side(rt: HostRuntime) -> Result<(), Fail> {
+fn replies_to_requests_of_this_side(rt: HostRuntime) {
     for story in &REPLIED {
-        assert!(rt; story.holds(rt.alloc())?, "{}", story.shows);
+        assert!(rt; story.holds(rt.alloc()), "{}", story.shows);
     }
-    Ok(())
 }
 
 const MISFIT: Turn = &[Ends(End::Encoding)];
@@ -222,16 +233,9 @@ static RESTS: [(Turn, &[u8], Turn); 16] = [
 ];
 
 #[test]
-fn what_stands_behind_the_number_of_a_reply(rt: HostRuntime) -> Result<(), Fail> {
+fn what_stands_behind_the_number_of_a_reply(rt: HostRuntime) {
     for (place, (asked, reply, comes)) in RESTS.iter().enumerate() {
-        let around = Around {
-            first: *asked,
-            payload: Some(*reply),
-            then: *comes,
-            ..NOTHING
-        };
-        let is_true = comes_true(rt.alloc(), QUIET, around, b"")?;
-        assert!(rt; is_true, "{place}");
+        let is_told = is_told(rt.alloc(), *asked, In(*reply), *comes);
+        assert!(rt; is_told, "{place}");
     }
-    Ok(())
 }

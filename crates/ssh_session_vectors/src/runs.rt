@@ -1,13 +1,9 @@
 // Runs over links in memory, from their first input on.
-use bytes::Bytes;
-use ssh_handler::Config;
-use ssh_keys::TableVerifier;
-use ssh_link::{Calls, Input, InputKind, Inputs, MemoryLink, PlainKex};
-use ssh_session::{Flow, Session};
 use ssh_stories::Line::{Ends, In, Later, Out};
-use ssh_stories::{ACCEPT, Answering, BEHIND_LOGIN, End, PASSWORD, Plan, QUIET, Run, SERVICE};
-use std::alloc::Global;
-use std::test::Fail;
+use ssh_stories::{
+    ACCEPT, BEHIND_LOGIN, End, PASSWORD, Plan, QUIET, Run, SERVICE, takes_a_request,
+};
+use std::test::*;
 
 // From the first input on, of which the frames are looked at.
 const FROM_THE_FIRST: Run = Run {
@@ -82,47 +78,13 @@ static RUNS: [Run; 6] = [
 ];
 
 #[test]
-fn runs_from_the_first_input(rt: HostRuntime) -> Result<(), Fail> {
+fn runs_from_the_first_input(rt: HostRuntime) {
     for run in &RUNS {
-        assert!(rt; run.holds(rt.alloc())?, "{}", run.shows);
+        assert!(rt; run.holds(rt.alloc()), "{}", run.shows);
     }
-    Ok(())
-}
-
-// Whether a session of its own takes this payload with such a handler.
-fn takes(alloc: Global, handler: &mut Answering, link: &mut MemoryLink, payload: Bytes) -> bool {
-    let config = Config::standard();
-    let Ok(mut session) = Session::new(alloc, &config, b"", b"SSH-2.0-dropbear") else {
-        return false;
-    };
-    let verifier = TableVerifier::new(alloc);
-    let mut kex = PlainKex::new(alloc, false);
-    let kind = InputKind::Payload(payload);
-    let answer = session.step(
-        handler,
-        &verifier,
-        &mut kex,
-        link,
-        Input { moment: 0, kind },
-    );
-    drop(session);
-    let goes_on = matches!(&answer, Ok(Flow::Continue));
-    drop(answer);
-    goes_on
-}
-
-fn goes_on(alloc: Global) -> Result<bool, Fail> {
-    let payload = Bytes::copy_from_slice(alloc, SERVICE)?;
-    let mut link = MemoryLink::new(alloc, Inputs::new(alloc), Calls::new(alloc))?;
-    let mut handler = Answering::new(alloc, QUIET);
-    let goes_on = takes(alloc, &mut handler, &mut link, payload);
-    drop(handler);
-    drop(link);
-    Ok(goes_on)
 }
 
 #[test]
-fn a_handler_counts_on_the_line_of_its_peer(rt: HostRuntime) -> Result<(), Fail> {
-    assert!(rt; goes_on(rt.alloc())?);
-    Ok(())
+fn a_handler_counts_on_the_line_of_its_peer(rt: HostRuntime) {
+    assert!(rt; takes_a_request(rt.alloc()));
 }

@@ -7,11 +7,12 @@ use ssh_link::{Calls, CommandOutcome, Inputs, MemoryLink, PlainKex};
 use ssh_session::Flow;
 use ssh_stories::Line::{Applies, HandsOn, In, On};
 use ssh_stories::{
-    Answering, Line, OPEN_SMALL, PASSWORD, Place, QUIET, SERVICE, SMALL, SMALL_CONFIRMED, Turn,
-    Wish, command,
+    Answering, Line, OPEN_SMALL, PASSWORD, QUIET, SERVICE, SMALL, SMALL_CONFIRMED, Turn, Wish,
+    are_sent, command,
 };
+use ssh_wire::WireError;
 use std::alloc::Global;
-use std::test::Fail;
+use std::test::*;
 
 const HELLO: Line<'static> = Applies(Wish::Data(2, b"hello"), CommandOutcome::Accepted);
 
@@ -53,12 +54,12 @@ static MOVES: [Row; 3] = [
     },
 ];
 
-fn payload(alloc: Global, payload: &[u8]) -> Result<Move, Fail> {
+fn payload(alloc: Global, payload: &[u8]) -> Result<Move, WireError> {
     Ok(Move::Payload(Bytes::copy_from_slice(alloc, payload)?))
 }
 
 // The move of this line; none where it says what goes out.
-fn next(alloc: Global, line: Line<'_>) -> Result<Option<Move>, Fail> {
+fn next(alloc: Global, line: Line<'_>) -> Result<Option<Move>, WireError> {
     Ok(Some(match line {
         In(bytes) => payload(alloc, bytes)?,
         Applies(wish, _) => Move::Say(command(alloc, wish)?),
@@ -67,28 +68,19 @@ fn next(alloc: Global, line: Line<'_>) -> Result<Option<Move>, Fail> {
     }))
 }
 
-// The login, and the moves of these lines behind it.
-fn add_moves(alloc: Global, lines: &[Line<'_>], moves: &mut Vec<Move>) -> Result<(), Fail> {
-    moves.push(payload(alloc, SERVICE)?)?;
-    moves.push(payload(alloc, PASSWORD)?)?;
+fn push<T: Drop>(list: &mut Vec<T>, next: T) -> Result<(), WireError> {
+    Ok(list.push(next)?)
+}
+
+// The moves of these lines.
+fn push_moves(alloc: Global, lines: &[Line<'_>], moves: &mut Vec<Move>) -> Result<(), WireError> {
     for line in lines {
         match next(alloc, *line)? {
-            Some(next) => moves.push(next)?,
+            Some(next) => push(moves, next)?,
             None => {}
         }
     }
     Ok(())
-}
-
-// Whether the frames that go out behind the two answers to the login are these.
-fn are_sent(link: &MemoryLink, lines: &[Line<'_>]) -> bool {
-    let mut place = Place::behind(2, true);
-    for line in lines {
-        if matches!(line, On(_, _)) && !place.tells(link, *line) {
-            return false;
-        }
-    }
-    place.is_at_the_end(link)
 }
 
 // Whether all moves are made.
@@ -123,46 +115,53 @@ fn serves(alloc: Global, link: &mut MemoryLink, payloads: Vec<Bytes>) -> bool {
     goes_on
 }
 
-// Whether the moves of these lines are made behind a login, and these frames go out.
-fn moves_hold(alloc: Global, lines: &[Line<'_>]) -> Result<bool, Fail> {
-    let mut link = MemoryLink::new(alloc, Inputs::new(alloc), Calls::new(alloc))?;
+// The lines of the login.
+static LOGIN: Turn = &[In(SERVICE), In(PASSWORD)];
+
+// Whether the moves of these lines are made behind a login, and these frames go out behind the two
+// answers to it.
+fn move_so(alloc: Global, link: &mut MemoryLink, lines: &[Line<'_>]) -> bool {
     let mut moves = Vec::new(alloc);
-    let added = add_moves(alloc, lines, &mut moves);
-    let goes_on = drives(alloc, &mut link, moves);
-    let are_sent = are_sent(&link, lines);
-    drop(link);
-    added?;
-    Ok(goes_on && are_sent)
+    let login = push_moves(alloc, LOGIN, &mut moves);
+    let rest = push_moves(alloc, lines, &mut moves);
+    drives(alloc, link, moves) && are_sent(link, 2, lines) && login.and(rest) == Ok(())
+}
+
+fn moves_hold(alloc: Global, lines: &[Line<'_>]) -> bool {
+    match MemoryLink::new(alloc, Inputs::new(alloc), Calls::new(alloc)) {
+        Ok(mut link) => move_so(alloc, &mut link, lines),
+        Err(_) => false,
+    }
 }
 
 #[test]
-fn moves_send(rt: HostRuntime) -> Result<(), Fail> {
+fn moves_send(rt: HostRuntime) {
     for row in &MOVES {
-        assert!(rt; moves_hold(rt.alloc(), row.lines)?, "{}", row.shows);
+        assert!(rt; moves_hold(rt.alloc(), row.lines), "{}", row.shows);
     }
-    Ok(())
 }
 
-fn payloads(alloc: Global) -> Result<Vec<Bytes>, Fail> {
-    let mut payloads = Vec::new(alloc);
-    for payload in [SERVICE, PASSWORD, SMALL] {
-        payloads.push(Bytes::copy_from_slice(alloc, payload)?)?;
-    }
-    Ok(payloads)
+fn push_payloads(alloc: Global, payloads: &mut Vec<Bytes>) -> Result<(), WireError> {
+    push(payloads, Bytes::copy_from_slice(alloc, SERVICE)?)?;
+    push(payloads, Bytes::copy_from_slice(alloc, PASSWORD)?)?;
+    push(payloads, Bytes::copy_from_slice(alloc, SMALL)?)
 }
 
 // Whether the login and an open are served, and the open is confirmed.
-fn payloads_hold(alloc: Global) -> Result<bool, Fail> {
-    let payloads = payloads(alloc)?;
-    let mut link = MemoryLink::new(alloc, Inputs::new(alloc), Calls::new(alloc))?;
-    let goes_on = serves(alloc, &mut link, payloads);
-    let is_confirmed = are_sent(&link, &[SMALL_CONFIRMED]);
-    drop(link);
-    Ok(goes_on && is_confirmed)
+fn serve_so(alloc: Global, link: &mut MemoryLink) -> bool {
+    let mut payloads = Vec::new(alloc);
+    let are_pushed = push_payloads(alloc, &mut payloads) == Ok(());
+    serves(alloc, link, payloads) && are_sent(link, 2, &[SMALL_CONFIRMED]) && are_pushed
+}
+
+fn payloads_hold(alloc: Global) -> bool {
+    match MemoryLink::new(alloc, Inputs::new(alloc), Calls::new(alloc)) {
+        Ok(mut link) => serve_so(alloc, &mut link),
+        Err(_) => false,
+    }
 }
 
 #[test]
-fn payloads_are_served(rt: HostRuntime) -> Result<(), Fail> {
-    assert!(rt; payloads_hold(rt.alloc())?);
-    Ok(())
+fn payloads_are_served(rt: HostRuntime) {
+    assert!(rt; payloads_hold(rt.alloc()));
 }

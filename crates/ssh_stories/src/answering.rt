@@ -1,7 +1,8 @@
 // The handler of the tests: it answers by a plan, and keeps what it is told, asked and lent.
 ghost use Rattle.std.specs.Prelude.{◌≤◌, length};
 
-use crate::wishes::{Wish, copied, record};
+use crate::recording::{copied, record};
+use crate::wishes::Wish;
 use bytes::Bytes;
 use ssh_auth::{Auth, AuthHandler, Unwritten};
 use ssh_handler::{Commands, Handler};
@@ -97,11 +98,17 @@ pub const QUIET: Plan = Plan {
 pub struct Answering {
     alloc: Global,
     plan: Plan,
-    calls: usize,
-    software: Bytes,
-    told: Vec<Told>,
-    asked: Vec<u8>,
-    done: Vec<(usize, CommandOutcome)>,
+    /// How many of its callbacks were called, those too that it does not write.
+    pub calls: usize,
+    /// The name of the peer's software that it was lent when its user was let in.
+    pub software: Bytes,
+    /// What it was told of channels, in order.
+    pub told: Vec<Told>,
+    /// What it was asked, and that data came: a line for each, of the callback, a space and its
+    /// text, and for a port another space and the four bytes of the port.
+    pub asked: Vec<u8>,
+    /// The places of its commands that were refused or opened a channel, and what came of them.
+    pub done: Vec<(usize, CommandOutcome)>,
 }
 
 impl Answering {
@@ -115,32 +122,6 @@ impl Answering {
             asked: Vec::new(alloc),
             done: Vec::new(alloc),
         }
-    }
-
-    /// How many of its callbacks were called, those too that it does not write.
-    pub fn calls(&self) -> usize {
-        self.calls
-    }
-
-    /// The name of the peer's software that it was lent when its user was let in.
-    pub fn software(&self) -> &[u8] {
-        self.software.as_slice()
-    }
-
-    /// What it was told of channels, in order.
-    pub fn told(&self) -> &[Told] {
-        self.told.as_slice()
-    }
-
-    /// What it was asked, and that data came: a line for each, of the callback, a space and its
-    /// text, and for a port another space and the four bytes of the port.
-    pub fn asked(&self) -> &[u8] {
-        self.asked.as_slice()
-    }
-
-    /// The places of its commands that were refused or opened a channel, and what came of them.
-    pub fn done(&self) -> &[(usize, CommandOutcome)] {
-        self.done.as_slice()
     }
 
     fn count(&mut self) {
@@ -165,36 +146,38 @@ impl Answering {
         Ok(())
     }
 
-    fn write(&mut self, piece: &[u8]) -> Result<(), Tired> {
-        self.asked.extend_from_slice(piece).or(Err(Tired))
-    }
-
-    fn write_text(&mut self, name: &[u8], text: &str) -> Result<(), Tired> {
-        self.write(name)?;
-        self.write(b" ")?;
-        self.write(text.as_bytes())
-    }
-
-    fn write_port(&mut self, name: &[u8], text: &str, port: u32) -> Result<(), Tired> {
-        self.write_text(name, text)?;
-        self.write(b" ")?;
-        self.write(&port.to_be_bytes())?;
-        self.write(b"\n")
-    }
-
-    fn record_each(
-        &self,
-        wishes: &'static [Wish],
-        session: &mut Commands<'_>,
-    ) -> Result<(), Tired> {
-        for wish in wishes {
-            record(self.alloc, *wish, session)?;
+    // A line, of these pieces.
+    fn write(&mut self, pieces: &[&[u8]]) -> Result<(), Tired> {
+        for piece in pieces {
+            self.asked.extend_from_slice(*piece).or(Err(Tired))?;
         }
-        Ok(())
+        self.asked.push(b'\n').or(Err(Tired))
     }
 
-    fn decide(&self, session: &mut Commands<'_>) -> Result<bool, Tired> {
-        self.record_each(self.plan.records, session)?;
+    // It is asked about this text.
+    fn decide(
+        &mut self,
+        callback: &[u8],
+        text: &str,
+        session: &mut Commands<'_>,
+    ) -> Result<bool, Tired> {
+        self.count();
+        self.write(&[callback, text.as_bytes()])?;
+        record_each(self.alloc, self.plan.records, session)?;
+        Ok(self.plan.grants)
+    }
+
+    // It is asked about this address and this port.
+    fn decide_port(
+        &mut self,
+        callback: &[u8],
+        text: &str,
+        port: u32,
+        session: &mut Commands<'_>,
+    ) -> Result<bool, Tired> {
+        self.count();
+        self.write(&[callback, text.as_bytes(), b" ", &port.to_be_bytes()])?;
+        record_each(self.alloc, self.plan.records, session)?;
         Ok(self.plan.grants)
     }
 
@@ -204,6 +187,17 @@ impl Answering {
         let _number = reply.into_channel();
         Err(Tired)
     }
+}
+
+fn record_each(
+    alloc: Global,
+    wishes: &'static [Wish],
+    session: &mut Commands<'_>,
+) -> Result<(), Tired> {
+    for wish in wishes {
+        record(alloc, *wish, session)?;
+    }
+    Ok(())
 }
 
 impl AuthHandler for Answering {
@@ -257,7 +251,7 @@ impl Handler for Answering {
         self.count();
         session.answer_open(reply.accept()).or(Err(Tired))?;
         self.hears(Told::Open(channel.0), channel, session)?;
-        self.record_each(self.plan.opening, session)
+        record_each(self.alloc, self.plan.opening, session)
     }
 
     fn channel_open_x11(
@@ -318,8 +312,8 @@ impl Handler for Answering {
         self.count();
         let told = Told::Data(channel.0, bytes.len(), bytes.first().copied());
         self.hears(told, channel, session)?;
-        self.write(b"data\n")?;
-        self.record_each(self.plan.records, session)?;
+        self.write(&[b"data"])?;
+        record_each(self.alloc, self.plan.records, session)?;
         if self.plan.echoes {
             let copy = copied(self.alloc, bytes)?;
             session.data(channel, copy).or(Err(Tired))?;
@@ -366,7 +360,7 @@ impl Handler for Answering {
         session: &mut Commands<'_>,
     ) -> Result<(), Tired> {
         self.count();
-        self.record_each(self.plan.records, session)
+        record_each(self.alloc, self.plan.records, session)
     }
 
     fn agent_request(
@@ -374,9 +368,7 @@ impl Handler for Answering {
         _channel: ChannelId,
         session: &mut Commands<'_>,
     ) -> Result<bool, Tired> {
-        self.count();
-        self.write(b"agent_request\n")?;
-        self.decide(session)
+        self.decide(b"agent_request", "", session)
     }
 
     fn tcpip_forward(
@@ -385,10 +377,9 @@ impl Handler for Answering {
         port: &mut u32,
         session: &mut Commands<'_>,
     ) -> Result<bool, Tired> {
-        self.count();
-        self.write_port(b"tcpip_forward", address, *port)?;
-        *port = self.plan.port.unwrap_or(*port);
-        self.decide(session)
+        let asked = *port;
+        *port = self.plan.port.unwrap_or(asked);
+        self.decide_port(b"tcpip_forward ", address, asked, session)
     }
 
     fn cancel_tcpip_forward(
@@ -397,9 +388,7 @@ impl Handler for Answering {
         port: u32,
         session: &mut Commands<'_>,
     ) -> Result<bool, Tired> {
-        self.count();
-        self.write_port(b"cancel_tcpip_forward", address, port)?;
-        self.decide(session)
+        self.decide_port(b"cancel_tcpip_forward ", address, port, session)
     }
 
     fn streamlocal_forward(
@@ -407,10 +396,7 @@ impl Handler for Answering {
         socket_path: &str,
         session: &mut Commands<'_>,
     ) -> Result<bool, Tired> {
-        self.count();
-        self.write_text(b"streamlocal_forward", socket_path)?;
-        self.write(b"\n")?;
-        self.decide(session)
+        self.decide(b"streamlocal_forward ", socket_path, session)
     }
 
     fn cancel_streamlocal_forward(
@@ -418,10 +404,7 @@ impl Handler for Answering {
         socket_path: &str,
         session: &mut Commands<'_>,
     ) -> Result<bool, Tired> {
-        self.count();
-        self.write_text(b"cancel_streamlocal_forward", socket_path)?;
-        self.write(b"\n")?;
-        self.decide(session)
+        self.decide(b"cancel_streamlocal_forward ", socket_path, session)
     }
 
     fn command_done(&mut self, place: usize, outcome: CommandOutcome) -> Result<(), Tired> {

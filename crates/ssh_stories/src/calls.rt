@@ -1,9 +1,14 @@
 // What is done with a session between its inputs; none where the session is spent.
+ghost use Rattle.std.specs.Prelude.{◌≡◌, false};
+ghost use Rattle.ssh_session.specs.Serve.{is_spent};
+
 use crate::sides::Side;
-use crate::wishes::{Wish, command};
+use crate::wishes::{Wish, command, signal, texts};
 use bytes::Bytes;
 use ssh_link::{ChannelOpenHandle, CommandOutcome, Refusal};
-use ssh_wire::{ChannelId, Sig, Text, WireError};
+use ssh_session::Session;
+use ssh_wire::{ChannelId, Text, WireError};
+use std::alloc::Global;
 
 /// A command is applied.
 pub(crate) fn applied(side: &mut Side, wish: Wish) -> Result<Option<CommandOutcome>, WireError> {
@@ -39,89 +44,114 @@ pub(crate) fn hands_on(side: &mut Side) -> bool {
     side.session.flush(&mut side.kex, &mut side.link).is_ok()
 }
 
-// A call that says whether data were accepted, where refused data are those of no channel.
-fn is_accepted(accepted: bool) -> CommandOutcome {
-    if accepted {
+/// A command is done by its own call; none where it has none, as that of a message.
+pub(crate) fn called(side: &mut Side, wish: Wish) -> Result<Option<CommandOutcome>, WireError> {
+    if side.session.spent() {
+        return Ok(None);
+    }
+    call(side.alloc, &mut side.session, wish)
+}
+
+fn call(
+    alloc: Global,
+    session: &mut Session,
+    wish: Wish,
+) -> Result<Option<CommandOutcome>, WireError>
+    requires live { is_spent session.old ≡ false }
+{
+    let came = match wish {
+        Wish::Eof(channel) => session.eof(ChannelId(channel)),
+        Wish::Close(channel) => session.close(ChannelId(channel)),
+        Wish::ChannelSuccess(channel) => session.channel_success(ChannelId(channel)),
+        Wish::ChannelFailure(channel) => session.channel_failure(ChannelId(channel)),
+        Wish::FlowControl(channel, can_do) => session.xon_xoff_request(ChannelId(channel), can_do),
+        Wish::Status(channel, status) => session.exit_status_request(ChannelId(channel), status),
+        Wish::OpenSession => session.channel_open_session(),
+        Wish::OpenAgent => session.channel_open_agent(),
+        Wish::Keepalive => session.keepalive_request(),
+        Wish::Ping(slot) => session.send_ping(slot),
+        Wish::Success => session.request_success(),
+        Wish::Failure => session.request_failure(),
+        other => return call_owning(alloc, session, other),
+    };
+    Ok(Some(came?))
+}
+
+// What came of data, which are refused where there is no channel.
+fn came_of_data(accepted: Result<bool, WireError>) -> Result<CommandOutcome, WireError> {
+    Ok(if accepted? {
         CommandOutcome::Accepted
     } else {
         CommandOutcome::Refused(Refusal::UnknownChannel)
-    }
+    })
 }
 
-/// A command is done by its own call.
-pub(crate) fn called(side: &mut Side, wish: Wish) -> Result<Option<CommandOutcome>, WireError> {
-    let alloc = side.alloc;
-    let session = &mut side.session;
-    if session.spent() {
-        return Ok(None);
-    }
-    Ok(Some(match wish {
+// One with bytes or a text.
+fn call_owning(
+    alloc: Global,
+    session: &mut Session,
+    wish: Wish,
+) -> Result<Option<CommandOutcome>, WireError>
+    requires live { is_spent session.old ≡ false }
+{
+    let came = match wish {
         Wish::Data(channel, bytes) => {
             let bytes = Bytes::copy_from_slice(alloc, bytes)?;
-            is_accepted(session.data(ChannelId(channel), bytes)?)
+            came_of_data(session.data(ChannelId(channel), bytes))
         }
         Wish::ExtendedData(channel, ext, bytes) => {
             let bytes = Bytes::copy_from_slice(alloc, bytes)?;
-            is_accepted(session.extended_data(ChannelId(channel), ext, bytes)?)
-        }
-        Wish::Eof(channel) => session.eof(ChannelId(channel))?,
-        Wish::Close(channel) => session.close(ChannelId(channel))?,
-        Wish::ChannelSuccess(channel) => session.channel_success(ChannelId(channel))?,
-        Wish::ChannelFailure(channel) => session.channel_failure(ChannelId(channel))?,
-        Wish::FlowControl(channel, can) => session.xon_xoff_request(ChannelId(channel), can)?,
-        Wish::Status(channel, status) => session.exit_status_request(ChannelId(channel), status)?,
-        Wish::HungUp(channel, message, language) => {
-            let message = Text::new(alloc, message)?;
-            let language = Text::new(alloc, language)?;
-            session.exit_signal_request(ChannelId(channel), Sig::HUP, false, message, language)?
-        }
-        other => return called_apart(side, other),
-    }))
-}
-
-// One of no channel that is there.
-fn called_apart(side: &mut Side, wish: Wish) -> Result<Option<CommandOutcome>, WireError> {
-    let alloc = side.alloc;
-    let session = &mut side.session;
-    if session.spent() {
-        return Ok(None);
-    }
-    Ok(Some(match wish {
-        Wish::OpenSession => session.channel_open_session()?,
-        Wish::OpenAgent => session.channel_open_agent()?,
-        Wish::OpenDirectTcpip(host, port, from, from_port) => {
-            let from = Text::new(alloc, from)?;
-            session.channel_open_direct_tcpip(Text::new(alloc, host)?, port, from, from_port)?
-        }
-        Wish::OpenForwardedTcpip(host, port, from, from_port) => {
-            let from = Text::new(alloc, from)?;
-            session.channel_open_forwarded_tcpip(Text::new(alloc, host)?, port, from, from_port)?
+            came_of_data(session.extended_data(ChannelId(channel), ext, bytes))
         }
         Wish::OpenDirectStreamlocal(path) => {
-            session.channel_open_direct_streamlocal(Text::new(alloc, path)?)?
+            session.channel_open_direct_streamlocal(Text::new(alloc, path)?)
         }
         Wish::OpenForwardedStreamlocal(path) => {
-            session.channel_open_forwarded_streamlocal(Text::new(alloc, path)?)?
+            session.channel_open_forwarded_streamlocal(Text::new(alloc, path)?)
         }
-        Wish::OpenX11(from, port) => session.channel_open_x11(Text::new(alloc, from)?, port)?,
+        Wish::OpenX11(from, port) => session.channel_open_x11(Text::new(alloc, from)?, port),
         Wish::Forward(address, port, slot) => {
-            session.tcpip_forward(Text::new(alloc, address)?, port, slot)?
+            session.tcpip_forward(Text::new(alloc, address)?, port, slot)
         }
         Wish::Cancel(address, port, slot) => {
-            session.cancel_tcpip_forward(Text::new(alloc, address)?, port, slot)?
+            session.cancel_tcpip_forward(Text::new(alloc, address)?, port, slot)
         }
-        Wish::Keepalive => session.keepalive_request()?,
-        Wish::Ping(slot) => session.send_ping(slot)?,
-        Wish::Success => session.request_success()?,
-        Wish::Failure => session.request_failure()?,
+        other => return call_with_texts(alloc, session, other),
+    };
+    Ok(Some(came?))
+}
+
+// One with two texts.
+fn call_with_texts(
+    alloc: Global,
+    session: &mut Session,
+    wish: Wish,
+) -> Result<Option<CommandOutcome>, WireError>
+    requires live { is_spent session.old ≡ false }
+{
+    let came = match wish {
+        Wish::Signalled(channel, is_killed, message, language) => {
+            let (message, language) = texts(alloc, message, language)?;
+            let signal = signal(is_killed);
+            session.exit_signal_request(ChannelId(channel), signal, is_killed, message, language)
+        }
+        Wish::OpenDirectTcpip(host, port, from, from_port) => {
+            let (host, from) = texts(alloc, host, from)?;
+            session.channel_open_direct_tcpip(host, port, from, from_port)
+        }
+        Wish::OpenForwardedTcpip(host, port, from, from_port) => {
+            let (host, from) = texts(alloc, host, from)?;
+            session.channel_open_forwarded_tcpip(host, port, from, from_port)
+        }
         Wish::Debug(always, message, language) => {
-            let message = Text::new(alloc, message)?;
-            session.debug(always, message, Text::new(alloc, language)?)?
+            let (message, language) = texts(alloc, message, language)?;
+            session.debug(always, message, language)
         }
         Wish::Disconnect(reason, description, language) => {
-            let description = Text::new(alloc, description)?;
-            session.disconnect(reason, description, Text::new(alloc, language)?)?
+            let (description, language) = texts(alloc, description, language)?;
+            session.disconnect(reason, description, language)
         }
         _ => return Ok(None),
-    }))
+    };
+    Ok(Some(came?))
 }

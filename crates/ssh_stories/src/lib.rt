@@ -4,17 +4,23 @@
 #![tactic(auto)]
 
 mod answering;
+mod around;
 mod calls;
+mod messages;
+mod recording;
 mod runs;
 mod sides;
 mod stories;
 mod wishes;
 
 pub use answering::{Answering, Lent, Plan, QUIET, Tired, Told};
+pub use around::{Around, NOTHING, are_true};
+pub use messages::Message;
+pub use recording::record;
 pub use runs::{BEHIND_LOGIN, Run};
-pub use sides::{ACCEPT, End, PASSWORD, SERVICE, Side, give, is_logged_in, payload};
+pub use sides::{ACCEPT, End, PASSWORD, SERVICE, takes_a_request};
 pub use stories::{
-    ACCEPTED, ALIVE, CHANNELS, CONFIRMED, Line, OPEN, OPEN_SMALL, Place, SMALL, SMALL_CONFIRMED,
-    STANDARD, Story, Turn, play,
+    ACCEPTED, ALIVE, CHANNELS, CONFIRMED, Line, OPEN, OPEN_SMALL, SMALL, SMALL_CONFIRMED, STANDARD,
+    Story, Turn, are_sent,
 };
-pub use wishes::{Wish, command, record};
+pub use wishes::{Wish, command};

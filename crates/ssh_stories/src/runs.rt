@@ -99,21 +99,30 @@ fn is_told(link: &MemoryLink, run: &Run, end: End) -> bool {
 impl Run {
     // Whether the handler was told and called as the run says.
     fn was_heard(&self, handler: &Answering) -> bool {
-        handler.done() == self.done
-            && handler.calls() == self.calls.unwrap_or(handler.calls())
-            && handler.software() == self.software.unwrap_or(handler.software())
+        let software = handler.software.as_slice();
+        handler.done.as_slice() == self.done
+            && handler.calls == self.calls.unwrap_or(handler.calls)
+            && software == self.software.unwrap_or(software)
     }
 
-    /// Whether it goes so.
-    pub fn holds(&self, alloc: Global) -> Result<bool, WireError> {
-        let mut link = link(alloc, self)?;
+    fn goes_so(&self, alloc: Global, link: &mut MemoryLink) -> bool {
         let mut handler = Answering::new(alloc, self.plan);
-        let end = run_over(alloc, &mut handler, &mut link);
+        let end = run_over(alloc, &mut handler, link);
         let was_heard = self.was_heard(&handler);
         drop(handler);
         let faults: u64 = if self.fails.is_some() { 1 } else { 0 };
-        let is_told = is_told(&link, self, end) && link.faults() == faults;
-        drop(link);
-        Ok(was_heard && is_told)
+        was_heard && is_told(link, self, end) && link.faults() == faults
+    }
+
+    /// Whether it goes so; without memory it does not.
+    pub fn holds(&self, alloc: Global) -> bool {
+        match link(alloc, self) {
+            Ok(mut link) => {
+                let goes_so = self.goes_so(alloc, &mut link);
+                drop(link);
+                goes_so
+            }
+            Err(_) => false,
+        }
     }
 }

@@ -1,5 +1,5 @@
 // Sessions with what stands around them, and how what comes to one ends.
-use crate::answering::{Answering, Plan, Tired};
+use crate::answering::{Answering, Plan, QUIET, Tired};
 use bytes::Bytes;
 use ssh_handler::Config;
 use ssh_keys::TableVerifier;
@@ -40,27 +40,27 @@ pub enum End {
 
 /// A session with its outside.
 #[derive(Drop)]
-pub struct Side {
-    pub alloc: Global,
-    pub session: Session,
-    pub handler: Answering,
-    pub verifier: TableVerifier,
-    pub kex: PlainKex,
-    pub link: MemoryLink,
+pub(crate) struct Side {
+    pub(crate) alloc: Global,
+    pub(crate) session: Session,
+    pub(crate) handler: Answering,
+    verifier: TableVerifier,
+    pub(crate) kex: PlainKex,
+    pub(crate) link: MemoryLink,
 }
 
 impl Side {
     /// Before the first input. `repeatable` says whether this side can begin an exchange of keys.
-    pub fn new(
+    pub(crate) fn new(
         alloc: Global,
         config: &Config,
         repeatable: bool,
         plan: Plan,
     ) -> Result<Side, WireError> {
-        let session = Session::new(alloc, config, b"", b"SSH-2.0-test")?;
-        let link = MemoryLink::new(alloc, Inputs::new(alloc), Calls::new(alloc));
-        match link {
-            Ok(link) => Ok(Side {
+        let link = MemoryLink::new(alloc, Inputs::new(alloc), Calls::new(alloc))?;
+        let session = Session::new(alloc, config, b"", b"SSH-2.0-test");
+        match session {
+            Ok(session) => Ok(Side {
                 alloc,
                 session,
                 handler: Answering::new(alloc, plan),
@@ -69,7 +69,7 @@ impl Side {
                 link,
             }),
             Err(error) => {
-                drop(session);
+                drop(link);
                 Err(error)
             }
         }
@@ -77,7 +77,7 @@ impl Side {
 }
 
 /// A payload that comes.
-pub fn payload(alloc: Global, bytes: &[u8]) -> Result<InputKind, WireError> {
+pub(crate) fn payload(alloc: Global, bytes: &[u8]) -> Result<InputKind, WireError> {
     Ok(InputKind::Payload(Bytes::copy_from_slice(alloc, bytes)?))
 }
 
@@ -95,7 +95,7 @@ fn cause(error: &RunError<Tired, PlainKexError>) -> End {
 }
 
 /// An input comes, and ends so.
-pub fn give(side: &mut Side, kind: InputKind) -> End {
+pub(crate) fn give(side: &mut Side, kind: InputKind) -> End {
     // The handler counts on a line that is at least so long.
     if side.session.remote_sshid().len() < 8 {
         drop(kind);
@@ -119,7 +119,7 @@ pub fn give(side: &mut Side, kind: InputKind) -> End {
 }
 
 /// Whether it goes on with each request of the login.
-pub fn is_logged_in(side: &mut Side) -> Result<bool, WireError> {
+pub(crate) fn is_logged_in(side: &mut Side) -> Result<bool, WireError> {
     for bytes in LOGIN {
         let request = payload(side.alloc, bytes)?;
         if give(side, request) != End::GoesOn {
@@ -150,4 +150,42 @@ pub(crate) fn run_over(alloc: Global, handler: &mut Answering, link: &mut Memory
 pub(crate) fn is_sent(frame: &Frame, channel: Option<ChannelId>, payload: &[u8]) -> bool {
     let (head, body) = frame.parts();
     payload.strip_prefix(head) == Some(body) && frame.channel() == channel
+}
+
+// Whether a session of its own takes this payload with such a handler.
+fn takes(alloc: Global, handler: &mut Answering, link: &mut MemoryLink, payload: Bytes) -> bool {
+    let config = Config::standard();
+    let Ok(mut session) = Session::new(alloc, &config, b"", b"SSH-2.0-dropbear") else {
+        return false;
+    };
+    let verifier = TableVerifier::new(alloc);
+    let mut kex = PlainKex::new(alloc, false);
+    let kind = InputKind::Payload(payload);
+    let answer = session.step(
+        handler,
+        &verifier,
+        &mut kex,
+        link,
+        Input { moment: 0, kind },
+    );
+    drop(session);
+    let goes_on = matches!(&answer, Ok(Flow::Continue));
+    drop(answer);
+    goes_on
+}
+
+/// Whether a session takes a request for the service. Its peer's line is that of its making, so
+/// the handler is called without a look at it.
+pub fn takes_a_request(alloc: Global) -> bool {
+    match MemoryLink::new(alloc, Inputs::new(alloc), Calls::new(alloc)) {
+        Ok(mut link) => {
+            let mut handler = Answering::new(alloc, QUIET);
+            let request = Bytes::from_static(SERVICE);
+            let goes_on = takes(alloc, &mut handler, &mut link, request);
+            drop(handler);
+            drop(link);
+            goes_on
+        }
+        Err(_) => false,
+    }
 }

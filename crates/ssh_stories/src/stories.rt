@@ -3,7 +3,6 @@ use crate::answering::{Answering, Plan, QUIET, Told};
 use crate::calls::{accepted, applied, called, flushed, hands_on};
 use crate::sides::{End, Side, give, is_logged_in, is_sent, payload};
 use crate::wishes::{Wish, command};
-use bytes::Bytes;
 use ssh_handler::Config;
 use ssh_link::{CommandOutcome, Frame, InputKind, MemoryLink, Notice, TraceEntry};
 use ssh_wire::{ChannelId, WireError};
@@ -17,6 +16,8 @@ const TICKET: u64 = 23;
 pub enum Line<'a> {
     /// An opened payload of the peer comes.
     In(&'a [u8]),
+    /// One comes in parts, of which so many bytes are left.
+    Parts(&'a [&'static [u8]], usize),
     /// CHANNEL_DATA comes on this channel, with so many times this byte.
     Flood(u32, usize, u8),
     /// A command comes from outside.
@@ -39,6 +40,9 @@ pub enum Line<'a> {
     /// The link is told of a frame of no channel, or of one on a channel.
     Out(&'a [u8]),
     On(u32, &'a [u8]),
+    /// It is told of the frame by which an open of the peer's number 7 is confirmed, under this
+    /// number of this side's.
+    Confirms(u32),
     /// It is told of a frame of no channel that is not to go out yet.
     Later(&'a [u8]),
     /// It is told what came of a command from outside.
@@ -129,29 +133,32 @@ pub const SMALL_CONFIRMED: Line<'static> = Line::On(
     b"\x5b\0\0\0\x2c\0\0\0\x02\0\x20\0\0\0\0\x80\0",
 );
 
-fn message_of_bytes(
-    alloc: Global,
-    channel: u32,
-    count: usize,
-    byte: u8,
-) -> Result<Bytes, WireError> {
-    let mut payload = Vec::new(alloc);
-    payload.push(94u8)?;
-    payload.extend_from_slice(&channel.to_be_bytes())?;
-    payload.extend_from_slice(&u32::try_from(count).unwrap_or(0).to_be_bytes())?;
-    for _ in 0..count {
-        payload.push(byte)?;
+// The parts, one after another, up to so many bytes.
+fn joined(alloc: Global, parts: &[&[u8]], count: usize) -> Result<InputKind, WireError> {
+    let mut joined = Vec::new(alloc);
+    for part in parts {
+        joined.extend_from_slice(*part)?;
     }
-    Ok(Bytes::from_vec(payload)?)
+    joined.truncate(count);
+    payload(alloc, joined.as_slice())
+}
+
+// CHANNEL_DATA with so many times this byte.
+fn flood(alloc: Global, channel: u32, count: usize, byte: u8) -> Result<InputKind, WireError> {
+    let length = u32::try_from(count).unwrap_or(0).to_be_bytes();
+    let mut bytes = Vec::new(alloc);
+    bytes.resize(count, byte)?;
+    let channel = channel.to_be_bytes();
+    let parts: [&[u8]; 4] = [b"\x5e", &channel, &length, bytes.as_slice()];
+    joined(alloc, &parts, usize::MAX)
 }
 
 /// What comes by this line; none where nothing does.
 pub(crate) fn comes(alloc: Global, line: Line<'_>) -> Result<Option<InputKind>, WireError> {
     Ok(Some(match line {
         Line::In(bytes) => payload(alloc, bytes)?,
-        Line::Flood(channel, count, byte) => {
-            InputKind::Payload(message_of_bytes(alloc, channel, count, byte)?)
-        }
+        Line::Parts(parts, count) => joined(alloc, parts, count)?,
+        Line::Flood(channel, count, byte) => flood(alloc, channel, count, byte)?,
         Line::Asks(wish) => InputKind::Command(TICKET, command(alloc, wish)?),
         Line::Keepalive => InputKind::KeepaliveTick,
         Line::Inactivity => InputKind::InactivityTick,
@@ -165,6 +172,7 @@ pub(crate) fn is_input(line: Line<'_>) -> bool {
     matches!(
         line,
         Line::In(_)
+            | Line::Parts(_, _)
             | Line::Flood(_, _, _)
             | Line::Asks(_)
             | Line::Keepalive
@@ -197,12 +205,21 @@ fn is_replied(entry: &TraceEntry, line: Line<'_>) -> bool {
     }
 }
 
+// CHANNEL_OPEN_CONFIRMATION for the peer's number 7, with credit for 2097152 bytes.
+fn confirmation(channel: u32) -> [u8; 17] {
+    let [a, b, c, d] = channel.to_be_bytes();
+    [0x5b, 0, 0, 0, 7, a, b, c, d, 0, 0x20, 0, 0, 0, 0, 0x80, 0]
+}
+
 // Whether the frame is that of this line.
 fn goes_out(frame: &Frame, line: Line<'_>) -> bool {
     let is_held = frame.hold_until().is_some();
     match line {
         Line::Out(payload) => !is_held && is_sent(frame, None, payload),
         Line::On(channel, payload) => !is_held && is_sent(frame, Some(ChannelId(channel)), payload),
+        Line::Confirms(channel) => {
+            !is_held && is_sent(frame, Some(ChannelId(channel)), &confirmation(channel))
+        }
         Line::Later(payload) => is_held && is_sent(frame, None, payload),
         _ => false,
     }
@@ -224,7 +241,7 @@ fn says(entry: &TraceEntry, line: Line<'_>) -> bool {
 /// How far a story has come true: how much of what the link was told was looked at, and how the last
 /// input ended.
 #[derive(Clone, Copy)]
-pub struct Place {
+pub(crate) struct Place {
     frames_alone: bool,
     looked: usize,
     end: End,
@@ -232,7 +249,7 @@ pub struct Place {
 
 impl Place {
     /// Behind so many entries, which are not looked at.
-    pub fn behind(looked: usize, frames_alone: bool) -> Place {
+    pub(crate) fn behind(looked: usize, frames_alone: bool) -> Place {
         Place {
             frames_alone,
             looked,
@@ -242,7 +259,7 @@ impl Place {
 
     /// Whether the next entry that is looked at says what this line does, which for an input is that
     /// it was taken.
-    pub fn tells(&mut self, link: &MemoryLink, line: Line<'_>) -> bool {
+    pub(crate) fn tells(&mut self, link: &MemoryLink, line: Line<'_>) -> bool {
         self.pass(link);
         let next = link.trace().get(self.looked);
         self.looked = self.looked.saturating_add(1);
@@ -260,10 +277,21 @@ impl Place {
     }
 
     /// Whether all was looked at, and the last input went on, where no line said how it ended.
-    pub fn is_at_the_end(&mut self, link: &MemoryLink) -> bool {
+    pub(crate) fn is_at_the_end(&mut self, link: &MemoryLink) -> bool {
         self.pass(link);
         self.looked == link.trace().len() && self.end == End::GoesOn
     }
+}
+
+/// Whether the frames that the link was told, behind so many, are those of these lines on channels.
+pub fn are_sent(link: &MemoryLink, skipped: usize, lines: &[Line<'_>]) -> bool {
+    let mut place = Place::behind(skipped, true);
+    for line in lines {
+        if matches!(line, Line::On(_, _)) && !place.tells(link, *line) {
+            return false;
+        }
+    }
+    place.is_at_the_end(link)
 }
 
 // Whether an input comes behind all that was told so far, and a session that does not go on is
@@ -295,7 +323,11 @@ fn is_so(side: &mut Side, place: &mut Place, line: Line<'_>) -> Result<bool, Wir
 }
 
 /// Whether all lines come true from there on.
-pub fn play(side: &mut Side, place: &mut Place, lines: &[Line<'_>]) -> Result<bool, WireError> {
+pub(crate) fn play(
+    side: &mut Side,
+    place: &mut Place,
+    lines: &[Line<'_>],
+) -> Result<bool, WireError> {
     for line in lines {
         let is_true = match comes(side.alloc, *line)? {
             Some(kind) => takes(side, place, kind),
@@ -324,21 +356,32 @@ fn play_all(side: &mut Side, story: &Story) -> Result<bool, WireError> {
 impl Story {
     // Whether the handler was told and asked as the story says.
     fn was_heard(&self, handler: &Answering) -> bool {
-        handler.told() == self.told.unwrap_or(handler.told())
-            && handler.asked() == self.asked.unwrap_or(handler.asked())
-            && handler.done() == self.done.unwrap_or(handler.done())
-            && handler.calls() == self.calls.unwrap_or(handler.calls())
+        let told = handler.told.as_slice();
+        let asked = handler.asked.as_slice();
+        let done = handler.done.as_slice();
+        told == self.told.unwrap_or(told)
+            && asked == self.asked.unwrap_or(asked)
+            && done == self.done.unwrap_or(done)
+            && handler.calls == self.calls.unwrap_or(handler.calls)
     }
 
-    /// Whether the story comes true where its inputs are given to a session, one after another.
-    pub fn holds(&self, alloc: Global) -> Result<bool, WireError> {
+    fn comes_true(&self, side: &mut Side) -> Result<bool, WireError> {
+        Ok(play_all(side, self)? && self.was_heard(&side.handler))
+    }
+
+    /// Whether the story comes true where its inputs are given to a session, one after another;
+    /// without memory it does not.
+    pub fn holds(&self, alloc: Global) -> bool {
         let mut config = Config::standard();
         config.window_size = self.window.unwrap_or(config.window_size);
         config.keepalive_max = self.ticks.unwrap_or(config.keepalive_max);
-        let mut side = Side::new(alloc, &config, self.repeatable, self.plan)?;
-        let is_true = play_all(&mut side, self);
-        let was_heard = self.was_heard(&side.handler);
-        drop(side);
-        Ok(is_true? && was_heard)
+        match Side::new(alloc, &config, self.repeatable, self.plan) {
+            Ok(mut side) => {
+                let is_true = self.comes_true(&mut side) == Ok(true);
+                drop(side);
+                is_true
+            }
+            Err(_) => false,
+        }
     }
 }

@@ -1,10 +1,11 @@
 // Each command is recorded, behind the others.
 use super::lending::Lender;
+use ssh_handler::Commands;
 use ssh_link::Command;
 use ssh_stories::{Wish, command, record};
 use ssh_wire::Disconnect;
 use std::alloc::Global;
-use std::test::Fail;
+use std::test::*;
 
 static WISHES: [Wish; 25] = [
     Wish::Data(2, b"abc"),
@@ -15,8 +16,8 @@ static WISHES: [Wish; 25] = [
     Wish::ChannelFailure(2),
     Wish::FlowControl(2, true),
     Wish::Status(2, 3),
-    Wish::HungUp(2, "hung up", "en"),
-    Wish::Killed(2, "out of memory", "en"),
+    Wish::Signalled(2, false, "hung up", "en"),
+    Wish::Signalled(2, true, "out of memory", "en"),
     Wish::OpenSession,
     Wish::OpenAgent,
     Wish::OpenDirectTcpip("there", 80, "here", 1024),
@@ -34,31 +35,41 @@ static WISHES: [Wish; 25] = [
     Wish::Disconnect(Disconnect::ByApplication, "done", "en"),
 ];
 
-// Whether the last of this many commands is this one.
-fn is_last(alloc: Global, commands: &[Command], count: usize, wish: Wish) -> Result<bool, Fail> {
-    let expected = command(alloc, wish)?;
-    let is_last = commands.get(count.saturating_sub(1)) == Some(&expected);
-    drop(expected);
-    Ok(is_last && commands.len() == count)
+// Whether there are this many commands, the last of which is this one.
+fn is_last(alloc: Global, commands: &[Command], count: usize, wish: Wish) -> bool {
+    match command(alloc, wish) {
+        Ok(expected) => {
+            let is_last = commands.get(count.saturating_sub(1)) == Some(&expected);
+            drop(expected);
+            is_last && commands.len() == count
+        }
+        Err(_) => false,
+    }
 }
 
 // Whether a session records each of these in its place.
-fn are_recorded(alloc: Global, wishes: &[Wish]) -> Result<bool, Fail> {
-    let lender = Lender::new(alloc);
-    let mut session = lender.lend();
+fn are_recorded(alloc: Global, session: &mut Commands<'_>, wishes: &[Wish]) -> bool {
     let mut count: usize = 0;
     for wish in wishes {
         count = count.saturating_add(1);
-        let is_recorded = record(alloc, *wish, &mut session).is_ok();
-        if !is_recorded || !is_last(alloc, session.recorded(), count, *wish)? {
-            return Ok(false);
+        let is_recorded = record(alloc, *wish, session).is_ok();
+        if !is_recorded || !is_last(alloc, session.recorded(), count, *wish) {
+            return false;
         }
     }
-    Ok(true)
+    true
+}
+
+fn lends(alloc: Global) -> bool {
+    let lender = Lender::new(alloc);
+    let mut session = lender.lend();
+    let are_recorded = are_recorded(alloc, &mut session, &WISHES);
+    drop(session);
+    drop(lender);
+    are_recorded
 }
 
 #[test]
-fn each_command_is_recorded(rt: HostRuntime) -> Result<(), Fail> {
-    assert!(rt; are_recorded(rt.alloc(), &WISHES)?);
-    Ok(())
+fn each_command_is_recorded(rt: HostRuntime) {
+    assert!(rt; lends(rt.alloc()));
 }

@@ -1,12 +1,11 @@
 // Several channels in one session.
-use ssh_handler::Config;
-use ssh_stories::Line::{Asks, Ends, Flood, In, On};
+use ssh_stories::Line::{Asks, Confirms, Ends, Flood, In, On};
 use ssh_stories::{
-    BEHIND_LOGIN, CHANNELS, CONFIRMED, End, OPEN, OPEN_SMALL, Place, Plan, QUIET, Run,
-    SMALL_CONFIRMED, Side, Story, Told, Wish, is_logged_in, play,
+    BEHIND_LOGIN, CHANNELS, CONFIRMED, End, Line, OPEN, OPEN_SMALL, Plan, QUIET, Run,
+    SMALL_CONFIRMED, Story, Told, Wish, are_true,
 };
-use ssh_wire::WireError;
-use std::test::Fail;
+use std::alloc::{AllocError, Global};
+use std::test::*;
 
 const ECHO: Plan = Plan {
     echoes: true,
@@ -71,71 +70,52 @@ static SIDE_BY_SIDE: [Story; 2] = [
 ];
 
 #[test]
-fn channels_side_by_side(rt: HostRuntime) -> Result<(), Fail> {
+fn channels_side_by_side(rt: HostRuntime) {
     for story in &SIDE_BY_SIDE {
-        assert!(rt; story.holds(rt.alloc())?, "{}", story.shows);
+        assert!(rt; story.holds(rt.alloc()), "{}", story.shows);
     }
-    Ok(())
 }
 
-// Whether a channel is opened under this number, whose window is 2.
-fn opens(side: &mut Side, place: &mut Place, channel: u32) -> Result<bool, WireError> {
-    let mut confirmed = Vec::new(side.alloc);
-    confirmed.extend_from_slice(b"\x5b\0\0\0\x07")?;
-    confirmed.extend_from_slice(&channel.to_be_bytes())?;
-    confirmed.extend_from_slice(b"\0\x20\0\0\0\0\x80\0")?;
-    let open = In(b"\x5a\0\0\0\x07session\0\0\0\x07\0\0\0\x02\0\0\x80\0");
-    play(side, place, &[open, On(channel, confirmed.as_slice())])
+// The peer opens a channel with a window of 2, which gets this number.
+fn opens(lines: &mut Vec<Line<'static>>, channel: u32) -> Result<(), AllocError> {
+    lines.extend_from_slice(&[
+        In(b"\x5a\0\0\0\x07session\0\0\0\x07\0\0\0\x02\0\0\x80\0"),
+        Confirms(channel),
+    ])
 }
 
-// Whether bytes that come on the channel come back on it, in order and within its window.
-fn echoes(side: &mut Side, place: &mut Place, channel: u32) -> Result<bool, WireError> {
-    let lines = [
+// Bytes that come on the channel come back on it, in order and within its window.
+fn echoes(lines: &mut Vec<Line<'static>>, channel: u32) -> Result<(), AllocError> {
+    lines.extend_from_slice(&[
         Flood(channel, 1, b'a'),
         On(channel, b"\x5e\0\0\0\x07\0\0\0\x01a"),
         Flood(channel, 1, b'b'),
         On(channel, b"\x5e\0\0\0\x07\0\0\0\x01b"),
         Flood(channel, 1, b'c'),
-    ];
-    play(side, place, &lines)
+    ])
 }
 
-// Whether a hundred channels are opened, which all have one number of the peer's.
-fn all_open(side: &mut Side, place: &mut Place) -> Result<bool, WireError> {
+// A hundred channels are opened, which all have one number of the peer's, and bytes come back on
+// each of them.
+fn push_hundred(lines: &mut Vec<Line<'static>>) -> Result<(), AllocError> {
     for channel in 2..102u32 {
-        if !opens(side, place, channel)? {
-            return Ok(false);
-        }
+        opens(lines, channel)?;
     }
-    Ok(true)
-}
-
-// Whether bytes come back on each of them.
-fn all_echo(side: &mut Side, place: &mut Place) -> Result<bool, WireError> {
     for channel in 2..102u32 {
-        if !echoes(side, place, channel)? {
-            return Ok(false);
-        }
+        echoes(lines, channel)?;
     }
-    Ok(place.is_at_the_end(&side.link))
+    Ok(())
 }
 
-// Whether all that is so behind a login.
-fn hundred_echo(side: &mut Side) -> Result<bool, WireError> {
-    if !is_logged_in(side)? {
-        return Ok(false);
-    }
-    let mut place = Place::behind(side.link.trace().len(), true);
-    Ok(all_open(side, &mut place)? && all_echo(side, &mut place)?)
+fn hundred_echo(alloc: Global) -> bool {
+    let mut lines: Vec<Line<'static>> = Vec::new(alloc);
+    let are_pushed = push_hundred(&mut lines) == Ok(());
+    are_pushed && are_true(alloc, ECHO, lines.as_slice())
 }
 
 #[test]
-fn a_hundred_echoes(rt: HostRuntime) -> Result<(), Fail> {
-    let mut side = Side::new(rt.alloc(), &Config::standard(), false, ECHO)?;
-    let echo = hundred_echo(&mut side);
-    drop(side);
-    assert!(rt; echo?);
-    Ok(())
+fn a_hundred_echoes(rt: HostRuntime) {
+    assert!(rt; hundred_echo(rt.alloc()));
 }
 
 // Channel 2 has a window of 3 and channel 3 one of 9. The command on channel 3 is set aside while
@@ -160,7 +140,6 @@ static WAITING: Run = Run {
 };
 
 #[test]
-fn commands_wait_while_data_wait(rt: HostRuntime) -> Result<(), Fail> {
-    assert!(rt; WAITING.holds(rt.alloc())?, "{}", WAITING.shows);
-    Ok(())
+fn commands_wait_while_data_wait(rt: HostRuntime) {
+    assert!(rt; WAITING.holds(rt.alloc()), "{}", WAITING.shows);
 }

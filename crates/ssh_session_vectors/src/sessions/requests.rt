@@ -1,7 +1,7 @@
 // What callbacks of requests ask for (RFC 4254 section 6).
 use ssh_stories::Line::{In, On};
 use ssh_stories::{CHANNELS, CONFIRMED, Line, OPEN, Plan, QUIET, Story, Told, Wish};
-use std::test::Fail;
+use std::test::*;
 
 const GENEROUS: Plan = Plan {
     grants: true,
@@ -31,7 +31,7 @@ static REQUESTS: [Story; 4] = [
             records: &[
                 Wish::ChannelSuccess(2),
                 Wish::FlowControl(2, true),
-                Wish::Killed(2, "out of memory", "en"),
+                Wish::Signalled(2, true, "out of memory", "en"),
                 Wish::Eof(2),
                 Wish::FlowControl(2, false),
                 Wish::Close(2),
@@ -80,9 +80,8 @@ static REQUESTS: [Story; 4] = [
 ];
 
 #[test]
-fn what_callbacks_of_requests_ask_for(rt: HostRuntime) -> Result<(), Fail> {
+fn what_callbacks_of_requests_ask_for(rt: HostRuntime) {
     for story in &REQUESTS {
-        assert!(rt; story.holds(rt.alloc())?, "{}", story.shows);
+        assert!(rt; story.holds(rt.alloc()), "{}", story.shows);
     }
-    Ok(())
 }

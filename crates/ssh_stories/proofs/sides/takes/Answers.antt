@@ -1,5 +1,5 @@
 use Rattle.std.proofs.Common.{rules, ◌≤◌, length, false, sym, subst}
-use Rattle.ssh_session_vectors.proofs.runs.takes.Goals as goal
+use Rattle.ssh_stories.proofs.sides.takes.Goals as goal
 
 pub step-answer-requires : goal.step-answer-requires
 step-answer-requires c = record {
