@@ -1,10 +1,12 @@
 //! A program to be timed: `table <workload> <channels> <count>` makes so many calls on a table of
-//! so many channels, and `session <workload> <channels> <count>` gives so many inputs to a session
-//! with so many. It prints what was done and no time. `bench/run` times it.
+//! so many channels, `session <workload> <channels> <count>` gives so many inputs to a session with
+//! so many, and `files <workload> 1 <count>` makes so many requests of a file server. It prints what was done and no time. `bench/run` times it.
 #![tactic(auto)]
 
+mod files;
 mod served;
 
+use crate::files::{TRANSFERS, Transfer, transfer, transfer_named};
 use crate::served::{Serving, serve, serving_named};
 use bytes::Bytes;
 use ssh_channels::{Adjusted, ChannelParams, Encrypted, TableError};
@@ -46,11 +48,12 @@ const WORKLOADS: &str = "copy|copy-small|open|out|out-small|in|grant|flush-all";
 /// The words that name a workload of a session.
 const SERVINGS: &str = "in|out|out-small|grant";
 
-/// What is done, on a table or on a session.
+/// What is done, on a table, on a session or on a file server.
 #[derive(Clone, Copy, PartialEq, Eq)]
 enum Work {
     Table(Workload),
     Session(Serving),
+    Files(Transfer),
 }
 
 /// What the calls are.
@@ -226,6 +229,7 @@ fn done(alloc: Global, work: Work, channels: u32, count: u32) -> Option<u64> {
     match work {
         Work::Table(work) => run(alloc, work, channels, count).ok(),
         Work::Session(work) => serve(alloc, work, channels, count).ok(),
+        Work::Files(work) => transfer(alloc, work, count).ok(),
     }
 }
 
@@ -234,6 +238,7 @@ fn work_named(on: &str, name: &str) -> Option<Work> {
     match on {
         "table" => Some(Work::Table(workload_named(name)?)),
         "session" => Some(Work::Session(serving_named(name)?)),
+        "files" => Some(Work::Files(transfer_named(name)?)),
         _ => None,
     }
 }
@@ -263,6 +268,7 @@ fn main(rt: HostRuntime) -> ExitCode {
     let Some((work, channels, count)) = asked(words.as_slice()) else {
         let _ = eprintln!(rt; "usage: ssh_bench_main table {WORKLOADS} <channels> <count>");
         let _ = eprintln!(rt; "   or: ssh_bench_main session {SERVINGS} <channels> <count>");
+        let _ = eprintln!(rt; "   or: ssh_bench_main files {TRANSFERS} 1 <count>");
         return ExitCode::from(USAGE);
     };
     let Some(done) = done(alloc, work, channels, count) else {

@@ -16,7 +16,7 @@ use Rattle.ssh_scene.specs.declared.lines.Setting.TheVariants as setting
 use Rattle.ssh_scene.specs.Grammar.{IsNumber, IsSmall, IsHex, IsKeyHex, IsSignature, Form, No_form}
 use Rattle.ssh_scene.specs.Grammar.{Whole, Of_number, Of_bytes, Of_text, Of_small, Of_signature}
 use Rattle.ssh_scene.specs.Grammar.{Fits, is_passed, ReadsWords, form_of, Reads}
-use Rattle.ssh_scene.specs.Scene.{Scene, with_line, Gives}
+use Rattle.ssh_scene.specs.Scene.{Taking, GivesBy}
 
 number_once : (digits : List ℕ) (m n : ℕ) → IsNumber digits m → IsNumber digits n → m ≡ n
 number_once digits m n h k = decimal_injective m n h.0 k.0 (sym h.1 ∙ k.1)
@@ -92,21 +92,23 @@ words_once false text a b (inr h) (inr k) = h.1 ∙ sym k.1
 reads_once : (text : List ℕ) (a b : Option Line) → Reads text a → Reads text b → a ≡ b
 reads_once text a b h k = words_once (is_passed text) text a b h k
 
-next_once : (done : ℕ) (next : Option Scene) (lines : List (List ℕ)) (r s : Result Scene ℕ) →
-    ((scene : Scene) (r s : Result Scene ℕ) → Gives (done + 1) scene lines r
-    → Gives (done + 1) scene lines s → r ≡ s) →
-    MatchOption next (r ≡ Err (done + 1)) (λ scene. Gives (done + 1) scene lines r)
-    → MatchOption next (s ≡ Err (done + 1)) (λ scene. Gives (done + 1) scene lines s) → r ≡ s
-next_once done None lines r s later h k = h ∙ sym k
-next_once done (Some scene) lines r s later h k = later scene r s h k
+module _ {S : Type 0} (takes : Taking S) where
+  next_once : (done : ℕ) (next : Option S) (lines : List (List ℕ)) (r s : Result S ℕ) →
+      ((so_far : S) (r s : Result S ℕ) → GivesBy takes (done + 1) so_far lines r
+      → GivesBy takes (done + 1) so_far lines s → r ≡ s) →
+      MatchOption next (r ≡ Err (done + 1)) (λ next. GivesBy takes (done + 1) next lines r)
+      → MatchOption next (s ≡ Err (done + 1)) (λ next. GivesBy takes (done + 1) next lines s)
+      → r ≡ s
+  next_once done None lines r s later h k = h ∙ sym k
+  next_once done (Some next) lines r s later h k = later next r s h k
 
--- the lines give one scene, or have one first bad line
-pub gives_once : (done : ℕ) (scene : Scene) (lines : List (List ℕ)) (r s : Result Scene ℕ)
-    → Gives done scene lines r → Gives done scene lines s → r ≡ s
-gives_once done scene [] r s h k = h ∙ sym k
-gives_once done scene (text ∷ lines) r s h k =
-    let e : h.0 ≡ k.0 = reads_once text h.0 k.0 h.1 k.1 in
-    next_once done (with_line scene h.0) lines r s (λ next r s. gives_once (done + 1) next lines r
-    s) h.2
-    (subst (λ said. MatchOption (with_line scene said) (s ≡ Err (done + 1))
-    (λ next. Gives (done + 1) next lines s)) (sym e) k.2)
+  -- the lines give one thing, or have one first bad line
+  pub gives_once : (done : ℕ) (so_far : S) (lines : List (List ℕ)) (r s : Result S ℕ)
+      → GivesBy takes done so_far lines r → GivesBy takes done so_far lines s → r ≡ s
+  gives_once done so_far [] r s h k = h ∙ sym k
+  gives_once done so_far (text ∷ lines) r s h k =
+      let e : h.0 ≡ k.0 = reads_once text h.0 k.0 h.1 k.1 in
+      next_once done (takes so_far h.0) lines r s
+      (λ next r s. gives_once (done + 1) next lines r s) h.2
+      (subst (λ said. MatchOption (takes so_far said) (s ≡ Err (done + 1))
+      (λ next. GivesBy takes (done + 1) next lines s)) (sym e) k.2)

@@ -4,3 +4,4 @@ pub mod Generated
 pub mod Grammar
 pub mod Queues
 pub mod Scene
+pub mod Pieces

@@ -184,12 +184,20 @@ lines_of [] = []
 lines_of (byte ∷ bytes) = if byte == 10 then [] ∷ lines_of bytes else onto_first byte
     (lines_of bytes)
 
--- after so many lines, these give this scene, or this is the number of the first bad one
+-- what a line makes of what the lines before it give; None where it is bad, or may not stand here
+abbrev pub Taking : Type 0 → Type 0
+Taking S = S → Option Line → Option S
+
+-- after so many lines, these give this, or this is the number of the first bad one
+abbrev pub GivesBy : {S : Type 0} → Taking S → ℕ → S → List (List ℕ) → Result S ℕ → Type 0
+GivesBy takes done so_far [] read = read ≡ Ok so_far
+GivesBy takes done so_far (text ∷ lines) read = (said : Option Line) × Reads text said ×
+    MatchOption (takes so_far said) (read ≡ Err (done + 1)) (λ next. GivesBy takes (done + 1) next
+    lines read)
+
+-- the same of a scene
 abbrev pub Gives : ℕ → Scene → List (List ℕ) → Result Scene ℕ → Type 0
-Gives done scene [] read = read ≡ Ok scene
-Gives done scene (text ∷ lines) read = (said : Option Line) × Reads text said ×
-    MatchOption (with_line scene said) (read ≡ Err (done + 1)) (λ next. Gives (done + 1) next lines
-    read)
+Gives done scene lines read = GivesBy with_line done scene lines read
 
 -- no newline is among them
 abbrev pub IsOneLine : List ℕ → Type 0

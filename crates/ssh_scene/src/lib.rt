@@ -10,6 +10,7 @@ mod faults;
 mod generated;
 mod grammar;
 mod lines;
+mod pieces;
 mod scene;
 mod script;
 
@@ -20,5 +21,6 @@ pub use answers::{
 pub use faults::{BadLine, LineFault, bad_line};
 pub use generated::generated_script;
 pub use grammar::number_in;
+pub use pieces::read_pieces;
 pub use scene::read_script;
 pub use script::{Script, Stage};

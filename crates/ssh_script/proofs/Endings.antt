@@ -1,5 +1,6 @@
 -- How the program ends.
-use Rattle.std.proofs.Common.{◌≡◌, ◌<◌, ◌≤◌, ◌+◌, ◌∙◌, ℕ, List, [], Option, Some, None, Result, Ok}
+use Rattle.std.proofs.Common.{◌≡◌, ◌<◌, ◌≤◌, ◌+◌, ◌∙◌, ℕ, List, [], ◌∷◌, ◌++◌, Option, Some}
+use Rattle.std.proofs.Common.{None, Result, Ok, sym}
 use Rattle.std.proofs.Common.{Err, length, take, min, arith, refl, ap, subst, inl, inr}
 use Rattle.std.proofs.lemmas.List.{length-take, take_all}
 use Rattle.ssh_link.specs.Told.{Adds}
@@ -8,12 +9,18 @@ use Rattle.ssh_handler.specs.declared.recorded.RecordError.TheVariants as record
 use Rattle.ssh_rules.specs.declared.error.RunError.{RunError}
 use Rattle.ssh_rules.specs.declared.error.RunError.TheVariants as error
 use Rattle.ssh_script.specs.Transfer.{IsFront, AddsPart}
-use Rattle.ssh_scene.specs.Scene.{Scene}
+use Rattle.ssh_scene.specs.Scene.{Gives, opening_scene}
+use Rattle.ssh_scene.specs.Pieces.{BringsPieces}
+use Rattle.ssh_sftp.specs.declared.error.SftpError.{SftpError}
+use Rattle.ssh_sftp.specs.Packets.{left_of, fault_of}
 use Rattle.ssh_players.specs.Played.{Failure}
 use Rattle.ssh_script.specs.declared.task.Task.{Task}
 use Rattle.ssh_script.specs.declared.task.Task.TheVariants as task
 use Rattle.ssh_script.specs.Transcript.{status_of, Shows, longest, Scripted, Transcript, Owed}
-use Rattle.ssh_script.specs.Transcript.{run_words, IsTask, Does, Ends, Shown, Unwritten}
+use Rattle.ssh_script.specs.Transcript.{run_words, sftp_words, IsTask, Does, Ends, Shown}
+use Rattle.ssh_script.specs.Transcript.{Unwritten, ShowsBy, ShowsFiles, ScriptedBy, FilesScripted}
+use Rattle.ssh_script.specs.Transcript.{IsRun, line_by_line}
+use Rattle.ssh_script.specs.Files.{IsServed, Written, at_end, unless_refused, served_on}
 
 -- words that do not ask for a run owe the same whatever is left
 owed_always : (words : List (List ℕ)) (left : Option (List ℕ)) (status : ℕ) (text : List ℕ)
@@ -53,19 +60,49 @@ status_small (Err error.KeepaliveTimeout) status h = some_small 1 status (omega 
 status_small (Err error.InactivityTimeout) status h = some_small 1 status (omega arith) h
 status_small (Err error.Pending) status h = some_small 1 status (omega arith) h
 
-shows_small : (read : Result Scene ℕ) (status : ℕ) (text : List ℕ) → Shows read status text
+shows_small : {A : Type 0} (shows : A → ℕ → List ℕ → Type 0)
+    → ((a : A) (status : ℕ) (text : List ℕ) → shows a status text → status < 3)
+    → (read : Result A ℕ) (status : ℕ) (text : List ℕ) → ShowsBy shows read status text
     → status < 3
-shows_small (Ok scene) status text h = status_small h.result status h.status_is
-shows_small (Err number) status text h = omega (arith, h.0)
+shows_small shows small (Ok a) status text h = small a status text h
+shows_small shows small (Err number) status text h = omega (arith, h.0)
 
-scripted_small : (bytes : List ℕ) (status : ℕ) (text : List ℕ) → Scripted bytes status text
+scripted_small : {A : Type 0} (gives : List (List ℕ) → Result A ℕ → Type 0)
+    (shows : A → ℕ → List ℕ → Type 0)
+    → ((a : A) (status : ℕ) (text : List ℕ) → shows a status text → status < 3)
+    → (bytes : List ℕ) (status : ℕ) (text : List ℕ)
+    → ScriptedBy gives (ShowsBy shows) bytes status text → status < 3
+scripted_small gives shows small bytes status text (inl h) = omega (arith, h.1)
+scripted_small gives shows small bytes status text (inr h) =
+    shows_small shows small h.1 status text h.3
+
+end_small : (left : List ℕ) → (at_end left).0 < 3
+end_small [] = omega arith
+end_small (byte ∷ bytes) = omega arith
+
+piece_small : (why : Option SftpError) (rest : Written) → rest.0 < 3
+    → (unless_refused why rest).0 < 3
+piece_small None rest small = small
+piece_small (Some why) rest small = omega arith
+
+served_small : (so_far : List ℕ) (pieces : List (List ℕ)) → (served_on so_far pieces).0 < 3
+served_small so_far [] = end_small (left_of so_far)
+served_small so_far (piece ∷ pieces) =
+    piece_small (fault_of (so_far ++ piece)) (served_on (so_far ++ piece) pieces)
+    (served_small (so_far ++ piece) pieces)
+
+written_small : (pieces : List (List ℕ)) (status : ℕ) (text : List ℕ) → IsServed pieces status text
     → status < 3
-scripted_small bytes status text (inl h) = omega (arith, h.1)
-scripted_small bytes status text (inr h) = shows_small h.1 status text h.3
+written_small pieces status text h =
+    subst (λ (n : ℕ). n < 3) (sym (ap (λ (w : Written). w.0) h)) (served_small [] pieces)
 
 does_small : (asked : Task) (bytes : List ℕ) (status : ℕ) (text : List ℕ)
     → Does asked bytes status text → status < 3
-does_small task.Run bytes status text h = scripted_small bytes status text h
+does_small task.Run bytes status text h =
+    scripted_small (Gives 0 opening_scene) (IsRun line_by_line)
+    (λ scene status text run. status_small run.result status run.status_is) bytes status text h
+does_small task.ServeFiles bytes status text h =
+    scripted_small BringsPieces IsServed written_small bytes status text h
 does_small (task.Generate channels) bytes status text h = status_small h.result status h.status_is
 does_small task.ShowUsage bytes status text h = omega (arith, h.0)
 does_small task.ShowVersion bytes status text h = omega (arith, h.0)
@@ -107,11 +144,36 @@ short_front most front bytes e l =
     e ∙ take_all (most + 1) bytes k
 
 -- what the first bytes owe, one more than a script may have, is what all bytes owe
+module _ {A : Type 0} (gives : List (List ℕ) → Result A ℕ → Type 0)
+    (shows : Result A ℕ → ℕ → List ℕ → Type 0) (asked : Task) (words : List (List ℕ))
+    (asks : IsTask asked words)
+    (does : (bytes : List ℕ) (status : ℕ) (text : List ℕ) → ScriptedBy gives shows bytes status text
+    → Does asked bytes status text) where
+  read_owed : (left : Option (List ℕ)) (front : List ℕ) (status : ℕ) (text : List ℕ)
+      → IsFront (longest + 1) left front → ScriptedBy gives shows front status text
+      → Owed words left status text
+  read_owed None front status text f h = (front, tt, (asked, asks, does front status text h))
+  read_owed (Some bytes) front status text f (inl h) = (
+    bytes,
+    refl,
+    (asked, asks, does bytes status text (inl (long_front longest front bytes f h.0, h.1, h.2))),
+  )
+  read_owed (Some bytes) front status text f (inr h) = (
+    front,
+    short_front longest front bytes f h.0,
+    (asked, asks, does front status text (inr h)),
+  )
+
 pub owed_read : (words : List (List ℕ)) (left : Option (List ℕ)) (front : List ℕ) (status : ℕ)
     (text : List ℕ) → words ≡ run_words → IsFront (longest + 1) left front →
     Scripted front status text → Owed words left status text
-owed_read words None front status text w f h = (front, tt, (task.Run, w, h))
-owed_read words (Some bytes) front status text w f (inl h) =
-    (bytes, refl, (task.Run, w, inl (long_front longest front bytes f h.0, h.1, h.2)))
-owed_read words (Some bytes) front status text w f (inr h) =
-    (front, short_front longest front bytes f h.0, (task.Run, w, inr h))
+owed_read words left front status text w f h =
+    read_owed (Gives 0 opening_scene) Shows task.Run words w (λ bytes status text h. h) left front
+    status text f h
+
+pub owed_served : (words : List (List ℕ)) (left : Option (List ℕ)) (front : List ℕ) (status : ℕ)
+    (text : List ℕ) → words ≡ sftp_words → IsFront (longest + 1) left front →
+    FilesScripted front status text → Owed words left status text
+owed_served words left front status text w f h =
+    read_owed BringsPieces ShowsFiles task.ServeFiles words w (λ bytes status text h. h) left front
+    status text f h

@@ -5,3 +5,4 @@ pub mod Kept
 pub mod Endings
 pub mod RunsOnce
 pub mod TranscriptsOnce
+pub mod FilesServed

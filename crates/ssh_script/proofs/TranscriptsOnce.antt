@@ -1,38 +1,77 @@
 -- Words and a script owe one status and one text.
-use Rattle.std.proofs.Common.{◌≡◌, ◌≢◌, ◌<◌, ◌⊎◌, ℕ, List, [], ◌∷◌, length, Some, None, Result, Ok}
+use Rattle.std.proofs.Common.{◌≡◌, ◌≢◌, ◌<◌, ◌⊎◌, ℕ, List, [], ◌∷◌, ◌++◌, length, Option}
+use Rattle.std.proofs.Common.{Some, None, Result, Ok}
 use Rattle.std.proofs.Common.{Err, arith, refl, sym, ◌∙◌, ap, subst, inl, inr, codes}
 use Rattle.std.specs.Prelude.{◌↔◌}
 use Rattle.ssh_link.specs.declared.plain_kex.PlainKexError.{PlainKexError}
 use Rattle.ssh_handler.specs.declared.recorded.RecordError.TheVariants as record_error
 use Rattle.ssh_rules.specs.declared.error.RunError.{RunError}
 use Rattle.ssh_rules.specs.declared.error.RunError.TheVariants as error
-use Rattle.ssh_scene.specs.Scene.{Scene, opening_scene, lines_of, Gives}
+use Rattle.ssh_scene.specs.Scene.{Scene, opening_scene, lines_of, with_line, Gives}
+use Rattle.ssh_scene.specs.Pieces.{BringsPieces, with_stream_line}
+use Rattle.ssh_sftp.specs.declared.error.SftpError.{SftpError}
+use Rattle.ssh_sftp.specs.Packets.{left_of, fault_of}
 use Rattle.ssh_players.specs.Played.{Failure}
 use Rattle.std.specs.Fmt.{decimal}
 use Rattle.std.proofs.lemmas.Fmt.{decimal_injective}
 use Rattle.ssh_scene.specs.Generated.{generated}
 use Rattle.ssh_script.specs.declared.task.Task.{Task}
 use Rattle.ssh_script.specs.declared.task.Task.TheVariants as task
+use Rattle.ssh_script.specs.Files.{IsServed, Written, at_end, unless_refused, served_on}
 use Rattle.ssh_script.specs.Transcript.{status_of, Shows, Scripted, Transcript, IsBadScript}
+use Rattle.ssh_script.specs.Transcript.{ShowsBy, ShowsFiles, ScriptedBy, FilesScripted, IsRun}
+use Rattle.ssh_script.specs.Transcript.{IsBadBy, IsBadStream, IsMisused, sftp_words}
 use Rattle.ssh_script.specs.Transcript.{IsTask, Does, IsSize, generate_words, in_numbers}
 use Rattle.ssh_script.specs.Transcript.{line_by_line}
 use Rattle.ssh_script.specs.Transcript.{IsUnknown, run_words, help_words, version_words}
 use Rattle.ssh_scene.proofs.LinesOnce.{gives_once}
 use Rattle.ssh_script.proofs.RunsOnce.{run_once}
 
-shows_once : (read : Result Scene ℕ) (m n : ℕ) (s t : List ℕ) → Shows read m s → Shows read n t
+-- what scripts give is shown once, where one thing is shown once
+shows_by_once : {A : Type 0} (shows : A → ℕ → List ℕ → Type 0)
+    → ((a : A) (m n : ℕ) (s t : List ℕ) → shows a m s → shows a n t → (m ≡ n) × (s ≡ t))
+    → (read : Result A ℕ) (m n : ℕ) (s t : List ℕ) → ShowsBy shows read m s → ShowsBy shows read n t
     → (m ≡ n) × (s ≡ t)
-shows_once (Ok scene) m n s t h k = run_once line_by_line scene m n s t h k
-shows_once (Err number) m n s t h k = (h.0 ∙ sym k.0, h.1 ∙ sym k.1)
+shows_by_once shows one (Ok a) m n s t h k = one a m n s t h k
+shows_by_once shows one (Err number) m n s t h k = (h.0 ∙ sym k.0, h.1 ∙ sym k.1)
+
+scripted_by_once : {A : Type 0} (gives : List (List ℕ) → Result A ℕ → Type 0)
+    (shows : Result A ℕ → ℕ → List ℕ → Type 0)
+    → ((lines : List (List ℕ)) (r s : Result A ℕ) → gives lines r → gives lines s → r ≡ s)
+    → ((read : Result A ℕ) (m n : ℕ) (s t : List ℕ) → shows read m s → shows read n t
+    → (m ≡ n) × (s ≡ t))
+    → (bytes : List ℕ) (m n : ℕ) (s t : List ℕ) → ScriptedBy gives shows bytes m s
+    → ScriptedBy gives shows bytes n t → (m ≡ n) × (s ≡ t)
+scripted_by_once gives shows given shown bytes m n s t (inl h) (inl k) =
+    (h.1 ∙ sym k.1, h.2 ∙ sym k.2)
+scripted_by_once gives shows given shown bytes m n s t (inl h) (inr k) =
+    let a = h.0 in let b = k.0 in absurd (omega arith)
+scripted_by_once gives shows given shown bytes m n s t (inr h) (inl k) =
+    let a = h.0 in let b = k.0 in absurd (omega arith)
+scripted_by_once gives shows given shown bytes m n s t (inr h) (inr k) =
+    let e : h.1 ≡ k.1 = given (lines_of bytes) h.1 k.1 h.2 k.2 in
+    shown h.1 m n s t h.3 (subst (λ read. shows read n t) (sym e) k.3)
 
 scripted_once : (bytes : List ℕ) (m n : ℕ) (s t : List ℕ) → Scripted bytes m s → Scripted bytes n t
     → (m ≡ n) × (s ≡ t)
-scripted_once bytes m n s t (inl h) (inl k) = (h.1 ∙ sym k.1, h.2 ∙ sym k.2)
-scripted_once bytes m n s t (inl h) (inr k) = let a = h.0 in let b = k.0 in absurd (omega arith)
-scripted_once bytes m n s t (inr h) (inl k) = let a = h.0 in let b = k.0 in absurd (omega arith)
-scripted_once bytes m n s t (inr h) (inr k) =
-    let e : h.1 ≡ k.1 = gives_once 0 opening_scene (lines_of bytes) h.1 k.1 h.2 k.2 in
-    shows_once h.1 m n s t h.3 (subst (λ read. Shows read n t) (sym e) k.3)
+scripted_once = scripted_by_once (Gives 0 opening_scene) Shows
+    (λ lines r s h k. gives_once with_line 0 opening_scene lines r s h k)
+    (λ read m n s t h k. shows_by_once (IsRun line_by_line)
+    (λ scene m n s t h k. run_once line_by_line scene m n s t h k) read m n s t h k)
+
+-- a text is written once
+written_once : (pieces : List (List ℕ)) (m n : ℕ) (s t : List ℕ) → IsServed pieces m s
+    → IsServed pieces n t → (m ≡ n) × (s ≡ t)
+written_once pieces m n s t h k = (
+  ap (λ (w : Written). w.0) (h ∙ sym k),
+  ap (λ (w : Written). w.1) (h ∙ sym k),
+)
+
+files_once : (bytes : List ℕ) (m n : ℕ) (s t : List ℕ) → FilesScripted bytes m s
+    → FilesScripted bytes n t → (m ≡ n) × (s ≡ t)
+files_once = scripted_by_once BringsPieces ShowsFiles
+    (λ lines r s h k. gives_once with_stream_line 0 [] lines r s h k)
+    (λ read m n s t h k. shows_by_once IsServed written_once read m n s t h k)
 
 -- words ask for one thing
 first_length : List (List ℕ) → ℕ
@@ -46,6 +85,18 @@ not_help = λ e. let z : 3 ≡ 6 = ap first_length e in omega (arith, z)
 not_version : run_words ≢ version_words
 unfolding first_length
 not_version = λ e. let z : 3 ≡ 9 = ap first_length e in omega (arith, z)
+
+not_sftp : run_words ≢ sftp_words
+unfolding first_length
+not_sftp = λ e. let z : 3 ≡ 4 = ap first_length e in omega (arith, z)
+
+sftp_not_help : sftp_words ≢ help_words
+unfolding first_length
+sftp_not_help = λ e. let z : 4 ≡ 6 = ap first_length e in omega (arith, z)
+
+sftp_not_version : sftp_words ≢ version_words
+unfolding first_length
+sftp_not_version = λ e. let z : 4 ≡ 9 = ap first_length e in omega (arith, z)
 
 not_both : help_words ≢ version_words
 unfolding first_length
@@ -66,6 +117,19 @@ asked_once words task.Run (task.Generate n) h k = absurd (not_generate (codes "r
 asked_once words task.Run task.ShowUsage h k = absurd (not_help (sym h ∙ k))
 asked_once words task.Run task.ShowVersion h k = absurd (not_version (sym h ∙ k))
 asked_once words task.Run task.Refuse h k = absurd (k.0 h)
+asked_once words task.Run task.ServeFiles h k = absurd (not_sftp (sym h ∙ k))
+asked_once words task.ServeFiles task.Run h k = absurd (not_sftp (sym k ∙ h))
+asked_once words task.ServeFiles task.ServeFiles h k = refl
+asked_once words task.ServeFiles (task.Generate n) h k =
+    absurd (not_generate (codes "sftp") n (sym h ∙ k.1))
+asked_once words task.ServeFiles task.ShowUsage h k = absurd (sftp_not_help (sym h ∙ k))
+asked_once words task.ServeFiles task.ShowVersion h k = absurd (sftp_not_version (sym h ∙ k))
+asked_once words task.ServeFiles task.Refuse h k = absurd (k.4 h)
+asked_once words (task.Generate m) task.ServeFiles h k =
+    absurd (not_generate (codes "sftp") m (sym k ∙ h.1))
+asked_once words task.ShowUsage task.ServeFiles h k = absurd (sftp_not_help (sym k ∙ h))
+asked_once words task.ShowVersion task.ServeFiles h k = absurd (sftp_not_version (sym k ∙ h))
+asked_once words task.Refuse task.ServeFiles h k = absurd (h.4 k)
 asked_once words (task.Generate m) task.Run h k =
     absurd (not_generate (codes "run") m (sym k ∙ h.1))
 asked_once words (task.Generate m) (task.Generate n) h k =
@@ -96,6 +160,7 @@ asked_once words task.Refuse task.Refuse h k = refl
 does_once : (asked : Task) (script : List ℕ) (m n : ℕ) (s t : List ℕ) → Does asked script m s
     → Does asked script n t → (m ≡ n) × (s ≡ t)
 does_once task.Run script m n s t h k = scripted_once script m n s t h k
+does_once task.ServeFiles script m n s t h k = files_once script m n s t h k
 does_once (task.Generate channels) script m n s t h k =
     run_once in_numbers (generated channels) m n s t h k
 does_once task.ShowUsage script m n s t h k = (h.0 ∙ sym k.0, h.1 ∙ sym k.1)
@@ -133,54 +198,106 @@ run_not_two (Err error.KeepaliveTimeout) h = not_two 1 (omega arith) h
 run_not_two (Err error.InactivityTimeout) h = not_two 1 (omega arith) h
 run_not_two (Err error.Pending) h = not_two 1 (omega arith) h
 
-two_shown : (read : Result Scene ℕ) (m : ℕ) (text : List ℕ) (lines : List (List ℕ))
-    → Gives 0 opening_scene lines read → Shows read m text → m ≡ 2 →
-    (number : ℕ) × Gives 0 opening_scene lines (Err number)
-two_shown (Ok scene) m text lines g h e = absurd (run_not_two h.result (h.status_is ∙ ap Some e))
-two_shown (Err number) m text lines g h e = (number, g)
+module _ {A : Type 0} (gives : List (List ℕ) → Result A ℕ → Type 0)
+    (given : (lines : List (List ℕ)) (r s : Result A ℕ) → gives lines r → gives lines s → r ≡ s)
+    (shows : A → ℕ → List ℕ → Type 0) (never : (a : A) (text : List ℕ) → shows a 2 text → ⊥) where
+  two_shown : (read : Result A ℕ) (m : ℕ) (text : List ℕ) (lines : List (List ℕ))
+      → gives lines read → ShowsBy shows read m text → m ≡ 2
+      → (number : ℕ) × gives lines (Err number)
+  two_shown (Ok a) m text lines g h e = absurd (never a text (subst (λ n. shows a n text) e h))
+  two_shown (Err number) m text lines g h e = (number, g)
 
-bad_is_two : (bytes : List ℕ) (m : ℕ) (text : List ℕ) → Scripted bytes m text → IsBadScript bytes
-    → m ≡ 2
-bad_is_two bytes m text (inl h) k = h.1
-bad_is_two bytes m text (inr h) (inl k) = let a = h.0 in absurd (omega arith)
-bad_is_two bytes m text (inr h) (inr k) =
-    let e : h.1 ≡ Err k.0 = gives_once 0 opening_scene (lines_of bytes) h.1 (Err k.0) h.2 k.1 in
-    (subst (λ read. Shows read m text) e h.3).0
+  bad_is_two : (bytes : List ℕ) (m : ℕ) (text : List ℕ)
+      → ScriptedBy gives (ShowsBy shows) bytes m text → IsBadBy gives bytes → m ≡ 2
+  bad_is_two bytes m text (inl h) k = h.1
+  bad_is_two bytes m text (inr h) (inl k) = let a = h.0 in absurd (omega arith)
+  bad_is_two bytes m text (inr h) (inr k) =
+      let e : h.1 ≡ Err k.0 = given (lines_of bytes) h.1 (Err k.0) h.2 k.1 in
+      (subst (λ read. ShowsBy shows read m text) e h.3).0
 
-two_is_bad : (bytes : List ℕ) (m : ℕ) (text : List ℕ) → Scripted bytes m text → m ≡ 2
-    → IsBadScript bytes
-two_is_bad bytes m text (inl h) e = inl h.0
-two_is_bad bytes m text (inr h) e = inr (two_shown h.1 m text (lines_of bytes) h.2 h.3 e)
+  two_is_bad : (bytes : List ℕ) (m : ℕ) (text : List ℕ)
+      → ScriptedBy gives (ShowsBy shows) bytes m text → m ≡ 2 → IsBadBy gives bytes
+  two_is_bad bytes m text (inl h) e = inl h.0
+  two_is_bad bytes m text (inr h) e = inr (two_shown h.1 m text (lines_of bytes) h.2 h.3 e)
+
+never_run : (scene : Scene) (text : List ℕ) → IsRun line_by_line scene 2 text → ⊥
+never_run scene text h = run_not_two h.result h.status_is
+
+-- no text of a file server has the status 2
+end_not_two : (left : List ℕ) → (at_end left).0 ≡ 2 → ⊥
+end_not_two [] e = absurd (omega (arith, e))
+end_not_two (byte ∷ bytes) e = absurd (omega (arith, e))
+
+piece_not_two : (why : Option SftpError) (rest : Written) → (rest.0 ≡ 2 → ⊥)
+    → (unless_refused why rest).0 ≡ 2 → ⊥
+piece_not_two None rest later e = later e
+piece_not_two (Some why) rest later e = absurd (omega (arith, e))
+
+served_not_two : (so_far : List ℕ) (pieces : List (List ℕ)) → (served_on so_far pieces).0 ≡ 2 → ⊥
+served_not_two so_far [] e = end_not_two (left_of so_far) e
+served_not_two so_far (piece ∷ pieces) e =
+    piece_not_two (fault_of (so_far ++ piece)) (served_on (so_far ++ piece) pieces)
+    (served_not_two (so_far ++ piece) pieces) e
+
+never_served : (pieces : List (List ℕ)) (text : List ℕ) → IsServed pieces 2 text → ⊥
+never_served pieces text h = served_not_two [] pieces (sym (ap (λ (w : Written). w.0) h))
+
+script_bad : (script : List ℕ) (m : ℕ) (text : List ℕ) → Scripted script m text → m ≡ 2
+    → IsBadScript script
+script_bad = two_is_bad (Gives 0 opening_scene)
+    (λ lines r s h k. gives_once with_line 0 opening_scene lines r s h k) (IsRun line_by_line)
+    never_run
+
+bad_script : (script : List ℕ) (m : ℕ) (text : List ℕ) → Scripted script m text
+    → IsBadScript script → m ≡ 2
+bad_script = bad_is_two (Gives 0 opening_scene)
+    (λ lines r s h k. gives_once with_line 0 opening_scene lines r s h k) (IsRun line_by_line)
+    never_run
+
+stream_bad : (script : List ℕ) (m : ℕ) (text : List ℕ) → FilesScripted script m text → m ≡ 2
+    → IsBadStream script
+stream_bad = two_is_bad BringsPieces
+    (λ lines r s h k. gives_once with_stream_line 0 [] lines r s h k) IsServed never_served
+
+bad_stream : (script : List ℕ) (m : ℕ) (text : List ℕ) → FilesScripted script m text
+    → IsBadStream script → m ≡ 2
+bad_stream = bad_is_two BringsPieces
+    (λ lines r s h k. gives_once with_stream_line 0 [] lines r s h k) IsServed never_served
 
 two_wrong : (asked : Task) (words : List (List ℕ)) (script : List ℕ) (m : ℕ) (text : List ℕ)
     → IsTask asked words → Does asked script m text → m ≡ 2
-    → IsUnknown words ⊎ ((words ≡ run_words) × IsBadScript script)
-two_wrong task.Run words script m text w h e = inr (w, two_is_bad script m text h e)
+    → IsUnknown words ⊎ IsMisused words script
+two_wrong task.Run words script m text w h e = inr (inl (w, script_bad script m text h e))
+two_wrong task.ServeFiles words script m text w h e = inr (inr (w, stream_bad script m text h e))
 two_wrong (task.Generate channels) words script m text w h e =
     absurd (run_not_two h.result (h.status_is ∙ ap Some e))
 two_wrong task.ShowUsage words script m text w h e = absurd (omega (arith, h.0))
 two_wrong task.ShowVersion words script m text w h e = absurd (omega (arith, h.0))
 two_wrong task.Refuse words script m text w h e = inl w
 
+-- words that are misused ask for a run or for a file server
+misused_two : (asked : Task) (words : List (List ℕ)) (script : List ℕ) (m : ℕ) (text : List ℕ)
+    → IsTask asked words → Does asked script m text → IsMisused words script → m ≡ 2
+misused_two asked words script m text w h (inl k) =
+    let is : asked ≡ task.Run = asked_once words asked task.Run w k.0 in
+    bad_script script m text (subst (λ one. Does one script m text) is h) k.1
+misused_two asked words script m text w h (inr k) =
+    let is : asked ≡ task.ServeFiles = asked_once words asked task.ServeFiles w k.0 in
+    bad_stream script m text (subst (λ one. Does one script m text) is h) k.1
+
 wrong_two : (asked : Task) (words : List (List ℕ)) (script : List ℕ) (m : ℕ) (text : List ℕ)
     → IsTask asked words → Does asked script m text
-    → IsUnknown words ⊎ ((words ≡ run_words) × IsBadScript script) → m ≡ 2
-wrong_two task.Run words script m text w h (inl k) = absurd (k.0 w)
-wrong_two task.Run words script m text w h (inr k) = bad_is_two script m text h k.1
-wrong_two (task.Generate n) words script m text w h (inl k) = absurd (k.3 n w.0 w.1)
-wrong_two (task.Generate n) words script m text w h (inr k) =
-    absurd (not_generate (codes "run") n (sym k.0 ∙ w.1))
-wrong_two task.ShowUsage words script m text w h (inl k) = absurd (k.1 w)
-wrong_two task.ShowUsage words script m text w h (inr k) = absurd (not_help (sym k.0 ∙ w))
-wrong_two task.ShowVersion words script m text w h (inl k) = absurd (k.2 w)
-wrong_two task.ShowVersion words script m text w h (inr k) = absurd (not_version (sym k.0 ∙ w))
-wrong_two task.Refuse words script m text w h k = h.0
+    → IsUnknown words ⊎ IsMisused words script → m ≡ 2
+wrong_two asked words script m text w h (inl k) =
+    let is : asked ≡ task.Refuse = asked_once words asked task.Refuse w k in
+    (subst (λ one. Does one script m text) is h).0
+wrong_two asked words script m text w h (inr k) = misused_two asked words script m text w h k
 
--- status 2 comes exactly with words that ask for nothing, and with a run of a script that is too
--- long or has a bad line
+-- status 2 comes exactly with words that ask for nothing, and with a run or a file server and a
+-- script that is too long or has a bad line
 pub two_exactly : (words : List (List ℕ)) (script : List ℕ) (m : ℕ) (text : List ℕ)
     → Transcript words script m text →
-    (m ≡ 2) ↔ (IsUnknown words ⊎ ((words ≡ run_words) × IsBadScript script))
+    (m ≡ 2) ↔ (IsUnknown words ⊎ IsMisused words script)
 two_exactly words script m text h = (
   two_wrong h.0 words script m text h.1 h.2,
   wrong_two h.0 words script m text h.1 h.2,

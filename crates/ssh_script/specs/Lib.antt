@@ -1,3 +1,4 @@
 pub mod Transfer
 pub mod Transcript
 pub mod Writings
+pub mod Files

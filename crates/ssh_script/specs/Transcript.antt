@@ -25,6 +25,8 @@ use Rattle.ssh_players.specs.Given.{IsGiven}
 use Rattle.ssh_transcript.specs.Print.{printed}
 use Rattle.ssh_transcript.specs.Summary.{summary}
 use Rattle.ssh_scene.specs.Generated.{generated}
+use Rattle.ssh_scene.specs.Pieces.{BringsPieces}
+use Rattle.ssh_script.specs.Files.{IsServed}
 use Rattle.ssh_auth.specs.declared.call.Call.{Call}
 use Rattle.ssh_link.specs.declared.link.TraceEntry.{TraceEntry}
 
@@ -78,11 +80,19 @@ line_by_line calls trace result = printed calls trace result
 abbrev pub in_numbers : Writing
 in_numbers calls trace result = summary trace result
 
--- the status and the text of a script with this scene, or with this first bad line
-abbrev pub Shows : Result Scene ℕ → ℕ → List ℕ → Type 0
-Shows (Ok scene) status text = IsRun line_by_line scene status text
-Shows (Err number) status text = (status ≡ 2) × (text ≡ codes "bad line " ++ decimal number
+-- the status and the text of a script of which this was read, or which has this first bad line
+abbrev pub ShowsBy : {A : Type 0} → (A → ℕ → List ℕ → Type 0) → Result A ℕ → ℕ → List ℕ → Type 0
+ShowsBy shows (Ok one) status text = shows one status text
+ShowsBy shows (Err number) status text = (status ≡ 2) × (text ≡ codes "bad line " ++ decimal number
     ++ codes "\n")
+
+-- likewise where it has this scene
+abbrev pub Shows : Result Scene ℕ → ℕ → List ℕ → Type 0
+Shows read status text = ShowsBy (IsRun line_by_line) read status text
+
+-- likewise where its lines bring a file server these pieces
+abbrev pub ShowsFiles : Result (List (List ℕ)) ℕ → ℕ → List ℕ → Type 0
+ShowsFiles read status text = ShowsBy IsServed read status text
 
 -- the longest script
 abbrev pub longest : ℕ
@@ -91,17 +101,30 @@ longest = 16777216
 abbrev pub IsTooLong : List ℕ → Type 0
 IsTooLong bytes = longest < length bytes
 
--- the status and the text of this script
-abbrev pub Scripted : List ℕ → ℕ → List ℕ → Type 0
-Scripted bytes status text =
+-- the status and the text of this script: it is too long, or its lines give this, or have a first
+-- bad one
+abbrev pub ScriptedBy : {A : Type 0} → (List (List ℕ) → Result A ℕ → Type 0)
+    → (Result A ℕ → ℕ → List ℕ → Type 0) → List ℕ → ℕ → List ℕ → Type 0
+ScriptedBy {A} gives shows bytes status text =
     (IsTooLong bytes × (status ≡ 2) × (text ≡ codes "script too long\n"))
     ⊎ ((length bytes ≤ longest)
-    × (read : Result Scene ℕ) × Gives 0 opening_scene (lines_of bytes) read
-    × Shows read status text)
+    × (read : Result A ℕ) × gives (lines_of bytes) read
+    × shows read status text)
 
--- the words that ask for a run, for the usage line, and for the version
+-- the status and the text of this script, where it is run
+abbrev pub Scripted : List ℕ → ℕ → List ℕ → Type 0
+Scripted bytes status text = ScriptedBy (Gives 0 opening_scene) Shows bytes status text
+
+-- the same where a file server is given it
+abbrev pub FilesScripted : List ℕ → ℕ → List ℕ → Type 0
+FilesScripted bytes status text = ScriptedBy BringsPieces ShowsFiles bytes status text
+
+-- the words that ask for a run, for a file server, for the usage line, and for the version
 abbrev pub run_words : List (List ℕ)
 run_words = codes "run" ∷ []
+
+abbrev pub sftp_words : List (List ℕ)
+sftp_words = codes "sftp" ∷ []
 
 abbrev pub help_words : List (List ℕ)
 help_words = codes "--help" ∷ []
@@ -121,17 +144,19 @@ IsSize channels = (0 < channels) × (channels ≤ 1000)
 abbrev pub IsUnknown : List (List ℕ) → Type 0
 IsUnknown words = (words ≢ run_words) × (words ≢ help_words) × (words ≢ version_words)
     × ((channels : ℕ) → IsSize channels → words ≢ generate_words channels)
+    × (words ≢ sftp_words)
 
 -- these words ask for this
 abbrev pub IsTask : Task → List (List ℕ) → Type 0
 IsTask task.Run words = words ≡ run_words
+IsTask task.ServeFiles words = words ≡ sftp_words
 IsTask (task.Generate channels) words = IsSize channels × (words ≡ generate_words channels)
 IsTask task.ShowUsage words = words ≡ help_words
 IsTask task.ShowVersion words = words ≡ version_words
 IsTask task.Refuse words = IsUnknown words
 
 abbrev pub usage : List ℕ
-usage = codes "usage: ssh_script run | generate <n> | threads <n>\n"
+usage = codes "usage: ssh_script run | generate <n> | threads <n> | sftp\n"
 
 abbrev pub version : List ℕ
 version = codes "ssh_script 0.1.0\n"
@@ -139,6 +164,7 @@ version = codes "ssh_script 0.1.0\n"
 -- the status and the text of what was asked for, with this script
 abbrev pub Does : Task → List ℕ → ℕ → List ℕ → Type 0
 Does task.Run bytes status text = Scripted bytes status text
+Does task.ServeFiles bytes status text = FilesScripted bytes status text
 Does (task.Generate channels) bytes status text =
     IsRun in_numbers (generated channels) status text
 Does task.ShowUsage bytes status text = (status ≡ 0) × (text ≡ usage)
@@ -150,19 +176,39 @@ abbrev pub Transcript : List (List ℕ) → List ℕ → ℕ → List ℕ → Ty
 Transcript words bytes status text = (asked : Task) × IsTask asked words
     × Does asked bytes status text
 
--- a script that is not run: it is too long, or has a bad line
+-- a script that gives nothing: it is too long, or has a bad line
+abbrev pub IsBadBy : {A : Type 0} → (List (List ℕ) → Result A ℕ → Type 0) → List ℕ → Type 0
+IsBadBy gives bytes = IsTooLong bytes
+    ⊎ ((number : ℕ) × gives (lines_of bytes) (Err number))
+
+-- a script that is not run, and one that no file server is given
 abbrev pub IsBadScript : List ℕ → Type 0
-IsBadScript bytes = IsTooLong bytes
-    ⊎ ((number : ℕ) × Gives 0 opening_scene (lines_of bytes) (Err number))
+IsBadScript bytes = IsBadBy (Gives 0 opening_scene) bytes
+
+abbrev pub IsBadStream : List ℕ → Type 0
+IsBadStream bytes = IsBadBy BringsPieces bytes
+
+-- words that ask for something, and a script that does not give it
+abbrev pub IsMisused : List (List ℕ) → List ℕ → Type 0
+IsMisused words bytes = ((words ≡ run_words) × IsBadScript bytes)
+    ⊎ ((words ≡ sftp_words) × IsBadStream bytes)
 
 -- the same of the bytes that are left in a source, where it tells them
 abbrev pub Owed : List (List ℕ) → Option (List ℕ) → ℕ → List ℕ → Type 0
 Owed words left status text = (bytes : List ℕ) × IsAll left bytes × Transcript words bytes status
     text
 
+-- words that ask for what a script says
+abbrev pub AskForScript : List (List ℕ) → Type 0
+AskForScript words = (words ≡ run_words) ⊎ (words ≡ sftp_words)
+
+-- and words that do not
+abbrev pub NoScript : List (List ℕ) → Type 0
+NoScript words = (words ≢ run_words) × (words ≢ sftp_words)
+
 -- a script was asked for, and its source failed
 abbrev pub IsUnread : List (List ℕ) → ℕ → ℕ → Type 0
-IsUnread words faults faults' = (words ≡ run_words) × RoseOrFull faults faults'
+IsUnread words faults faults' = AskForScript words × RoseOrFull faults faults'
 
 abbrev pub read_fault : List ℕ
 read_fault = codes "read fault\n"

@@ -5,6 +5,7 @@
 //! are those that the script owes.
 #![tactic(auto)]
 
+mod files;
 mod run;
 mod task;
 mod transfer;

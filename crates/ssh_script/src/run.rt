@@ -6,27 +6,31 @@ ghost use Rattle.std.specs.String.{string_bytes};
 ghost use Rattle.ssh_link.specs.Faults.{RoseOrFull};
 ghost use Rattle.ssh_scene.specs.Scene.{scene_of};
 ghost use Rattle.ssh_script.specs.Transfer.{IsReadTo, IsReadWithin};
-ghost use Rattle.ssh_script.specs.Transcript.{status_of, IsRun, Scripted, IsBadScript, IsUnknown};
+ghost use Rattle.ssh_script.specs.Transcript.{status_of, IsRun, Scripted, FilesScripted, IsUnknown};
+ghost use Rattle.ssh_script.specs.Transcript.{IsMisused, AskForScript, NoScript};
+ghost use Rattle.ssh_script.specs.Files.{IsServed};
 ghost use Rattle.ssh_script.specs.Transcript.{Transcript, Owed, IsUnread, IsCutShort, Ends};
-ghost use Rattle.ssh_script.specs.Transcript.{longest, run_words, in_numbers};
+ghost use Rattle.ssh_script.specs.Transcript.{longest, in_numbers};
 ghost use Rattle.ssh_script.specs.Writings.{text_in, writing_of};
 ghost use Rattle.ssh_scene.specs.Generated.{generated};
 
+use crate::files::{print_ending, serve_pieces};
 use crate::task::{Task, task_of};
 use crate::transfer::{ReadError, read_front, write_all};
+use bytes::Bytes;
 use ssh_auth::Question;
 use ssh_handler::RecordError;
 use ssh_link::{PlainKexError, Sink, Source, TraceEntry};
 use ssh_players::{ScriptError, ScriptHandler, ScriptKex, ScriptLink};
-use ssh_scene::{Script, generated_script, read_script};
+use ssh_scene::{Script, generated_script, read_pieces, read_script};
 use ssh_session::{RunError, run_stream};
 use ssh_transcript::{print_number, print_run, print_summary};
 use std::alloc::{AllocError, Global};
 
 /// The status where nothing went wrong.
-const DONE: u8 = 0;
+pub(crate) const DONE: u8 = 0;
 /// The status where a run ended by an error.
-const ENDED_BY_ERROR: u8 = 1;
+pub(crate) const ENDED_BY_ERROR: u8 = 1;
 /// The status where words ask for nothing, or a script is not run.
 const REFUSED: u8 = 2;
 /// The status where the source failed.
@@ -42,7 +46,7 @@ pub const LONGEST: usize = 16_777_216;
 /// How much of a source is read at most: one byte more shows that a script is too long.
 const READ_AT_MOST: usize = LONGEST + 1;
 
-const USAGE: &str = "usage: ssh_script run | generate <n> | threads <n>\n";
+const USAGE: &str = "usage: ssh_script run | generate <n> | threads <n> | sftp\n";
 
 const VERSION: &str = "ssh_script 0.1.0\n";
 
@@ -190,6 +194,40 @@ fn show_lines(alloc: Global, bytes: &[u8]) -> Result<Report, AllocError>
     }
 }
 
+/// What a file server comes to whose client sends these pieces.
+fn serve_files(alloc: Global, pieces: &[Bytes]) -> Result<Report, AllocError>
+    ensures { IfOk result (λ report. IsServed pieces.now report.status
+        (string_bytes report.text)) }
+{
+    let mut text = String::new(alloc);
+    let ended = serve_pieces(alloc, pieces, &mut text)?;
+    let status = print_ending(&mut text, ended)?;
+    Ok(Report { status, text })
+}
+
+/// What a file server comes to whose client has a script of these bytes.
+fn show_files(alloc: Global, bytes: &[u8]) -> Result<Report, AllocError>
+    ensures { IfOk result (λ report. FilesScripted bytes.now report.status
+        (string_bytes report.text)) }
+{
+    if bytes.len() > LONGEST {
+        return one_line(alloc, REFUSED, "script too long\n");
+    }
+    show_pieces(alloc, bytes)
+}
+
+/// What a file server comes to whose client has a script that is not too long.
+fn show_pieces(alloc: Global, bytes: &[u8]) -> Result<Report, AllocError>
+    requires { length bytes.now ≤ longest }
+    ensures { IfOk result (λ report. FilesScripted bytes.now report.status
+        (string_bytes report.text)) }
+{
+    match read_pieces(alloc, bytes)? {
+        Ok(pieces) => serve_files(alloc, &pieces),
+        Err(number) => bad_line(alloc, number),
+    }
+}
+
 /// What a session of so many channels comes to.
 fn generate(alloc: Global, channels: u32) -> Result<Report, AllocError>
     requires { channels ≤ 1000 }
@@ -206,8 +244,8 @@ fn generate(alloc: Global, channels: u32) -> Result<Report, AllocError>
 fn transcript<S: Source>(alloc: Global, words: &[&str], source: &mut S) -> Result<Report, ReadError>
     ensures owed { IfOk result (λ report. Owed (map (λ word. word.now) words.now)
         (S.left source.old) report.status (string_bytes report.text)) }
-    ensures unread { map (λ word. word.now) words.now ≢ run_words → source.new ≡ source.old }
-    ensures whole { map (λ word. word.now) words.now ≡ run_words
+    ensures unread { NoScript (map (λ word. word.now) words.now) → source.new ≡ source.old }
+    ensures whole { AskForScript (map (λ word. word.now) words.now)
         → OnOk result (IsReadTo (longest + 1) (S.left source.old) (S.left source.new)) }
     ensures no_further { IsReadWithin (longest + 1) (S.left source.old) (S.left source.new) }
     ensures cause { IsErrOf result ReadError.Failed → IsUnread (map (λ word. word.now) words.now)
@@ -219,6 +257,10 @@ fn transcript<S: Source>(alloc: Global, words: &[&str], source: &mut S) -> Resul
             let bytes = read_front(alloc, source, READ_AT_MOST)?;
             Ok(show(alloc, bytes.as_slice())?)
         }
+        Task::ServeFiles => {
+            let bytes = read_front(alloc, source, READ_AT_MOST)?;
+            Ok(show_files(alloc, bytes.as_slice())?)
+        }
         Task::Generate(channels) => Ok(generate(alloc, channels)?),
         Task::ShowUsage => Ok(one_line(alloc, DONE, USAGE)?),
         Task::ShowVersion => Ok(one_line(alloc, DONE, VERSION)?),
@@ -228,9 +270,9 @@ fn transcript<S: Source>(alloc: Global, words: &[&str], source: &mut S) -> Resul
 
 /// Does what the words ask for with the script that the source holds, and answers the status of
 /// the program: 0 where the run was Ok, and for `--help` and `--version`; 1 where the run ended
-/// by an error; 2 for other words, a bad line, or more than 16777216 bytes; 3 where the source
-/// failed, 4 where the sink failed, 5 where there was no memory. The source is read for the word
-/// `run` alone: to its end, or to byte 16777217.
+/// or the stream of a client of files ended by an error; 2 for other words, a bad line, or more than
+/// 16777216 bytes; 3 where the source failed, 4 where the sink failed, 5 where there was no memory.
+/// The source is read for the words `run` and `sftp` alone: to its end, or to byte 16777217.
 pub fn run_script<S: Source, W: Sink>(
     alloc: Global,
     words: &[&str],
@@ -241,8 +283,8 @@ pub fn run_script<S: Source, W: Sink>(
         (IsUnread (map (λ word. word.now) words.now) (S.faults source.old) (S.faults source.new))
         (RoseOrFull (W.faults sink.old) (W.faults sink.new)) (W.held sink.old)
         (W.held sink.new) result }
-    ensures unread { map (λ word. word.now) words.now ≢ run_words → source.new ≡ source.old }
-    ensures whole { map (λ word. word.now) words.now ≡ run_words →
+    ensures unread { NoScript (map (λ word. word.now) words.now) → source.new ≡ source.old }
+    ensures whole { AskForScript (map (λ word. word.now) words.now) →
         IsReadTo (longest + 1) (S.left source.old) (S.left source.new)
         ⊎ IsCutShort (S.faults source.old) (S.faults source.new) result }
     ensures no_further { IsReadWithin (longest + 1) (S.left source.old) (S.left source.new) }
@@ -261,11 +303,11 @@ pub fn run_script<S: Source, W: Sink>(
 }
 
 /// Words and a script owe one status and one text, and the status is 2 exactly with words that
-/// ask for nothing, and with `run` and a script that is too long or has a bad line.
+/// ask for nothing, and with `run` or `sftp` and a script that is too long or has a bad line.
 pub fn one_transcript()
     ensures once { (words : List (List ℕ)) (script : List ℕ) (m n : ℕ) (s t : List ℕ)
         → Transcript words script m s → Transcript words script n t → (m ≡ n) × (s ≡ t) }
     ensures two { (words : List (List ℕ)) (script : List ℕ) (m : ℕ) (text : List ℕ)
         → Transcript words script m text →
-        (m ≡ 2) ↔ (IsUnknown words ⊎ ((words ≡ run_words) × IsBadScript script)) }
+        (m ≡ 2) ↔ (IsUnknown words ⊎ IsMisused words script) }
 {}

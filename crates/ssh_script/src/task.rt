@@ -14,6 +14,8 @@ const MOST_CHANNELS: u64 = 1000;
 pub(crate) enum Task {
     /// It runs a script.
     Run,
+    /// It serves files to the client that a script has.
+    ServeFiles,
     /// It runs a session of so many channels, which it makes up.
     Generate(u32),
     /// It writes the usage line.
@@ -45,6 +47,7 @@ fn lone_task(word: &str) -> Task
 {
     match word {
         "run" => Task::Run,
+        "sftp" => Task::ServeFiles,
         "--help" => Task::ShowUsage,
         "--version" => Task::ShowVersion,
         _ => Task::Refuse,

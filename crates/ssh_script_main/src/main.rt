@@ -1,6 +1,6 @@
 //! The program: it runs the script that stands on standard input, and writes what comes of it to
-//! standard output. Its exit status is the answer of `run_script`. Where a line of the script is
-//! bad, it says on standard error which and why.
+//! standard output. Its exit status is the answer of `run_script`. Where a line of a session's
+//! script is bad, it says on standard error which and why.
 #![tactic(auto)]
 
 mod keeping;
@@ -30,9 +30,20 @@ fn run<S: Source, W: Sink>(
     Ok(run_script(alloc, texts.as_slice(), source, sink))
 }
 
-/// The first bad line of the script that was read, where it is not too long; None where no line is
-/// bad, and where there was no memory to find it.
-fn bad_line_of<S>(alloc: Global, source: &Keeping<S>) -> Option<BadLine> {
+/// Whether the words ask for the run of a session.
+fn ask_for_run(words: &[String]) -> bool {
+    match words {
+        [_, word] => word.as_str() == "run",
+        _ => false,
+    }
+}
+
+/// The first bad line of the session's script that was read, where it is not too long; None where
+/// no line is bad, and where there was no memory to find it.
+fn bad_line_of<S>(alloc: Global, words: &[String], source: &Keeping<S>) -> Option<BadLine> {
+    if !ask_for_run(words) {
+        return None;
+    }
     let script = source.kept()?;
     if script.len() > LONGEST {
         return None;
@@ -55,7 +66,7 @@ fn main(rt: HostRuntime) -> ExitCode {
     let Ok(status) = run(rt.alloc(), words.as_slice(), &mut source, &mut sink) else {
         return ExitCode::from(NO_MEMORY);
     };
-    if let Some(bad) = bad_line_of(rt.alloc(), &source) {
+    if let Some(bad) = bad_line_of(rt.alloc(), words.as_slice(), &source) {
         // The status says it too, so a standard error that fails changes nothing.
         let _said = eprintln!(rt; "line {}: {}", bad.number, bad.fault);
     }

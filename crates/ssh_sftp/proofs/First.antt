@@ -2,7 +2,8 @@
 use Rattle.std.proofs.Common.{◌≡◌, ℕ, ◌+◌, ◌<◌, ◌≤◌, ◌^◌, inl, inr, List, [], ◌∷◌, ◌++◌, length}
 use Rattle.std.proofs.Common.{true, false, take, drop, sym, ap, refl, subst, ◌∙◌, length-append}
 use Rattle.std.proofs.Common.{append_assoc, append-nil, arith}
-use Rattle.std.specs.Prelude.{flat_map, ◌&&◌, nat_le, nat_lt, if◌then◌else◌}
+use Rattle.std.specs.Prelude.{flat_map, ◌&&◌, ◌||◌, ◌==◌, nat_le, nat_lt, if◌then◌else◌}
+use Rattle.std.specs.Prelude.{Option, Some, None}
 use Rattle.std.specs.List.{AllByRecursion}
 use Rattle.std.proofs.lemmas.Nat.{from_be_bytes-to_be_bytes_4}
 use Rattle.std.proofs.Math.Seq.{take-append_seam, drop-append_seam}
@@ -11,7 +12,7 @@ use Rattle.ssh_wire.proofs.Numbers.{number_once, parts_once}
 use Rattle.ssh_sftp_core.specs.Files.{State, fresh}
 use Rattle.ssh_sftp_core.specs.Layouts.{said}
 use Rattle.ssh_sftp.specs.Packets.{Splits, IsPacket, IsPartial, IsFault, most, begins_whole}
-use Rattle.ssh_sftp.specs.Packets.{packets_within, packets}
+use Rattle.ssh_sftp.specs.Packets.{packets_within, packets, left_of, fault_in}
 use Rattle.ssh_sftp.specs.Replies.{answers, Serves, Refuses, IsAnswered, IsFaulty}
 use Rattle.ssh_sftp.specs.Replies.{IsUnfinished, IsRefused}
 use Rattle.ssh_sftp.specs.declared.error.SftpError.{SftpError}
@@ -63,7 +64,7 @@ first_packet n es packet after is good =
     ∙ ap (λ z. packet ∷ packets_within es z) tail
 
 -- less than a packet, or what is no packet, begins with none
-none_partial : (rest : List ℕ) → IsPartial rest → begins_whole rest ≡ false
+pub none_partial : (rest : List ℕ) → IsPartial rest → begins_whole rest ≡ false
 none_partial rest (inl short) =
     is_short (said rest) (length rest) (omega (arith, short))
 none_partial rest (inr (n, body, begins, some, few, less)) =
@@ -72,7 +73,7 @@ none_partial rest (inr (n, body, begins, some, few, less)) =
     ap length begins.0 ∙ length-append (number n) body in
     is_short (said rest) (length rest) (omega (arith, counts, size, less))
 
-none_faulty : (why : SftpError) (rest : List ℕ) → (why ≡ error.NoMemory → ⊥) → IsFault rest why
+pub none_faulty : (why : SftpError) (rest : List ℕ) → (why ≡ error.NoMemory → ⊥) → IsFault rest why
     → begins_whole rest ≡ false
 none_faulty (error.BadLength n) rest known (body, begins, inl nothing) =
     let counts : said rest ≡ n = ap said begins.0 ∙ said_is n body begins.1 in
@@ -86,6 +87,7 @@ none_faulty error.NoId rest known (packet, after, is, some, few) =
     is_small (said rest) (length rest) (omega (arith, counts, few))
 none_faulty error.NoMemory rest known fault = absurd (known refl)
 none_faulty (error.Cut n) rest known fault = absurd fault
+none_faulty (error.Handle e) rest known fault = absurd fault
 none_faulty error.Failed rest known fault = absurd fault
 
 -- ---- all that come first
@@ -121,7 +123,7 @@ none_within (e ∷ es) rest none = ap (λ t. if t
     then take (said rest) (drop 4 rest) ∷ packets_within es (drop (4 + said rest) rest)
     else []) none
 
-all_of_them : (stream : List ℕ) (ps : List (List ℕ)) (rest : List ℕ) → Splits stream ps rest
+pub all_of_them : (stream : List ℕ) (ps : List (List ℕ)) (rest : List ℕ) → Splits stream ps rest
     → begins_whole rest ≡ false → packets stream ≡ ps
 all_of_them stream ps rest splits none =
     first_ones stream ps rest splits
@@ -168,6 +170,7 @@ refused_is (error.BadLength n) stream old new r =
     faulty_is (error.BadLength n) stream old new (λ is. cc) r
 refused_is error.NoId stream old new r = faulty_is error.NoId stream old new (λ is. cc) r
 refused_is (error.Cut n) stream old new r = absurd r.fault
+refused_is (error.Handle e) stream old new r = absurd r.fault
 refused_is error.Failed stream old new r = absurd r.fault
 
 -- ---- a fault is no part of a packet
@@ -191,6 +194,7 @@ apart error.NoId rest known (packet, after, is, one, four)
     omega (arith, parts.0, ap length parts.1, length-append packet after, less)
 apart error.NoMemory rest known fault partial = known refl
 apart (error.Cut n) rest known fault partial = fault
+apart (error.Handle e) rest known fault partial = fault
 apart error.Failed rest known fault partial = fault
 
 pub never_both : (stream : List ℕ) (why : SftpError) (a b c d : List ℕ)
@@ -201,3 +205,73 @@ never_both stream why a b c d known faulty answered =
     (parts_once front front faulty.rest answered.rest refl
     (sym faulty.splits.whole ∙ answered.splits.whole)).1 in
     apart why answered.rest known (subst (λ z. IsFault z why) same faulty.fault) answered.partial
+
+-- ---- what is left, and its fault
+
+pub left_is : (stream rest : List ℕ) → Splits stream (packets stream) rest → left_of stream ≡ rest
+left_is stream rest splits =
+    let front = flat_map string (packets stream) in
+    ap (λ z. drop (length front) z) splits.whole ∙ drop-append_seam front rest
+
+short_fine : (n size : ℕ) → size < 4 → (if nat_lt size 4 then None
+    else if (n == 0) || nat_lt most n then Some (error.BadLength n)
+    else if nat_lt n 5 && nat_le (4 + n) size then Some error.NoId else None) ≡ None
+short_fine n size short = grind (arith, short)
+
+partial_fine : (n size : ℕ) → 4 ≤ size → 0 < n → n ≤ most → size < 4 + n → (if nat_lt size 4 then None
+    else if (n == 0) || nat_lt most n then Some (error.BadLength n)
+    else if nat_lt n 5 && nat_le (4 + n) size then Some error.NoId else None) ≡ None
+partial_fine n size long some few short = grind (arith, long, some, few, short)
+
+-- less than a packet has no fault
+pub no_fault : (rest : List ℕ) → IsPartial rest → fault_in rest ≡ None
+no_fault rest (inl short) = short_fine (said rest) (length rest) short
+no_fault rest (inr (n, body, begins, some, few, less)) =
+    let counts : said rest ≡ n = ap said begins.0 ∙ said_is n body begins.1 in
+    let size : length rest ≡ 4 + length body =
+    ap length begins.0 ∙ length-append (number n) body in
+    partial_fine (said rest) (length rest) (omega (arith, size)) (omega (arith, counts, some))
+    (omega (arith, counts, few)) (omega (arith, counts, size, less))
+
+large_bad : (n size : ℕ) → 4 ≤ size → most < n → (if nat_lt size 4 then None
+    else if (n == 0) || nat_lt most n then Some (error.BadLength n)
+    else if nat_lt n 5 && nat_le (4 + n) size then Some error.NoId else None)
+    ≡ Some (error.BadLength n)
+large_bad n size long large = grind (arith, long, large)
+
+none_bad : (n size : ℕ) → 4 ≤ size → n ≡ 0 → (if nat_lt size 4 then None
+    else if (n == 0) || nat_lt most n then Some (error.BadLength n)
+    else if nat_lt n 5 && nat_le (4 + n) size then Some error.NoId else None)
+    ≡ Some (error.BadLength n)
+none_bad n size long none = grind (arith, long, none)
+
+small_bad : (n size : ℕ) → 4 ≤ size → 0 < n → n < 5 → 4 + n ≤ size → (if nat_lt size 4 then None
+    else if (n == 0) || nat_lt most n then Some (error.BadLength n)
+    else if nat_lt n 5 && nat_le (4 + n) size then Some error.NoId else None) ≡ Some error.NoId
+small_bad n size long some few whole = grind (arith, long, some, few, whole)
+
+-- a fault is the fault of what begins so
+pub fault_is : (why : SftpError) (rest : List ℕ) → (why ≡ error.NoMemory → ⊥) → IsFault rest why
+    → fault_in rest ≡ Some why
+fault_is (error.BadLength n) rest known (body, begins, bad) =
+    let counts : said rest ≡ n = ap said begins.0 ∙ said_is n body begins.1 in
+    let size : 4 ≤ length rest =
+    omega (arith, ap length begins.0, length-append (number n) body) in
+    elim bad [
+      | inl nothing ↦ none_bad (said rest) (length rest) size (counts ∙ nothing)
+          ∙ ap (λ z. Some (error.BadLength z)) counts
+      | inr large ↦ large_bad (said rest) (length rest) size (omega (arith, counts, large))
+          ∙ ap (λ z. Some (error.BadLength z)) counts
+    ]
+fault_is error.NoId rest known (packet, after, is, some, few) =
+    let counts : said rest ≡ length packet =
+    ap said is ∙ said_is (length packet) (packet ++ after) (omega (arith, few)) in
+    let size : length rest ≡ 4 + length packet + length after = ap length is
+    ∙ length-append (string packet) after
+    ∙ ap (λ z. z + length after) (length-append (number (length packet)) packet) in
+    small_bad (said rest) (length rest) (omega (arith, size)) (omega (arith, counts, some))
+    (omega (arith, counts, few)) (omega (arith, counts, size))
+fault_is error.NoMemory rest known fault = absurd (known refl)
+fault_is (error.Cut n) rest known fault = absurd fault
+fault_is (error.Handle e) rest known fault = absurd fault
+fault_is error.Failed rest known fault = absurd fault

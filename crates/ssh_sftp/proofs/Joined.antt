@@ -15,17 +15,17 @@ use Rattle.ssh_sftp.specs.declared.error.SftpError.TheVariants as error
 
 -- ---- lists of packets
 
-all_append : (ps qs : List (List ℕ)) → AllByRecursion IsPacket ps → AllByRecursion IsPacket qs
-    → AllByRecursion IsPacket (ps ++ qs)
-all_append [] qs first second = second
-all_append (p ∷ ps) qs first second = (first.0, all_append ps qs first.1 second)
+pub all_append : {A : Type 0} (P : A → Type 0) (xs ys : List A) → AllByRecursion P xs
+    → AllByRecursion P ys → AllByRecursion P (xs ++ ys)
+all_append P [] ys first second = second
+all_append P (x ∷ xs) ys first second = (first.0, all_append P xs ys first.1 second)
 
 after-append : (state : State) (ps qs : List (List ℕ))
     → state_after state (ps ++ qs) ≡ state_after (state_after state ps) qs
 after-append state [] qs = refl
 after-append state (p ∷ ps) qs = after-append (answer state p).after ps qs
 
-answers-append : (state : State) (ps qs : List (List ℕ))
+pub answers-append : (state : State) (ps qs : List (List ℕ))
     → answers state (ps ++ qs) ≡ answers state ps ++ answers (state_after state ps) qs
 answers-append state [] qs = refl
 answers-append state (p ∷ ps) qs =
@@ -41,7 +41,7 @@ splits_on stream x y left ps qs first second = record {
       ∙ ap (λ z. flat_map string ps ++ z) (append_assoc (flat_map string qs) y left)
       ∙ sym (append_assoc (flat_map string ps) (flat_map string qs) (y ++ left))
       ∙ ap (λ z. z ++ (y ++ left)) (sym (flat_map-append string ps qs));
-  each = all_append ps qs first.each second.each;
+  each = all_append IsPacket ps qs first.each second.each;
 }
 
 put_on : (a b : State) (ps qs : List (List ℕ)) (old mid new : List ℕ) → b ≡ state_after a ps
@@ -80,6 +80,7 @@ fault_on error.NoId rest left f =
     (f.0, f.1 ++ left, ap (λ z. z ++ left) f.2 ∙ append_assoc (string f.0) f.1 left, f.3, f.4)
 fault_on error.NoMemory rest left f = tt
 fault_on (error.Cut n) rest left f = f
+fault_on (error.Handle e) rest left f = f
 fault_on error.Failed rest left f = f
 
 pub refuses_on : (a b : State) (why : SftpError) (stream x left old mid new : List ℕ)

@@ -1,2 +1,5 @@
 pub mod Joined
 pub mod First
+pub mod Seats
+pub mod Channels
+pub mod Clauses

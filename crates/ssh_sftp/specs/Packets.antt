@@ -1,6 +1,7 @@
 -- A stream of packets, each with its length in front (draft-ietf-secsh-filexfer-02 section 3).
 use Rattle.std.specs.Prelude.{◌≡◌, ◌+◌, ◌<◌, ◌≤◌, ◌^◌, ◌⊎◌, ◌&&◌, ℕ, Bool, List, [], ◌∷◌, ◌++◌}
 use Rattle.std.specs.Prelude.{length, flat_map, take, drop, nat_le, nat_lt, if◌then◌else◌}
+use Rattle.std.specs.Prelude.{◌==◌, ◌||◌, Option, Some, None}
 use Rattle.std.specs.List.{AllByRecursion}
 use Rattle.ssh_wire.specs.Field.{number, string}
 use Rattle.ssh_sftp_core.specs.Layouts.{said}
@@ -63,3 +64,19 @@ packets_within (byte ∷ enough) stream =
 -- the whole packets that the stream begins with
 abbrev pub packets : List ℕ → List (List ℕ)
 packets stream = packets_within stream stream
+
+-- what stands behind the whole packets that a stream begins with
+abbrev pub left_of : List ℕ → List ℕ
+left_of stream = drop (length (flat_map string (packets stream))) stream
+
+-- why what is left is no packet, whatever else comes: a length of 0 or above the most, or a whole
+-- packet without an id
+abbrev pub fault_in : List ℕ → Option SftpError
+fault_in rest = if nat_lt (length rest) 4 then None
+    else if (said rest == 0) || nat_lt most (said rest) then Some (error.BadLength (said rest))
+    else if nat_lt (said rest) 5 && nat_le (4 + said rest) (length rest) then Some error.NoId
+    else None
+
+-- why a stream is refused behind its packets
+abbrev pub fault_of : List ℕ → Option SftpError
+fault_of stream = fault_in (left_of stream)

@@ -1,5 +1,5 @@
 -- The answers to a stream of packets.
-use Rattle.std.specs.Prelude.{◌≡◌, ℕ, Bool, true, false, List, [], ◌∷◌, ◌++◌, Result, Ok, Err}
+use Rattle.std.specs.Prelude.{◌≡◌, ◌<◌, ℕ, Bool, true, false, List, [], ◌∷◌, ◌++◌, Result, Ok, Err}
 use Rattle.std.specs.Coded.{Coded, code_by, coded×, coded_ℕ, coded_list, coded_bool}
 use Rattle.std.specs.Prelude.{length, refl}
 use Rattle.ssh_sftp_core.specs.Files.{State, answer, fresh, state_code}
@@ -57,6 +57,22 @@ server_code = code_by (State × (List ℕ × Bool))
 abbrev pub begun : Server
 begun = record { files = fresh; rest = []; failed = false }
 
+-- what a server has of its stream with what comes next
+abbrev pub stream_of : Server → List ℕ → List ℕ
+stream_of server next = server.rest ++ next
+
+-- what a server answers to what comes next: the answers to the packets that are whole by then
+abbrev pub answers_of : Server → List ℕ → List ℕ
+answers_of server next = answers server.files (packets (stream_of server next))
+
+-- a server after what comes next, where that ends with a packet
+abbrev pub after_all : Server → List ℕ → Server
+after_all server next = record {
+  files = state_after server.files (packets (stream_of server next));
+  rest = [];
+  failed = false;
+}
+
 -- why a piece is refused, and what is put out all the same
 abbrev pub RefusesAt : (failed : Bool) → State → (stream : List ℕ) → SftpError
     → (old new : List ℕ) → Type 0
@@ -100,3 +116,16 @@ IsRefused stream why old new = IsFaulty stream why old new
 abbrev pub NeverBoth : Type 0
 NeverBoth = (stream : List ℕ) (why : SftpError) (a b c d : List ℕ) → (why ≡ error.NoMemory → ⊥)
     → IsFaulty stream why a b → IsAnswered stream c d → ⊥
+
+-- after its packets a stream has this fault
+abbrev pub HasFault : (stream : List ℕ) → SftpError → Type 0
+HasFault stream why = (rest : List ℕ) × Splits stream (packets stream) rest × IsFault rest why
+
+-- after its packets a stream has so many bytes of one more
+abbrev pub EndsInside : (stream : List ℕ) → (left : ℕ) → Type 0
+EndsInside stream left = (rest : List ℕ) × Splits stream (packets stream) rest × IsPartial rest
+    × (left ≡ length rest) × (0 < left)
+
+-- a stream is whole packets
+abbrev pub IsWhole : (stream : List ℕ) → Type 0
+IsWhole stream = Splits stream (packets stream) []

@@ -2,12 +2,14 @@
 ghost use Rattle.std.specs.Prelude.{◌≡◌};
 ghost use Rattle.ssh_sftp.specs.declared.error.SftpError.TheVariants.{NoMemory};
 
+use ssh_hub::HandleError;
 use ssh_wire::WireError;
 use std::alloc::AllocError;
 use thiserror::Error;
 
-/// Why a stream of packets is refused. After each of the first three the server is not used again:
-/// every later call answers `Failed`.
+/// Why a stream of packets is refused, or a channel is not served to its end. After each of the
+/// first three, where a piece came to it, the server is not used again: every later call answers
+/// `Failed`.
 #[derive(Clone, Copy, Debug, PartialEq, Eq, Error)]
 pub enum SftpError {
     /// There was no memory. The answers to some of the packets before stand in the output.
@@ -30,6 +32,9 @@ pub enum SftpError {
         /// How many bytes of it came, those of its length too.
         left: usize,
     },
+    /// A call on the channel came to this error.
+    #[error("{0}")]
+    Handle(HandleError),
     /// An earlier piece was refused.
     #[error("an earlier piece was refused")]
     Failed,

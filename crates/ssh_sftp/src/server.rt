@@ -1,5 +1,5 @@
 // A file server on a stream.
-ghost use Rattle.std.specs.Prelude.{◌≡◌, ◌++◌, ◌↔◌, true, is_err, flat_map, OnOk, IfErr, IsErrOf};
+ghost use Rattle.std.specs.Prelude.{◌≡◌, ◌++◌, ◌↔◌, true, false, is_err, flat_map, OnOk, IfErr, IsErrOf};
 ghost use Rattle.ssh_sftp.specs.declared.error.SftpError.TheVariants.{Failed};
 ghost use Rattle.ssh_sftp.specs.Packets.{IsPartial};
 ghost use Rattle.ssh_sftp.specs.Replies.{Serves, RefusesAt, begun, end_of};
@@ -67,9 +67,10 @@ impl SftpServer {
         fed
     }
 
-    /// Whether a piece was refused.
+    /// Whether a piece was refused. Where none was, it has less than a packet.
     pub fn failed(&self) -> bool
-        ensures { result ≡ self.now.failed }
+        ensures told { result ≡ self.now.failed }
+        ensures partial { result ≡ false → IsPartial self.now.rest }
     {
         self.failed
     }

@@ -1,5 +1,5 @@
-//! Worked examples of a file server on a stream, as tests: packets with the bytes that answer them
-//! (draft-ietf-secsh-filexfer-02).
+//! Worked examples of a file server on a stream and on a channel, as tests: packets with the bytes
+//! that answer them (draft-ietf-secsh-filexfer-02).
 #![tactic(auto)]
 
 #[cfg(test)]
@@ -10,3 +10,5 @@ mod limits;
 mod requests;
 #[cfg(test)]
 mod talk;
+#[cfg(test)]
+mod threads;

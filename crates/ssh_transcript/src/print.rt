@@ -11,7 +11,7 @@ use ssh_wire::ChannelId;
 use std::alloc::{AllocError, Global};
 
 /// Bytes in hex, and `-` for none.
-pub(crate) fn print_hex(alloc: Global, out: &mut String, bytes: &[u8]) -> Result<(), AllocError>
+pub fn print_hex(alloc: Global, out: &mut String, bytes: &[u8]) -> Result<(), AllocError>
     ensures { OnOk result (string_bytes out.new ≡ string_bytes out.old ++ hex_text bytes.now) }
 {
     if bytes.is_empty() {

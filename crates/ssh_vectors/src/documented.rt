@@ -388,10 +388,10 @@ fn the_examples_of_the_page_print_what_it_says(rt: HostRuntime) {
     }
 }
 
-const USAGE: &[u8] = b"usage: ssh_script run | generate <n> | threads <n>\n";
+const USAGE: &[u8] = b"usage: ssh_script run | generate <n> | threads <n> | sftp\n";
 
 // Words, the status, and what is written for them.
-static WORDS: [(&[&str], u8, &[u8]); 15] = [
+static WORDS: [(&[&str], u8, &[u8]); 16] = [
     (&["--help"], 0, USAGE),
     (&["--version"], 0, b"ssh_script 0.1.0\n"),
     // A word more, other letters, and no word ask for nothing.
@@ -401,6 +401,7 @@ static WORDS: [(&[&str], u8, &[u8]); 15] = [
     (&["run", "run"], 2, USAGE),
     (&["Run"], 2, USAGE),
     (&["threads", "2"], 2, USAGE),
+    (&["sftp", "run"], 2, USAGE),
     (&[], 2, USAGE),
     // A session is made up, of 1 to 1000 channels.
     (
@@ -427,7 +428,7 @@ fn are_answered(alloc: Global, words: &[&str], status: u8, written: &[u8]) -> bo
 }
 
 #[test]
-fn words_other_than_run_read_no_script(rt: HostRuntime) {
+fn words_other_than_run_and_sftp_read_no_script(rt: HostRuntime) {
     for (words, status, line) in &WORDS {
         assert!(rt; are_answered(rt.alloc(), *words, *status, *line));
     }

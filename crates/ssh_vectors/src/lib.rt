@@ -13,6 +13,8 @@ mod documented;
 #[cfg(test)]
 mod exchanges;
 #[cfg(test)]
+mod files;
+#[cfg(test)]
 mod globals;
 #[cfg(test)]
 mod keys;

@@ -1,7 +1,7 @@
 use Rattle.std.proofs.Common.{rules, List, map, subst}
 use Rattle.ssh_script.specs.declared.task.Task.TheVariants as task
 use Rattle.ssh_script.specs.Transcript.{IsTask}
-use Rattle.ssh_script.proofs.Endings.{owed_read, owed_alone}
+use Rattle.ssh_script.proofs.Endings.{owed_read, owed_served, owed_alone}
 use Rattle.ssh_script.proofs.run.transcript.Goals as goal
 
 pub returns-in_ok-show-in-Run-clause-owed : goal.returns-in_ok-show-in-Run-clause-owed
@@ -9,6 +9,13 @@ returns-in_ok-show-in-Run-clause-owed g c =
     owed_read _ _ c.in_ok-bytes-in-Run.bytes.items _ _ (search rules)
     c.in_ok-bytes-in-Run.ensures.front
     (rw c.as_slice.ensures.value at c.in_ok-show-in-Run.ensures)
+
+pub returns-in_ok-show_files-in-ServeFiles-clause-owed :
+    goal.returns-in_ok-show_files-in-ServeFiles-clause-owed
+returns-in_ok-show_files-in-ServeFiles-clause-owed g c =
+    owed_served _ _ c.in_ok-bytes-in-ServeFiles.bytes.items _ _ (search rules)
+    c.in_ok-bytes-in-ServeFiles.ensures.front
+    (rw c.as_slice-in-ServeFiles.ensures.value at c.in_ok-show_files-in-ServeFiles.ensures)
 
 pub returns-in_ok-generate-in-Generate-clause-owed :
     goal.returns-in_ok-generate-in-Generate-clause-owed
