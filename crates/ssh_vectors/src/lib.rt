@@ -13,7 +13,11 @@ mod documented;
 #[cfg(test)]
 mod exchanges;
 #[cfg(test)]
+mod failing;
+#[cfg(test)]
 mod globals;
+#[cfg(test)]
+mod hostile;
 #[cfg(test)]
 mod keys;
 #[cfg(test)]
