@@ -2,6 +2,10 @@
 //! writes for it (docs/SCRIPT.md). It is for the crates of tests, which go over tables of these.
 #![tactic(auto)]
 
+mod interactive;
+
+pub use interactive::INTERACTIVE;
+
 use bytes::Bytes;
 use ssh_link::{Calls, MemorySink, MemorySource};
 use ssh_script::run_script;

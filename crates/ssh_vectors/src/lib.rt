@@ -13,9 +13,13 @@ mod documented;
 #[cfg(test)]
 mod exchanges;
 #[cfg(test)]
+mod failing;
+#[cfg(test)]
 mod files;
 #[cfg(test)]
 mod globals;
+#[cfg(test)]
+mod hostile;
 #[cfg(test)]
 mod keys;
 #[cfg(test)]

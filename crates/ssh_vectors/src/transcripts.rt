@@ -1,9 +1,6 @@
 // Runs of the service, of authentication and of their end: scripts, and what the program writes.
 ghost use Rattle.std.specs.Prelude.{None};
 
-use bytes::Bytes;
-use ssh_link::{Calls, IoFailed, MemorySource, Sink};
-use ssh_script::run_script;
 use ssh_scripted::{Case, Outcome, comes_to};
 use std::alloc::{AllocError, Global};
 use std::test::*;
@@ -394,47 +391,6 @@ fn failing_sources_and_sinks(rt: HostRuntime) {
         let failing = (*reads, *writes);
         assert!(rt; comes_to(rt.alloc(), &["run"], SERVICE, failing, outcome));
     }
-}
-
-// A sink that takes four bytes at a time, and fails from its fourth call on.
-#[derive(Drop)]
-struct SlowSink {
-    bytes: Vec<u8>,
-    calls: u64,
-    faults: u64,
-}
-
-impl Sink for SlowSink {
-    ghost held = { λ _. None };
-
-    ghost faults = { λ s. s.faults };
-
-    fn write(&mut self, piece: &[u8]) -> Result<usize, IoFailed> {
-        let count = piece.len().min(4);
-        if self.calls == 3 || self.bytes.extend_from_slice(&piece[..count]).is_err() {
-            self.faults = self.faults.saturating_add(1);
-            return Err(IoFailed);
-        }
-        self.calls = self.calls.saturating_add(1);
-        Ok(count)
-    }
-}
-
-// Whether a run over such a sink ends by status 4, and has written three times four bytes.
-fn fails_on_the_way(alloc: Global) -> bool {
-    let mut source = MemorySource::new(Bytes::from_static(SERVICE), Calls::new(alloc));
-    let mut sink = SlowSink {
-        bytes: Vec::new(alloc),
-        calls: 0,
-        faults: 0,
-    };
-    let status = run_script(alloc, &["run"], &mut source, &mut sink);
-    status == 4 && sink.bytes.as_slice() == b"call authent".as_slice()
-}
-
-#[test]
-fn a_sink_that_fails_on_the_way(rt: HostRuntime) {
-    assert!(rt; fails_on_the_way(rt.alloc()));
 }
 
 // Whether a comment of 2^24 bytes is read, and one of a byte more is not.
