@@ -4,9 +4,8 @@
 
 mod interactive;
 
-pub use interactive::INTERACTIVE;
-
 use bytes::Bytes;
+pub use interactive::INTERACTIVE;
 use ssh_link::{Calls, MemorySink, MemorySource};
 use ssh_script::run_script;
 use ssh_wire::WireError;

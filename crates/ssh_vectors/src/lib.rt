@@ -1,13 +1,11 @@
 //! Worked examples across the crates, as tests: whole scripts with the bytes that they print, and
-//! single calls of the wire. Scripts on channels stand in `ssh_connection_vectors`, examples of
-//! sessions that no script drives in `ssh_session_vectors` and `ssh_globals_vectors`, of handlers
-//! in `ssh_handler_vectors`.
+//! what peers and outsides do that mean harm or fail. Scripts on channels stand in
+//! `ssh_connection_vectors`, examples of sessions that no script drives in `ssh_session_vectors` and
+//! `ssh_globals_vectors`, of handlers in `ssh_handler_vectors`.
 #![tactic(auto)]
 
 #[cfg(test)]
 mod bad_lines;
-#[cfg(test)]
-mod calls;
 #[cfg(test)]
 mod documented;
 #[cfg(test)]

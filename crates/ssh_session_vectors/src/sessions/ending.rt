@@ -6,7 +6,7 @@ use ssh_stories::{
 };
 use std::test::*;
 
-static ENDINGS: [Story; 7] = [
+static ENDINGS: [Story; 8] = [
     Story {
         shows: "an end of file and a close of one callback wait behind its data",
         plan: Plan {
@@ -99,6 +99,18 @@ static ENDINGS: [Story; 7] = [
         ],
         calls: Some(1),
         ..STANDARD
+    },
+    Story {
+        shows: "a session that is spent: behind a confirmation that nobody asked for nothing is served",
+        turns: &[
+            &[
+                In(b"\x5b\0\0\0\x09\0\0\0\0\0\0\0\0\0\0\0\x01"),
+                Ends(End::Inconsistent),
+            ],
+            &[In(b"\x50\0\0\0\x01x\x01"), Ends(End::Inconsistent)],
+        ],
+        told: Some(&[]),
+        ..CHANNELS
     },
 ];
 

@@ -1,4 +1,4 @@
-// Single calls of the wire crate, in one table.
+// Single calls, in one table.
 use ssh_wire::{
     ChannelOpenConfirmation, ChannelType, LayoutError, MethodSet, NameList, OpenChannelMessage,
     Reader, Text, WireError,
