@@ -1,10 +1,10 @@
 -- A script of what the client of a stream sends: lines that bring one piece each, as the client of a
 -- file server sends it.
 use Rattle.std.specs.Prelude.{ℕ, List, [], ◌∷◌, ◌++◌, Option, Some, None, Result, Ok, Err}
-use Rattle.std.specs.Prelude.{Vec, Global}
+use Rattle.std.specs.Prelude.{Vec}
+use Rattle.std.specs.Global.{Global}
 use Rattle.ssh_scene.specs.declared.lines.InputLine.{InputLine}
 use Rattle.ssh_scene.specs.declared.lines.InputLine.TheVariants as input
-use Rattle.ssh_scene.specs.declared.lines.Line.{Line}
 use Rattle.ssh_scene.specs.declared.lines.Line.TheVariants as line
 use Rattle.ssh_scene.specs.Scene.{Taking, GivesBy}
 

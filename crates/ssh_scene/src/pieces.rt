@@ -1,5 +1,5 @@
 // A script of what the client of a stream sends.
-ghost use Rattle.std.specs.Prelude.{◌≡◌, [], Some, None, IfOk, MatchOption, if◌then◌else◌};
+ghost use Rattle.std.specs.Prelude.{◌≡◌, Some, None, IfOk, if◌then◌else◌};
 ghost use Rattle.ssh_scene.specs.Scene.{lines_of};
 ghost use Rattle.ssh_scene.specs.Pieces.{piece_of, with_stream_line, BringsPieces, pieces_seen};
 

@@ -1,20 +1,20 @@
 -- A file server that is given the lines of a script.
-use Rattle.std.proofs.Common.{◌≡◌, ◌∙◌, ◌+◌, ◌<◌, ℕ, List, [], ◌∷◌, ◌++◌, length, drop, Option, Some}
-use Rattle.std.proofs.Common.{None, Result, Ok, Err, refl, sym, ap, subst, true, false, arith}
+use Rattle.std.proofs.Common.{◌≡◌, ◌∙◌, ◌+◌, ◌<◌, ℕ, List, [], ◌∷◌, ◌++◌, length, drop}
+use Rattle.std.proofs.Common.{Result, Ok, Err, refl, sym, ap, subst, true, false, arith}
 use Rattle.std.proofs.Common.{append_assoc, append-nil, inl}
 use Rattle.std.specs.Prelude.{is_err, OnOk, IfErr, codes}
 use Rattle.std.proofs.Math.Seq.{drop-append_seam}
 use Rattle.ssh_sftp_core.specs.Files.{fresh}
 use Rattle.ssh_sftp.specs.declared.error.SftpError.{SftpError}
 use Rattle.ssh_sftp.specs.declared.error.SftpError.TheVariants as error
-use Rattle.ssh_sftp.specs.Packets.{Splits, IsPartial, packets, left_of, fault_in, fault_of}
+use Rattle.ssh_sftp.specs.Packets.{Splits, IsPartial, packets, fault_in, fault_of}
 use Rattle.ssh_sftp.specs.Replies.{Server, Serves, Refuses, RefusesAt, answers, replies, begun}
 use Rattle.ssh_sftp.specs.Replies.{stream_of, end_of}
 use Rattle.ssh_sftp.proofs.Joined.{serves_none}
 use Rattle.ssh_sftp.proofs.First.{all_of_them, none_partial, none_faulty, left_is, no_fault, fault_is}
 use Rattle.ssh_sftp.proofs.Channels.{piece_on, piece_off}
 use Rattle.ssh_transcript.specs.Words.{hex_text}
-use Rattle.ssh_script.specs.Files.{newly, sent_line, Written, refused, behind, at_end}
+use Rattle.ssh_script.specs.Files.{newly, sent_line, Written, behind, at_end}
 use Rattle.ssh_script.specs.Files.{unless_refused, served_on, is_starved, HasTaken, Takes, ending}
 use Rattle.ssh_script.specs.Files.{AreServed, IsServed}
 

@@ -1,5 +1,5 @@
 // A script is read and run, and what comes of it is written.
-ghost use Rattle.std.specs.Prelude.{◌≡◌, ◌≢◌, ◌<◌, ◌≤◌, ◌+◌, ◌++◌, ◌↔◌, ◌⊎◌, ℕ, List, map, codes};
+ghost use Rattle.std.specs.Prelude.{◌≡◌, ◌<◌, ◌≤◌, ◌+◌, ◌++◌, ◌↔◌, ◌⊎◌, ℕ, List, map, codes};
 ghost use Rattle.std.specs.Prelude.{length, IfOk, OnOk, IsErrOf, Err, true, false};
 ghost use Rattle.std.specs.Fmt.{decimal};
 ghost use Rattle.std.specs.String.{string_bytes};
@@ -259,7 +259,7 @@ fn transcript<S: Source>(alloc: Global, words: &[&str], source: &mut S) -> Resul
         }
         Task::ServeFiles => {
             let bytes = read_front(alloc, source, READ_AT_MOST)?;
-            Ok(show_files(alloc, bytes.as_slice())?)
+            Ok(show_files(alloc, &bytes)?)
         }
         Task::Generate(channels) => Ok(generate(alloc, channels)?),
         Task::ShowUsage => Ok(one_line(alloc, DONE, USAGE)?),

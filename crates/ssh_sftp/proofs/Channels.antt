@@ -1,5 +1,5 @@
 -- A channel that is served, piece by piece, and how that ends.
-use Rattle.std.proofs.Common.{◌≡◌, ◌<◌, ℕ, List, [], ◌∷◌, ◌++◌, length, Option, Some, None, Result}
+use Rattle.std.proofs.Common.{◌≡◌, ℕ, List, [], ◌∷◌, ◌++◌, length, Some, None, Result}
 use Rattle.std.proofs.Common.{Ok, Err, refl, sym, ap, subst, ◌∙◌, append-nil, append_assoc, inl, inr}
 use Rattle.std.proofs.Common.{true, false, drop, arith}
 use Rattle.std.specs.Prelude.{is_err, OnOk, IfErr}
@@ -16,13 +16,13 @@ use Rattle.ssh_hub.specs.declared.history.View.{View}
 use Rattle.ssh_handles.specs.declared.channel.Channel.{Channel}
 use Rattle.ssh_handles.specs.Handles.{reader_id, reader_view, writer_id, writer_view}
 use Rattle.ssh_handles.specs.Written.{bytes_put}
-use Rattle.ssh_sftp_core.specs.Files.{State, answer}
+use Rattle.ssh_sftp_core.specs.Files.{State}
 use Rattle.ssh_sftp.specs.declared.error.SftpError.{SftpError}
 use Rattle.ssh_sftp.specs.declared.error.SftpError.TheVariants as error
-use Rattle.ssh_sftp.specs.Packets.{Splits, IsPartial, IsFault, packets, packets_within}
+use Rattle.ssh_sftp.specs.Packets.{Splits, IsPartial, packets, packets_within}
 use Rattle.ssh_sftp.specs.Replies.{Server, Serves, Refuses, state_after, answers, stream_of}
-use Rattle.ssh_sftp.specs.Replies.{RefusesAt, answers_of, after_all, HasFault, EndsInside, IsWhole, end_of}
-use Rattle.ssh_sftp.specs.Serving.{Hears, Says, HearsNext, Answers, IsTaken, IsUnsent, IsAtEnd}
+use Rattle.ssh_sftp.specs.Replies.{RefusesAt, HasFault, end_of}
+use Rattle.ssh_sftp.specs.Serving.{Hears, Says, HearsNext, Answers, IsTaken, IsAtEnd}
 use Rattle.ssh_sftp.specs.Serving.{Sends}
 use Rattle.ssh_sftp.specs.Serving.{IsSameChannel, IsServed, EndsBy, data_received, HasFailed}
 use Rattle.ssh_sftp.proofs.Joined.{serves_none, serves_on, refuses_on, answers-append}
@@ -340,10 +340,10 @@ module _ (before : Server) (old : Channel) (server : Server) (now : Channel)
 -- ---- one piece
 
 sent_front : (c : ChannelId) (out : List ℕ) (v : View) (r : Result (Unit {0}) SftpError) (w : View)
-    → Sends c out v r w → (calls : List (HubCall × HubReply)) × Says c v calls w
-    × IsPrefix (bytes_put calls) out
-sent_front c out v (Ok done) w s = (s.0, s.1, ([], append-nil (bytes_put s.0) ∙ s.2))
-sent_front c out v (Err why) w s = (s.0, s.1, s.2)
+    → Sends c out v r w → (calls : List (HubCall × HubReply)) × IsPrefix (bytes_put calls) out
+    × Says c v calls w
+sent_front c out v (Ok done) w s = (s.0, ([], append-nil (bytes_put s.0) ∙ s.2), s.1)
+sent_front c out v (Err why) w s = (s.0, s.2, s.1)
 
 -- a piece was refused, whatever became of its answers
 pub answered_refused : (b a : Server) (piece old out : List ℕ) (c : ChannelId) (v w : View)
@@ -355,8 +355,8 @@ answered_refused b a piece old out c v w (Err why) sent bad none fine refused s 
     let f = sent_front c out v sent w s in (
       f.0,
       out,
-      f.1,
       f.2,
+      f.1,
       inl (subst (λ z. Refuses b.files (stream_of b piece) why z out) none
           (subst (λ z. RefusesAt z b.files (stream_of b piece) why old out) fine refused)),
     )

@@ -1,5 +1,5 @@
 -- What a channel that was served says to the clauses of the call.
-use Rattle.std.proofs.Common.{◌≡◌, ◌≤◌, ℕ, List, [], length, map, drop, Result, Ok, Err, true, false}
+use Rattle.std.proofs.Common.{◌≡◌, ℕ, List, [], length, map, Result, Ok, Err, true, false}
 use Rattle.std.proofs.Common.{refl, sym, ap, subst, ◌∙◌, arith}
 use Rattle.std.specs.Prelude.{OnOk, IfErr, IsErrOf, ◌↔◌}
 use Rattle.std.proofs.lemmas.List.{drop_all}

@@ -1,19 +1,17 @@
 -- What the calls of the two halves of a channel bring and send.
 use Rattle.std.proofs.Common.{◌≡◌, ℕ, List, [], ◌∷◌, ◌++◌, length, map, drop, Option, Some, None}
-use Rattle.std.proofs.Common.{Result, Ok, Err, refl, sym, ap, subst, ◌∙◌, append-nil, append_assoc}
-use Rattle.std.proofs.Common.{true, false, min, take}
+use Rattle.std.proofs.Common.{Ok, Err, refl, sym, ap, subst, ◌∙◌, append-nil, append_assoc}
+use Rattle.std.proofs.Common.{false, min, take}
 use Rattle.std.specs.Prelude.{flat_map}
 use Rattle.std.specs.List.{AllByRecursion}
 use Rattle.std.proofs.Math.Seq.{drop-append_seam}
 use Rattle.std.proofs.lemmas.List.Concat.{flat_map-append}
-use mathlib.Core.List.{IsPrefix}
 use Rattle.ssh_wire.specs.declared.channel_id.ChannelId.{ChannelId}
 use Rattle.ssh_link.specs.declared.notice.ChannelMsg.{ChannelMsg}
 use Rattle.ssh_hub.specs.History.{calls_by}
 use Rattle.ssh_hub.specs.Does.{Does, entries}
 use Rattle.ssh_hub.specs.Follow.{Acts, Follows}
 use Rattle.ssh_hub.specs.declared.answers.HandleError.{HandleError}
-use Rattle.ssh_hub.specs.declared.answers.HandleError.TheVariants.{NoMemory}
 use Rattle.ssh_hub.specs.declared.history.HubCall.{HubCall}
 use Rattle.ssh_hub.specs.declared.history.HubCall.TheVariants.{ReceiveMsg, LookAt, ReserveBytes}
 use Rattle.ssh_hub.specs.declared.history.HubCall.TheVariants.{PutCommand, ReleaseBytes}
@@ -30,7 +28,6 @@ use Rattle.ssh_handles.specs.Writing.{writes, writing_asks, writing_told, to_wri
 use Rattle.ssh_handles.specs.Writing.{Writes}
 use Rattle.ssh_handles.proofs.Ordered.{in_order}
 use Rattle.ssh_sftp.specs.declared.error.SftpError.TheVariants as error
-use Rattle.ssh_sftp.specs.declared.serve.Heard.{Heard}
 use Rattle.ssh_sftp.specs.declared.serve.Heard.TheVariants as heard
 use Rattle.ssh_sftp.specs.Serving.{calls_made, heard_in, data_heard, data_said, data_received}
 use Rattle.ssh_sftp.specs.Serving.{IsAtEnd, Hears, Says, SendsData, Sends, HearsNext}
@@ -55,9 +52,12 @@ calls_are v calls w d =
 -- ---- the half that reads
 
 -- the last of these calls said this
-LastSays : {A : Type 0} → (HubReply → Option A) → List (HubCall × HubReply) → A → Type 0
-LastSays said calls a = (before : List (HubCall × HubReply)) × (one : HubCall × HubReply)
-    × (calls ≡ before ++ one ∷ []) × (said one.1 ≡ Some a)
+record LastSays {A : Type 0} (said : HubReply → Option A) (calls : List (HubCall × HubReply)) (a : A)
+    : Type 0 where
+  before : List (HubCall × HubReply)
+  last : HubCall × HubReply
+  are : calls ≡ before ++ last ∷ []
+  says : said last.1 ≡ Some a
 
 module _ {A : Type 0} (call : HubCall) (said : HubReply → Option A) (g : Option A → List ℕ)
     (none : g None ≡ []) where
@@ -69,19 +69,29 @@ module _ {A : Type 0} (call : HubCall) (said : HubReply → Option A) (g : Optio
 
   one_brings : (o : Option A) (x : HubCall × HubReply) (xs : List (HubCall × HubReply)) (a : A)
       → said x.1 ≡ o → x.0 ≡ call → Brings (after_try o) xs a → Brings trying (x ∷ xs) a
-  unfolding Brings LastSays
+  unfolding Brings
   one_brings None x xs a is asks t = (
     (asks, t.0),
     ap (λ z. g z ++ flat_map (λ one. g (said one.1)) xs) is
         ∙ ap (λ z. z ++ flat_map (λ one. g (said one.1)) xs) none ∙ t.1,
-    (x ∷ t.2.0, t.2.1, ap (λ z. x ∷ z) t.2.2, t.2.3),
+    record {
+      before = x ∷ t.2.before;
+      last = t.2.last;
+      are = ap (λ z. x ∷ z) t.2.are;
+      says = t.2.says;
+    },
   )
   one_brings (Some b) x xs a is asks t = (
     (asks, subst (λ l. AllByRecursion (λ one. one.0 ≡ call) l) (sym t.0) tt),
     ap (λ z. g z ++ flat_map (λ one. g (said one.1)) xs) is
         ∙ ap (λ l. g (Some b) ++ flat_map (λ one. g (said one.1)) l) t.0
         ∙ append-nil (g (Some b)) ∙ ap (λ z. g (Some z)) t.1,
-    ([], x, ap (λ l. x ∷ l) t.0, is ∙ ap (λ z. Some z) t.1),
+    record {
+      before = [];
+      last = x;
+      are = ap (λ l. x ∷ l) t.0;
+      says = is ∙ ap (λ z. Some z) t.1;
+    },
   )
 
   brings : (calls : List (HubCall × HubReply)) (s : Tried A) (a : A)
@@ -98,18 +108,18 @@ pub waited : (c : ChannelId) (v : View) (msg : Option ChannelMsg) (w : View) →
     → (calls : List (HubCall × HubReply)) × Hears c v calls w
     × (data_received calls ≡ data_heard (heard_in msg))
     × (heard_in msg ≡ heard.End → IsAtEnd calls)
-unfolding Acts Brings LastSays
+unfolding Acts Brings
 waited c v msg w t =
     let b = brings (ReceiveMsg c) message_said data_said refl t.0 trying msg t.2 in (
       t.0,
       record { does = t.1; each = b.0 },
       b.1,
       λ ends. record {
-        before = b.2.0;
-        last = b.2.1;
-        are = b.2.2;
+        before = b.2.before;
+        last = b.2.last;
+        are = b.2.are;
         msg = msg;
-        says = b.2.3;
+        says = b.2.says;
         ends = ends;
       },
     )
@@ -170,15 +180,21 @@ sent c bytes v w t = (
 )
 
 -- and here the first of them alone
-pub unsent : (c : ChannelId) (bytes : List ℕ) (v w : View) (e : HandleError)
-    → Writes c None bytes v (Err e) w → Sends c bytes v (Err (error.Handle e)) w
+unsent_at : (c : ChannelId) (bytes : List ℕ) (v w : View) (e : HandleError) (packet : ℕ)
+    (rest : List ℕ) → Writes c None bytes v (Err e) w
+    → Acts (writes c None) v (to_write bytes) (stands e packet rest) w
+    → Sends c bytes v (Err (error.Handle e)) w
 unfolding Acts
-unsent c bytes v w e t = (
-  t.2.0,
-  record { does = t.2.1; each = all_data c t.2.0 (to_write bytes) (stands e t.0 t.1) t.2.2 },
-  (rest_of (stands e t.0 t.1), in_order c None bytes t.2.0 (stands e t.0 t.1) t.2.2),
+unsent_at c bytes v w e packet rest t a = (
+  a.0,
+  record { does = a.1; each = all_data c a.0 (to_write bytes) (stands e packet rest) a.2 },
+  (rest_of (stands e packet rest), in_order c None bytes a.0 (stands e packet rest) a.2),
   (bytes, v, t),
 )
+
+pub unsent : (c : ChannelId) (bytes : List ℕ) (v w : View) (e : HandleError)
+    → Writes c None bytes v (Err e) w → Sends c bytes v (Err (error.Handle e)) w
+unsent c bytes v w e t = unsent_at c bytes v w e t.0 t.1 t t.2
 
 pub says_on : (c : ChannelId) (v : View) (xs : List (HubCall × HubReply)) (w : View)
     (ys : List (HubCall × HubReply)) (x : View) → Says c v xs w → Says c w ys x

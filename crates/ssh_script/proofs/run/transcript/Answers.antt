@@ -15,7 +15,7 @@ pub returns-in_ok-show_files-in-ServeFiles-clause-owed :
 returns-in_ok-show_files-in-ServeFiles-clause-owed g c =
     owed_served _ _ c.in_ok-bytes-in-ServeFiles.bytes.items _ _ (search rules)
     c.in_ok-bytes-in-ServeFiles.ensures.front
-    (rw c.as_slice-in-ServeFiles.ensures.value at c.in_ok-show_files-in-ServeFiles.ensures)
+    (rw c.deref.ensures.value at c.in_ok-show_files-in-ServeFiles.ensures)
 
 pub returns-in_ok-generate-in-Generate-clause-owed :
     goal.returns-in_ok-generate-in-Generate-clause-owed
