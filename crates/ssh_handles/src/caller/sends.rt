@@ -48,7 +48,9 @@ impl Caller {
             if length == 0 {
                 return Ok(count);
             }
-            self.write_copy(rt, alloc, channel, ext, &buf[..length])?;
+            if let Err(e) = self.write_copy(rt, alloc, channel, ext, &buf[..length]) {
+                return Err(e);
+            }
             count = count.saturating_add(length as u64);
         }
         unreachable!()

@@ -41,8 +41,10 @@ impl Caller {
         if bytes.is_empty() {
             return Ok(());
         }
-        let packet = self.packet_size(rt, channel)?;
-        self.put_all(rt, gate, channel, ext, packet, bytes)
+        match self.packet_size(rt, channel) {
+            Ok(packet) => self.put_all(rt, gate, channel, ext, packet, bytes),
+            Err(e) => Err(e),
+        }
     }
 
     // Writes a copy of these bytes, of which there are some. Nothing is reserved before, nor
@@ -64,11 +66,36 @@ impl Caller {
         ensures entries { Writes channel ext bytes.now (seen_by self.old) result
             (seen_by self.new) }
     {
-        let packet = self.packet_size(rt, channel)?;
-        let Ok(bytes) = Bytes::copy_from_slice(alloc, bytes) else {
-            return Err(HandleError::NoMemory);
-        };
-        self.put_all(rt, &NoGate, channel, ext, packet, bytes)
+        match self.packet_size(rt, channel) {
+            Ok(packet) => self.put_copy(rt, alloc, channel, ext, packet, bytes),
+            Err(e) => Err(e),
+        }
+    }
+
+    // Reserves and puts a copy of these bytes.
+    fn put_copy<R: Wait>(
+        &mut self,
+        rt: &R,
+        alloc: Global,
+        channel: ChannelId,
+        ext: Option<u32>,
+        packet: u32,
+        bytes: &[u8],
+    ) -> Result<(), HandleError>
+        requires none { own_reservations (seen_by self.old) ≡ [] }
+        requires room { 0 < room_of self.old.seat }
+        requires packet { 0 < packet }
+        requires some { 0 < length bytes.now }
+        ensures hub { hub_of self.new ≡ hub_of self.old }
+        ensures room { room_of self.new.seat ≡ room_of self.old.seat }
+        ensures none { own_reservations (seen_by self.new) ≡ [] }
+        ensures entries { WritesFrom channel ext (seen_by self.old) (asking packet bytes.now) result
+            (seen_by self.new) }
+    {
+        match Bytes::copy_from_slice(alloc, bytes) {
+            Ok(copy) => self.put_all(rt, &NoGate, channel, ext, packet, copy),
+            Err(_) => Err(HandleError::NoMemory),
+        }
     }
 
     // Looks how many bytes go into one message at most.
