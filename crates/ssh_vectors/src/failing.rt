@@ -149,7 +149,7 @@ struct SlowSink {
 }
 
 // The most that it takes at a time.
-const PIECE: usize = 16;
+const PIECE: usize = 64;
 
 impl Sink for SlowSink {
     ghost held = { λ _. None };
