@@ -1,7 +1,7 @@
 -- A channel that is served, piece by piece, and how that ends.
 use Rattle.std.proofs.Common.{◌≡◌, ℕ, List, [], ◌∷◌, ◌++◌, length, Some, None, Result}
 use Rattle.std.proofs.Common.{Ok, Err, refl, sym, ap, subst, ◌∙◌, append-nil, append_assoc, inl, inr}
-use Rattle.std.proofs.Common.{true, false, drop, arith}
+use Rattle.std.proofs.Common.{false, drop, arith}
 use Rattle.std.specs.Prelude.{is_err, OnOk, IfErr}
 use Rattle.core.specs.Result.{result_and}
 use Rattle.ssh_hub.specs.Step.{opening}
@@ -403,18 +403,15 @@ module _ (before : Server) (old : Channel) (server : Server) (now : Channel) (ne
   answers_piece r a = subst (λ z. Answers server z (writer_id now.write) (writer_view now.write) r
       after (writer_view next.write)) whole a
 
-  pub goes_on : (r : Result (Unit {0}) SftpError)
-      → Answers server slice (writer_id now.write) (writer_view now.write) r after
+  pub goes_on : Answers server slice (writer_id now.write) (writer_view now.write) (Ok tt) after
       (writer_view next.write)
-      → IsSameChannel now next → is_err r ≡ false → Serving before old after next
-  goes_on (Ok done) a same good =
-      served_on before old server now s next after piece same h (answers_piece (Ok done) a)
-  goes_on (Err why) a same good = absurd (cc good)
+      → IsSameChannel now next → Serving before old after next
+  goes_on a same =
+      served_on before old server now s next after piece same h (answers_piece (Ok tt) a)
 
-  pub stops : (r : Result (Unit {0}) SftpError)
-      → Answers server slice (writer_id now.write) (writer_view now.write) r after
+  pub stops : (why : SftpError)
+      → Answers server slice (writer_id now.write) (writer_view now.write) (Err why) after
       (writer_view next.write)
-      → is_err r ≡ true → IsServed before old r after next
-  stops (Ok done) a bad = absurd (cc bad)
-  stops (Err why) a bad =
+      → IsServed before old (Err why) after next
+  stops why a =
       stopped_on before old server now s next after piece why h (answers_piece (Err why) a)

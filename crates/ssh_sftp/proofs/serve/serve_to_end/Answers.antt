@@ -1,4 +1,4 @@
-use Rattle.std.proofs.Common.{Ok, Err, refl, sym, subst}
+use Rattle.std.proofs.Common.{refl, sym, subst}
 use Rattle.std.proofs.lemmas.Result.{err_from_is_err_and}
 use Rattle.ssh_handles.specs.declared.channel.Channel.{Channel}
 use Rattle.ssh_sftp.specs.Serving.{IsServed}
@@ -21,8 +21,8 @@ returns-in_err-answer-in-Some-next_data-clause-served g c =
     let p = err_from_is_err_and c.from_residual.result c.from_residual.ensures.1 in
     rw (p.1, p.2) (stops c.args.server.now c.args.channel.now c.loop.server c.loop.channel next
     c.answer.new.server c.in-Some-next_data.piece c.as_slice.result.now c.loop.invariant
-    c.in-Some-next_data.ensures.entries c.as_slice.ensures (Err why)
-    c.in_err-answer-in-Some-next_data.ensures.entries refl)
+    c.in-Some-next_data.ensures.entries c.as_slice.ensures why
+    c.in_err-answer-in-Some-next_data.ensures.entries)
 
 -- a piece was answered: both ends of an iteration rest on this
 answered_well : (g : Over) (c : In_ok-answer-in-Some-next_data g)
@@ -31,7 +31,7 @@ answered_well : (g : Over) (c : In_ok-answer-in-Some-next_data g)
 answered_well g c =
     goes_on _ _ _ _ (record { read = c.next_data.new.half; write = c.answer.new.half }) _
     c.in-Some-next_data.piece c.as_slice.result.now c.loop.invariant
-    c.in-Some-next_data.ensures.entries c.as_slice.ensures (Ok tt)
+    c.in-Some-next_data.ensures.entries c.as_slice.ensures
     c.in_ok-answer-in-Some-next_data.ensures.entries
     (record {
       read_hub = c.next_data.ensures.hub;
@@ -39,7 +39,6 @@ answered_well g c =
       write_hub = c.answer.ensures.hub;
       write_id = c.answer.ensures.id;
     })
-    refl
 
 pub loop-preserved-in_ok-answer-in-Some-next_data :
     goal.loop-preserved-in_ok-answer-in-Some-next_data
