@@ -1,8 +1,9 @@
 -- A channel that is served, piece by piece, and how that ends.
 use Rattle.std.proofs.Common.{◌≡◌, ℕ, List, [], ◌∷◌, ◌++◌, length, Some, None, Result}
 use Rattle.std.proofs.Common.{Ok, Err, refl, sym, ap, subst, ◌∙◌, append-nil, append_assoc, inl, inr}
-use Rattle.std.proofs.Common.{true, false, drop, arith}
+use Rattle.std.proofs.Common.{false, drop, arith}
 use Rattle.std.specs.Prelude.{is_err, OnOk, IfErr}
+use Rattle.core.specs.Result.{result_and}
 use Rattle.ssh_hub.specs.Step.{opening}
 use Rattle.ssh_hub.specs.History.{IsLegal}
 use Rattle.ssh_hub.proofs.Did.{did_nothing}
@@ -345,44 +346,31 @@ sent_front : (c : ChannelId) (out : List ℕ) (v : View) (r : Result (Unit {0}) 
 sent_front c out v (Ok done) w s = (s.0, ([], append-nil (bytes_put s.0) ∙ s.2), s.1)
 sent_front c out v (Err why) w s = (s.0, s.2, s.1)
 
--- a piece was refused, whatever became of its answers
-pub answered_refused : (b a : Server) (piece old out : List ℕ) (c : ChannelId) (v w : View)
-    (fed sent : Result (Unit {0}) SftpError) → is_err fed ≡ true → old ≡ [] → b.failed ≡ false
-    → IfErr fed (λ why. RefusesAt b.failed b.files (stream_of b piece) why old out)
-    → Sends c out v sent w → Answers b piece c v fed a w
-answered_refused b a piece old out c v w (Ok done) sent bad none fine refused s = absurd (cc bad)
-answered_refused b a piece old out c v w (Err why) sent bad none fine refused s =
+-- a piece was refused, whatever became of its answers; or it was taken, and its answers were sent,
+-- or not all of them
+pub answered : (b a : Server) (piece out : List ℕ) (c : ChannelId) (v w : View)
+    (fed sent : Result (Unit {0}) SftpError) → b.failed ≡ false → a.failed ≡ is_err fed
+    → OnOk fed (Serves b.files (stream_of b piece) a.files a.rest [] out)
+    → OnOk fed (IsPartial a.rest)
+    → IfErr fed (λ why. RefusesAt b.failed b.files (stream_of b piece) why [] out)
+    → Sends c out v sent w → Answers b piece c v (result_and fed sent) a w
+answered b a piece out c v w (Ok done) (Ok all) fine kept serves partial refused s = (
+  s.0,
+  s.1,
+  subst (λ z. Serves b.files (stream_of b piece) a.files a.rest [] z) (sym s.2) serves,
+  partial,
+  kept,
+)
+answered b a piece out c v w (Ok done) (Err why) fine kept serves partial refused s =
+    (s.0, out, s.1, s.2, inr (serves, s.3))
+answered b a piece out c v w (Err why) sent fine kept serves partial refused s =
     let f = sent_front c out v sent w s in (
       f.0,
       out,
       f.2,
       f.1,
-      inl (subst (λ z. Refuses b.files (stream_of b piece) why z out) none
-          (subst (λ z. RefusesAt z b.files (stream_of b piece) why old out) fine refused)),
+      inl (subst (λ z. RefusesAt z b.files (stream_of b piece) why [] out) fine refused),
     )
-
--- a piece was taken, and its answers were sent, or not all of them
-pub answered_taken : (b a : Server) (piece old out : List ℕ) (c : ChannelId) (v w : View)
-    (fed sent : Result (Unit {0}) SftpError) → is_err fed ≡ false → old ≡ []
-    → a.failed ≡ is_err fed → OnOk fed (Serves b.files (stream_of b piece) a.files a.rest old out)
-    → OnOk fed (IsPartial a.rest) → Sends c out v sent w → Answers b piece c v sent a w
-answered_taken b a piece old out c v w (Err why) sent good none fine serves partial s =
-    absurd (cc good)
-answered_taken b a piece old out c v w (Ok done) (Ok all) good none fine serves partial s = (
-  s.0,
-  s.1,
-  subst (λ z. Serves b.files (stream_of b piece) a.files a.rest [] z) (sym s.2)
-      (subst (λ z. Serves b.files (stream_of b piece) a.files a.rest z out) none serves),
-  partial,
-  fine,
-)
-answered_taken b a piece old out c v w (Ok done) (Err why) good none fine serves partial s = (
-  s.0,
-  out,
-  s.1,
-  s.2,
-  inr (subst (λ z. Serves b.files (stream_of b piece) a.files a.rest z out) none serves, s.3),
-)
 
 -- ---- the whole channel
 
@@ -415,18 +403,15 @@ module _ (before : Server) (old : Channel) (server : Server) (now : Channel) (ne
   answers_piece r a = subst (λ z. Answers server z (writer_id now.write) (writer_view now.write) r
       after (writer_view next.write)) whole a
 
-  pub goes_on : (r : Result (Unit {0}) SftpError)
-      → Answers server slice (writer_id now.write) (writer_view now.write) r after
+  pub goes_on : Answers server slice (writer_id now.write) (writer_view now.write) (Ok tt) after
       (writer_view next.write)
-      → IsSameChannel now next → is_err r ≡ false → Serving before old after next
-  goes_on (Ok done) a same good =
-      served_on before old server now s next after piece same h (answers_piece (Ok done) a)
-  goes_on (Err why) a same good = absurd (cc good)
+      → IsSameChannel now next → Serving before old after next
+  goes_on a same =
+      served_on before old server now s next after piece same h (answers_piece (Ok tt) a)
 
-  pub stops : (r : Result (Unit {0}) SftpError)
-      → Answers server slice (writer_id now.write) (writer_view now.write) r after
+  pub stops : (why : SftpError)
+      → Answers server slice (writer_id now.write) (writer_view now.write) (Err why) after
       (writer_view next.write)
-      → is_err r ≡ true → IsServed before old r after next
-  stops (Ok done) a bad = absurd (cc bad)
-  stops (Err why) a bad =
+      → IsServed before old (Err why) after next
+  stops why a =
       stopped_on before old server now s next after piece why h (answers_piece (Err why) a)

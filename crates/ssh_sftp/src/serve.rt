@@ -94,10 +94,7 @@ fn answer<R: Wait>(
     let mut out = Vec::new(alloc);
     let fed = server.feed(piece, &mut out);
     let sent = send(rt, half, out);
-    if fed.is_err() {
-        return fed;
-    }
-    sent
+    fed.and(sent)
 }
 
 // Serves the channel until the data of the client end.
@@ -114,12 +111,7 @@ fn serve_to_end<R: Wait>(
 {
     for _ in rt.forever() {
         match next_data(rt, &mut channel.read) {
-            Some(piece) => {
-                let answered = answer(rt, alloc, &mut channel.write, server, piece.as_slice());
-                if answered.is_err() {
-                    return answered;
-                }
-            }
+            Some(piece) => answer(rt, alloc, &mut channel.write, server, piece.as_slice())?,
             None => return server.end(),
         }
     }
@@ -129,10 +121,10 @@ fn serve_to_end<R: Wait>(
 /// Serves files on a channel (draft-ietf-secsh-filexfer-02 section 3): takes the data of its client,
 /// passes over all other messages, and sends the answers, until the client sends no more, the
 /// channel is closed or the hub has ended. It waits for messages, and for the window of the channel.
-/// Of a piece that is refused the answers to the packets before the fault are sent, before
-/// `BadLength` or `NoId` is answered. `Cut` where the data end inside a packet, `Handle` where a
-/// call on the channel came to an error, and `Failed`, before anything is asked, where a piece was
-/// refused before.
+/// Of a piece that is refused the answers to the packets before the fault are sent, as far as the
+/// channel takes them, before `BadLength` or `NoId` is answered. `Cut` where the data end inside a
+/// packet, `Handle` where a call on the channel came to an error, and `Failed`, before anything is
+/// asked, where a piece was refused before.
 pub fn serve_sftp<R: Wait>(
     rt: &R,
     alloc: Global,

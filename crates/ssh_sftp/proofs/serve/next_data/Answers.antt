@@ -21,9 +21,8 @@ returns-in-End-clause-entries g c = let inv = c.loop.invariant in
     heard_end _ _ _ _ _ inv.2 _ inv.1 inv.3 inv.4 c.wait.ensures.entries (sym c.in-End.ensures)
 
 pub loop-preserved : goal.loop-preserved
-loop-preserved g c = let inv = c.loop.invariant in (
-  c.wait.ensures.hub ∙ inv.0,
-  c.wait.ensures.id ∙ inv.1,
-  heard_nothing _ _ _ _ _ inv.2 _ inv.1 inv.3 inv.4 c.wait.ensures.entries
-      (sym c.in-Nothing.ensures),
-)
+loop-preserved g c =
+    let inv = c.loop.invariant in
+    let all = heard_nothing _ _ _ _ _ inv.2 _ inv.1 inv.3 inv.4 c.wait.ensures.entries
+    (sym c.in-Nothing.ensures) in
+    (c.wait.ensures.hub ∙ inv.0, c.wait.ensures.id ∙ inv.1, all.0, all.1, all.2)
