@@ -3,7 +3,7 @@ use Rattle.std.proofs.Common.{◌≡◌, ℕ, List, [], ◌∷◌, ◌++◌, len
 use Rattle.std.proofs.Common.{Ok, Err, refl, sym, ap, subst, ◌∙◌, append-nil, append_assoc, inl, inr}
 use Rattle.std.proofs.Common.{false, drop, arith}
 use Rattle.std.specs.Prelude.{is_err, OnOk, IfErr}
-use Rattle.core.specs.Result.{result_and}
+use Rattle.std.specs.Result.{result_and}
 use Rattle.ssh_hub.specs.Step.{opening}
 use Rattle.ssh_hub.specs.History.{IsLegal}
 use Rattle.ssh_hub.proofs.Did.{did_nothing}
