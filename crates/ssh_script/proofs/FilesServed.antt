@@ -8,7 +8,7 @@ use Rattle.std.proofs.lemmas.List.{drop_more}
 use Rattle.ssh_sftp_core.specs.Files.{fresh}
 use Rattle.ssh_sftp.specs.declared.error.SftpError.{SftpError}
 use Rattle.ssh_sftp.specs.declared.error.SftpError.TheVariants as error
-use Rattle.ssh_sftp.specs.Packets.{Splits, IsPartial, packets, fault_in, fault_of}
+use Rattle.ssh_sftp.specs.Packets.{Splits, IsPartial, fault_in, fault_of}
 use Rattle.ssh_sftp.specs.Replies.{Server, Serves, Refuses, RefusesAt, answers, replies, begun}
 use Rattle.ssh_sftp.specs.Replies.{stream_of, end_of}
 use Rattle.ssh_sftp.proofs.Joined.{serves_none}
