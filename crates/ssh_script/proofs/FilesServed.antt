@@ -1,13 +1,14 @@
 -- A file server that is given the lines of a script.
 use Rattle.std.proofs.Common.{◌≡◌, ◌∙◌, ◌+◌, ◌<◌, ℕ, List, [], ◌∷◌, ◌++◌, length, drop}
 use Rattle.std.proofs.Common.{Result, Ok, Err, refl, sym, ap, subst, true, false, arith}
-use Rattle.std.proofs.Common.{append_assoc, append-nil, inl}
+use Rattle.std.proofs.Common.{append_assoc, append-nil, inl, get_or}
 use Rattle.std.specs.Prelude.{is_err, OnOk, IfErr, codes}
 use Rattle.std.proofs.Math.Seq.{drop-append_seam}
+use Rattle.std.proofs.lemmas.List.{drop_more}
 use Rattle.ssh_sftp_core.specs.Files.{fresh}
 use Rattle.ssh_sftp.specs.declared.error.SftpError.{SftpError}
 use Rattle.ssh_sftp.specs.declared.error.SftpError.TheVariants as error
-use Rattle.ssh_sftp.specs.Packets.{Splits, IsPartial, packets, fault_in, fault_of}
+use Rattle.ssh_sftp.specs.Packets.{Splits, IsPartial, fault_in, fault_of}
 use Rattle.ssh_sftp.specs.Replies.{Server, Serves, Refuses, RefusesAt, answers, replies, begun}
 use Rattle.ssh_sftp.specs.Replies.{stream_of, end_of}
 use Rattle.ssh_sftp.proofs.Joined.{serves_none}
@@ -159,6 +160,12 @@ module _ (pieces left : List (List ℕ)) (piece : List ℕ) (b a : Server) (old 
     goes_by ∙ ap (λ z. behind (w.lines ++ line_of)
         (unless_refused z (served_on (w.so_far ++ piece) left))) t.0,
   )
+
+-- the next piece stands in front of those that are left
+pub next_left : (pieces : List (List ℕ)) (i : ℕ) (next piece : List ℕ) → i < length pieces
+    → next ≡ get_or pieces i next → piece ≡ next → drop i pieces ≡ piece ∷ drop (i + 1) pieces
+next_left pieces i next piece there is same =
+    drop_more pieces i next there ∙ ap (λ z. z ∷ drop (i + 1) pieces) (sym is ∙ sym same)
 
 end_written : (rest : List ℕ) → at_end rest ≡ ending (end_of false rest)
 end_written [] = refl

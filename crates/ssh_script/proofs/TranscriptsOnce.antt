@@ -1,6 +1,6 @@
 -- Words and a script owe one status and one text.
 use Rattle.std.proofs.Common.{◌≡◌, ◌≢◌, ◌<◌, ◌⊎◌, ℕ, List, [], ◌∷◌, ◌++◌, length, Option}
-use Rattle.std.proofs.Common.{Some, None, Result, Ok}
+use Rattle.std.proofs.Common.{Some, None, Result, Ok, Bool, true, false}
 use Rattle.std.proofs.Common.{Err, arith, refl, sym, ◌∙◌, ap, subst, inl, inr, codes}
 use Rattle.std.specs.Prelude.{◌↔◌}
 use Rattle.ssh_link.specs.declared.plain_kex.PlainKexError.{PlainKexError}
@@ -20,7 +20,7 @@ use Rattle.ssh_script.specs.declared.task.Task.TheVariants as task
 use Rattle.ssh_script.specs.Files.{IsServed, Written, at_end, unless_refused, served_on}
 use Rattle.ssh_script.specs.Transcript.{status_of, Shows, Scripted, Transcript, IsBadScript}
 use Rattle.ssh_script.specs.Transcript.{ShowsBy, ShowsFiles, ScriptedBy, FilesScripted, IsRun}
-use Rattle.ssh_script.specs.Transcript.{IsBadBy, IsBadStream, IsMisused, sftp_words}
+use Rattle.ssh_script.specs.Transcript.{IsBadBy, IsBadStream, IsMisused, sftp_words, AskForScript}
 use Rattle.ssh_script.specs.Transcript.{IsTask, Does, IsSize, generate_words, in_numbers}
 use Rattle.ssh_script.specs.Transcript.{line_by_line}
 use Rattle.ssh_script.specs.Transcript.{IsUnknown, run_words, help_words, version_words}
@@ -156,6 +156,25 @@ asked_once words task.Refuse (task.Generate n) h k = absurd (h.3 n k.0 k.1)
 asked_once words task.Refuse task.ShowUsage h k = absurd (h.1 k)
 asked_once words task.Refuse task.ShowVersion h k = absurd (h.2 k)
 asked_once words task.Refuse task.Refuse h k = refl
+
+-- whether this is done with a script
+abbrev pub reads : Task → Bool
+reads task.Run = true
+reads task.ServeFiles = true
+reads (task.Generate channels) = false
+reads task.ShowUsage = false
+reads task.ShowVersion = false
+reads task.Refuse = false
+
+same_words : (asked : Task) (words : List (List ℕ)) → IsTask asked words → AskForScript words
+    → reads asked ≡ true
+same_words asked words w (inl k) = ap reads (asked_once words asked task.Run w k)
+same_words asked words w (inr k) = ap reads (asked_once words asked task.ServeFiles w k)
+
+-- what is done without a script is not asked for by words that ask for one
+pub ask_for_none : (asked : Task) (words : List (List ℕ)) → IsTask asked words → reads asked ≡ false
+    → AskForScript words → ⊥
+ask_for_none asked words w none k = absurd (cc (sym (same_words asked words w k) ∙ none))
 
 does_once : (asked : Task) (script : List ℕ) (m n : ℕ) (s t : List ℕ) → Does asked script m s
     → Does asked script n t → (m ≡ n) × (s ≡ t)

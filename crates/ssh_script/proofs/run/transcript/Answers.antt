@@ -1,7 +1,7 @@
-use Rattle.std.proofs.Common.{rules, List, map, subst}
+use Rattle.std.proofs.Common.{rules, map, refl}
 use Rattle.ssh_script.specs.declared.task.Task.TheVariants as task
-use Rattle.ssh_script.specs.Transcript.{IsTask}
 use Rattle.ssh_script.proofs.Endings.{owed_read, owed_served, owed_alone}
+use Rattle.ssh_script.proofs.TranscriptsOnce.{ask_for_none}
 use Rattle.ssh_script.proofs.run.transcript.Goals as goal
 
 pub returns-in_ok-show-in-Run-clause-owed : goal.returns-in_ok-show-in-Run-clause-owed
@@ -48,3 +48,27 @@ returns-in_ok-one_line-in-Refuse-clause-owed g c =
       c.in_ok-one_line-in-Refuse.ensures.status,
       c.in_ok-one_line-in-Refuse.ensures.text,
     ))
+
+pub returns-in_ok-generate-in-Generate-clause-whole :
+    goal.returns-in_ok-generate-in-Generate-clause-whole
+returns-in_ok-generate-in-Generate-clause-whole g c = λ asks. absurd
+    (ask_for_none (task.Generate c.in-Generate.channels) (map (λ word. word.now) c.args.words.now)
+    (search rules) refl asks)
+
+pub returns-in_ok-one_line-in-ShowUsage-clause-whole :
+    goal.returns-in_ok-one_line-in-ShowUsage-clause-whole
+returns-in_ok-one_line-in-ShowUsage-clause-whole g c = λ asks. absurd
+    (ask_for_none task.ShowUsage (map (λ word. word.now) c.args.words.now)
+    (search rules) refl asks)
+
+pub returns-in_ok-one_line-in-ShowVersion-clause-whole :
+    goal.returns-in_ok-one_line-in-ShowVersion-clause-whole
+returns-in_ok-one_line-in-ShowVersion-clause-whole g c = λ asks. absurd
+    (ask_for_none task.ShowVersion (map (λ word. word.now) c.args.words.now)
+    (search rules) refl asks)
+
+pub returns-in_ok-one_line-in-Refuse-clause-whole :
+    goal.returns-in_ok-one_line-in-Refuse-clause-whole
+returns-in_ok-one_line-in-Refuse-clause-whole g c = λ asks. absurd
+    (ask_for_none task.Refuse (map (λ word. word.now) c.args.words.now)
+    (search rules) refl asks)
