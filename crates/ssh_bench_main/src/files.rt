@@ -7,7 +7,7 @@ use std::alloc::Global;
 /// The words that name a workload on a file server.
 pub const TRANSFERS: &str = "copy|read|write";
 
-const BLOCK: usize = 32_768;
+const BLOCK_SIZE: usize = 32_768;
 
 const READ: u8 = 5;
 
@@ -20,7 +20,7 @@ const OPENING: &[u8] = b"\0\0\0\x05\x01\0\0\0\x03\
 const HANDLE: &[u8] = b"\0\0\0\x01";
 
 /// How long the answer to a read of a block is: its length, its type, its id and its data.
-const DATA_ANSWER: usize = 4 + 1 + 4 + 4 + BLOCK;
+const DATA_ANSWER: usize = 4 + 1 + 4 + 4 + BLOCK_SIZE;
 
 /// How long the answer to a write is: its length, its type, its id, a code and two texts.
 const STATUS_ANSWER: usize = 4 + 1 + 4 + 4 + 6 + 4;
@@ -46,7 +46,7 @@ pub fn transfer_named(word: &str) -> Option<Transfer> {
 }
 
 fn block(alloc: Global) -> Result<Vec<u8>, SftpError> {
-    Ok(vec![in alloc; 7; BLOCK]?)
+    Ok(vec![in alloc; 7; BLOCK_SIZE]?)
 }
 
 /// The head of a request at the front of the file: its type, its id, the handle and the offset.
@@ -68,7 +68,7 @@ fn framed(alloc: Global, packet: &[u8]) -> Result<Vec<u8>, SftpError> {
 fn read_request(alloc: Global) -> Result<Vec<u8>, SftpError> {
     let mut packet = Vec::new(alloc);
     put_head(&mut packet, READ)?;
-    put_u32(&mut packet, BLOCK as u32)?;
+    put_u32(&mut packet, BLOCK_SIZE as u32)?;
     framed(alloc, &packet)
 }
 
@@ -110,7 +110,7 @@ fn copy(alloc: Global, block: &[u8], count: u32) -> Result<u64, SftpError> {
 }
 
 /// How many of so many transfers were done.
-pub fn transfer(alloc: Global, work: Transfer, count: u32) -> Result<u64, SftpError> {
+pub fn transfers_done(alloc: Global, work: Transfer, count: u32) -> Result<u64, SftpError> {
     let block = block(alloc)?;
     if work == Transfer::Copy {
         return copy(alloc, &block, count);

@@ -6,7 +6,7 @@
 mod files;
 mod served;
 
-use crate::files::{TRANSFERS, Transfer, transfer, transfer_named};
+use crate::files::{TRANSFERS, Transfer, transfer_named, transfers_done};
 use crate::served::{Serving, serve, serving_named};
 use bytes::Bytes;
 use ssh_channels::{Adjusted, ChannelParams, Encrypted, TableError};
@@ -229,7 +229,7 @@ fn done(alloc: Global, work: Work, channels: u32, count: u32) -> Option<u64> {
     match work {
         Work::Table(work) => run(alloc, work, channels, count).ok(),
         Work::Session(work) => serve(alloc, work, channels, count).ok(),
-        Work::Files(work) => transfer(alloc, work, count).ok(),
+        Work::Files(work) => transfers_done(alloc, work, count).ok(),
     }
 }
 

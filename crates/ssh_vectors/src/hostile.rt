@@ -101,7 +101,7 @@ const QUIET: Hostile = Hostile {
     trace: b"",
 };
 
-static HOSTILE: [Hostile; 16] = [
+static CASES: [Hostile; 16] = [
     Hostile {
         shows: "a service request that is cut",
         phase: Phase::Connected,
@@ -285,7 +285,7 @@ impl Hostile {
 
 #[test]
 fn hostile_inputs(rt: HostRuntime) {
-    for case in &HOSTILE {
+    for case in &CASES {
         assert!(rt; case.holds(rt.alloc()), "{}", case.shows);
     }
     assert!(rt;
