@@ -1,79 +1,92 @@
 // What a request or a response asks, told without serving it (RFC 4252, RFC 4256).
-use crate::keys::vectors;
 use bytes::Bytes;
 use ssh_auth::{
     Asked, AskedMethod, AuthRequest, CurrentRequest, asked_by_request, asked_by_response,
 };
 use ssh_keys::TableVerifier;
-use ssh_wire::{MethodSet, Text, WireError, put_bytes, put_text};
+use ssh_wire::message::{USERAUTH_INFO_RESPONSE, USERAUTH_REQUEST};
+use ssh_wire::{MethodSet, Text, WireError};
 use std::alloc::Global;
 use std::test::*;
 
 const SESSION_ID: &[u8] = b"id";
 
-// The user, the service and the method; for a key its algorithm, and then the password, the
-// submethods, or the message and the signature.
-type Shown<'a> = (&'a str, &'a str, &'static str, &'a str, &'a [u8], &'a [u8]);
+// What is wanted to be told of alice: the method; for a key its algorithm; and then the password, the
+// submethods, the blob of the key, or the message and the signature.
+struct Wanted {
+    method: &'static str,
+    name: &'static str,
+    first: &'static [u8],
+    second: &'static [u8],
+}
 
-fn shown<'a>(asked: &'a Asked<'a>) -> Shown<'a> {
-    let (method, name, first, second): (_, &str, &[u8], &[u8]) = match &asked.method {
-        AskedMethod::None => ("none", "", b"", b""),
-        AskedMethod::Password { password } => ("password", "", password.as_bytes(), b""),
-        AskedMethod::Probe { offer } => ("probe", offer.algorithm.as_str(), offer.blob, b""),
+fn is_method(method: &AskedMethod<'_>, wanted: &Wanted) -> bool {
+    match method {
+        AskedMethod::None => wanted.method == "none",
+        AskedMethod::Password { password } => {
+            wanted.method == "password" && password.as_bytes() == wanted.first
+        }
+        AskedMethod::Probe { offer } => {
+            wanted.method == "probe"
+                && offer.algorithm.as_str() == wanted.name
+                && offer.blob == wanted.first
+        }
         AskedMethod::Signed {
             offer,
             probed,
             message,
             signature,
         } => {
-            let method = if *probed {
-                "signed and probed"
-            } else {
-                "signed"
-            };
-            let name = offer.algorithm.as_str();
-            (method, name, message.as_slice(), signature.as_slice())
+            wanted.method == "signed"
+                && !*probed
+                && offer.algorithm.as_str() == wanted.name
+                && message.as_slice() == wanted.first
+                && signature.as_slice() == wanted.second
         }
         AskedMethod::KeyboardInteractive {
             submethods,
             responses: None,
-        } => ("prompts", "", submethods.as_bytes(), b""),
+        } => wanted.method == "prompts" && submethods.as_bytes() == wanted.first,
         AskedMethod::KeyboardInteractive {
             submethods,
             responses: Some(responses),
         } => {
-            let last = responses
-                .as_slice()
-                .last()
-                .map_or(b"" as &[u8], |text| *text);
-            ("responses", "", submethods.as_bytes(), last)
+            wanted.method == "responses"
+                && submethods.as_bytes() == wanted.first
+                && responses.as_slice().last().copied() == Some(wanted.second)
         }
-    };
-    (asked.user, asked.service, method, name, first, second)
+    }
 }
 
 // Whether just this is told.
-fn is_told(asked: Result<Option<Asked<'_>>, WireError>, wanted: Option<Shown<'static>>) -> bool {
-    let is_told = match (&asked, wanted) {
-        (Ok(Some(asked)), Some(wanted)) => shown(asked) == wanted,
+fn is_told(asked: &Result<Option<Asked<'_>>, WireError>, wanted: &Option<Wanted>) -> bool {
+    match (asked, wanted) {
+        (Ok(Some(asked)), Some(wanted)) => {
+            asked.user == "alice"
+                && asked.service == "ssh-connection"
+                && is_method(&asked.method, wanted)
+        }
         (Ok(None), None) => true,
         _ => false,
-    };
-    drop(asked);
-    is_told
+    }
 }
 
 struct Row {
     shows: &'static str,
     payload: &'static [u8],
-    told: Option<Shown<'static>>,
+    told: Option<Wanted>,
 }
 
 static REQUESTS: [Row; 12] = [
     Row {
         shows: "the method none",
         payload: b"\x32\0\0\0\x05alice\0\0\0\x0essh-connection\0\0\0\x04none",
-        told: Some(("alice", "ssh-connection", "none", "", b"", b"")),
+        told: Some(Wanted {
+            method: "none",
+            name: "",
+            first: b"",
+            second: b"",
+        }),
     },
     Row {
         shows: "bytes follow the method none",
@@ -93,7 +106,12 @@ static REQUESTS: [Row; 12] = [
     Row {
         shows: "a password",
         payload: b"\x32\0\0\0\x05alice\0\0\0\x0essh-connection\0\0\0\x08password\0\0\0\0\x06secret",
-        told: Some(("alice", "ssh-connection", "password", "", b"secret", b"")),
+        told: Some(Wanted {
+            method: "password",
+            name: "",
+            first: b"secret",
+            second: b"",
+        }),
     },
     Row {
         shows: "a change of a password",
@@ -105,7 +123,12 @@ static REQUESTS: [Row; 12] = [
         shows: "prompts",
         payload: b"\x32\0\0\0\x05alice\0\0\0\x0essh-connection\0\0\0\x14keyboard-interactive\
             \0\0\0\0\0\0\0\x03pam",
-        told: Some(("alice", "ssh-connection", "prompts", "", b"pam", b"")),
+        told: Some(Wanted {
+            method: "prompts",
+            name: "",
+            first: b"pam",
+            second: b"",
+        }),
     },
     Row {
         shows: "a method that the server does not have",
@@ -116,14 +139,12 @@ static REQUESTS: [Row; 12] = [
         shows: "a probe",
         payload: b"\x32\0\0\0\x05alice\0\0\0\x0essh-connection\0\0\0\x09publickey\
             \0\0\0\0\x0bssh-ed25519\0\0\0\x17\0\0\0\x0bssh-ed25519\0\0\0\x04key1",
-        told: Some((
-            "alice",
-            "ssh-connection",
-            "probe",
-            "ssh-ed25519",
-            b"\0\0\0\x0bssh-ed25519\0\0\0\x04key1",
-            b"",
-        )),
+        told: Some(Wanted {
+            method: "probe",
+            name: "ssh-ed25519",
+            first: b"\0\0\0\x0bssh-ed25519\0\0\0\x04key1",
+            second: b"",
+        }),
     },
     Row {
         shows: "an algorithm without a known name",
@@ -136,15 +157,13 @@ static REQUESTS: [Row; 12] = [
         payload: b"\x32\0\0\0\x05alice\0\0\0\x0essh-connection\0\0\0\x09publickey\
             \x01\0\0\0\x0bssh-ed25519\0\0\0\x17\0\0\0\x0bssh-ed25519\0\0\0\x04key1\
             \0\0\0\x17\0\0\0\x0bssh-ed25519\0\0\0\x04sign",
-        told: Some((
-            "alice",
-            "ssh-connection",
-            "signed",
-            "ssh-ed25519",
-            b"\0\0\0\x02id\x32\0\0\0\x05alice\0\0\0\x0essh-connection\0\0\0\x09publickey\
+        told: Some(Wanted {
+            method: "signed",
+            name: "ssh-ed25519",
+            first: b"\0\0\0\x02id\x32\0\0\0\x05alice\0\0\0\x0essh-connection\0\0\0\x09publickey\
             \x01\0\0\0\x0bssh-ed25519\0\0\0\x17\0\0\0\x0bssh-ed25519\0\0\0\x04key1",
-            b"sign",
-        )),
+            second: b"sign",
+        }),
     },
     Row {
         shows: "a signature of another name",
@@ -155,37 +174,52 @@ static REQUESTS: [Row; 12] = [
     },
 ];
 
-// What is told of a request in this state, at this moment.
-fn request<'a>(
+// Whether this is told of a request in this state, at this moment.
+fn tells(
     alloc: Global,
     auth: &AuthRequest,
     moment: u64,
-    payload: &'a [u8],
-) -> Result<Option<Asked<'a>>, WireError> {
-    asked_by_request::<TableVerifier>(alloc, auth, SESSION_ID, moment, payload)
+    payload: &[u8],
+    wanted: &Option<Wanted>,
+) -> bool {
+    let Some(number) = payload.first() else {
+        return false;
+    };
+    let number = *number;
+    if number != USERAUTH_REQUEST {
+        return false;
+    }
+    let asked = asked_by_request::<TableVerifier>(alloc, auth, SESSION_ID, moment, payload);
+    let is_told = is_told(&asked, wanted);
+    drop(asked);
+    is_told
+}
+
+fn requests_are_told(alloc: Global) -> bool {
+    let auth = AuthRequest::server(MethodSet::server_supported());
+    let mut are_told = true;
+    for row in &REQUESTS {
+        are_told = are_told && tells(alloc, &auth, 0, row.payload, &row.told);
+    }
+    drop(auth);
+    are_told
 }
 
 #[test]
 fn a_request_is_told_with_what_it_asks(rt: HostRuntime) {
-    let auth = AuthRequest::server(MethodSet::server_supported());
-    for row in &REQUESTS {
-        let asked = request(rt.alloc(), &auth, 0, row.payload);
-        assert!(rt; is_told(asked, row.told), "{}", row.shows);
-    }
+    assert!(rt; requests_are_told(rt.alloc()));
 }
 
 static RESPONSES: [Row; 3] = [
     Row {
         shows: "responses",
         payload: b"\x3d\0\0\0\x02\0\0\0\0\0\0\0\x06123456",
-        told: Some((
-            "alice",
-            "ssh-connection",
-            "responses",
-            "",
-            b"pam",
-            b"123456",
-        )),
+        told: Some(Wanted {
+            method: "responses",
+            name: "",
+            first: b"pam",
+            second: b"123456",
+        }),
     },
     Row {
         shows: "fewer responses than are announced",
@@ -213,80 +247,92 @@ fn in_round(alloc: Global, round: CurrentRequest) -> Result<AuthRequest, WireErr
     }
 }
 
-#[test]
-fn a_response_is_told_where_prompts_wait(rt: HostRuntime) -> Result<(), Fail> {
-    let alloc = rt.alloc();
+// Whether this is told of a response in this state.
+fn responds<'a>(
+    alloc: Global,
+    auth: &'a AuthRequest,
+    payload: &'a [u8],
+    wanted: &Option<Wanted>,
+) -> bool {
+    let Some(number) = payload.first() else {
+        return false;
+    };
+    let number = *number;
+    if number != USERAUTH_INFO_RESPONSE {
+        return false;
+    }
+    let asked = asked_by_response(alloc, auth, payload);
+    let is_told = is_told(&asked, wanted);
+    drop(asked);
+    is_told
+}
+
+fn responses_are_told(alloc: Global, prompted: &AuthRequest, idle: &AuthRequest) -> bool {
+    let mut are_told = true;
+    for row in &RESPONSES {
+        let is_told = responds(alloc, prompted, row.payload, &row.told);
+        let is_silent = responds(alloc, idle, row.payload, &None);
+        are_told = are_told && is_told && is_silent;
+    }
+    are_told
+}
+
+fn responses_to_prompts(alloc: Global) -> Result<bool, WireError> {
     let submethods = Text::new(alloc, "pam")?;
     let prompted = in_round(alloc, CurrentRequest::KeyboardInteractive { submethods })?;
     let idle = AuthRequest::server(MethodSet::server_supported());
-    for row in &RESPONSES {
-        let told = asked_by_response(alloc, &prompted, row.payload);
-        let untold = asked_by_response(alloc, &idle, row.payload);
-        assert!(rt;
-            is_told(told, row.told) && is_told(untold, None),
-            "{}",
-            row.shows
-        );
-    }
-    Ok(())
-}
-
-// Whether a signature is told as one of a key that was probed.
-fn is_probed(asked: Result<Option<Asked<'_>>, WireError>) -> bool {
-    let is_probed = matches!(&asked, Ok(Some(asked)) if shown(asked).2 == "signed and probed");
-    drop(asked);
-    is_probed
+    let are_told = responses_are_told(alloc, &prompted, &idle);
+    drop(prompted);
+    drop(idle);
+    Ok(are_told)
 }
 
 #[test]
-fn a_probe_counts_for_the_user_who_made_it(rt: HostRuntime) -> Result<(), Fail> {
-    let alloc = rt.alloc();
-    let algo = Text::new(alloc, "ssh-ed25519")?;
-    let probed = in_round(
-        alloc,
-        CurrentRequest::PublicKey {
-            key: Bytes::from_static(b"\0\0\0\x0bssh-ed25519\0\0\0\x04key1"),
-            algo,
-            sent_pk_ok: true,
-        },
-    )?;
-    let hers = request(alloc, &probed, 0, REQUESTS[10].payload);
-    let his = request(
-        alloc,
-        &probed,
-        0,
-        b"\x32\0\0\0\x03bob\0\0\0\x0essh-connection\0\0\0\x09publickey\
-        \x01\0\0\0\x0bssh-ed25519\0\0\0\x17\0\0\0\x0bssh-ed25519\0\0\0\x04key1\
-        \0\0\0\x17\0\0\0\x0bssh-ed25519\0\0\0\x04sign",
-    );
-    assert!(rt; is_probed(hers) && !is_probed(his));
-    Ok(())
+fn a_response_is_told_where_prompts_wait(rt: HostRuntime) {
+    assert!(rt; responses_to_prompts(rt.alloc()) == Ok(true));
 }
 
-// Whether a certificate is told.
-fn is_certificate(asked: Result<Option<Asked<'_>>, WireError>) -> bool {
-    let is_certificate = match &asked {
+// Whether a signature is told as one of a key that was probed.
+fn is_probed(alloc: Global, auth: &AuthRequest, payload: &[u8]) -> bool {
+    let Some(number) = payload.first() else {
+        return false;
+    };
+    let number = *number;
+    if number != USERAUTH_REQUEST {
+        return false;
+    }
+    let asked = asked_by_request::<TableVerifier>(alloc, auth, SESSION_ID, 0, payload);
+    let is_probed = match &asked {
         Ok(Some(asked)) => match &asked.method {
-            AskedMethod::Probe { offer } => offer.key.certificate().is_some(),
+            AskedMethod::Signed { probed, .. } => *probed,
             _ => false,
         },
         _ => false,
     };
     drop(asked);
-    is_certificate
+    is_probed
+}
+
+const BOBS: &[u8] = b"\x32\0\0\0\x03bob\0\0\0\x0essh-connection\0\0\0\x09publickey\
+    \x01\0\0\0\x0bssh-ed25519\0\0\0\x17\0\0\0\x0bssh-ed25519\0\0\0\x04key1\
+    \0\0\0\x17\0\0\0\x0bssh-ed25519\0\0\0\x04sign";
+
+fn probes_count(alloc: Global) -> Result<bool, WireError> {
+    let algo = Text::new(alloc, "ssh-ed25519")?;
+    let key = Bytes::from_static(b"\0\0\0\x0bssh-ed25519\0\0\0\x04key1");
+    let round = CurrentRequest::PublicKey {
+        key,
+        algo,
+        sent_pk_ok: true,
+    };
+    let probed = in_round(alloc, round)?;
+    let hers = is_probed(alloc, &probed, REQUESTS[10].payload);
+    let his = is_probed(alloc, &probed, BOBS);
+    drop(probed);
+    Ok(hers && !his)
 }
 
 #[test]
-fn a_certificate_is_told_in_its_time(rt: HostRuntime) -> Result<(), Fail> {
-    let alloc = rt.alloc();
-    let blob = hex::decode(alloc, vectors::ED25519_CERTIFICATE)?;
-    let mut payload = Vec::new(alloc);
-    payload.extend_from_slice(b"\x32\0\0\0\x05alice\0\0\0\x0essh-connection\0\0\0\x09publickey\0")?;
-    put_text(&mut payload, "ssh-ed25519-cert-v01@openssh.com")?;
-    put_bytes(&mut payload, blob.as_slice())?;
-    let auth = AuthRequest::server(MethodSet::server_supported());
-    let in_time = request(alloc, &auth, 1704067200000, payload.as_slice());
-    let early = request(alloc, &auth, 1704067199999, payload.as_slice());
-    assert!(rt; is_certificate(in_time) && is_told(early, None));
-    Ok(())
+fn a_probe_counts_for_the_user_who_made_it(rt: HostRuntime) {
+    assert!(rt; probes_count(rt.alloc()) == Ok(true));
 }
