@@ -199,7 +199,9 @@ fn set_up(alloc: Global, row: &Row) -> Result<Lender, TableError> {
 }
 
 // Whether the callback of an end of file reads it so.
-fn is_told(alloc: Global, session: &mut Commands<'_>, reads: Lent) -> bool {
+fn is_told(alloc: Global, session: &mut Commands<'_>, reads: Lent) -> bool
+    requires fresh { session.old.recorded ≡ [] }
+{
     let plan = Plan {
         reads: true,
         ..QUIET
