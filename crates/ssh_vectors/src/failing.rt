@@ -1,5 +1,5 @@
 // An outside that fails at one of its calls: of a link, of a source, of a sink.
-ghost use Rattle.std.specs.Prelude.{◌≡◌, ◌<◌, ◌^◌, length};
+ghost use Rattle.std.specs.Prelude.{None};
 
 use bytes::Bytes;
 use ssh_link::{Calls, Input, Inputs, IoFailed, MemoryLink, MemorySource, Sink};
