@@ -1,4 +1,5 @@
 pub mod Asks
+pub mod AsTold
 pub mod Back
 pub mod Keys
 pub mod KeyFields

@@ -6,7 +6,8 @@ use Rattle.ssh_wire.specs.Field.{Field, Byte, Flag, Number, Long, Bytes, Text, M
 use Rattle.ssh_wire.specs.Field.{MisfitsWhole}
 use Rattle.ssh_auth.specs.declared.error.AuthError.TheVariants as error
 use Rattle.ssh_auth.specs.Failure.{auth_error_of}
-use Rattle.ssh_auth.specs.Requested.{Unfit_method, SaysPassword}
+use Rattle.ssh_auth.specs.Requested.{change_flag, after_no_change, after_change, Unfit_method}
+use Rattle.ssh_auth.specs.Requested.{SaysPassword}
 
 memory_is_no_misfit : (field : Field) (bytes : List ℕ) → Misfits field bytes wire.NoMemory → ⊥
 memory_is_no_misfit Byte bytes h = h
@@ -29,9 +30,9 @@ memory_is_not_whole (field ∷ fields) bytes (inl h) = memory_is_no_misfit field
 memory_is_not_whole (field ∷ fields) bytes (inr h) = memory_is_not_whole fields h.2 h.5
 
 memory_is_no_password : (fields : List ℕ) → SaysPassword fields (Unfit_method wire.NoMemory) → ⊥
-memory_is_no_password fields (inl h) = memory_is_not_all (Flag ∷ []) fields h
-memory_is_no_password fields (inr (inl h)) = memory_is_not_whole (Text ∷ []) h.0 h.2
-memory_is_no_password fields (inr (inr h)) = memory_is_not_whole (Text ∷ Text ∷ []) h.0 h.2
+memory_is_no_password fields (inl h) = memory_is_not_all change_flag fields h
+memory_is_no_password fields (inr (inl h)) = memory_is_not_whole after_no_change h.0 h.2
+memory_is_no_password fields (inr (inr h)) = memory_is_not_whole after_change h.0 h.2
 
 -- an error that no want of memory is one of encoding
 encoding : (E : Type 0) (why : WireError) → (why ≡ wire.NoMemory → ⊥) → auth_error_of {E = E} why

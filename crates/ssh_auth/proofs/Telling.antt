@@ -1,12 +1,11 @@
 -- What is told of a request or a response is what it says, and what is not told asks nothing.
-use Rattle.std.proofs.Common.{◌≡◌, ◌≢◌, ◌⊎◌, inl, inr, ℕ, ◌-◌, List, [], ◌∷◌, ◌++◌, length, take, drop}
-use Rattle.std.proofs.Common.{Bool, true, false, Option, Some, None, MatchOption, refl, sym, ◌∙◌, ap}
+use Rattle.std.proofs.Common.{◌≡◌, ◌≢◌, ℕ, ◌-◌, List, [], ◌∷◌, ◌++◌, length, take, drop}
+use Rattle.std.proofs.Common.{Bool, true, false, Some, None, refl, sym, ◌∙◌, ap}
 use Rattle.std.proofs.Common.{subst, append_assoc, arith, length-append, ◌≤◌}
 use Rattle.std.specs.Prelude.{codes}
 use Rattle.ssh_wire.specs.declared.error.WireError.{WireError}
-use Rattle.ssh_wire.specs.Field.{SpellsAll, MisfitsAll, MisfitsWhole, string}
+use Rattle.ssh_wire.specs.Field.{SpellsAll, MisfitsAll, string}
 use Rattle.ssh_wire.proofs.Fields.{spells_all_once, misfits_all_not_spells}
-use Rattle.ssh_keys.specs.declared.algorithm.Algorithm.{Algorithm}
 use Rattle.ssh_keys.specs.declared.error.KeyError.{KeyError}
 use Rattle.ssh_keys.specs.declared.error.KeyError.TheVariants.{Blob}
 use Rattle.ssh_keys.specs.declared.key_or_certificate.PublicKeyOrCertificate.{PublicKeyOrCertificate}
@@ -17,16 +16,16 @@ use Rattle.ssh_keys.specs.declared.key_or_certificate.PublicKeyOrCertificate.The
 use Rattle.ssh_keys.specs.declared.key_or_certificate.PublicKeyOrCertificate.TheVariants.{Certificate}
 use Rattle.ssh_keys.specs.declared.signature.Signature.{Signature}
 use Rattle.ssh_keys.specs.Algorithms.{algorithm_name}
-use Rattle.ssh_keys.specs.Offers.{FailsOffer, offered_key}
+use Rattle.ssh_keys.specs.Offers.{FailsOffer}
 use Rattle.ssh_keys.specs.Signatures.{EndsInSignature}
 use Rattle.ssh_auth.specs.declared.asked.AskedMethod.{AskedMethod}
 use Rattle.ssh_auth.specs.declared.asked.AskedMethod.TheVariants as told
 use Rattle.ssh_auth.specs.declared.auth_request.AuthRequest.{AuthRequest}
 use Rattle.ssh_auth.specs.declared.error.AuthError.{AuthError}
 use Rattle.ssh_auth.specs.declared.error.AuthError.TheVariants as error
-use Rattle.ssh_auth.specs.Asked.{AsksNothing, IsSilent, TellsPlain, Tells, TellsMethod}
+use Rattle.ssh_auth.specs.Asked.{AsksNothing, IsSilent, TellsPlain, Tells}
 use Rattle.ssh_auth.specs.Publickey.{Acceptance, Circumstances, Offer, IsOffered, IsUsable, Offers}
-use Rattle.ssh_auth.specs.Publickey.{OffersNothing, offer_fields, question, IsAnswer}
+use Rattle.ssh_auth.specs.Publickey.{OffersNothing, offer_fields, question}
 use Rattle.ssh_auth.specs.Read.{SignatureFails}
 use Rattle.ssh_auth.specs.Request.{begun, prompt_of}
 use Rattle.ssh_auth.specs.Requested.{head_fields, Method, Unusable_method, Broken_method}
@@ -209,33 +208,18 @@ behind_offer payload front fields rest offer whole s =
           ∙ ap (λ x. 50 ∷ x) (sym (append_assoc front middle.0 rest)),
     )
 
--- the verifier's answer about the session id, the payload up to the signature, and the signature is
--- the one that counts
-pub signed_message : (given : Circumstances) (payload front fields rest message blob : List ℕ)
-    (offer : Offer) (signature : Signature) → payload ≡ 50 ∷ front ++ fields → IsOffered offer
+-- the session id and the payload up to the signature are what the signature covers
+pub covered : (session_id payload front fields rest message : List ℕ) (offer : Offer)
+    → payload ≡ 50 ∷ front ++ fields
     → SpellsAll offer_fields (true, (offer.name, (offer.blob, tt))) fields rest
-    → EndsInSignature signature rest → signature.name ≡ algorithm_name offer.algorithm
-    → message ≡ string given.session_id ++ take (length payload - length rest) payload
-    → blob ≡ signature.blob → (accepted : Option Bool)
-    → IsUsable given.accepts given.moment offer.key
-    → IsAnswer given.accepts (offered_key offer.key) offer.algorithm message blob accepted
-    → SaysPublickey given (drop 1 payload) fields (Signed_method offer accepted)
-signed_message given payload front fields rest message blob offer signature whole is s ends named
-    message-is blob-is accepted usable answer =
-    let parts = behind_offer payload front fields rest offer whole s in
-    let covered : message ≡ question given.session_id parts.0 = message-is
-    ∙ ap (λ x. string given.session_id ++ x) (up_to_rest payload (50 ∷ parts.0) rest parts.1) in (
-      rest,
+    → message ≡ string session_id ++ take (length payload - length rest) payload
+    → (unsigned : List ℕ) × (message ≡ question session_id unsigned)
+    × (drop 1 payload ≡ unsigned ++ rest)
+covered session_id payload front fields rest message offer whole s is =
+    let parts = behind_offer payload front fields rest offer whole s in (
       parts.0,
-      signature,
-      (s, is, usable),
-      ends,
-      named,
+      is ∙ ap (λ x. string session_id ++ x) (up_to_rest payload (50 ∷ parts.0) rest parts.1),
       ap (λ x. drop 1 x) parts.1,
-      subst (λ x. IsAnswer given.accepts (offered_key offer.key) offer.algorithm
-          (question given.session_id parts.0) x accepted) blob-is
-          (subst (λ x. IsAnswer given.accepts (offered_key offer.key) offer.algorithm x blob
-          accepted) covered answer),
     )
 
 -- what follows the offer is no longer than the payload

@@ -1,21 +1,34 @@
--- What is told of a request, or of a response, that is not served: what its fields say, and so what
--- serving it asks.
-use Rattle.std.specs.Prelude.{◌≡◌, ℕ, List, map, Bool, codes, Option, Some, None}
+-- What is told of a request, or of a response, that is not served: what its fields say, and that
+-- serving it asks just this.
+use Rattle.std.specs.Prelude.{◌≡◌, ℕ, List, map, Bool, true, false, codes, Option, Some, None}
+use Rattle.std.specs.Prelude.{option_map, MatchOption}
+use Rattle.ssh_keys.specs.declared.algorithm.Algorithm.{Algorithm}
 use Rattle.ssh_keys.specs.declared.key_or_certificate.PublicKeyOrCertificate.{PublicKeyOrCertificate}
+use Rattle.ssh_keys.specs.declared.key_or_certificate.PublicKeyOrCertificate.TheVariants.{
+  PublicKey
+      as Plain,
+}
+use Rattle.ssh_keys.specs.declared.key_or_certificate.PublicKeyOrCertificate.TheVariants.{Certificate}
 use Rattle.ssh_keys.specs.Offers.{offered_key}
 use Rattle.ssh_auth.specs.declared.asked.Asked.{Asked}
 use Rattle.ssh_auth.specs.declared.asked.AskedMethod.{AskedMethod}
 use Rattle.ssh_auth.specs.declared.asked.AskedMethod.TheVariants as told
+use Rattle.ssh_auth.specs.declared.auth.Auth.{Auth}
+use Rattle.ssh_auth.specs.declared.auth.Auth.TheVariants.{Accept}
 use Rattle.ssh_auth.specs.declared.auth_request.AuthRequest.{AuthRequest}
-use Rattle.ssh_auth.specs.Plan.{Plan}
+use Rattle.ssh_auth.specs.declared.question.Admission.{Admission}
+use Rattle.ssh_auth.specs.declared.question.Admission.TheVariants as by
+use Rattle.ssh_auth.specs.declared.question.Question.TheVariants.{Admits}
+use Rattle.ssh_auth.specs.Plan.{Plan, Finish, Ask}
 use Rattle.ssh_auth.specs.Proven.{AsksOnly}
-use Rattle.ssh_auth.specs.Publickey.{Circumstances, IsUsable, IsAnswer}
+use Rattle.ssh_auth.specs.Publickey.{Circumstances, Offer, IsUsable, IsAnswer}
 use Rattle.ssh_auth.specs.Request.{begun, is_probed, principal_of, prompt_of}
 use Rattle.ssh_auth.specs.Requested.{Method, None_method, Password_method, Probe_method}
 use Rattle.ssh_auth.specs.Requested.{Signed_method, Interactive_method}
 use Rattle.ssh_auth.specs.Requested.{Requested, Request, SaysRequest}
 use Rattle.ssh_auth.specs.Response.{Responded, Responses, SaysResponses}
-use Rattle.ssh_auth.specs.Verdict.{AuthOutcome, verdict, method_verdict, response_verdict}
+use Rattle.ssh_auth.specs.Verdict.{AuthOutcome, Fails, Starved, verdict, method_verdict}
+use Rattle.ssh_auth.specs.Verdict.{response_verdict}
 
 -- the handler is asked nothing
 abbrev pub AsksNothing : Plan AuthOutcome → Type 0
@@ -54,12 +67,6 @@ Tells given auth says user (told.Signed offer probed message signature) =
     → says (Signed_method offer accepted))
 Tells given auth says user method = TellsPlain says method
 
--- the same; or nothing is told, and whatever the request says, the handler is asked nothing
-abbrev pub TellsMethod : Circumstances → AuthRequest → (says : Method → Type 0) → (user : List ℕ)
-    → Option AskedMethod → Type 0
-TellsMethod given auth says user (Some method) = Tells given auth says user method
-TellsMethod given auth says user None = (method : Method) → says method → IsSilent method
-
 -- what is told of the fields of a USERAUTH_REQUEST in this state
 abbrev pub TellsRequest : Circumstances → AuthRequest → (fields : List ℕ) → Option Asked → Type 0
 TellsRequest given auth fields (Some asked) =
@@ -83,3 +90,87 @@ TellsResponse auth fields (Some asked) =
     × TellsResponses auth fields asked.user.now asked.method
 TellsResponse auth fields None = (said : Responded) → SaysResponses fields said
     → AsksNothing (response_verdict auth said)
+
+-- ---- what serving it asks
+
+-- where this holds the handler is asked this, and each answer goes on so; where it does not hold,
+-- the handler is asked nothing. Or memory was wanting to go on
+abbrev pub AsksWhere : (holds : Type 0) → Admission → (goes_on : Auth → Plan AuthOutcome → Type 0)
+    → Plan AuthOutcome → Type 0
+AsksWhere holds admission goes_on (Ask (Admits asked) next) = holds × (asked ≡ admission)
+    × ((answer : Auth) → goes_on answer (next answer))
+AsksWhere holds admission goes_on (Finish (Fails Starved)) = Unit {0}
+AsksWhere holds admission goes_on (Finish outcome) = holds → ⊥
+AsksWhere holds admission goes_on plan = ⊥
+
+-- whatever the answer, nothing more is asked
+abbrev pub Ends : Auth → Plan AuthOutcome → Type 0
+Ends answer plan = AsksNothing plan
+
+-- a key that may sign goes on so, and any other answer ends it
+abbrev pub MaySign : (goes_on : Plan AuthOutcome → Type 0) → Auth → Plan AuthOutcome → Type 0
+MaySign goes_on Accept plan = goes_on plan
+MaySign goes_on _ plan = AsksNothing plan
+
+-- whether the key of this offer may sign; for a certificate, the key that it certifies
+abbrev pub offer_admission : (user : List ℕ) → Offer → Admission
+offer_admission user offer = by.PublickeyOffered user (offered_key offer.key) offer.algorithm
+
+-- whether a key, or a certificate, that has signed lets the user in
+abbrev pub proof_admission : (user : List ℕ) → PublicKeyOrCertificate → Algorithm → Admission
+proof_admission user (Plain key hash) algorithm = by.Publickey user key algorithm
+proof_admission user (Certificate certificate) algorithm = by.OpensshCertificate user certificate
+
+-- the handler is asked just what is told, by a method that no verifier is asked about
+abbrev pub AsksPlain : (user : List ℕ) → AskedMethod → Plan AuthOutcome → Type 0
+AsksPlain user told.None plan = AsksWhere (Unit {0}) (by.None user) Ends plan
+AsksPlain user (told.Password password) plan = AsksWhere (Unit {0})
+    (by.Password user password.now) Ends plan
+AsksPlain user (told.KeyboardInteractive submethods responses) plan =
+    AsksWhere (Unit {0}) (by.KeyboardInteractive user submethods.now
+    (option_map (λ texts. map (λ text. text.now) texts.items) responses)) Ends plan
+AsksPlain user method plan = ⊥
+
+-- the verifier accepts this signature of this message: of the offered key, by the algorithm of the
+-- offer
+abbrev pub Accepts : Circumstances → Offer → (message signature : List ℕ) → Type 0
+Accepts given offer message signature = given.accepts (offered_key offer.key) offer.algorithm
+    message signature
+
+-- the handler is asked just what is told. It is asked whether the key may sign, unless a probe of it
+-- was accepted, and then whether the user is let in, where the verifier accepts the signature of
+-- the message that is told; nothing by a certificate that does not hold
+abbrev pub AsksTold : Circumstances → (user : List ℕ) → AskedMethod → Plan AuthOutcome → Type 0
+AsksTold given user (told.Probe offer) plan =
+    AsksWhere (IsUsable given.accepts given.moment offer.key) (offer_admission user offer) Ends plan
+AsksTold given user (told.Signed offer false message signature) plan =
+    AsksWhere (IsUsable given.accepts given.moment offer.key) (offer_admission user offer)
+    (MaySign (AsksWhere (Accepts given offer message signature)
+    (proof_admission user offer.key offer.algorithm) Ends)) plan
+AsksTold given user (told.Signed offer true message signature) plan =
+    AsksWhere (IsUsable given.accepts given.moment offer.key × Accepts given offer message signature)
+    (proof_admission user offer.key offer.algorithm) Ends plan
+AsksTold given user method plan = AsksPlain user method plan
+
+-- whatever the fields of a USERAUTH_REQUEST say, serving it in this state asks the handler just what
+-- is told
+abbrev pub RequestAsksAsTold : Circumstances → AuthRequest → (fields : List ℕ) → Option Asked → Type 0
+RequestAsksAsTold given auth fields asked = (said : Requested) → SaysRequest given fields said
+    → MatchOption asked (AsksNothing (verdict auth said))
+    (λ asked. AsksTold given asked.user.now asked.method (verdict auth said))
+
+-- the same of the fields of a USERAUTH_INFO_RESPONSE
+abbrev pub ResponseAsksAsTold : AuthRequest → (fields : List ℕ) → Option Asked → Type 0
+ResponseAsksAsTold auth fields asked = (said : Responded) → SaysResponses fields said
+    → MatchOption asked (AsksNothing (response_verdict auth said))
+    (λ asked. AsksPlain asked.user.now asked.method (response_verdict auth said))
+
+-- what is told of the fields of a method is what they say, and whatever they say, the handler is
+-- asked just this; or nothing is told, and whatever they say, the handler is asked nothing
+abbrev pub TellsMethod : Circumstances → AuthRequest → (says : Method → Type 0) → (user : List ℕ)
+    → Option AskedMethod → Type 0
+TellsMethod given auth says user (Some method) =
+    Tells given auth says user method
+    × ((said : Method) → says said → AsksTold given user method
+    (method_verdict (begun auth user (codes "ssh-connection")) user said))
+TellsMethod given auth says user None = (method : Method) → says method → IsSilent method

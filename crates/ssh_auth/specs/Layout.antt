@@ -1,5 +1,5 @@
 -- The answers to a request of authentication (RFC 4252 section 5.1), each by its layout.
-use Rattle.std.specs.Prelude.{ℕ, List, [], ◌∷◌, ◌++◌, length, flat_map, Bool, if◌then◌else◌}
+use Rattle.std.specs.Prelude.{ℕ, List, [], ◌++◌, length, flat_map, Bool, if◌then◌else◌}
 use Rattle.ssh_wire.specs.declared.method.MethodKind.{MethodKind}
 use Rattle.ssh_wire.specs.Field.{Number}
 use Rattle.ssh_wire.specs.Messages as message
@@ -11,9 +11,13 @@ use Rattle.ssh_auth.specs.Prompts.{Prompt}
 abbrev pub flag : Bool → ℕ
 flag value = if value then 1 else 0
 
--- USERAUTH_FAILURE: the methods that can continue, and whether it is a partial success
+-- USERAUTH_FAILURE: the names of the methods that can continue, and whether it is a partial success
+abbrev pub failure_naming : (names : List ℕ) → Bool → List ℕ
+failure_naming names partial = written message.userauth_failure (names, (partial, tt))
+
+-- the same of these methods
 abbrev pub failure : List MethodKind → Bool → List ℕ
-failure methods partial = written message.userauth_failure (names_text methods, (partial, tt))
+failure methods partial = failure_naming (names_text methods) partial
 
 -- USERAUTH_SUCCESS
 abbrev pub success : List ℕ

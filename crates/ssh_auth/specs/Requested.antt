@@ -1,8 +1,8 @@
 -- What a USERAUTH_REQUEST says, after its number (RFC 4252 section 5).
-use Rattle.std.specs.Prelude.{◌≡◌, ◌≢◌, ◌⊎◌, ℕ, List, [], ◌∷◌, ◌++◌, Bool, true, false, Option}
-use Rattle.std.specs.Prelude.{bytes_eq, codes, if◌then◌else◌}
+use Rattle.std.specs.Prelude.{◌≡◌, ◌≢◌, ◌⊎◌, ℕ, List, [], ◌++◌, Bool, true, false, Option}
+use Rattle.std.specs.Prelude.{bytes_eq, codes, take, drop, if◌then◌else◌}
 use Rattle.ssh_wire.specs.declared.error.WireError.{WireError}
-use Rattle.ssh_wire.specs.Field.{Field, Flag, Text, SpellsAll, SpellsWhole, MisfitsAll}
+use Rattle.ssh_wire.specs.Field.{Field, SpellsAll, SpellsWhole, MisfitsAll}
 use Rattle.ssh_wire.specs.Field.{MisfitsWhole}
 use Rattle.ssh_wire.specs.Messages as message
 use Rattle.ssh_keys.specs.declared.error.KeyError.TheVariants.{Blob}
@@ -56,6 +56,16 @@ SaysNone fields None_method = fields ≡ []
 SaysNone fields (Unfit_method why) = MisfitsWhole [] fields why
 SaysNone fields _ = ⊥
 
+-- the flag of method password, and what follows it by the flag: a password, or a change of it
+abbrev pub change_flag : List Field
+change_flag = take 1 message.password_fields
+
+abbrev pub after_no_change : List Field
+after_no_change = drop 1 message.password_fields
+
+abbrev pub after_change : List Field
+after_change = drop 1 message.password_change_fields
+
 -- boolean change, string password, and where it is a change, string new password (RFC 4252 section
 -- 8)
 abbrev pub SaysPassword : List ℕ → Method → Type 0
@@ -67,11 +77,11 @@ SaysPassword fields (Change_method password new_password) =
     SpellsWhole message.password_change_fields
     (true, (password, (new_password, tt))) fields
 SaysPassword fields (Unfit_method why) =
-    MisfitsAll (Flag ∷ []) fields why
-    ⊎ ((rest : List ℕ) × SpellsAll (Flag ∷ []) (false, tt) fields rest × MisfitsWhole (Text ∷ [])
-    rest why)
-    ⊎ ((rest : List ℕ) × SpellsAll (Flag ∷ []) (true, tt) fields rest
-    × MisfitsWhole (Text ∷ Text ∷ []) rest why)
+    MisfitsAll change_flag fields why
+    ⊎ ((rest : List ℕ) × SpellsAll change_flag (false, tt) fields rest
+    × MisfitsWhole after_no_change rest why)
+    ⊎ ((rest : List ℕ) × SpellsAll change_flag (true, tt) fields rest
+    × MisfitsWhole after_change rest why)
 SaysPassword fields _ = ⊥
 
 -- boolean signed, string algorithm name, string blob, and where it is signed, string signature,

@@ -9,6 +9,7 @@ ghost use Rattle.ssh_keys.specs.Signatures.{EndsInSignature};
 ghost use Rattle.ssh_wire.specs.Messages.{userauth_request};
 ghost use Rattle.ssh_wire.specs.Messages.{userauth_info_response};
 ghost use Rattle.ssh_auth.specs.Asked.{TellsRequest, TellsResponse, TellsMethod, TellsPlain};
+ghost use Rattle.ssh_auth.specs.Asked.{RequestAsksAsTold, ResponseAsksAsTold};
 ghost use Rattle.ssh_auth.specs.Asked.{IsSilent, CanBeUsed};
 ghost use Rattle.ssh_auth.specs.Publickey.{IsOffered, offer_fields};
 ghost use Rattle.ssh_auth.specs.Read.{circumstances, all_fields, IsWhole};
@@ -110,6 +111,9 @@ pub fn asked_by_request<'a, V: Verifier>(
     ensures asked { IfOk result (λ asked. (verifier : V) → TellsRequest
         (record { accepts = V.accepts verifier; session_id = session_id.now; moment = moment })
         auth.now (drop 1 payload.now) asked) }
+    ensures serving { IfOk result (λ asked. (verifier : V) → RequestAsksAsTold
+        (record { accepts = V.accepts verifier; session_id = session_id.now; moment = moment })
+        auth.now (drop 1 payload.now) asked) }
     ensures memory { IfErr result (λ e. e ≡ NoMemory) }
 {
     let Ok(head) = read_request_head(fields_of(payload)) else {
@@ -145,6 +149,7 @@ pub fn asked_by_response<'a>(
 ) -> Result<Option<Asked<'a>>, WireError>
     requires numbered { IsNumbered userauth_info_response.number payload.now }
     ensures asked { IfOk result (λ asked. TellsResponse auth.now (drop 1 payload.now) asked) }
+    ensures serving { IfOk result (λ asked. ResponseAsksAsTold auth.now (drop 1 payload.now) asked) }
     ensures memory { IfErr result (λ e. e ≡ NoMemory) }
 {
     let Some((user, submethods)) = auth.prompt() else {

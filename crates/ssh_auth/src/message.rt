@@ -1,10 +1,11 @@
 // The fields of a USERAUTH_REQUEST, or of a response to prompts, one after another.
-ghost use Rattle.std.specs.Prelude.{◌≡◌, ◌⊎◌, [], ◌∷◌, List, ℕ, MatchResult, IfOk, IfErr, map};
-ghost use Rattle.ssh_wire.specs.Field.{Flag, Text, SpellsAll, SpellsWhole, Misfits, MisfitsAll};
+ghost use Rattle.std.specs.Prelude.{◌≡◌, ◌⊎◌, [], List, ℕ, MatchResult, IfOk, IfErr, map};
+ghost use Rattle.ssh_wire.specs.Field.{Flag, SpellsAll, SpellsWhole, Misfits, MisfitsAll};
 ghost use Rattle.ssh_wire.specs.Field.{MisfitsWhole};
 ghost use Rattle.ssh_wire.specs.Reading.{Reads};
 ghost use Rattle.ssh_wire.specs.declared.error.WireError.TheVariants.{NoMemory};
-ghost use Rattle.ssh_auth.specs.Requested.{head_fields, SaysPassword, SaysInteractive};
+ghost use Rattle.ssh_auth.specs.Requested.{head_fields, after_no_change, after_change};
+ghost use Rattle.ssh_auth.specs.Requested.{SaysPassword, SaysInteractive};
 ghost use Rattle.ssh_auth.specs.Requested.{Change_method, Interactive_method, Unfit_method};
 ghost use Rattle.ssh_auth.specs.Response.{SaysResponses, Responses, Unfit_responses};
 ghost use Rattle.ssh_auth.specs.Read.{password_method};
@@ -78,8 +79,8 @@ pub(crate) fn read_flag(reader: &mut Reader<'_>) -> Result<bool, WireError>
 /// A password, and nothing after it (RFC 4252 section 8).
 fn read_plain<'a>(mut reader: Reader<'a>) -> Result<&'a str, WireError>
     ensures { MatchResult result
-        (λ password. SpellsWhole (Text ∷ []) (password.now, tt) reader.entry.left)
-        (λ why. MisfitsWhole (Text ∷ []) reader.entry.left why) }
+        (λ password. SpellsWhole after_no_change (password.now, tt) reader.entry.left)
+        (λ why. MisfitsWhole after_no_change reader.entry.left why) }
 {
     let password = reader.text()?;
     reader.end()?;
@@ -91,8 +92,8 @@ fn read_change<'a>(mut reader: Reader<'a>) -> Result<PasswordRequest<'a>, WireEr
     ensures { MatchResult result
         (λ asked. (password new_password : List ℕ)
         × (password_method asked ≡ Change_method password new_password)
-        × SpellsWhole (Text ∷ Text ∷ []) (password, (new_password, tt)) reader.entry.left)
-        (λ why. MisfitsWhole (Text ∷ Text ∷ []) reader.entry.left why) }
+        × SpellsWhole after_change (password, (new_password, tt)) reader.entry.left)
+        (λ why. MisfitsWhole after_change reader.entry.left why) }
 {
     let password = reader.text()?;
     let new_password = reader.text()?;

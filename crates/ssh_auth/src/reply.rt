@@ -1,11 +1,11 @@
 // The replies that are written, and the state after them.
-ghost use Rattle.std.specs.Prelude.{◌≡◌, ◌≤◌, ◌<◌, ◌^◌, ◌⊎◌, ◌∷◌, ◌++◌, [], length, true, OnOk};
+ghost use Rattle.std.specs.Prelude.{◌≡◌, ◌≤◌, ◌<◌, ◌^◌, ◌⊎◌, ◌++◌, [], length, true, OnOk};
 ghost use Rattle.std.specs.Prelude.{IfOk, IfErr};
 ghost use Rattle.ssh_wire.specs.declared.error.WireError.TheVariants.{NoMemory, TooLong};
 ghost use Rattle.ssh_wire.specs.Methods.{without};
-ghost use Rattle.ssh_wire.specs.Field.{string};
 ghost use Rattle.ssh_wire.specs.Methods.{names_text};
-ghost use Rattle.ssh_auth.specs.Layout.{flag, failure, success, pk_ok, prompts_fields, info_request};
+ghost use Rattle.ssh_auth.specs.Layout.{failure_naming, failure, success, pk_ok};
+ghost use Rattle.ssh_auth.specs.Layout.{prompts_fields, info_request};
 ghost use Rattle.ssh_auth.specs.Plan.{Finish};
 ghost use Rattle.ssh_auth.specs.Serve.{Concludes};
 ghost use Rattle.ssh_auth.specs.Verdict.{Replies, Fails, Encoding, rejected, rejected_naming};
@@ -57,7 +57,7 @@ fn names_of(alloc: Global, methods: &MethodSet) -> Result<Text, WireError>
 fn put_failure(out: &mut Vec<u8>, names: &str, partial_success: bool) -> Result<(), WireError>
     requires { length names.now < 2 ^ 32 }
     ensures ok { OnOk result (out.new.items
-        ≡ out.old.items ++ 51 ∷ string names.now ++ flag partial_success ∷ []) }
+        ≡ out.old.items ++ failure_naming names.now partial_success) }
     ensures memory { IfErr result (λ e. e ≡ NoMemory) }
 {
     put_u8(out, USERAUTH_FAILURE)?;

@@ -1,11 +1,12 @@
 // What a request or a response asks, told without serving it (RFC 4252, RFC 4256).
+use crate::keys::vectors;
 use bytes::Bytes;
 use ssh_auth::{
     Asked, AskedMethod, AuthRequest, CurrentRequest, asked_by_request, asked_by_response,
 };
-use ssh_keys::TableVerifier;
+use ssh_keys::{PublicKeyOrCertificate, TableVerifier};
 use ssh_wire::message::{USERAUTH_INFO_RESPONSE, USERAUTH_REQUEST};
-use ssh_wire::{MethodSet, Text, WireError};
+use ssh_wire::{MethodSet, Text, WireError, put_bytes};
 use std::alloc::Global;
 use std::test::*;
 
@@ -335,4 +336,61 @@ fn probes_count(alloc: Global) -> Result<bool, WireError> {
 #[test]
 fn a_probe_counts_for_the_user_who_made_it(rt: HostRuntime) {
     assert!(rt; probes_count(rt.alloc()) == Ok(true));
+}
+
+// A probe of the certificate of the vectors.
+fn certificate_offered(alloc: Global) -> Result<Bytes, Fail> {
+    let certificate = hex::decode(alloc, vectors::ED25519_CERTIFICATE)?;
+    let mut payload = Vec::new(alloc);
+    payload.extend_from_slice(
+        b"\x32\0\0\0\x05alice\0\0\0\x0essh-connection\0\0\0\x09publickey\
+        \0\0\0\0\x20ssh-ed25519-cert-v01@openssh.com",
+    )?;
+    put_bytes(&mut payload, certificate.as_slice())?;
+    Ok(Bytes::from_vec(payload)?)
+}
+
+// Whether a probe of a certificate is told at this moment.
+fn is_certificate(alloc: Global, auth: &AuthRequest, moment: u64, payload: &[u8]) -> bool {
+    let Some(number) = payload.first() else {
+        return false;
+    };
+    let number = *number;
+    if number != USERAUTH_REQUEST {
+        return false;
+    }
+    let asked = asked_by_request::<TableVerifier>(alloc, auth, SESSION_ID, moment, payload);
+    let is_certificate = match &asked {
+        Ok(Some(asked)) => match &asked.method {
+            AskedMethod::Probe { offer } => match &offer.key {
+                PublicKeyOrCertificate::Certificate(certificate) => certificate.serial == 1,
+                PublicKeyOrCertificate::PublicKey { .. } => false,
+            },
+            _ => false,
+        },
+        _ => false,
+    };
+    drop(asked);
+    is_certificate
+}
+
+// Moments around the time in which the certificate holds, and whether it is told then.
+const TIMES: [(u64, bool); 4] = [
+    (1704067199999, false),
+    (1704067200000, true),
+    (1893456000000, true),
+    (1893456000001, false),
+];
+
+#[test]
+fn a_certificate_is_told_in_its_time(rt: HostRuntime) -> Result<(), Fail> {
+    let auth = AuthRequest::server(MethodSet::server_supported());
+    let payload = certificate_offered(rt.alloc())?;
+    for (moment, is_told) in TIMES {
+        assert!(rt;
+            is_certificate(rt.alloc(), &auth, moment, payload.as_slice()) == is_told,
+            "{moment}"
+        );
+    }
+    Ok(())
 }

@@ -1,4 +1,4 @@
-use Rattle.std.proofs.Common.{rules, ◌≡◌, true, false, ◌∙◌, sym, ap}
+use Rattle.std.proofs.Common.{rules, ◌≡◌, false, ◌∙◌, ap}
 use Rattle.std.specs.Prelude.{bytes_eq}
 use Rattle.ssh_keys.specs.Algorithms.{algorithm_name}
 use Rattle.ssh_auth.proofs.Asks.{other_text}
