@@ -26,9 +26,10 @@ use Rattle.ssh_channels.specs.Lines.{turns, leaves, closes}
 use Rattle.ssh_channels.specs.Lines.{settles}
 use Rattle.ssh_channels.specs.Lines.{where_found, at, takes_data, takes_eof, takes_close}
 use Rattle.ssh_channels.specs.Lines.{peer_closes, goes_on}
-use Rattle.ssh_channels.specs.Lines.{takes_grant, takes_in, says, wants, aims, takes_request}
+use Rattle.ssh_channels.specs.Lines.{takes_grant, takes_in, says, aims, takes_request}
 use Rattle.ssh_channels.specs.Lines.{takes_reply, confirms, fails}
-use Rattle.ssh_channels.specs.Sent.{is_opening, is_refusal, is_flow, is_beside, since, Before}
+use Rattle.ssh_channels.specs.Sent.{is_opening, is_refusal, is_flow, is_reply, is_beside, since}
+use Rattle.ssh_channels.specs.Sent.{Before}
 use Rattle.ssh_channels.specs.Sent.{IsLeft, IsGone, IsKept}
 use Rattle.ssh_channels.specs.Sent.{AllKept}
 use Rattle.ssh_channels.specs.Sent.{Ledgered, AllRefuse, may_stage, may_stage_on, may_go}
@@ -37,7 +38,7 @@ use Rattle.ssh_channels.proofs.Entries.{and_left, and_right, more_confirmed}
 use Rattle.ssh_channels.proofs.Befores.{before_flush, before_grant, before_accept, before_eof}
 use Rattle.ssh_channels.proofs.Befores.{before_close}
 use Rattle.ssh_channels.proofs.Befores.{before_beside}
-use Rattle.ssh_channels.proofs.Befores.{before_room, before_wanting, before_aimed, before_request}
+use Rattle.ssh_channels.proofs.Befores.{before_room, before_aimed, before_request}
 use Rattle.ssh_channels.proofs.Befores.{before_reply, before_told}
 use Rattle.ssh_channels.proofs.Befores.{before_agreed, left_after_all, left_by_peer, left_refused}
 use Rattle.ssh_channels.proofs.Listed.{one_number, found_put, find_other, find_again, find_without}
@@ -232,14 +233,22 @@ module _ (l : Lines) (past : List TraceEntry) (h : Ledgered l past) where
 
   beside_flow : (f : Frame) → is_beside f ≡ true → is_flow f ≡ false
   beside_flow f b = not_true (is_flow f)
-      (and_right (not (is_opening f.payload) && not (is_refusal f.payload))
-      (not (is_flow f)) b)
+      (and_right (not (is_opening f.payload) && not (is_refusal f.payload)) (not (is_flow f))
+      (and_left (not (is_opening f.payload) && not (is_refusal f.payload) && not (is_flow f))
+      (not (is_reply f)) b))
+
+  beside_reply : (f : Frame) → is_beside f ≡ true → is_reply f ≡ false
+  beside_reply f b = not_true (is_reply f)
+      (and_right (not (is_opening f.payload) && not (is_refusal f.payload) && not (is_flow f))
+      (not (is_reply f)) b)
 
   beside_opening : (f : Frame) → is_beside f ≡ true → is_opening f.payload ≡ false
   beside_opening f b =
       not_true (is_opening f.payload) (and_left (not (is_opening f.payload))
       (not (is_refusal f.payload))
-      (and_left (not (is_opening f.payload) && not (is_refusal f.payload)) (not (is_flow f)) b))
+      (and_left (not (is_opening f.payload) && not (is_refusal f.payload)) (not (is_flow f))
+      (and_left (not (is_opening f.payload) && not (is_refusal f.payload) && not (is_flow f))
+      (not (is_reply f)) b)))
 
   pub says_kept : (n message : ℕ) → is_beside (bare_frame message 0 0) ≡ true
       → Ledgered (says n message l) past
@@ -249,7 +258,7 @@ module _ (l : Lines) (past : List TraceEntry) (h : Ledgered l past) where
       (λ c. turns_kept e e (bare_frame message e.number e.peer ∷ []) is
       (refl, beside_opening (bare_frame message 0 0) b, tt)
       (before_beside e (since e.number sent) (bare_frame message e.number e.peer)
-      (beside_flow (bare_frame message 0 0) b) k)))
+      (beside_flow (bare_frame message 0 0) b) (beside_reply (bare_frame message 0 0) b) k)))
 
   data_at : (b : Bool) (e : Entry) (c : Chunk) → find e.number l.entries ≡ Some e → more_may_come e
       ≡ true →
@@ -326,7 +335,7 @@ module _ (l : Lines) (past : List TraceEntry) (h : Ledgered l past) where
   adjust_at (Granted amount) e count target is k =
       let e' = record e { room = target } in
       turns_kept e' e (adjust_frame e.number e.peer amount ∷ []) is (refl, refl, tt)
-      (before_beside e' (since e.number sent) (adjust_frame e.number e.peer amount) refl
+      (before_beside e' (since e.number sent) (adjust_frame e.number e.peer amount) refl refl
       (before_room target e (since e.number sent) k))
 
   pub adjust_kept : (n count target : ℕ) → Ledgered (takes_in n count target l) past
@@ -334,12 +343,6 @@ module _ (l : Lines) (past : List TraceEntry) (h : Ledgered l past) where
       at_kept n (λ e. turns (having (coming count target e) count target e)
       (adjust_out (coming count target e) e))
       (λ e is k. adjust_at (coming count target e) e count target is k)
-
-  pub wants_kept : (n : ℕ) (wanted : Bool) → Ledgered (wants n wanted l) past
-  wants_kept n wanted = at_kept n (λ e. turns (record e { wants_reply = wanted }) [])
-      (λ e is k. turns_kept (record e { wants_reply = wanted }) e [] is tt
-      (still e (Before (record e { wants_reply = wanted }))
-      (before_wanting wanted e (since e.number sent) k)))
 
   pub aims_kept : (n target : ℕ) → target < 2 ^ 32 → Ledgered (aims n target l) past
   aims_kept n target small = at_kept n (λ e. turns (record e { target = target }) [])
@@ -413,7 +416,8 @@ module _ (l : Lines) (past : List TraceEntry) (h : Ledgered l past) where
       let old : Before e (since n sent) = subst (λ o. IsKept o (last_left n l.left) (since n sent))
       is (h n) in
       let new : Before e (since n (sent ++ map Sent (f ∷ []))) =
-      subst (Before e) (sym s) (before_beside e (since n sent) f (beside_flow f b) old) in
+      subst (Before e) (sym s) (before_beside e (since n sent) f (beside_flow f b)
+      (beside_reply f b) old) in
       subst (λ m. IsKept (find m l.entries) (last_left m l.left)
       (since m (sent ++ map Sent (f ∷ []))))
       (sym (one_number k n t))

@@ -1,6 +1,6 @@
 -- What was sent on one channel stays what has to be sent there.
 use Rattle.std.proofs.Common.{◌≡◌, ◌<◌, ◌≤◌, ◌+◌, ◌-◌, ◌^◌, ◌==◌, ◌&&◌, ◌||◌, ℕ, min, Bool, true}
-use Rattle.std.proofs.Common.{false, not, Option, append_assoc}
+use Rattle.std.proofs.Common.{false, not, cond, Option}
 use Rattle.std.proofs.Common.{List, [], ◌∷◌, ◌++◌, map, length, take, drop, refl, sym, ◌∙◌, ap}
 use Rattle.std.proofs.Common.{subst, inl, inr, arith}
 use Rattle.std.specs.List.{filter}
@@ -11,6 +11,7 @@ use Rattle.ssh_channels.specs.declared.chunk.Chunk.{Chunk}
 use Rattle.ssh_channels.specs.declared.chunk.DataKind.{DataKind}
 use Rattle.ssh_channels.specs.declared.chunk.DataKind.TheVariants.{Plain, Extended}
 use Rattle.ssh_channels.specs.Layout.{chunk, data_frame, eof_frame, close_frame, reply_frame}
+use Rattle.ssh_channels.specs.Replies.{ready, settling}
 use Rattle.ssh_channels.specs.Cut.{piece_limit, cut, left_of}
 use Rattle.ssh_channels.specs.Entry.{Entry, opened, asked, agreed, joined, accepted, all_framed}
 use Rattle.ssh_channels.specs.Entry.{more_may_come}
@@ -18,7 +19,8 @@ use Rattle.ssh_channels.specs.Entry.{flush_out}
 use Rattle.ssh_channels.specs.Entry.{flushed, granting, accepting, tells_eof, closes_now, eof_out}
 use Rattle.ssh_channels.specs.Entry.{after_eof, IsDue, requesting, replying, replies_out}
 use Rattle.ssh_channels.specs.Entry.{Sound}
-use Rattle.ssh_channels.specs.Sent.{is_flow, AllFit, ending, Before, farewell, IsLeft}
+use Rattle.ssh_channels.specs.Sent.{is_flow, is_reply, AllFit, ending, RepliesInOrder, Before}
+use Rattle.ssh_channels.specs.Sent.{farewell, IsLeft}
 use Rattle.ssh_channels.proofs.Joined.{joined_both, joined_cut, joined_left, left_none, cut_fit}
 use Rattle.ssh_channels.proofs.Joined.{fit_both, some_limit}
 use Rattle.ssh_channels.proofs.Joined.{joined_length, take_more}
@@ -26,8 +28,9 @@ use Rattle.ssh_channels.proofs.Entries.{and_left, and_right, sound_opened, sound
 use Rattle.ssh_channels.proofs.Entries.{sound_agreed, sound_flushed}
 use Rattle.ssh_channels.proofs.Entries.{sound_granting, sound_accepting, sound_eof, sound_close}
 use Rattle.ssh_channels.proofs.Entries.{sound_told, sound_room}
-use Rattle.ssh_channels.proofs.Entries.{sound_wanting, sound_aimed, sound_requesting}
+use Rattle.ssh_channels.proofs.Entries.{sound_aimed, sound_requesting}
 use Rattle.ssh_channels.proofs.Entries.{sound_replying, framed_all}
+use Rattle.ssh_channels.proofs.Replying.{ready_more, ready_on}
 
 -- data frames belong to the flow
 flow_one : (own peer : ℕ) (kind : DataKind) (bytes : List ℕ)
@@ -41,6 +44,23 @@ flow_data own peer [] = refl
 flow_data own peer (p ∷ ps) =
     rw (flow_one own peer p.kind p.bytes) (ap (λ l. data_frame own peer p ∷ l)
     (flow_data own peer ps))
+
+-- and are no replies
+data_unlike : (own peer : ℕ) (kind : DataKind) (bytes : List ℕ)
+    → is_reply (data_frame own peer (chunk kind bytes)) ≡ false
+data_unlike own peer Plain bytes = refl
+data_unlike own peer (Extended code) bytes = refl
+
+no_reply : (own peer : ℕ) (ps : List Chunk) → filter is_reply (map (data_frame own peer) ps) ≡ []
+no_reply own peer [] = refl
+no_reply own peer (p ∷ ps) = rw (data_unlike own peer p.kind p.bytes) (no_reply own peer ps)
+
+-- the replies are in order as before where what follows has none
+order_kept : (e : Entry) (frames more : List Frame) → filter is_reply more ≡ [] →
+    RepliesInOrder e frames → RepliesInOrder e (frames ++ more)
+order_kept e frames more none r =
+    filter-append is_reply frames more ∙ ap (λ l. filter is_reply frames ++ l) none
+    ∙ append-nil (filter is_reply frames) ∙ r
 
 -- nothing is cut where nothing is left
 none_cut : (e : Entry) → length (accepted e) ≤ e.framed → flush_out e ≡ []
@@ -108,6 +128,7 @@ before_flush e frames b =
             ∙ take_more e.framed credit (accepted e) ∙ ap (λ k. take k (accepted e)) n
             ∙ sym (take_min e.granted (accepted e)) ∙ ap (λ k. take k (accepted e)) m;
       };
+      replies = order_kept e frames (flush_out e) (no_reply e.number e.peer qs) b.replies;
       sound = sound_flushed e b.sound;
     }
 
@@ -121,6 +142,7 @@ before_grant amount e frames c d b = record {
     fit = b.sends.fit;
     sum = b.sends.sum;
   };
+  replies = b.replies;
   sound = sound_granting amount e c d b.sound;
 }
 
@@ -143,6 +165,7 @@ before_accept c e frames m b = record {
     fit = b.sends.fit;
     sum = b.sends.sum ∙ take_at (length c.bytes == 0) c e refl b.sound.low;
   };
+  replies = b.replies;
   sound = sound_accepting c e m b.sound;
 }
 
@@ -155,6 +178,7 @@ before_eof e frames c b = record {
     fit = b.sends.fit;
     sum = b.sends.sum;
   };
+  replies = b.replies;
   sound = sound_eof e c b.sound;
 }
 
@@ -167,15 +191,17 @@ before_close e frames c b = record {
     fit = b.sends.fit;
     sum = b.sends.sum;
   };
+  replies = b.replies;
   sound = sound_close e c b.sound;
 }
 
--- what is said beside the flow
+-- what is said beside the flow and the replies
 pub before_beside : (e : Entry) (frames : List Frame) (f : Frame) → is_flow f ≡ false
-    → Before e frames →
+    → is_reply f ≡ false → Before e frames →
     Before e (frames ++ f ∷ [])
-before_beside e frames f h b =
+before_beside e frames f h k b =
     let none : filter is_flow (f ∷ []) ≡ [] = rw h refl in
+    let unlike : filter is_reply (f ∷ []) ≡ [] = rw k refl in
     record {
       sends = record {
         pieces = b.sends.pieces;
@@ -184,6 +210,7 @@ before_beside e frames f h b =
         fit = b.sends.fit;
         sum = b.sends.sum;
       };
+      replies = order_kept e frames (f ∷ []) unlike b.replies;
       sound = b.sound;
     }
 
@@ -196,19 +223,8 @@ before_room room e frames b = record {
     fit = b.sends.fit;
     sum = b.sends.sum;
   };
+  replies = b.replies;
   sound = sound_room room e b.sound;
-}
-
-pub before_wanting : (wanted : Bool) (e : Entry) (frames : List Frame) → Before e frames →
-    Before (record e { wants_reply = wanted }) frames
-before_wanting wanted e frames b = record {
-  sends = record {
-    pieces = b.sends.pieces;
-    flow = b.sends.flow;
-    fit = b.sends.fit;
-    sum = b.sends.sum;
-  };
-  sound = sound_wanting wanted e b.sound;
 }
 
 -- what does not touch the flow of data
@@ -221,9 +237,11 @@ before_aimed target e frames h b = record {
     fit = b.sends.fit;
     sum = b.sends.sum;
   };
+  replies = b.replies;
   sound = sound_aimed target e h b.sound;
 }
 
+-- one more reply is owed, behind the others
 pub before_request : (e : Entry) (frames : List Frame) → e.confirmed ≡ true → Before e frames →
     Before (requesting e) frames
 before_request e frames c b = record {
@@ -233,35 +251,44 @@ before_request e frames c b = record {
     fit = b.sends.fit;
     sum = b.sends.sum;
   };
+  replies = b.replies ∙ ap (map (reply_frame e.number e.peer)) (sym (ready_more e.replies));
   sound = sound_requesting e c b.sound;
 }
 
--- replies are no part of it
-reply_beside : (own peer : ℕ) (success : Bool) → is_flow (reply_frame own peer success) ≡ false
-reply_beside own peer true = refl
-reply_beside own peer false = refl
+-- replies are no part of the flow
+reply_beside : (own peer : ℕ) (said : List Bool) →
+    filter is_flow (map (reply_frame own peer) said) ≡ []
+reply_beside own peer [] = refl
+reply_beside own peer (true ∷ said) = reply_beside own peer said
+reply_beside own peer (false ∷ said) = reply_beside own peer said
 
-before_said : (said : List Bool) (e : Entry) (frames : List Frame) → Before e frames →
-    Before e (frames ++ map (reply_frame e.number e.peer) said)
-before_said [] e frames b = subst (Before e) (sym (append-nil frames)) b
-before_said (success ∷ said) e frames b =
-    let one = reply_frame e.number e.peer success in
-    subst (Before e) (append_assoc frames (one ∷ []) (map (reply_frame e.number e.peer) said))
-    (before_said said e (frames ++ one ∷ [])
-    (before_beside e frames one (reply_beside e.number e.peer success) b))
+all_reply : (own peer : ℕ) (said : List Bool) →
+    filter is_reply (map (reply_frame own peer) said) ≡ map (reply_frame own peer) said
+all_reply own peer [] = refl
+all_reply own peer (true ∷ said) = ap (λ l. reply_frame own peer true ∷ l) (all_reply own peer said)
+all_reply own peer (false ∷ said) =
+    ap (λ l. reply_frame own peer false ∷ l) (all_reply own peer said)
 
+-- one is settled, and what is ready goes out behind what went out before
 pub before_reply : (place : Option ℕ) (success : Bool) (e : Entry) (frames : List Frame)
     → Before e frames → Before (replying place success e) (frames ++ replies_out place success e)
 before_reply place success e frames b =
-    let k : Before e (frames ++ replies_out place success e) = before_said _ e frames b in
+    let say = reply_frame e.number e.peer in
+    let said = drop (length (ready e.replies)) (ready (settling place success 0 e.replies)) in
     record {
       sends = record {
-        pieces = k.sends.pieces;
-        flow = k.sends.flow;
-        fit = k.sends.fit;
-        sum = k.sends.sum;
+        pieces = b.sends.pieces;
+        flow = filter-append is_flow frames (map say said)
+            ∙ ap (λ l. filter is_flow frames ++ l) (reply_beside e.number e.peer said)
+            ∙ append-nil (filter is_flow frames) ∙ b.sends.flow;
+        fit = b.sends.fit;
+        sum = b.sends.sum;
       };
-      sound = sound_replying place success e k.sound;
+      replies = filter-append is_reply frames (map say said)
+          ∙ ap (λ l. filter is_reply frames ++ l) (all_reply e.number e.peer said)
+          ∙ ap (λ l. l ++ map say said) b.replies ∙ sym (map-append say (ready e.replies) said)
+          ∙ ap (map say) (ready_on place success e.replies);
+      sound = sound_replying place success e b.sound;
     }
 
 -- an EOF that is owed
@@ -298,6 +325,11 @@ told_flow false e frames t b pieces h =
     ∙ ap (λ y. map (data_frame e.number e.peer) pieces ++ ending y e.number e.peer)
     (sym (told_same e.told (tells_eof e) t))
 
+eof_unlike : (told : Bool) (e : Entry) →
+    filter is_reply (cond told (eof_frame e.number e.peer ∷ []) []) ≡ []
+eof_unlike true e = refl
+eof_unlike false e = refl
+
 pub before_told : (e : Entry) (frames : List Frame) → Before e frames → Before (after_eof e)
     (frames ++ eof_out e)
 before_told e frames b = record {
@@ -307,6 +339,7 @@ before_told e frames b = record {
     fit = b.sends.fit;
     sum = b.sends.sum;
   };
+  replies = order_kept e frames (eof_out e) (eof_unlike (tells_eof e) e) b.replies;
   sound = sound_told e b.sound;
 }
 
@@ -320,6 +353,7 @@ before_opened number peer window room limit h k = record {
     fit = tt;
     sum = sym (take_all 0 [] (omega arith));
   };
+  replies = refl;
   sound = sound_opened number peer window room limit h k;
 }
 
@@ -331,6 +365,7 @@ before_asked number room = record {
     fit = tt;
     sum = sym (take_all 0 [] (omega arith));
   };
+  replies = refl;
   sound = sound_asked number room;
 }
 
@@ -354,6 +389,7 @@ before_agreed peer window limit e frames c h k b =
     ap length (b.sends.sum ∙ take_all e.framed (accepted e) (omega arith)) ∙ zero in
     let ps : b.sends.pieces ≡ [] = no_pieces e.limit b.sends.pieces b.sends.fit sum in
     let t : e.told ≡ false = never_told e.told e refl b.sound c in
+    let none_said : ready e.replies ≡ [] = ap ready (b.sound.silent c) in
     record {
       sends = record {
         pieces = [];
@@ -363,6 +399,8 @@ before_agreed peer window limit e frames c h k b =
         fit = tt;
         sum = sym (ap joined ps) ∙ b.sends.sum;
       };
+      replies = b.replies ∙ ap (map (reply_frame e.number e.peer)) none_said
+          ∙ sym (ap (map (reply_frame e.number peer)) none_said);
       sound = sound_agreed peer window limit e c h k b.sound;
     }
 

@@ -30,10 +30,10 @@ use Rattle.ssh_channels.specs.Lines.{Lines, turns, closes, leaves, settles, take
 use Rattle.ssh_channels.specs.Lines.{takes_close}
 use Rattle.ssh_channels.specs.Lines.{peer_closes}
 use Rattle.ssh_channels.specs.Lines.{goes_on, each_goes_on, all_go_on, takes_grant, takes_in, says}
-use Rattle.ssh_channels.specs.Lines.{wants, aims, takes_request, takes_reply, confirms}
+use Rattle.ssh_channels.specs.Lines.{aims, takes_request, takes_reply, confirms}
 use Rattle.ssh_channels.specs.Lines.{fails}
 use Rattle.ssh_channels.specs.Stands.{Holds, Stands, kept_of}
-use Rattle.ssh_channels.proofs.Entries.{and_left, more_eof, more_close, sound_room, sound_wanting}
+use Rattle.ssh_channels.proofs.Entries.{and_left, more_eof, more_close, sound_room}
 use Rattle.ssh_channels.proofs.Entries.{sound_aimed, sound_requesting, sound_replying}
 use Rattle.ssh_channels.proofs.Replying.{more_kept, owed_kept, settled_kept, sent_kept}
 use Rattle.ssh_channels.proofs.Holding as holding
@@ -350,7 +350,6 @@ roomy n room p e h = record {
   confirmed = h.confirmed;
   room = refl;
   target = h.target;
-  wants_reply = h.wants_reply;
   replies = h.replies;
   credit = h.credit;
   waiting = h.waiting;
@@ -411,34 +410,6 @@ fail_stands n t l s =
     s
     (λ p e h d. ap not h.confirmed) (λ p e h d m. parts t l n e true [] [] s h.number refl)
 
-wanting_holds : (n : ℕ) (wanted : Bool) (p : ChannelParams) (e : Entry) → Holds n p e →
-    Holds n (line.wanting wanted p) (record e { wants_reply = wanted })
-wanting_holds n wanted p e h = record {
-  number = h.number;
-  own = h.own;
-  peer = h.peer;
-  limit = h.limit;
-  confirmed = h.confirmed;
-  room = h.room;
-  target = h.target;
-  wants_reply = refl;
-  replies = h.replies;
-  credit = h.credit;
-  waiting = h.waiting;
-  pending_eof = h.pending_eof;
-  pending_close = h.pending_close;
-  ended = h.ended;
-  sound = sound_wanting wanted e h.sound;
-}
-
-pub wants_stands : (n : ℕ) (wanted : Bool) (t : Table) (l : Lines) → Stands t l →
-    Stands (calls.set_wants_reply n wanted t) (wants n wanted l)
-wants_stands n wanted t l s =
-    acts_all (λ p. []) (λ p. Some (line.wanting wanted p)) n t l
-    (λ e. turns (record e { wants_reply = wanted }) []) s
-    (λ p e h d. turned t l n (line.wanting wanted p) (record e { wants_reply = wanted }) [] [] s
-    (wanting_holds n wanted p e h) d refl)
-
 -- the room is filled up to another number of bytes
 aiming_holds : (n target : ℕ) (p : ChannelParams) (e : Entry) → target < 2 ^ 32 → Holds n p e →
     Holds n (window.aimed target p) (record e { target = target })
@@ -450,7 +421,6 @@ aiming_holds n target p e small h = record {
   confirmed = h.confirmed;
   room = h.room;
   target = refl;
-  wants_reply = h.wants_reply;
   replies = h.replies;
   credit = h.credit;
   waiting = h.waiting;
@@ -480,7 +450,6 @@ wanted_holds n w replies p e is s h = record {
   confirmed = h.confirmed;
   room = h.room;
   target = h.target;
-  wants_reply = h.wants_reply;
   replies = is;
   credit = h.credit;
   waiting = h.waiting;

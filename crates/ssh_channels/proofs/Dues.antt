@@ -15,7 +15,7 @@ use Rattle.ssh_channels.specs.Table.{Table, line_at}
 use Rattle.ssh_channels.specs.Calls.{Op, Byte, Send, Eof, Close, Peer_close, Flush_line, Flush_all}
 use Rattle.ssh_channels.specs.Calls.{Grant, Adjust, Draw}
 use Rattle.ssh_channels.specs.Calls.{Open_next, Drop_pending, Insert, Confirm, Fail_open}
-use Rattle.ssh_channels.specs.Calls.{Set_wants_reply, Set_target, Request, Settle, Stage}
+use Rattle.ssh_channels.specs.Calls.{Set_target, Request, Settle, Stage}
 use Rattle.ssh_channels.specs.Entry.{Entry, asked, agreed, accepted, joined, all_framed}
 use Rattle.ssh_channels.specs.Entry.{more_may_come, close_may_come}
 use Rattle.ssh_channels.specs.Entry.{flush_out, flushed, granting, accepting, closes_now, eof_out}
@@ -27,7 +27,7 @@ use Rattle.ssh_channels.specs.Lines.{Lines, find, put, without, added, turns, le
 use Rattle.ssh_channels.specs.Lines.{settles, where_found, at}
 use Rattle.ssh_channels.specs.Lines.{takes_data, takes_eof, takes_close, peer_closes, goes_on}
 use Rattle.ssh_channels.specs.Lines.{each_goes_on, all_go_on}
-use Rattle.ssh_channels.specs.Lines.{takes_grant, takes_in, says, wants, aims, takes_request}
+use Rattle.ssh_channels.specs.Lines.{takes_grant, takes_in, says, aims, takes_request}
 use Rattle.ssh_channels.specs.Lines.{takes_reply, confirms, fails, drawn}
 use Rattle.ssh_channels.specs.Entry.{requesting, reply_may_come, replying, replies_out}
 use Rattle.ssh_channels.specs.Lines.{next_number}
@@ -221,11 +221,6 @@ module _ (l : Lines) (sound : Each Sound l) (h : Each IsDue l) where
   says_due n message = at_each IsDue l n _ (λ e is d. where_may IsDue l e.confirmed _
       (λ m. turns_each IsDue l e e (bare_frame message e.number e.peer ∷ []) is d h) h) h
 
-  wants_due : (n : ℕ) (wanted : Bool) → Each IsDue (wants n wanted l)
-  wants_due n wanted =
-      at_each IsDue l n _ (λ e is d. turns_each IsDue l (record e { wants_reply = wanted }) e [] is
-      d h) h
-
   aims_due : (n target : ℕ) → Each IsDue (aims n target l)
   aims_due n target =
       at_each IsDue l n _ (λ e is d. turns_each IsDue l (record e { target = target }) e [] is d h)
@@ -383,7 +378,6 @@ op_due (Confirm msg) l i s h =
     (confirms_due l s h msg.recipient_channel msg.sender_channel msg.initial_window_size
     msg.maximum_packet_size)
 op_due (Fail_open n) l i s h = fails_due l s h n
-op_due (Set_wants_reply n wanted) l i s h = wants_due l s h n wanted
 op_due (Set_target n target) l i s h = aims_due l s h n target
 op_due (Request n) l i s h = request_due l s h n
 op_due (Settle n place success) l i s h = reply_due l s h n place success

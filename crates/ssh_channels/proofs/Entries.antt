@@ -227,19 +227,6 @@ sound_room room e s = record {
   ended = s.ended;
 }
 
-pub sound_wanting : (wanted : Bool) (e : Entry) → Sound e
-    → Sound (record e { wants_reply = wanted })
-sound_wanting wanted e s = record {
-  low = s.low;
-  within = s.within;
-  small = s.small;
-  aimed = s.aimed;
-  silent = s.silent;
-  positive = s.positive;
-  waits = s.waits;
-  ended = s.ended;
-}
-
 pub sound_aimed : (target : ℕ) (e : Entry) → target < 2 ^ 32 → Sound e
     → Sound (record e { target = target })
 sound_aimed target e h s = record {

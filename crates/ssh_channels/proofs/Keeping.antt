@@ -11,7 +11,7 @@ use Rattle.ssh_channels.specs.Calls.{Op, Byte, Send, Eof, Close, Peer_close, Flu
 use Rattle.ssh_channels.specs.Calls.{Grant, Adjust}
 use Rattle.ssh_channels.specs.Calls.{Draw, op}
 use Rattle.ssh_channels.specs.Calls.{Open_next, Drop_pending, Insert, Confirm, Fail_open}
-use Rattle.ssh_channels.specs.Calls.{Set_wants_reply, Set_target, Request, Settle, Stage}
+use Rattle.ssh_channels.specs.Calls.{Set_target, Request, Settle, Stage}
 use Rattle.ssh_channels.specs.Paths.{Accepts, Framed, Credit, Room, Number, Place, Refused, answer}
 use Rattle.ssh_channels.specs.Entry.{Entry, flushed, granting, reply_may_come}
 use Rattle.ssh_channels.specs.Replies.{Wanted}
@@ -67,7 +67,6 @@ op_stands (Drop_pending n) t l m s = opening.drop_stands t l s n
 op_stands (Insert p) t l m s = insert_stands p t l m s
 op_stands (Confirm msg) t l m s = confirm_stands msg t l m s
 op_stands (Fail_open n) t l m s = callings.fail_stands n t l s
-op_stands (Set_wants_reply n wanted) t l m s = callings.wants_stands n wanted t l s
 op_stands (Set_target n target) t l m s = callings.aims_stands n target t l m s
 op_stands (Request n) t l m s = callings.request_stands n t l s
 op_stands (Settle n place success) t l m s = callings.reply_stands n place success t l s
@@ -180,7 +179,6 @@ module _ (t : Table) (l : Lines) (s : Stands t l) where
       ap (λ b. cond (msg.maximum_packet_size == 0) Refused (Accepts b))
       (opens msg.recipient_channel)
   op_answers (Fail_open n) = ap Accepts (opens n)
-  op_answers (Set_wants_reply n wanted) = ap Accepts (opening.live_same t l s n)
   op_answers (Set_target n target) = ap Accepts (opening.live_same t l s n)
   op_answers (Request n) = ap Place (place_same n (line_at n t) (find n l.entries) (at n))
   op_answers (Settle n place success) =

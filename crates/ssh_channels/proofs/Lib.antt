@@ -1,9 +1,13 @@
 pub mod Cuts
 pub mod Takes
 pub mod Lines
-pub mod Counts
+pub mod Waits
+pub mod Noting
 pub mod Frees
 pub mod Flushes
+pub mod Ascending
+pub mod Quiet
+pub mod Anywhere
 pub mod Moves
 pub mod Agreeing
 pub mod Joined
@@ -23,3 +27,4 @@ pub mod Booked
 pub mod Dues
 pub mod Closed
 pub mod Moments
+pub mod InOrder

@@ -30,7 +30,7 @@ grows_by true true fs f h = absurd (cc)
 grows_by true false fs f h = (f ∷ [], refl)
 grows_by false b fs f h = ([], sym (append-nil fs))
 
-grows : (n : ℕ) (fs : List Frame) (xs : List TraceEntry) → IsUnopened n xs →
+pub grows : (n : ℕ) (fs : List Frame) (xs : List TraceEntry) → IsUnopened n xs →
     (more : List Frame) × (since_from n fs xs ≡ fs ++ more)
 grows n fs [] h = ([], sym (append-nil fs))
 grows n fs (Sent f ∷ xs) h =

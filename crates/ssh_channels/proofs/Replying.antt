@@ -2,7 +2,7 @@
 use Rattle.std.proofs.Common.{◌≡◌, ◌<◌, ◌≤◌, ◌+◌, ◌-◌, ◌==◌, ◌&&◌, ℕ, zero, suc, Bool, true}
 use Rattle.std.proofs.Common.{false, cond, Option, Some, None, List, [], ◌∷◌, ◌++◌, length, drop}
 use Rattle.std.proofs.Common.{set, get_or, IfSome, IfNone}
-use Rattle.std.proofs.Common.{rules, refl, sym, ◌∙◌, ap, subst, arith}
+use Rattle.std.proofs.Common.{rules, refl, sym, ◌∙◌, ap, subst, arith, length-append}
 use Rattle.ssh_channels.specs.declared.replies.Reply.{Reply}
 use Rattle.ssh_channels.specs.declared.replies.Reply.TheVariants.{Owed, Settled}
 use Rattle.ssh_channels.specs.Replies.{is_called, calls_one, settling, ready, held, Wanted, one_more}
@@ -15,12 +15,12 @@ longer : (rs : List Reply) (r : Reply) → length (rs ++ r ∷ []) ≡ length rs
 longer [] r = omega arith
 longer (x ∷ rs) r = let h = longer rs r in omega (arith, h)
 
-ready_more : (rs : List Reply) → ready (rs ++ Owed ∷ []) ≡ ready rs
+pub ready_more : (rs : List Reply) → ready (rs ++ Owed ∷ []) ≡ ready rs
 ready_more [] = refl
 ready_more (Owed ∷ rs) = refl
 ready_more (Settled success ∷ rs) = ap (λ l. success ∷ l) (ready_more rs)
 
-held_more : (rs : List Reply) → held (rs ++ Owed ∷ []) ≡ held rs ++ Owed ∷ []
+pub held_more : (rs : List Reply) → held (rs ++ Owed ∷ []) ≡ held rs ++ Owed ∷ []
 held_more [] = refl
 held_more (Owed ∷ rs) = refl
 held_more (Settled success ∷ rs) = held_more rs
@@ -109,6 +109,28 @@ module _ (place : Option ℕ) (success : Bool) where
       ap (λ n. ready (settling place success n (held rs))) (behind rs)
       ∙ sym (dropped (ready rs) _)
       ∙ ap (drop (length (ready rs))) (sym (settling_ready 0 rs))
+
+  -- what went out before is the start of what is ready now
+  pub ready_on : (rs : List Reply) →
+      ready rs ++ drop (length (ready rs)) (ready (settling place success 0 rs))
+      ≡ ready (settling place success 0 rs)
+  ready_on rs =
+      ap (λ l. ready rs ++ drop (length (ready rs)) l) (settling_ready 0 rs)
+      ∙ ap (λ l. ready rs ++ l) (dropped (ready rs) _)
+      ∙ sym (settling_ready 0 rs)
+
+  -- and as many as go out are held no longer
+  pub held_out : (rs : List Reply) →
+      length (drop (length (ready rs)) (ready (settling place success 0 rs)))
+      + length (held (settling place success 0 rs)) ≡ length (held rs)
+  held_out rs =
+      let out = drop (length (ready rs)) (ready (settling place success 0 rs)) in
+      let before = parted rs in
+      let after = parted (settling place success 0 rs) in
+      let long = as_long 0 rs in
+      let both = length-append (ready rs) out in
+      let whole = ap length (ready_on rs) in
+      omega (arith, before, after, long, both, whole)
 
 pub owed_kept : (place : Option ℕ) (rs : List Reply) →
     owes place (kept_of rs) ≡ calls_one place 0 rs

@@ -12,7 +12,7 @@ use Rattle.ssh_channels.specs.Line.{is_established, is_opening, may_send, may_cl
 use Rattle.ssh_channels.specs.Line.{framed, settled}
 use Rattle.ssh_channels.specs.Line.{granted, granting_frames, taking, taking_frames, ending}
 use Rattle.ssh_channels.specs.Line.{ending_frames, closing}
-use Rattle.ssh_channels.specs.Line.{closing_frames, confirmed_by, wanting, requested, owes_reply}
+use Rattle.ssh_channels.specs.Line.{closing_frames, confirmed_by, requested, owes_reply}
 use Rattle.ssh_channels.specs.Line.{replied, reply_frames}
 use Rattle.ssh_channels.specs.Window.{adjusting, adjusted, adjusted_frames, aimed}
 use Rattle.ssh_channels.specs.Table.{Table, line_at, write, act}
@@ -117,10 +117,6 @@ confirm msg =
 abbrev pub fail_open : (n : ℕ) → Table → Table
 fail_open n = act is_opening (λ l. []) (λ l. None) n
 
--- whether the channel's last request wants a reply
-abbrev pub set_wants_reply : (n : ℕ) → (wanted : Bool) → Table → Table
-set_wants_reply n wanted = act (λ l. true) (λ l. []) (λ l. Some (wanting wanted l)) n
-
 -- a request of the peer's on the channel wants a reply
 abbrev pub request : (n : ℕ) → Table → Table
 request n = act is_established (λ l. []) (λ l. Some (requested l)) n
@@ -169,7 +165,6 @@ pub data Op : Type 0 where
   Insert : ChannelParams → Op
   Confirm : ChannelOpenConfirmation → Op
   Fail_open : (n : ℕ) → Op
-  Set_wants_reply : (n : ℕ) → (wanted : Bool) → Op
   Set_target : (n target : ℕ) → Op
   Request : (n : ℕ) → Op
   Settle : (n : ℕ) → (place : Option ℕ) → (success : Bool) → Op
@@ -192,7 +187,6 @@ op (Drop_pending n) = drop_pending n
 op (Insert l) = unless_zero l.recipient_maximum_packet_size (insert l)
 op (Confirm msg) = unless_zero msg.maximum_packet_size (confirm msg)
 op (Fail_open n) = fail_open n
-op (Set_wants_reply n wanted) = set_wants_reply n wanted
 op (Set_target n target) = set_target n target
 op (Request n) = request n
 op (Settle n place success) = settle n place success

@@ -12,7 +12,7 @@ use Rattle.ssh_channels.specs.Line.{established}
 use Rattle.ssh_channels.specs.Calls.{Op, Byte, Send, Eof, Close, Peer_close, Flush_line, Flush_all}
 use Rattle.ssh_channels.specs.Calls.{Grant, Adjust, Draw}
 use Rattle.ssh_channels.specs.Calls.{Open_next, Drop_pending, Insert, Confirm, Fail_open}
-use Rattle.ssh_channels.specs.Calls.{Set_wants_reply, Set_target, Request, Settle, Stage}
+use Rattle.ssh_channels.specs.Calls.{Set_target, Request, Settle, Stage}
 use Rattle.ssh_channels.specs.Paths.{Answer, Done, Accepts, Framed, Credit, Room, Number, Place}
 use Rattle.ssh_channels.specs.Paths.{Refused}
 use Rattle.ssh_channels.specs.Entry.{Entry, opened, more_may_come, close_may_come, flushed}
@@ -20,7 +20,7 @@ use Rattle.ssh_channels.specs.Entry.{granting, reply_may_come}
 use Rattle.ssh_channels.specs.Room.{coming}
 use Rattle.ssh_channels.specs.Lines.{Lines, find, write, takes_data, takes_eof, takes_close}
 use Rattle.ssh_channels.specs.Lines.{peer_closes, goes_on}
-use Rattle.ssh_channels.specs.Lines.{all_go_on, takes_grant, takes_in, says, wants, aims}
+use Rattle.ssh_channels.specs.Lines.{all_go_on, takes_grant, takes_in, says, aims}
 use Rattle.ssh_channels.specs.Lines.{takes_request, takes_reply, confirms, fails}
 use Rattle.ssh_channels.specs.Lines.{next_number, draws}
 use Rattle.ssh_channels.specs.Lines.{drops_pending, asks_next, adds}
@@ -56,7 +56,6 @@ does (Confirm msg) = unless_zero msg.maximum_packet_size
     (confirms msg.recipient_channel msg.sender_channel msg.initial_window_size
     msg.maximum_packet_size)
 does (Fail_open n) = fails n
-does (Set_wants_reply n wanted) = wants n wanted
 does (Set_target n target) = aims n target
 does (Request n) = takes_request n
 does (Settle n place success) = takes_reply n place success
@@ -109,7 +108,6 @@ answers (Insert line) l = cond (line.recipient_maximum_packet_size == 0) Refused
 answers (Confirm msg) l = cond (msg.maximum_packet_size == 0) Refused
     (Accepts (has (λ e. not e.confirmed) msg.recipient_channel l))
 answers (Fail_open n) l = Accepts (has (λ e. not e.confirmed) n l)
-answers (Set_wants_reply n wanted) l = Accepts (is_some (find n l.entries))
 answers (Set_target n target) l = Accepts (is_some (find n l.entries))
 answers (Request n) l = Place (place_of (find n l.entries))
 answers (Settle n place success) l = Accepts (has (reply_may_come place) n l)

@@ -31,8 +31,6 @@ pub record Entry : Type 0 where
   pub room : ℕ
   -- up to how many bytes its room is filled (section 5.2)
   pub target : ℕ
-  -- its last request wants a reply (section 5.4)
-  pub wants_reply : Bool
   -- the reply of each request that wanted one, in the order of the requests; those before the first
   -- that is owed went out (section 5.4)
   pub replies : List Reply
@@ -54,7 +52,6 @@ opened number peer window room limit = record {
   framed = 0;
   room = room;
   target = as_uint32 room;
-  wants_reply = false;
   replies = [];
   eof = false;
   close = false;

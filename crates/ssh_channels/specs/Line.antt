@@ -23,7 +23,6 @@ established peer own window room packet own_packet = record {
   recipient_maximum_packet_size = packet;
   sender_maximum_packet_size = own_packet;
   confirmed = true;
-  wants_reply = false;
   pending_eof = false;
   pending_close = false;
   ended = false;
@@ -48,6 +47,10 @@ nothing_waits l = length l.waiting == 0
 
 abbrev pub data_waits : ChannelParams → Bool
 data_waits l = not (nothing_waits l)
+
+-- data wait on it, or an EOF or a CLOSE behind them
+abbrev pub something_waits : ChannelParams → Bool
+something_waits l = data_waits l || l.pending_eof || l.pending_close
 
 -- an established channel whose end was not asked for
 abbrev pub may_send : ChannelParams → Bool
@@ -160,10 +163,6 @@ confirmed_by peer window packet l = record l {
   recipient_maximum_packet_size = packet;
   confirmed = true;
 }
-
--- whether its last request wants a reply
-abbrev pub wanting : Bool → ChannelParams → ChannelParams
-wanting wanted l = record l { wants_reply = wanted }
 
 -- one more request wants a reply, which is owed
 abbrev pub requested : ChannelParams → ChannelParams

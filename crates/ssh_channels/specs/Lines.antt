@@ -152,9 +152,6 @@ abbrev pub says : (number message : ℕ) → Lines → Lines
 says number message l = at number
     (λ e l. cond e.confirmed (turns e (bare_frame message e.number e.peer ∷ []) l) l) l
 
-abbrev pub wants : (number : ℕ) → (wanted : Bool) → Lines → Lines
-wants number wanted l = at number (λ e. turns (record e { wants_reply = wanted }) []) l
-
 -- its room is filled up to so many bytes from now on (section 5.2)
 abbrev pub aims : (number target : ℕ) → Lines → Lines
 aims number target l = at number (λ e. turns (record e { target = target }) []) l

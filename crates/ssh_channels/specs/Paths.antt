@@ -10,7 +10,7 @@ use Rattle.ssh_channels.specs.Table.{Table, is_live, is_pending, has}
 use Rattle.ssh_channels.specs.Calls.{Op, Byte, Send, Eof, Close, Peer_close, Flush_line, Flush_all}
 use Rattle.ssh_channels.specs.Calls.{Grant, Adjust, Draw}
 use Rattle.ssh_channels.specs.Calls.{Open_next, Drop_pending, Insert, Confirm, Fail_open}
-use Rattle.ssh_channels.specs.Calls.{Set_wants_reply, Set_target, Request, Settle, Stage, op}
+use Rattle.ssh_channels.specs.Calls.{Set_target, Request, Settle, Stage, op}
 use Rattle.ssh_channels.specs.Calls.{flush_first, framed_at, credit_after, adjusting_at, place_at}
 
 -- a call's frames go to the sink where none is staged before it and no exchange runs
@@ -89,7 +89,6 @@ answer (Insert l) t = cond (l.recipient_maximum_packet_size == 0) Refused
 answer (Confirm msg) t = cond (msg.maximum_packet_size == 0) Refused
     (Accepts (has is_opening msg.recipient_channel t))
 answer (Fail_open n) t = Accepts (has is_opening n t)
-answer (Set_wants_reply n wanted) t = Accepts (is_live n t)
 answer (Set_target n target) t = Accepts (is_live n t)
 answer (Request n) t = Place (place_at n t)
 answer (Settle n place success) t = Accepts (has (owes_reply place) n t)

@@ -5,14 +5,15 @@ use Rattle.std.specs.Prelude.{List, [], ◌∷◌, ◌++◌, length, map, take, 
 use Rattle.std.specs.List.{filter}
 use Rattle.ssh_wire.specs.Messages.{channel_open, channel_open_confirmation, channel_open_failure}
 use Rattle.ssh_wire.specs.Messages.{channel_data}
-use Rattle.ssh_wire.specs.Messages.{channel_close}
+use Rattle.ssh_wire.specs.Messages.{channel_close, channel_success, channel_failure}
 use Rattle.ssh_wire.specs.declared.channel_id.ChannelId.{ChannelId}
 use Rattle.ssh_link.specs.Frames.{Frame}
 use Rattle.ssh_link.specs.declared.link.TraceEntry.{TraceEntry}
 use Rattle.ssh_link.specs.declared.link.TraceEntry.TheVariants.{Sent}
 use Rattle.ssh_channels.specs.declared.chunk.Chunk.{Chunk}
 use Rattle.ssh_channels.specs.declared.chunk.DataKind.{DataKind}
-use Rattle.ssh_channels.specs.Layout.{data_frame, eof_frame, close_frame}
+use Rattle.ssh_channels.specs.Layout.{data_frame, eof_frame, close_frame, reply_frame}
+use Rattle.ssh_channels.specs.Replies.{ready}
 use Rattle.ssh_channels.specs.Entry.{Entry, Sound, accepted, joined}
 use Rattle.ssh_channels.specs.Lines.{Left, Lines, find, last_left}
 
@@ -47,11 +48,16 @@ is_flow frame =
     nat_le channel_data.number (message_of frame.payload) && nat_le (message_of frame.payload)
     channel_close.number
 
--- what else is said beside it on a channel: window adjusts and requests with their answers
--- (sections 5.2 and 5.4)
+-- a reply to a request of the peer's: CHANNEL_SUCCESS is 99, CHANNEL_FAILURE 100 (section 5.4)
+abbrev pub is_reply : Frame → Bool
+is_reply frame =
+    (message_of frame.payload == channel_success.number) ||
+    (message_of frame.payload == channel_failure.number)
+
+-- what else is said beside these on a channel: window adjusts and requests (sections 5.2 and 5.4)
 abbrev pub is_beside : Frame → Bool
 is_beside frame = not (is_opening frame.payload) && not (is_refusal frame.payload) && not
-    (is_flow frame)
+    (is_flow frame) && not (is_reply frame)
 
 -- the frames of a channel, and then one more frame
 abbrev pub after_frame : (number : ℕ) → List Frame → Frame → List Frame
@@ -115,9 +121,21 @@ abbrev pub StartsWith : Entry → List (DataKind × ℕ) → List Frame → Type
 StartsWith e bytes frames = (told : Bool) × (first more : List (DataKind × ℕ))
     × Sends (record e { told = told }) first frames × (first ++ more ≡ bytes)
 
--- it sent the first framed bytes of those that it accepted
+-- with these frames a channel replied to its first requests that want a reply, to each as it was
+-- settled, in the order of the requests, and up to the first that is owed (section 5.4)
+abbrev pub RepliesInOrder : Entry → List Frame → Type 0
+RepliesInOrder e frames =
+    filter is_reply frames ≡ map (reply_frame e.number e.peer) (ready e.replies)
+
+-- it sent the first of those replies
+abbrev pub StartsInOrder : Entry → List Frame → Type 0
+StartsInOrder e frames = (later : List Frame)
+    × (map (reply_frame e.number e.peer) (ready e.replies) ≡ filter is_reply frames ++ later)
+
+-- it sent the first framed bytes of those that it accepted, and the replies that are ready
 pub record Before (e : Entry) (frames : List Frame) : Type 0 where
   pub sends : Sends e (take e.framed (accepted e)) frames
+  pub replies : RepliesInOrder e frames
   pub sound : Sound e
 
 -- the CLOSE of a channel that leaves; one to which the peer never agreed leaves without

@@ -23,7 +23,6 @@ pub record Holds (key : ℕ) (line : ChannelParams) (e : Entry) : Type 0 where
   pub confirmed : line.confirmed ≡ e.confirmed
   pub room : line.sender_window_size ≡ e.room
   pub target : line.target ≡ e.target
-  pub wants_reply : line.wants_reply ≡ e.wants_reply
   pub replies : line.replies ≡ kept_of e.replies
   pub credit : e.granted ≡ e.framed + line.recipient_window_size
   pub waiting : line.waiting ≡ left_of e.framed e.chunks

@@ -15,6 +15,7 @@ ghost use Rattle.ssh_channels.specs.Lines.{Left, Lines, no_lines, find, last_lef
 ghost use Rattle.ssh_channels.specs.Stands.{Stands};
 ghost use Rattle.ssh_channels.specs.Sent.{Each, Ledgered, IsQuiet, Sends, AllRefuse, farewell};
 ghost use Rattle.ssh_channels.specs.Sent.{IsUnopened, StartsWith, is_opening, is_close, since};
+ghost use Rattle.ssh_channels.specs.Sent.{RepliesInOrder, StartsInOrder};
 ghost use Rattle.ssh_channels.specs.Does.{IsMeant, IsFair, is_idle, does, answers};
 
 /// A table keeps the channels of a connection as the standard sees them (RFC 4254 section 5): an
@@ -87,4 +88,22 @@ pub fn close_is_last()
         (before after : List Frame)
         × (since n (past ++ map Sent l.written) ≡ before ++ (farewell gone.entry ++ after))
         × Sends gone.entry (accepted gone.entry) before }
+{}
+
+/// Replies go out in the order of the requests (RFC 4254 section 5.4): those that were sent on a
+/// channel since it was opened are the replies to its first requests that want one, to each as it
+/// was settled, up to the first that is owed. At every moment the first of them had been sent, and
+/// on a channel that left those that were ready when it did.
+pub fn replies_in_order()
+    ensures live { (n : ℕ) → (l : Lines) → (e : Entry) → (past : List TraceEntry) →
+        find n l.entries ≡ Some e → Ledgered l past →
+        RepliesInOrder e (since n (past ++ map Sent l.written)) }
+    ensures starts { (n : ℕ) → (l : Lines) → (e : Entry) → (seen rest : List TraceEntry) →
+        find n l.entries ≡ Some e → IsUnopened n (rest ++ map Sent l.written) →
+        Ledgered l (seen ++ rest) → StartsInOrder e (since n seen) }
+    ensures left { (n : ℕ) → (l : Lines) → (past : List TraceEntry) → (gone : Left) →
+        Ledgered l past → find n l.entries ≡ None → last_left n l.left ≡ Some gone →
+        (before after : List Frame)
+        × (since n (past ++ map Sent l.written) ≡ before ++ (farewell gone.entry ++ after))
+        × RepliesInOrder gone.entry before }
 {}

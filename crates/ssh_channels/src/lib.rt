@@ -13,6 +13,7 @@ mod error;
 mod flushing;
 mod frames;
 mod ledger;
+mod noted;
 mod opens;
 mod params;
 mod paths;
@@ -29,7 +30,9 @@ mod writers;
 pub use adjusted::Adjusted;
 pub use chunk::{Chunk, DataKind};
 pub use error::TableError;
-pub use ledger::{close_is_last, framed_is_due, sent_is_framed, table_keeps_channels};
+pub use ledger::{
+    close_is_last, framed_is_due, replies_in_order, sent_is_framed, table_keeps_channels,
+};
 pub use params::ChannelParams;
 pub use paths::both_paths_agree;
 pub use replies::Reply;

@@ -1,5 +1,6 @@
 // A channel of a table.
-ghost use Rattle.std.specs.Prelude.{◌≡◌, ◌++◌, ◌∷◌, [], true, length, IfOk, IfErr, OnOk, OnErr};
+ghost use Rattle.std.specs.Prelude.{◌≡◌, ◌&&◌, ◌++◌, ◌∷◌, [], true, not, length, IfOk};
+ghost use Rattle.std.specs.Prelude.{IfErr, OnOk, OnErr};
 ghost use Rattle.ssh_channels.specs.declared.error.TableError.TheVariants.{NoMemory};
 ghost use Rattle.ssh_channels.specs.Layout as layout;
 ghost use Rattle.ssh_channels.specs.Line as line;
@@ -36,8 +37,6 @@ pub struct ChannelParams {
     pub sender_maximum_packet_size: u32,
     /// It is established.
     pub confirmed: bool,
-    /// The last request on it wants a reply. The list of `Encrypted::request` does not rest on it.
-    pub wants_reply: bool,
     /// An EOF waits behind data.
     pub pending_eof: bool,
     /// A CLOSE waits behind data.
@@ -75,7 +74,6 @@ impl ChannelParams {
             recipient_maximum_packet_size,
             sender_maximum_packet_size,
             confirmed: true,
-            wants_reply: false,
             pending_eof: false,
             pending_close: false,
             ended: false,
@@ -107,6 +105,33 @@ impl ChannelParams {
         ensures { result ≡ line.nothing_waits self.now }
     {
         self.waiting.is_empty()
+    }
+
+    /// Whether data wait, or an EOF or a CLOSE behind them.
+    pub(crate) fn something_waits(&self) -> bool
+        ensures { result ≡ line.something_waits self.now }
+    {
+        !self.nothing_waits() || self.pending_eof || self.pending_close
+    }
+
+    /// Whether something waits still, where the channel is not gone.
+    pub(crate) fn waits_on(&self, gone: bool) -> bool
+        ensures { result ≡ line.something_waits self.now && not gone }
+    {
+        self.something_waits() && !gone
+    }
+
+    /// Whether something waits once these data were taken.
+    pub(crate) fn waits_with(&self, chunk: &Chunk, is_rekeying: bool) -> bool
+        ensures { result ≡ line.something_waits (line.taking chunk.now is_rekeying self.now) }
+    {
+        if self.pending_eof || self.pending_close {
+            return true;
+        }
+        if is_rekeying || !self.nothing_waits() {
+            return !self.nothing_waits() || !chunk.bytes.is_empty();
+        }
+        chunk.bytes.len() > self.recipient_window_size as usize
     }
 
     pub(crate) fn may_send(&self) -> bool

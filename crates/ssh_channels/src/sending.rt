@@ -8,7 +8,7 @@ ghost use Rattle.ssh_channels.specs.Table as table;
 ghost use Rattle.ssh_channels.specs.Calls as calls;
 
 use crate::frames::bare_frame;
-use crate::table::recounted;
+use crate::noted::{keep_if, note};
 use crate::{Chunk, DataKind, Encrypted, TableError};
 use bytes::Bytes;
 use ssh_link::Frame;
@@ -27,18 +27,19 @@ impl Encrypted {
         ensures unchanged { OnErr result (self.new ≡ self.old) }
         ensures memory { IfErr result (λ e. e ≡ NoMemory) }
     {
-        // Bounds the count of channels on which data wait, for `recounted`.
-        let _channels = self.lines.len();
         let Some(line) = self.lines.get_mut(&channel.0) else {
             return Ok(false);
         };
         if !line.may_send() {
             return Ok(false);
         }
-        let before = !line.nothing_waits();
-        line.take(self.alloc, channel, chunk, is_rekeying, &mut self.staged)?;
-        let after = !line.nothing_waits();
-        self.waiting = recounted(self.waiting, before, after);
+        let waits = line.waits_with(&chunk, is_rekeying);
+        note(&mut self.waiting, channel.0, waits)?;
+        if let Err(why) = line.take(self.alloc, channel, chunk, is_rekeying, &mut self.staged) {
+            let waits = line.something_waits();
+            keep_if(&mut self.waiting, channel.0, waits);
+            return Err(why);
+        }
         Ok(true)
     }
 
@@ -96,6 +97,8 @@ impl Encrypted {
             return Ok(false);
         }
         line.end(channel, &mut self.staged)?;
+        let waits = line.something_waits();
+        keep_if(&mut self.waiting, channel.0, waits);
         Ok(true)
     }
 
@@ -126,18 +129,5 @@ impl Encrypted {
     {
         self.staged.push(frame)?;
         Ok(())
-    }
-
-    /// Whether the channel's last request wants a reply. `false` exactly where there is no such
-    /// channel.
-    pub fn set_wants_reply(&mut self, channel: ChannelId, wanted: bool) -> bool
-        ensures answer { result ≡ table.is_live channel.0 self.old }
-        ensures table { self.new ≡ calls.set_wants_reply channel.0 wanted self.old }
-    {
-        let Some(line) = self.lines.get_mut(&channel.0) else {
-            return false;
-        };
-        line.wants_reply = wanted;
-        true
     }
 }

@@ -4,7 +4,7 @@ ghost use Rattle.ssh_channels.specs.declared.error.TableError.TheVariants.{NoMem
 ghost use Rattle.ssh_channels.specs.Table as table;
 ghost use Rattle.ssh_channels.specs.Calls as calls;
 
-use crate::table::recounted;
+use crate::noted::keep_if;
 use crate::{Adjusted, Encrypted, TableError};
 use ssh_wire::ChannelId;
 
@@ -24,19 +24,16 @@ impl Encrypted {
         ensures unchanged { OnErr result (self.new ≡ self.old) }
         ensures memory { IfErr result (λ e. e ≡ NoMemory) }
     {
-        // Bounds the count of channels on which data wait, for `recounted`.
-        let _channels = self.lines.len();
         let Some(line) = self.lines.get_mut(&channel.0) else {
             return Ok(None);
         };
         if !line.confirmed {
             return Ok(None);
         }
-        let before = !line.nothing_waits();
         let gone = line.grant(self.alloc, channel, amount, &mut self.staged)?;
-        let after = !line.nothing_waits();
         let credit = line.recipient_window_size;
-        self.waiting = recounted(self.waiting, before, after);
+        let waits = line.waits_on(gone);
+        keep_if(&mut self.waiting, channel.0, waits);
         if gone {
             let _ = self.lines.remove(&channel.0);
         }

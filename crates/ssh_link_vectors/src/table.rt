@@ -51,7 +51,6 @@ enum Call {
     // Channel and packet size; the peer's number is 44 and its window 3.
     Confirm(u32, u32),
     FailOpen(u32),
-    SetWantsReply(u32),
     Request(u32),
     // Channel, place and success.
     Settle(u32, Option<u64>, bool),
@@ -71,9 +70,8 @@ enum Answer {
     Number(u32),
     Target(u32),
     Place(Option<u64>),
-    // The room, the credit, whether data wait, and an EOF, and a CLOSE, and whether a reply is
-    // wanted.
-    Line(usize, u32, bool, bool, bool, bool),
+    // The room, the credit, and whether data wait, and an EOF, and a CLOSE.
+    Line(usize, u32, bool, bool, bool),
     NoLine,
     Refused(TableError),
 }
@@ -140,7 +138,6 @@ fn line(table: &Encrypted, channel: ChannelId) -> Answer {
             table.has_pending_data(channel),
             line.pending_eof,
             line.pending_close,
-            line.wants_reply,
         ),
         None => Answer::NoLine,
     }
@@ -235,7 +232,6 @@ fn made_without_bytes(table: &mut Encrypted, sink: &mut FrameSink, call: Call) -
         Call::DropPending(n) => Answer::Is(table.drop_pending(ChannelId(n))),
         Call::Confirm(n, packet) => is(table.confirm(&confirmation(n, packet))),
         Call::FailOpen(n) => Answer::Is(table.fail_open(ChannelId(n))),
-        Call::SetWantsReply(n) => Answer::Is(table.set_wants_reply(ChannelId(n), true)),
         Call::Request(n) => place(table.request(ChannelId(n))),
         Call::Settle(n, at, success) => is(table.settle(ChannelId(n), at, success)),
         Call::Look(n) => line(table, ChannelId(n)),

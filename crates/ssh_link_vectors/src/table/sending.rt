@@ -15,7 +15,7 @@ static WAITING: [Row; 4] = [
             (Call::Data(2, Way::Staged, b"hello"), Answer::Is(true)),
             (Call::Eof(2), Answer::Is(true)),
             (Call::Close(2), Answer::Is(true)),
-            (Call::Look(2), Answer::Line(8, 0, true, true, true, false)),
+            (Call::Look(2), Answer::Line(8, 0, true, true, true)),
             (Call::Grant(2, 2), Answer::Credit(Some(0))),
             (Call::Look(2), Answer::NoLine),
         ],
@@ -35,7 +35,7 @@ static WAITING: [Row; 4] = [
             (Call::Eof(2), Answer::Is(true)),
             (Call::Close(2), Answer::Is(true)),
             (Call::FlushPending(2), Answer::Framed(3)),
-            (Call::Look(2), Answer::Line(8, 0, true, true, true, false)),
+            (Call::Look(2), Answer::Line(8, 0, true, true, true)),
         ],
         sink: &[],
         staged: &[(Some(2), b"\x5e\0\0\0\x2c\0\0\0\x03hel")],
@@ -223,11 +223,10 @@ static ENDED: [Row; 2] = [
         calls: &[
             (Call::Insert(2, 7, 0, 1024), Answer::Is(true)),
             (Call::FailOpen(2), Answer::Is(false)),
-            (Call::SetWantsReply(2), Answer::Is(true)),
             (Call::Byte(2, 99), Answer::Is(true)),
             (Call::Data(2, Way::Staged, b"a"), Answer::Is(true)),
             (Call::Data(2, Way::Staged, b""), Answer::Is(true)),
-            (Call::Look(2), Answer::Line(8, 0, true, false, false, true)),
+            (Call::Look(2), Answer::Line(8, 0, true, false, false)),
             (Call::PeerClose(2), Answer::Is(true)),
             (Call::AnyWaits, Answer::Is(false)),
         ],
@@ -261,7 +260,7 @@ fn data_of_256_kib_go_out_in_eight_packets(rt: HostRuntime) -> Result<(), Fail> 
     for frame in staged.as_slice() {
         assert!(rt; frame.body().len() == 32768);
     }
-    assert!(rt; line(&table, ChannelId(2)) == Answer::Line(0, 0, false, false, false, false));
+    assert!(rt; line(&table, ChannelId(2)) == Answer::Line(0, 0, false, false, false));
     Ok(())
 }
 

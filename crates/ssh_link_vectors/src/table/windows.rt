@@ -9,19 +9,13 @@ static RAISED: [Row; 3] = [
         calls: &[
             (Call::Insert(2, 7, 1024, 1024), Answer::Is(true)),
             (Call::Adjust(2, b"abcd"), Answer::Room(Adjusted::Kept)),
-            (
-                Call::Look(2),
-                Answer::Line(4, 1024, false, false, false, false),
-            ),
+            (Call::Look(2), Answer::Line(4, 1024, false, false, false)),
             (Call::Adjust(2, b"e"), Answer::Room(Adjusted::Granted(5))),
             (
                 Call::Adjust(2, b"123456789"),
                 Answer::Room(Adjusted::Dropped),
             ),
-            (
-                Call::Look(2),
-                Answer::Line(8, 1024, false, false, false, false),
-            ),
+            (Call::Look(2), Answer::Line(8, 1024, false, false, false)),
         ],
         sink: &[],
         staged: &[(Some(2), b"\x5d\0\0\0\x07\0\0\0\x05")],

@@ -5,12 +5,12 @@ use Rattle.std.specs.Ordering.{nat_cmp}
 use Rattle.ssh_channels.specs.Line as line
 use Rattle.ssh_channels.specs.Calls as calls
 use Rattle.ssh_channels.proofs.Lines.{passed, same_table}
-use Rattle.ssh_channels.proofs.Counts.{same_count, other_count, as_many}
+use Rattle.ssh_channels.proofs.Noting.{same_waiting, other_waiting}
 use Rattle.ssh_channels.proofs.table.Encrypted.settle.Goals as goal
 
 pub invariant_of-self-then-not-owes_reply : goal.invariant_of-self-then-not-owes_reply
 invariant_of-self-then-not-owes_reply c =
-    same_count c.args.channel.0 c.self.inside.lines.entries _ c.in-Some.line.now _
+    same_waiting c.args.channel.0 c.self.inside.lines.entries _ c.in-Some.line.now _
     c.in-Some.ensures.value
     (c.get_mut.follows.holds c.in-Some.line.now).0 c.self.invariant
 
@@ -26,7 +26,7 @@ returns-then-not-owes_reply-clause-table c =
 
 pub invariant_of-self-in_err-settle_reply : goal.invariant_of-self-in_err-settle_reply
 invariant_of-self-in_err-settle_reply c =
-    same_count c.args.channel.0 c.self.inside.lines.entries _ c.in-Some.line.now _
+    same_waiting c.args.channel.0 c.self.inside.lines.entries _ c.in-Some.line.now _
     c.in-Some.ensures.value
     ((c.get_mut.follows.holds c.settle_reply.new.self).0
     ∙ ap (set_value (is_at (nat_cmp c.args.channel.0)) c.self.inside.lines.entries)
@@ -45,9 +45,8 @@ returns-in_err-settle_reply-clause-unchanged c =
 pub invariant_of-self-2 : goal.invariant_of-self-2
 invariant_of-self-2 c =
     let l = c.in-Some.line.now in
-    other_count c.args.channel.0 c.self.inside.lines.entries _ l c.settle_reply.new.self
-    c.self.inside.waiting _
+    other_waiting c.args.channel.0 c.self.inside.lines.entries _ l c.settle_reply.new.self
+    c.self.inside.waiting.keys
     c.in-Some.ensures.value
     (c.get_mut.follows.holds c.settle_reply.new.self).0 c.self.invariant
-    (as_many l c.settle_reply.new.self c.self.inside.waiting
-    c.in_ok-settle_reply.ensures.waiting)
+    (sym (ap line.something_waits c.in_ok-settle_reply.ensures.line))
