@@ -140,9 +140,7 @@ impl<'a> Commands<'a> {
         self.replies_wanted
     }
 
-    /// The name of the user who was let in (RFC 4252 section 5), where whoever lends names one.
-    /// A session of this library names none yet: a handler that minds who the user is keeps the
-    /// name that its callback of authentication accepted.
+    /// The name of the user who was let in (RFC 4252 section 5); None before a user was.
     pub fn user(&self) -> Option<&str>
         ensures { option_copied result ≡ self.now.user }
     {

@@ -250,8 +250,7 @@ pub trait Handler: AuthHandler {
 
     /// The window that this side grants on the channel was just filled up to `current` bytes (RFC
     /// 4254 section 5.2). The answer is what the window of this channel is filled up to from now on,
-    /// in bytes, until a later answer; those of other channels may follow it. 0 leaves it as it is,
-    /// and so does a callback that is not written.
+    /// in bytes; 0 leaves it as it is, and so does a callback that is not written.
     fn adjust_window(&mut self, channel: ChannelId, current: u32) -> Result<u32, Self::Error>
         ensures { Tells (Self.told self.old) (Self.told self.new) result
             (call.AdjustWindow channel current result) }
