@@ -9,11 +9,12 @@ use Rattle.ssh_channels.specs.declared.adjusted.Adjusted.TheVariants.{Dropped, K
 use Rattle.ssh_channels.specs.Entry.{Entry, accepting, after_eof, all_framed, closes_now, eof_out}
 use Rattle.ssh_channels.specs.Entry.{flush_out, flushed, granting, agreed}
 use Rattle.ssh_channels.specs.Entry.{more_may_come, close_may_come}
+use Rattle.ssh_channels.specs.Entry.{requesting, reply_may_come, replying, replies_out}
 use Rattle.ssh_channels.specs.Lines.{Lines, find, turns, leaves, closes, settles}
 use Rattle.ssh_channels.specs.Lines.{where_found, at, takes_data, takes_eof}
-use Rattle.ssh_channels.specs.Lines.{takes_close, peer_closes, takes_grant, takes_in, wants}
+use Rattle.ssh_channels.specs.Lines.{takes_close, peer_closes, takes_grant, takes_in}
 use Rattle.ssh_channels.specs.Lines.{confirms, fails, says, numbers, goes_on, each_goes_on}
-use Rattle.ssh_channels.specs.Lines.{all_go_on}
+use Rattle.ssh_channels.specs.Lines.{all_go_on, aims, takes_request, takes_reply}
 use Rattle.ssh_channels.specs.Room.{coming, having, adjust_out}
 use Rattle.ssh_channels.specs.Layout.{bare_frame, close_frame}
 use Rattle.ssh_channels.proofs.Listed.{find_other, without_other, found_number}
@@ -120,10 +121,21 @@ adjust_absent n m count target l h = at_absent n m _ l
     (adjust_out (coming count target e) e) l apart (having_number (coming count target e) count
     target e) h) h
 
-pub wants_absent : (n m : ℕ) (wanted : Bool) (l : Lines) → IsAbsent n l
-    → IsAbsent n (wants m wanted l)
-wants_absent n m wanted l h = at_absent n m _ l
-    (λ e apart. turned_absent n (record e { wants_reply = wanted }) e [] l apart refl h) h
+pub aims_absent : (n m target : ℕ) (l : Lines) → IsAbsent n l → IsAbsent n (aims m target l)
+aims_absent n m target l h = at_absent n m _ l
+    (λ e apart. turned_absent n (record e { target = target }) e [] l apart refl h) h
+
+pub request_absent : (n m : ℕ) (l : Lines) → IsAbsent n l → IsAbsent n (takes_request m l)
+request_absent n m l h = at_absent n m _ l
+    (λ e apart. chosen_absent e.confirmed n _ _
+    (turned_absent n (requesting e) e [] l apart refl h) h) h
+
+pub reply_absent : (n m : ℕ) (place : Option ℕ) (success : Bool) (l : Lines) → IsAbsent n l
+    → IsAbsent n (takes_reply m place success l)
+reply_absent n m place success l h = at_absent n m _ l
+    (λ e apart. chosen_absent (reply_may_come place e) n _ _
+    (turned_absent n (replying place success e) e (replies_out place success e) l apart refl h)
+    h) h
 
 pub says_absent : (n m message : ℕ) (l : Lines) → IsAbsent n l → IsAbsent n (says m message l)
 says_absent n m message l h = at_absent n m _ l

@@ -1,5 +1,5 @@
 -- Laws of rows, by their acts: what each turn of the world and each command keeps, a row keeps.
-use Rattle.std.proofs.Common.{ℕ, ◌+◌, Bool, true, false, cond, List, [], ◌∷◌, map}
+use Rattle.std.proofs.Common.{ℕ, ◌+◌, Bool, true, false, cond, List, [], ◌∷◌, map, Option, None}
 use Rattle.ssh_link.specs.declared.command.Command.{Command}
 use Rattle.ssh_link.specs.declared.link.TraceEntry.{TraceEntry}
 use Rattle.ssh_link.specs.declared.link.TraceEntry.TheVariants.{Noticed, Sent}
@@ -19,12 +19,12 @@ use Rattle.ssh_rules.specs.Acts.{Act, Notes, Calls, Judges_by, Listens_by, Adjus
 use Rattle.ssh_rules.specs.Acts.{Is_over, Stops, tell_all, Exchanges, Exchanging, moved}
 use Rattle.ssh_rules.specs.Acts.{exchange_question, payloads_given, frames_given}
 use Rattle.ssh_rules.specs.Acts.{tell_done, done, done_all, acts}
-use Rattle.ssh_rules.specs.Effect.{Effect, Does, effect}
+use Rattle.ssh_rules.specs.Effect.{Effect, Does, effect_at}
 use Rattle.ssh_rules.specs.Outcome.{Outcome, Goes, Ends, Fails, Inconsistent, Pending}
 use Rattle.ssh_rules.specs.Rows.{exchange_acts}
 use Rattle.ssh_rules.specs.Run.{finish_input, going_out, handed_on, goes_unless_ended, begins}
 use Rattle.ssh_rules.specs.Run.{is_due}
-use Rattle.ssh_rules.specs.World.{World, keyed as rekeyed, lined}
+use Rattle.ssh_rules.specs.World.{World, keyed as rekeyed, lined, ChannelRequest}
 use Rattle.ssh_rules.proofs.Passing.{AreLater, moved_on}
 
 -- where each answer is such a one, this holds of what the plan comes to
@@ -59,8 +59,8 @@ pub record Law : Type 1 where
       → AllBuilt built answer.commands
   pub listens : (address : List ℕ) (port : ℕ) (answer : Listening)
       → such (Listens address port) answer → AllBuilt built answer.commands
-  pub keeps : (w : World) (command : Command) → holds w → built command
-      → EffectComes holds (effect w command)
+  pub keeps : (at : Option ChannelRequest) (w : World) (command : Command) → holds w
+      → built command → EffectComes holds (effect_at at w command)
 
 -- an exchange of keys leads from this world to such a world, as it goes on and at its end
 abbrev pub IsRekeyed : (holds : World → Type 0) → World → Type 0
@@ -78,8 +78,9 @@ AreRekeyed holds = (w : World) → holds w → IsRekeyed holds w
 abbrev pub ActsCome : (law : Law) → List Act → World → Type 0
 ActsCome law [] w = Unit {0}
 ActsCome law (Notes notice ∷ later) w = ActsCome law later w
-ActsCome law (Calls lent ∷ later) w = (world : World) → law.holds world → ActsCome law later world
-ActsCome law (Judges_by judged by ∷ later) w = (granted : Bool) (world : World)
+ActsCome law (Calls at lent ∷ later) w = (world : World) → law.holds world
+    → ActsCome law later world
+ActsCome law (Judges_by at judged by ∷ later) w = (granted : Bool) (world : World)
     → law.holds world → law.holds (by granted world) × ActsCome law later (by granted world)
 ActsCome law (Listens_by address port by ∷ later) w = (granted : Bool) (bound : ℕ)
     (world : World) → law.holds world
@@ -114,18 +115,18 @@ pub one_comes : (law : Law) (does : Effect) (next : CommandOutcome → World →
 one_comes law (Does notices outcome world) next k h = tells_come law (map Noticed notices)
     (next outcome world) (h outcome world k)
 
-all_come : (law : Law) (place : ℕ) (commands : List Command) (w : World) (next : World
-    → Plan Outcome) → law.holds w →
+all_come : (law : Law) (at : Option ChannelRequest) (place : ℕ) (commands : List Command)
+    (w : World) (next : World → Plan Outcome) → law.holds w →
     AllBuilt law.built commands →
     ((world : World) → law.holds world → PlanComes law.such law.comes (next world)) →
-    PlanComes law.such law.comes (done_all place commands w next)
-all_come law place [] w next s b h = h w s
-all_come law place (command ∷ commands) w next s b h =
-    one_comes law (effect w command) (λ outcome world. tell_done place outcome
-    (done_all (place + 1) commands world next))
-    (law.keeps w command s b.0)
-    (λ outcome world t. told_done law place outcome (done_all (place + 1) commands world next)
-    (all_come law (place + 1) commands world next t b.1 h))
+    PlanComes law.such law.comes (done_all at place commands w next)
+all_come law at place [] w next s b h = h w s
+all_come law at place (command ∷ commands) w next s b h =
+    one_comes law (effect_at at w command) (λ outcome world. tell_done place outcome
+    (done_all at (place + 1) commands world next))
+    (law.keeps at w command s b.0)
+    (λ outcome world t. told_done law place outcome (done_all at (place + 1) commands world next)
+    (all_come law at (place + 1) commands world next t b.1 h))
 
 moved_holds : (law : Law) (asked : Exchanging) (answer : Answer (exchange_question asked))
     (w : World) → IsRekeyed law.holds w → law.holds (moved asked answer w)
@@ -135,16 +136,16 @@ pub acts_come : (law : Law) (now : List Act) (w : World) → law.holds w → Act
     PlanComes law.such law.comes (acts now w)
 acts_come law [] w h k = law.goes w h
 acts_come law (Notes notice ∷ later) w h k = acts_come law later w h k
-acts_come law (Calls lent ∷ later) w h k = λ commands s.
-    all_come law 0 commands w (acts later) h (law.lends lent commands s)
+acts_come law (Calls at lent ∷ later) w h k = λ commands s.
+    all_come law at 0 commands w (acts later) h (law.lends lent commands s)
     (λ world t. acts_come law later world t (k world t))
-acts_come law (Judges_by judged by ∷ later) w h k = λ answer s.
-    all_come law 0 answer.commands w (λ world. acts later (by answer.granted world)) h
+acts_come law (Judges_by at judged by ∷ later) w h k = λ answer s.
+    all_come law at 0 answer.commands w (λ world. acts later (by answer.granted world)) h
     (law.judges judged answer s)
     (λ world t. acts_come law later (by answer.granted world) (k answer.granted world t).0
     (k answer.granted world t).1)
 acts_come law (Listens_by address port by ∷ later) w h k = λ answer s.
-    all_come law 0 answer.commands w
+    all_come law None 0 answer.commands w
     (λ world. acts later (by answer.granted answer.port world)) h
     (law.listens address port answer s)
     (λ world t. acts_come law later (by answer.granted answer.port world)

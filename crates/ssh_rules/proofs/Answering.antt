@@ -13,11 +13,11 @@ use Rattle.ssh_auth.specs.declared.question.Lent.TheVariants.{Opens}
 use Rattle.ssh_auth.specs.declared.question.OpenType.{OpenType}
 use Rattle.ssh_auth.specs.Plan.{Plan, Finish, Ask, Tell}
 use Rattle.ssh_auth.specs.Publickey.{Acceptance}
-use Rattle.ssh_channels.specs.Lines.{next_number, wants}
+use Rattle.ssh_channels.specs.Lines.{next_number}
 use Rattle.ssh_rules.specs.declared.exchange.Passage.{Passage}
 use Rattle.ssh_rules.specs.declared.gate.Gate.TheVariants as gate
 use Rattle.ssh_rules.specs.declared.opens.Handling.{Handling}
-use Rattle.ssh_rules.specs.declared.opens.Handling.TheVariants.{Asks, Unsupported, Unknown}
+use Rattle.ssh_rules.specs.declared.opens.Handling.TheVariants.{Asks, Unsupported, Unknown, GivenUp}
 use Rattle.ssh_rules.specs.Acts.{Calls, acts, done_all}
 use Rattle.ssh_rules.specs.Answered.{is_answer_on, is_open}
 use Rattle.ssh_rules.specs.Gate.{gate_of}
@@ -27,9 +27,9 @@ use Rattle.ssh_rules.specs.Outcome.{Outcome, Goes, Ends, Fails}
 use Rattle.ssh_rules.specs.Reading.{Said, Open, Unread, Unfit, Without_packets, SaysOpen}
 use Rattle.ssh_rules.specs.Rows.{row, open_acts, waits, asks_first, turns_first, exchange_acts}
 use Rattle.ssh_rules.specs.Run.{OwesKind, command_row}
-use Rattle.ssh_rules.specs.Types.{handling, opening_by, unsupported, unknown}
+use Rattle.ssh_rules.specs.Types.{handling, opening_by, unsupported, unknown, given_up}
 use Rattle.ssh_rules.specs.Ticks.{keepalive_acts}
-use Rattle.ssh_rules.specs.World.{World, circumstances, hears}
+use Rattle.ssh_rules.specs.World.{World, circumstances, hears, wants_if}
 use Rattle.ssh_rules.proofs.Acting.{acts_come, exchange_comes}
 use Rattle.ssh_rules.proofs.Answers.{inserted_count, answers_on, wants_owe}
 use Rattle.ssh_rules.proofs.Calling.{IsBesideOpen, beside_at, read_open}
@@ -60,8 +60,9 @@ open_covered number left m opening type w h =
     let lent = Opens (own m) type in
     let k = cond (number == m) (left + 1) left in
     let v = waits m opening w in
-    λ commands. covered (answers_on number) k k (done_all 0 commands v (acts [])) (omega arith)
-    (acts_come (law (answers_on number) k) (Calls lent ∷ []) v
+    λ commands. covered (answers_on number) k k (done_all None 0 commands v (acts []))
+    (omega arith)
+    (acts_come (law (answers_on number) k) (Calls None lent ∷ []) v
     (waits_step (number == m) number left m opening w refl h) (λ world j. tt) commands tt)
 
 -- the same, where something is asked at all; where nothing is, one more answer may be left, which
@@ -114,6 +115,8 @@ opens_covered : (number left : ℕ) (drawn : Option ℕ) (message : OpenChannelM
 opens_covered number left None message (Asks type) w h = tt
 opens_covered number left (Some m) message (Asks type) w h =
     open_covered number left m (opening_by message) type w h
+opens_covered number left drawn message GivenUp w h =
+    away_covered number left drawn (given_up message.recipient_channel) w h
 opens_covered number left drawn message Unsupported w h =
     away_covered number left drawn (unsupported message.recipient_channel) w h
 opens_covered number left drawn message Unknown w h =
@@ -123,7 +126,8 @@ said_covered : (number left : ℕ) (w : World) (moment : ℕ) (fields : List ℕ
     SaysOpen fields said → OwesUpTo (answers_on number) left w →
     CoveredOnce number left (row w moment said)
 said_covered number left w moment fields (Open message) says h =
-    opens_covered number left (next_number w.channels.lines) message (handling message.typ) w h
+    opens_covered number left (next_number w.channels.lines) message
+    (handling w.channels.no_more_sessions message.typ) w h
 said_covered number left w moment fields Unread says h = tt
 said_covered number left w moment fields Without_packets says h = tt
 said_covered number left w moment fields (Unfit why) says h = tt
@@ -134,7 +138,7 @@ requests_owe : (number k : ℕ) (w : World) (said : Said) → OwesUpTo (answers_
     OfRead (RequestOwes (answers_on number) k w) said
 requests_owe number k w said h =
     of_read (RequestOwes (answers_on number) k w) said
-    (λ channel wanted. lined_upto (answers_on number) k (wants channel.0 wanted) w
+    (λ channel wanted. lined_upto (answers_on number) k (wants_if wanted channel.0) w
     (wants_owe number (lines_owe (answers_on number) w.channels.lines) channel.0 wanted
     w.channels.lines (same_lines (answers_on number) w.channels.lines)) h) (λ wanted. h) (λ told.
     tt)

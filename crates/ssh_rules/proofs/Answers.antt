@@ -2,22 +2,25 @@
 -- that wait make (RFC 4254 section 5.1).
 use Rattle.std.proofs.Common.{◌≡◌, ◌<◌, ◌≤◌, ◌+◌, ◌==◌, ◌&&◌, ℕ, List, [], ◌∷◌}
 use Rattle.std.proofs.Common.{Bool, true, false, cond, Some, nat_lt}
-use Rattle.std.proofs.Common.{refl, sym, subst, rules, arith}
+use Rattle.std.proofs.Common.{refl, sym, subst, rules, arith, Option}
 use Rattle.std.specs.Ordering.{nat_cmp}
 use Rattle.std.specs.BTreeMap.{is_at, insert_entry}
 use Rattle.std.specs.Map.{lookup, remove_entry}
 use Rattle.ssh_auth.specs.declared.question.Question.{Question}
-use Rattle.ssh_channels.specs.Layout.{bare_frame}
-use Rattle.ssh_channels.specs.Lines.{Lines, find, put, wants}
+use Rattle.ssh_channels.specs.Lines.{Lines, find, put}
 use Rattle.ssh_channels.specs.Sent.{is_tagged}
 use Rattle.std.proofs.lemmas.Bool.{eqb-true}
 use Rattle.ssh_channels.proofs.Standing.{at_is}
 use Rattle.ssh_rules.specs.Answered.{how_many, is_answer, is_answer_on, open_asked}
 use Rattle.ssh_rules.specs.Opening.{Opening}
 use Rattle.ssh_rules.specs.Opens.{failure_frame}
-use Rattle.ssh_rules.proofs.Measures.{Measure, one_if, no_channel, no_more, untold, LinesOwe}
-use Rattle.ssh_rules.proofs.Measures.{found, silent_more}
+use Rattle.ssh_rules.proofs.Measures.{Measure, one_if, no_channel, untold, LinesOwe}
+use Rattle.ssh_rules.proofs.Measures.{found, silent_more, silent_none, replies_silent, chosen}
 use Rattle.ssh_rules.proofs.Waiting.{AllWaiting}
+use Rattle.ssh_channels.specs.Layout.{reply_frame}
+use Rattle.ssh_channels.specs.Entry.{Entry, requesting, replies_out}
+use Rattle.ssh_rules.specs.World.{wants_if}
+use Rattle.ssh_rules.proofs.Requested.{wants_kept}
 
 -- ---- opens that wait
 
@@ -145,6 +148,19 @@ one_answered number m payload opening opens is =
     let left = removed_count number m opening opens is in
     omega (arith, one, left)
 
+-- a reply to a request answers no open
+reply_unlike : (own peer : ℕ) (success : Bool) → is_answer (reply_frame own peer success) ≡ false
+reply_unlike own peer true = refl
+reply_unlike own peer false = refl
+
+pub no_answer_replied : (number : ℕ) (place : Option ℕ) (success : Bool) (e : Entry) →
+    how_many (is_answer_on number) (replies_out place success e) ≡ 0
+no_answer_replied number place success e =
+    silent_none (is_answer_on number) (replies_out place success e)
+    (replies_silent (is_answer_on number) e.number e.peer
+    (λ said. untold (number == e.number) (is_answer (reply_frame e.number e.peer said))
+    (reply_unlike e.number e.peer said)) _)
+
 -- answers on this number, and the opens of it that wait; the callback of one makes one
 abbrev pub answers_on : (number : ℕ) → Measure
 answers_on number = record {
@@ -160,16 +176,17 @@ answers_on number = record {
   kept = λ e f entries at same. omega arith;
   parted = λ m entries. omega arith;
   begun = λ e entries none. omega arith;
-  replied = λ message e entries unlike at wanted. no_more (is_answer_on number (bare_frame message
-      e.number e.peer)) 0
-      (untold (number == e.number) (is_answer (bare_frame message e.number e.peer)) unlike.0);
+  replied = λ place success e entries at.
+      let none = no_answer_replied number place success e in omega (arith, none);
   answered = λ m payload opening opens unlike is. one_answered number m payload opening opens is;
   settled = λ payload. omega arith;
 }
 
 -- a request makes none
 pub wants_owe : (number k m : ℕ) (wanted : Bool) (l : Lines) → LinesOwe (answers_on number) k l →
-    LinesOwe (answers_on number) k (wants m wanted l)
-wants_owe number k m wanted l h = found (find m l.entries) (answers_on number) k m _ l refl
-    (λ e is. silent_more (answers_on number) k l.written [] l.entries
-    (put (record e { wants_reply = wanted }) l.entries) tt (omega arith) h) h
+    LinesOwe (answers_on number) k (wants_if wanted m l)
+wants_owe number k m wanted l h = wants_kept (LinesOwe (answers_on number) k) wanted m l
+    (λ j. found (find m l.entries) (answers_on number) k m _ l refl
+    (λ e is. chosen e.confirmed (answers_on number) k _ _
+    (silent_more (answers_on number) k l.written [] l.entries (put (requesting e) l.entries) tt
+    (omega arith) j) j) j) h

@@ -20,7 +20,7 @@ use Rattle.ssh_rules.specs.OwnMessages.{disconnect}
 use Rattle.ssh_rules.specs.OwnOpens.{OwnOpen, asking}
 use Rattle.ssh_rules.specs.Outcome.{Keepalive_timeout, Fails}
 use Rattle.ssh_rules.specs.Acts.{Stops, Turns}
-use Rattle.ssh_rules.specs.Rows.{spoken_acts, bound_to, global_reply, notes}
+use Rattle.ssh_rules.specs.Rows.{spoken_acts, bound_to, global_reply, notes, gives_up_sessions}
 use Rattle.ssh_rules.specs.Ticks.{keepalive_acts, ticked, is_too_many, one_more}
 use Rattle.ssh_rules.specs.World.{World, wants_global, settles_global, settled_first}
 use Rattle.ssh_rules.specs.World.{unless_ended}
@@ -130,6 +130,13 @@ module _ (law : Law)
       wanting wanted w h,
       (settling (global_reply false None) (wants_global wanted w) (wanting wanted w h), tt),
     )
+
+    pub given_up_comes : (w : World) (wanted : Bool) → law.holds (gives_up_sessions w)
+        → ActsCome law (spoken_acts w (spoken.GivesUpSessions wanted)) w
+    given_up_comes w wanted h =
+        let v = gives_up_sessions w in
+        let k = wanting wanted v h in
+        (h, (k, (settling (global_reply true None) (wants_global wanted v) k, tt)))
 
     pub settles_comes : (w : World) (told : Option Notice) → law.holds w
         → ActsCome law (spoken_acts w (spoken.Settles told)) w

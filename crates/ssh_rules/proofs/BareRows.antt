@@ -1,60 +1,58 @@
 -- Rows with which no data come make no room and take none (RFC 4254 section 5.2).
-use Rattle.std.proofs.Common.{◌≡◌, ◌==◌, ◌<◌, ◌-◌, ◌^◌, ℕ, List, [], ◌∷◌, Bool, true, false, cond}
-use Rattle.std.proofs.Common.{Option, Some, None, refl, arith}
-use Rattle.std.specs.Prelude.{min}
+use Rattle.std.proofs.Common.{◌≡◌, ◌==◌, ℕ, List, [], ◌∷◌, Bool, true, false}
+use Rattle.std.proofs.Common.{Option, Some, None, refl}
 use Rattle.ssh_wire.specs.declared.channel_id.ChannelId.{ChannelId}
 use Rattle.ssh_wire.specs.declared.open.OpenChannelMessage.{OpenChannelMessage}
 use Rattle.ssh_wire.specs.declared.open.ChannelOpenConfirmation.{ChannelOpenConfirmation}
 use Rattle.ssh_wire.specs.declared.open_failure.ChannelOpenFailure.{ChannelOpenFailure}
-use Rattle.ssh_wire.specs.Messages.{channel_success, channel_failure}
 use Rattle.ssh_link.specs.declared.notice.Notice.{Notice}
 use Rattle.ssh_channels.specs.Entry.{Entry}
-use Rattle.ssh_channels.specs.Lines.{find, wants, next_number, drawn, drops_pending}
+use Rattle.ssh_channels.specs.Lines.{find, aims, next_number, drawn, drops_pending}
+use Rattle.ssh_channels.specs.Layout.{as_uint32}
 use Rattle.ssh_channels.specs.Sent.{is_opening}
 use Rattle.ssh_rules.specs.declared.messages.Spoken.{Spoken}
 use Rattle.ssh_rules.specs.declared.messages.Spoken.TheVariants as spoken
 use Rattle.ssh_rules.specs.declared.opens.Handling.{Handling}
-use Rattle.ssh_rules.specs.declared.opens.Handling.TheVariants.{Asks, Unsupported, Unknown}
+use Rattle.ssh_rules.specs.declared.opens.Handling.TheVariants.{Asks, GivenUp, Unsupported, Unknown}
 use Rattle.ssh_rules.specs.Acts.{Act}
 use Rattle.ssh_rules.specs.Layout.{at_once, too_many_attempts}
 use Rattle.ssh_rules.specs.Opens.{failure_frame}
 use Rattle.ssh_rules.specs.Reading.{Said, Disconnect, Over_cap, Open, Agreed, Connection, Unread}
 use Rattle.ssh_rules.specs.Reading.{Unfit, Without_packets}
-use Rattle.ssh_rules.specs.Rows.{owed, greeting, spoken_acts, on_entry, on_confirmed, aims}
+use Rattle.ssh_rules.specs.Rows.{owed, greeting, spoken_acts, on_entry, on_confirmed, aims_at}
 use Rattle.ssh_rules.specs.Rows.{failure_acts, confirmation_acts, open_acts, turns_first, notes}
-use Rattle.ssh_rules.specs.Rows.{reply_of, global_reply, bound_to}
-use Rattle.ssh_rules.specs.Types.{handling, unsupported, unknown}
-use Rattle.ssh_rules.specs.World.{World, lined, replies, settles_global, unless_ended, is_there}
-use Rattle.ssh_rules.specs.World.{is_waiting}
+use Rattle.ssh_rules.specs.Rows.{global_reply, bound_to}
+use Rattle.ssh_rules.specs.Types.{handling, given_up, unsupported, unknown}
+use Rattle.ssh_rules.specs.World.{World, lined, settles_global, unless_ended, is_there}
+use Rattle.ssh_rules.specs.World.{is_waiting, asked_on, wants_if, settles_one}
 use Rattle.ssh_rules.proofs.Apart.{either}
 use Rattle.ssh_rules.proofs.Carried.{IsBareSpoken, IsBareSaid}
 use Rattle.ssh_rules.proofs.Fitting.{KeepsRoom, AreBare}
-use Rattle.ssh_rules.proofs.Granting.{opens_on, written_room, grant_room, peer_close_room}
-use Rattle.ssh_rules.proofs.Granting.{wants_room, replies_room, confirmed_room, failed_room}
+use Rattle.ssh_rules.proofs.Granting.{Roomy, opens_on, written_room, grant_room, peer_close_room}
+use Rattle.ssh_rules.proofs.Granting.{aims_room, request_room, reply_room, confirmed_room}
+use Rattle.ssh_rules.proofs.Granting.{failed_room}
 use Rattle.ssh_rules.proofs.Measures.{AreSilent}
+use Rattle.ssh_rules.proofs.Requested.{wants_kept, one_kept}
 use Rattle.ssh_rules.proofs.Roomed.{InRoom, writes_room, settles_room}
 
 -- ---- turns of the world
 
 -- a reply to a request
-reply_keeps : (channel : ℕ) (granted : Bool) →
-    KeepsRoom (lined (replies channel (reply_of granted)))
-reply_keeps channel true n window passed grew w h = (
+reply_keeps : (place : Option ℕ) (channel : ℕ) (granted : Bool) →
+    KeepsRoom (lined (settles_one place channel granted))
+reply_keeps place channel granted n window passed grew w h = (
   h.0,
-  h.1,
-  replies_room n passed window grew channel channel_success.number w.channels.lines (λ e. refl)
-      h.2,
-)
-reply_keeps channel false n window passed grew w h = (
-  h.0,
-  h.1,
-  replies_room n passed window grew channel channel_failure.number w.channels.lines (λ e. refl)
-      h.2,
+  one_kept (Roomy n passed window grew) channel granted w.channels.lines
+      (reply_room n passed window grew channel granted w.channels.lines) place h.1,
 )
 
-wants_keeps : (channel : ℕ) (wanted : Bool) → KeepsRoom (lined (wants channel wanted))
-wants_keeps channel wanted n window passed grew w h =
-    (h.0, h.1, wants_room n passed window grew channel wanted w.channels.lines h.2)
+-- the request itself
+wants_keeps : (channel : ℕ) (wanted : Bool) → KeepsRoom (lined (wants_if wanted channel))
+wants_keeps channel wanted n window passed grew w h = (
+  h.0,
+  wants_kept (Roomy n passed window grew) wanted channel w.channels.lines
+      (request_room n passed window grew channel w.channels.lines) h.1,
+)
 
 settles_keeps : (payload : List ℕ) → KeepsRoom (settles_global payload)
 settles_keeps payload n window passed grew w h = settles_room n window passed grew payload w h
@@ -70,15 +68,12 @@ pub plain_silent : (n : ℕ) (message : Option (List ℕ)) → AreSilent (opens_
 plain_silent n None = (refl, tt)
 plain_silent n (Some message) = (refl, (refl, tt))
 
--- the window that rooms are filled up to is a number of four bytes
-aimed : (b : Bool) (aim target : ℕ) → target < 2 ^ 32 →
-    cond b target (min aim (2 ^ 32 - 1)) < 2 ^ 32
-aimed true aim target h = h
-aimed false aim target h = omega arith
-
-pub aims_keeps : (aim : ℕ) → KeepsRoom (aims aim)
-aims_keeps aim n window passed grew w h =
-    (h.0, aimed (aim == 0) aim w.channels.target h.1, h.2)
+-- the window that the room is filled up to
+pub aims_keeps : (channel : ChannelId) (window : ℕ) → KeepsRoom (aims_at channel window)
+aims_keeps channel aim n window passed grew w h =
+    let target = as_uint32 aim in
+    either (InRoom n window passed grew) (aim == 0) w (lined (aims channel.0 target) w) h
+    (h.0, aims_room n passed window grew channel.0 target w.channels.lines h.1)
 
 -- ---- rows with which no data come
 
@@ -97,8 +92,7 @@ failure_bare : (there waiting : Bool) (channel : ChannelId) (why : ChannelOpenFa
 failure_bare there true channel why = (
   λ n window passed grew w h. (
     h.0,
-    h.1,
-    failed_room n passed window grew channel.0 w.channels.lines h.2,
+    failed_room n passed window grew channel.0 w.channels.lines h.1,
   ),
   tt,
 )
@@ -110,9 +104,8 @@ confirmation_bare : (waiting : Bool) (message : ChannelOpenConfirmation) →
 confirmation_bare true message = (
   λ n window passed grew w h. (
     h.0,
-    h.1,
     confirmed_room n passed window grew message.recipient_channel message.sender_channel
-        message.maximum_packet_size message.initial_window_size w.channels.lines h.2,
+        message.maximum_packet_size message.initial_window_size w.channels.lines h.1,
   ),
   (refl, tt),
 )
@@ -131,6 +124,7 @@ open_bare : (number : Option ℕ) (message : OpenChannelMessage) (does : Handlin
     AreBare (open_acts number message does)
 open_bare None message (Asks type) = tt
 open_bare (Some number) message (Asks type) = (λ n window passed grew w h. h, (tt, tt))
+open_bare number message GivenUp = away_bare number (given_up message.recipient_channel) refl
 open_bare number message Unsupported =
     away_bare number (unsupported message.recipient_channel) refl
 open_bare number message Unknown = away_bare number (unknown message.recipient_channel) refl
@@ -152,8 +146,7 @@ spoken_bare w (spoken.Grant channel amount) is none =
     (λ e. (
       λ n window passed grew v h. (
         h.0,
-        h.1,
-        grant_room n passed window grew channel.0 amount v.channels.lines h.2,
+        grant_room n passed window grew channel.0 amount v.channels.lines h.1,
       ),
       (refl, tt),
     ))
@@ -165,26 +158,27 @@ spoken_bare w (spoken.Close channel) is none =
     (λ e. (
       λ n window passed grew v h. (
         h.0,
-        h.1,
-        peer_close_room n passed window grew channel.0 v.channels.lines h.2,
+        peer_close_room n passed window grew channel.0 v.channels.lines h.1,
       ),
       (refl, tt),
     ))
 spoken_bare w (spoken.Failed channel reason) is none =
     failure_bare (is_there w channel.0) (is_waiting w channel.0) channel reason
-spoken_bare w (spoken.Wants channel wanted) is none = (wants_keeps channel.0 wanted, tt)
 spoken_bare w (spoken.Asks channel wanted message happening) is none =
     (wants_keeps channel.0 wanted, (is, tt))
-spoken_bare w (spoken.AsksForAgent channel wanted) is none = (
+spoken_bare w (spoken.AsksForAgent channel wanted) is none =
+    let place = (asked_on channel wanted w).place in (
+      wants_keeps channel.0 wanted,
+      (
+        λ granted. ended_keeps (lined (settles_one place channel.0 granted))
+            (reply_keeps place channel.0 granted),
+        tt,
+      ),
+    )
+spoken_bare w (spoken.AsksUnknown channel wanted) is none = (
   wants_keeps channel.0 wanted,
-  (
-    λ granted. ended_keeps (lined (replies channel.0 (reply_of granted)))
-        (reply_keeps channel.0 granted),
-    tt,
-  ),
+  (reply_keeps (asked_on channel wanted w).place channel.0 false, tt),
 )
-spoken_bare w (spoken.AsksUnknown channel wanted) is none =
-    (wants_keeps channel.0 wanted, (reply_keeps channel.0 false, tt))
 spoken_bare w (spoken.AsksToForward wanted address port) is none = (
   λ n window passed grew v h. h,
   (
@@ -203,6 +197,10 @@ spoken_bare w (spoken.AsksGlobally wanted judged) is none = (
 )
 spoken_bare w (spoken.AsksGloballyUnknown wanted) is none =
     (λ n window passed grew v h. h, (settles_keeps (global_reply false None), tt))
+spoken_bare w (spoken.GivesUpSessions wanted) is none = (
+  λ n window passed grew v h. h,
+  (λ n window passed grew v h. h, (settles_keeps (global_reply true None), tt)),
+)
 spoken_bare w (spoken.Settles told) is none = (λ n window passed grew v h. h, notes_bare told)
 spoken_bare w spoken.Inconsistent is none = tt
 
@@ -214,7 +212,8 @@ BringsNoData _ = Unit {0}
 pub owed_bare : (w : World) (said : Said) → IsBareSaid said → BringsNoData said →
     AreBare (owed w said)
 owed_bare w (Open message) is none =
-    open_bare (next_number w.channels.lines) message (handling message.typ)
+    open_bare (next_number w.channels.lines) message
+    (handling w.channels.no_more_sessions message.typ)
 owed_bare w (Agreed message) is none =
     confirmation_bare (is_waiting w message.recipient_channel) message
 owed_bare w (Connection said) is none = spoken_bare w said is none
@@ -223,9 +222,8 @@ owed_bare w Disconnect is none = tt
 owed_bare w Over_cap is none = (
   λ n window passed grew v h. (
     h.0,
-    h.1,
     written_room n passed window grew (at_once too_many_attempts ∷ []) v.channels.lines (refl, tt)
-        h.2,
+        h.1,
   ),
   tt,
 )

@@ -1,7 +1,7 @@
 -- What does not depend on channels, nor on the user, holds through each row and each command of a
 -- channel.
 use Rattle.std.proofs.Common.{◌≡◌, ℕ, List, [], ◌∷◌, Option, Some, None, Bool, true, false}
-use Rattle.std.proofs.Common.{refl}
+use Rattle.std.proofs.Common.{refl, ◌==◌}
 use Rattle.std.specs.Prelude.{length, bytes_eq, codes, if◌then◌else◌}
 use Rattle.ssh_link.specs.declared.command.Command.{Command}
 use Rattle.ssh_link.specs.declared.command.Command.TheVariants as command
@@ -15,7 +15,7 @@ use Rattle.ssh_auth.specs.Verdict.{AuthOutcome, Replies, verdict as verdict_on, 
 use Rattle.ssh_auth.specs.Verdict as auth
 use Rattle.ssh_channels.specs.Entry.{Entry}
 use Rattle.ssh_channels.specs.Does.{coming_of}
-use Rattle.ssh_channels.specs.Lines.{find, next_number, takes_in}
+use Rattle.ssh_channels.specs.Lines.{find, next_number, takes_in, aims}
 use Rattle.ssh_channels.specs.declared.adjusted.Adjusted.{Adjusted}
 use Rattle.ssh_channels.specs.declared.adjusted.Adjusted.TheVariants.{Dropped, Kept, Granted}
 use Rattle.ssh_channels.specs.declared.chunk.Chunk.{Chunk}
@@ -30,7 +30,7 @@ use Rattle.ssh_rules.specs.OwnOpens.{OwnOpen, open_payload}
 use Rattle.ssh_rules.specs.Opening.{Opening}
 use Rattle.ssh_rules.specs.Types.{handling}
 use Rattle.ssh_rules.specs.declared.opens.Handling.{Handling}
-use Rattle.ssh_rules.specs.declared.opens.Handling.TheVariants.{Asks, Unsupported, Unknown}
+use Rattle.ssh_rules.specs.declared.opens.Handling.TheVariants.{Asks, Unsupported, Unknown, GivenUp}
 use Rattle.ssh_wire.specs.declared.open.OpenChannelMessage.{OpenChannelMessage}
 use Rattle.ssh_wire.specs.declared.open.ChannelOpenConfirmation.{ChannelOpenConfirmation}
 use Rattle.ssh_rules.specs.Opens.{opening_of}
@@ -43,18 +43,20 @@ use Rattle.ssh_rules.specs.Reading.{Response, Open, Agreed, Unread, Connection, 
 use Rattle.ssh_rules.specs.Reading.{Without_packets}
 use Rattle.ssh_rules.specs.Rows.{spoken_acts, failure_acts, confirmation_acts}
 use Rattle.ssh_rules.specs.Rows.{row, owed, greets, is_short, replied, concluded, asked_of}
-use Rattle.ssh_rules.specs.Rows.{on_entry, on_confirmed, data_told, open_acts, reply_of, fault_of}
+use Rattle.ssh_rules.specs.Rows.{on_entry, on_confirmed, data_told, open_acts, fault_of}
 use Rattle.ssh_wire.specs.declared.error.WireError.TheVariants as wire
 use Rattle.ssh_rules.specs.Layout.{at_once}
 use Rattle.ssh_rules.specs.World.{World, waits_for, lined, writes, is_there, is_waiting}
-use Rattle.ssh_rules.specs.World.{replies, wants_global, settles_global}
+use Rattle.ssh_rules.specs.World.{wants_global, settles_global, target_on}
+use Rattle.ssh_rules.specs.World.{ChannelRequest, asked_on, settles_one}
 use Rattle.ssh_rules.proofs.Acting.{PlanComes, EffectComes, Law, ActsCome, acts_come}
 use Rattle.ssh_rules.proofs.Acting.{comes_then}
 use Rattle.ssh_rules.proofs.Apart.{either, forward_comes, asked_comes}
-use Rattle.ssh_rules.proofs.Apart.{unknown_comes, settles_comes}
+use Rattle.ssh_rules.proofs.Apart.{unknown_comes, settles_comes, given_up_comes}
 use Rattle.ssh_rules.specs.OwnRequests.{OwnRequest, request_payload, xon_xoff, exit_status}
 use Rattle.ssh_rules.specs.OwnRequests.{exit_signal}
 use Rattle.ssh_link.specs.declared.outcome.Refusal.TheVariants.{TooLong}
+use Rattle.ssh_channels.specs.Layout.{as_uint32}
 
 -- nothing is owed where no channel is there, or none that both sides agreed to
 agreed_come : (of : Law) (w : World) (confirmed : Bool) (owes : List Act) → ActsCome of owes w →
@@ -136,28 +138,28 @@ module _ (holds : World → Type 0)
         (same w _ refl refl refl h) h
 
     -- where it holds through this command, if it is of no channel
-    pub done_beside : (w : World) (commanded : Command) → holds w
+    pub done_beside : (at : Option ChannelRequest) (w : World) (commanded : Command) → holds w
         → EffectComes holds (done_apart w commanded)
-        → EffectComes holds (done_by w commanded)
-    done_beside w (command.Data channel bytes) h k = same w _ refl refl refl h
-    done_beside w (command.ExtendedData channel code bytes) h k = same w _ refl refl refl h
-    done_beside w (command.Eof channel) h k = same w _ refl refl refl h
-    done_beside w (command.Close channel) h k = same w _ refl refl refl h
-    done_beside w (command.ChannelSuccess channel) h k = same w _ refl refl refl h
-    done_beside w (command.ChannelFailure channel) h k = same w _ refl refl refl h
-    done_beside w (command.XonXoff channel client_can_do) h k =
+        → EffectComes holds (done_by at w commanded)
+    done_beside at w (command.Data channel bytes) h k = same w _ refl refl refl h
+    done_beside at w (command.ExtendedData channel code bytes) h k = same w _ refl refl refl h
+    done_beside at w (command.Eof channel) h k = same w _ refl refl refl h
+    done_beside at w (command.Close channel) h k = same w _ refl refl refl h
+    done_beside at w (command.ChannelSuccess channel) h k = same w _ refl refl refl h
+    done_beside at w (command.ChannelFailure channel) h k = same w _ refl refl refl h
+    done_beside at w (command.XonXoff channel client_can_do) h k =
         requested_beside (is_too_long (request_payload 0 (xon_xoff client_can_do)))
         (find channel.0 w.channels.lines.entries) channel (xon_xoff client_can_do) w h
-    done_beside w (command.ExitStatus channel status) h k =
+    done_beside at w (command.ExitStatus channel status) h k =
         requested_beside (is_too_long (request_payload 0 (exit_status status)))
         (find channel.0 w.channels.lines.entries) channel (exit_status status) w h
-    done_beside w (command.ExitSignal channel signal core message language) h k =
+    done_beside at w (command.ExitSignal channel signal core message language) h k =
         let asked = exit_signal signal core message language in
         requested_beside (is_too_long (request_payload 0 asked))
         (find channel.0 w.channels.lines.entries) channel asked w h
-    done_beside w (command.Answer answer) h k =
+    done_beside at w (command.Answer answer) h k =
         answers_beside answer (opening_of answer.channel.0 w) w h
-    done_beside w other h k = k
+    done_beside at w other h k = k
 
 -- ---- rows
 
@@ -171,15 +173,20 @@ module _ (law : Law)
         (w : World) → law.holds w → ActsCome law (data_told adjusted channel piece target) w
     told_beside Dropped channel piece target w h = tt
     told_beside Kept channel piece target w h = λ world k. tt
-    told_beside (Granted amount) channel piece target w h =
-        λ window. (same w _ refl refl refl h, λ world k. tt)
+    told_beside (Granted amount) channel piece target w h = λ window. (
+      either law.holds (window == 0) w (lined (aims channel.0 (as_uint32 window)) w) h
+          (same w _ refl refl refl h),
+      λ world k. tt,
+    )
 
     open_beside : (number : Option ℕ) (message : OpenChannelMessage) (does : Handling) (w : World)
         → law.holds w → ActsCome law (open_acts number message does) w
     open_beside None message (Asks type) w h = fault Channels_full
+    open_beside None message GivenUp w h = fault Channels_full
     open_beside None message Unsupported w h = fault Channels_full
     open_beside None message Unknown w h = fault Channels_full
     open_beside (Some number) message (Asks type) w h = (same w _ refl refl refl h, λ world k. tt)
+    open_beside (Some number) message GivenUp w h = (same w _ refl refl refl h, tt)
     open_beside (Some number) message Unsupported w h = (same w _ refl refl refl h, tt)
     open_beside (Some number) message Unknown w h = (same w _ refl refl refl h, tt)
 
@@ -201,17 +208,16 @@ module _ (law : Law)
         on_come law w (find channel.0 w.channels.lines.entries) _
         (λ e. (same w _ refl refl refl h, λ world k. tt))
     spoken_beside w (spoken.Data channel piece) h =
-        let came = coming_of (length piece.bytes) w.channels.target
+        let came = coming_of (length piece.bytes) (target_on channel.0 w)
         (find channel.0 w.channels.lines.entries) in
-        let v = lined (takes_in channel.0 (length piece.bytes) w.channels.target) w in
+        let v = lined (takes_in channel.0 (length piece.bytes) (target_on channel.0 w)) w in
         let k : law.holds v = same w v refl refl refl h in
-        (k, told_beside came channel piece w.channels.target v k)
+        (k, told_beside came channel piece (target_on channel.0 w) v k)
     spoken_beside w (spoken.Tells channel message happening) h =
         on_come law w (find channel.0 w.channels.lines.entries) _ (λ e. λ world k. tt)
     spoken_beside w (spoken.Close channel) h =
         on_come law w (find channel.0 w.channels.lines.entries) _
         (λ e. (same w _ refl refl refl h, λ world k. tt))
-    spoken_beside w (spoken.Wants channel wanted) h = (same w _ refl refl refl h, tt)
     spoken_beside w (spoken.Failed channel reason) h =
         failure_beside w (is_there w channel.0) (is_waiting w channel.0) channel reason h
     spoken_beside w (spoken.Asks channel wanted message happening) h =
@@ -220,7 +226,8 @@ module _ (law : Law)
       same w _ refl refl refl h,
       λ granted world k. (
         either law.holds world.disconnected world
-            (lined (replies channel.0 (reply_of granted)) world) k (same world _ refl refl refl k),
+            (lined (settles_one (asked_on channel wanted w).place channel.0 granted) world) k
+            (same world _ refl refl refl k),
         tt,
       ),
     )
@@ -235,6 +242,9 @@ module _ (law : Law)
     spoken_beside w (spoken.AsksGloballyUnknown wanted) h =
         unknown_comes law (λ b v k. same v _ refl refl refl k) (settles_beside law.holds same)
         (λ v k. same v _ refl refl refl k) w wanted h
+    spoken_beside w (spoken.GivesUpSessions wanted) h =
+        given_up_comes law (λ b v k. same v _ refl refl refl k) (settles_beside law.holds same)
+        (λ v k. same v _ refl refl refl k) w wanted (same w _ refl refl refl h)
     spoken_beside w (spoken.Settles told) h =
         settles_comes law (λ b v k. same v _ refl refl refl k) (settles_beside law.holds same)
         (λ v k. same v _ refl refl refl k) w told h
@@ -243,7 +253,8 @@ module _ (law : Law)
     owed_beside : (w : World) (said : Said) → IsOther said → law.holds w
         → ActsCome law (owed w said) w
     owed_beside w (Open message) is h =
-        open_beside (next_number w.channels.lines) message (handling message.typ) w h
+        open_beside (next_number w.channels.lines) message
+        (handling w.channels.no_more_sessions message.typ) w h
     owed_beside w (Agreed message) is h =
         confirmation_beside w (is_waiting w message.recipient_channel) message h
     owed_beside w Unread is h = fault Starved

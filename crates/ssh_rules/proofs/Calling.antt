@@ -62,13 +62,13 @@ use Rattle.ssh_rules.specs.Acts.{tell_done, done, done_all, acts, Judges_by, Lis
 use Rattle.ssh_rules.specs.Acts.{Exchanges, Exchanging, Beginning, Stepping, exchange_question}
 use Rattle.ssh_rules.specs.Acts.{payloads_given, frames_given, moved}
 use Rattle.ssh_rules.specs.Answered.{is_open, open_asked, open_of, sends}
-use Rattle.ssh_rules.specs.Effect.{Effect, Does, effect, said}
+use Rattle.ssh_rules.specs.Effect.{Effect, Does, effect, said, effect_at}
 use Rattle.ssh_rules.specs.OwnMessages.{keepalive}
 use Rattle.ssh_rules.specs.Ticks.{keepalive_acts, is_too_many, ticked}
 use Rattle.ssh_rules.specs.Ticks as ticks
 use Rattle.ssh_rules.specs.Gate.{gate_of}
 use Rattle.ssh_rules.specs.declared.opens.Handling.{Handling}
-use Rattle.ssh_rules.specs.declared.opens.Handling.TheVariants.{Asks, Unsupported, Unknown}
+use Rattle.ssh_rules.specs.declared.opens.Handling.TheVariants.{Asks, Unsupported, Unknown, GivenUp}
 use Rattle.ssh_rules.specs.Types.{handling, opening_by}
 use Rattle.ssh_wire.specs.declared.open.OpenChannelMessage.{OpenChannelMessage}
 use Rattle.ssh_wire.specs.declared.open.ChannelOpenConfirmation.{ChannelOpenConfirmation}
@@ -82,6 +82,7 @@ use Rattle.ssh_rules.specs.Rows.{replied, concluded, asked_of as asked_at, data_
 use Rattle.ssh_rules.specs.Rows.{on_confirmed, failure_acts, confirmation_acts, exchange_acts}
 use Rattle.ssh_rules.specs.Run.{OwesKind, command_row}
 use Rattle.ssh_rules.specs.World.{World, circumstances, hears, waits_for, is_there, is_waiting}
+use Rattle.ssh_rules.specs.World.{target_on, ChannelRequest}
 use Rattle.ssh_rules.proofs.Gates.{is_channel_open}
 use Rattle.ssh_rules.proofs.Passing.{payload_so}
 
@@ -119,7 +120,7 @@ IsBeside question = open_asked question ≡ None
 
 abbrev pub ActsBeside : List Act → Type 0
 ActsBeside [] = Unit {0}
-ActsBeside (Calls lent ∷ later) = IsBeside (Lends lent) × ActsBeside later
+ActsBeside (Calls at lent ∷ later) = IsBeside (Lends lent) × ActsBeside later
 ActsBeside (_ ∷ later) = ActsBeside later
 
 pub tells_beside : (entries : List TraceEntry) (next : Plan Outcome) → AsksOnly IsBeside next →
@@ -139,15 +140,16 @@ one_beside : (does : Effect) (next : CommandOutcome → World → Plan Outcome) 
 one_beside (Does notices outcome world) next h =
     tells_beside (map Noticed notices) (next outcome world) (h outcome world)
 
-all_beside : (place : ℕ) (commands : List Command) (w : World) (next : World → Plan Outcome) →
+all_beside : (at : Option ChannelRequest) (place : ℕ) (commands : List Command) (w : World)
+    (next : World → Plan Outcome) →
     ((world : World) → AsksOnly IsBeside (next world)) →
-    AsksOnly IsBeside (done_all place commands w next)
-all_beside place [] w next h = h w
-all_beside place (command ∷ commands) w next h =
-    one_beside (effect w command) (λ outcome world. tell_done place outcome
-    (done_all (place + 1) commands world next))
-    (λ outcome world. done_beside place outcome (done_all (place + 1) commands world next)
-    (all_beside (place + 1) commands world next h))
+    AsksOnly IsBeside (done_all at place commands w next)
+all_beside at place [] w next h = h w
+all_beside at place (command ∷ commands) w next h =
+    one_beside (effect_at at w command) (λ outcome world. tell_done place outcome
+    (done_all at (place + 1) commands world next))
+    (λ outcome world. done_beside place outcome (done_all at (place + 1) commands world next)
+    (all_beside at (place + 1) commands world next h))
 
 -- what an exchange of keys is asked is about no open
 exchange_beside : (asked : Exchanging) → IsBeside (exchange_question asked)
@@ -157,18 +159,18 @@ exchange_beside (Stepping payload) = refl
 pub acts_beside : (now : List Act) (w : World) → ActsBeside now → AsksOnly IsBeside (acts now w)
 acts_beside [] w h = tt
 acts_beside (Notes notice ∷ later) w h = acts_beside later w h
-acts_beside (Calls lent ∷ later) w h = (
+acts_beside (Calls at lent ∷ later) w h = (
   h.0,
-  λ commands. all_beside 0 commands w (acts later) (λ world. acts_beside later world h.1),
+  λ commands. all_beside at 0 commands w (acts later) (λ world. acts_beside later world h.1),
 )
-acts_beside (Judges_by judged by ∷ later) w h = (
+acts_beside (Judges_by at judged by ∷ later) w h = (
   refl,
-  λ answer. all_beside 0 answer.commands w (λ world. acts later (by answer.granted world))
+  λ answer. all_beside at 0 answer.commands w (λ world. acts later (by answer.granted world))
       (λ world. acts_beside later (by answer.granted world) h),
 )
 acts_beside (Listens_by address port by ∷ later) w h = (
   refl,
-  λ answer. all_beside 0 answer.commands w
+  λ answer. all_beside None 0 answer.commands w
       (λ world. acts later (by answer.granted answer.port world))
       (λ world. acts_beside later (by answer.granted answer.port world) h),
 )
@@ -219,13 +221,12 @@ spoken_beside w spoken.Nothing = tt
 spoken_beside w (spoken.Grant channel amount) =
     on_beside (find channel.0 w.channels.lines.entries) _ (λ e. (refl, tt))
 spoken_beside w (spoken.Data channel piece) =
-    data_beside (coming_of (length piece.bytes) w.channels.target
-    (find channel.0 w.channels.lines.entries)) channel piece w.channels.target
+    data_beside (coming_of (length piece.bytes) (target_on channel.0 w)
+    (find channel.0 w.channels.lines.entries)) channel piece (target_on channel.0 w)
 spoken_beside w (spoken.Tells channel message happening) =
     on_beside (find channel.0 w.channels.lines.entries) _ (λ e. (refl, tt))
 spoken_beside w (spoken.Close channel) =
     on_beside (find channel.0 w.channels.lines.entries) _ (λ e. (refl, tt))
-spoken_beside w (spoken.Wants channel wanted) = tt
 spoken_beside w (spoken.Failed channel reason) =
     failure_beside (is_there w channel.0) (is_waiting w channel.0) channel reason
 spoken_beside w (spoken.Asks channel wanted message happening) = (refl, tt)
@@ -234,6 +235,7 @@ spoken_beside w (spoken.AsksUnknown channel wanted) = tt
 spoken_beside w (spoken.AsksToForward wanted address port) = tt
 spoken_beside w (spoken.AsksGlobally wanted judged) = tt
 spoken_beside w (spoken.AsksGloballyUnknown wanted) = tt
+spoken_beside w (spoken.GivesUpSessions wanted) = tt
 spoken_beside w (spoken.Settles None) = tt
 spoken_beside w (spoken.Settles (Some notice)) = tt
 spoken_beside w spoken.Inconsistent = tt
@@ -382,17 +384,20 @@ none_upto false plan h = h
 opens_once : (w : World) (drawn : Option ℕ) (message : OpenChannelMessage) (does : Handling) →
     AsksOnce (acts (open_acts drawn message does) w)
 opens_once w None message (Asks type) = tt
+opens_once w None message GivenUp = tt
 opens_once w None message Unsupported = tt
 opens_once w None message Unknown = tt
 opens_once w (Some number) message (Asks type) = λ commands.
-    all_beside 0 commands (waits number (opening_by message) w) (acts []) (λ world. tt)
+    all_beside None 0 commands (waits number (opening_by message) w) (acts []) (λ world. tt)
+opens_once w (Some number) message GivenUp = tt
 opens_once w (Some number) message Unsupported = tt
 opens_once w (Some number) message Unknown = tt
 
 open_once : (w : World) (moment : ℕ) (fields : List ℕ) (said : Said) → SaysOpen fields said →
     AsksOnce (row w moment said)
 open_once w moment fields (Open message) h =
-    opens_once w (next_number w.channels.lines) message (handling message.typ)
+    opens_once w (next_number w.channels.lines) message
+    (handling w.channels.no_more_sessions message.typ)
 open_once w moment fields Unread h = tt
 open_once w moment fields Without_packets h = tt
 open_once w moment fields (Unfit why) h = tt

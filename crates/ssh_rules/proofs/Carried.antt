@@ -21,6 +21,7 @@ use Rattle.ssh_rules.specs.ChannelRequests.{terminal_asked, terminal, x11, envir
 use Rattle.ssh_rules.specs.ChannelRequests.{exec, subsystem, window_change, signal, agent}
 use Rattle.ssh_rules.specs.Globals.{KnownGlobal, globally_asked_by, global_named, says_so}
 use Rattle.ssh_rules.specs.Globals.{Globally, Listens, Judges, oldest, success, denied}
+use Rattle.ssh_rules.specs.Globals.{Gives_up_sessions}
 use Rattle.ssh_rules.specs.Messages.{message_layout, data_on, extended_on, request_on}
 use Rattle.ssh_rules.specs.Opens.{own}
 use Rattle.ssh_rules.specs.Reading.{Said, Service, Open, Agreed, Unread, Connection, Unfit}
@@ -151,6 +152,7 @@ request_bare true wanted channel name =
 globally_bare : (wanted : Bool) (asked : Globally) → IsBareSpoken (says_so wanted asked)
 globally_bare wanted (Listens address port) = tt
 globally_bare wanted (Judges judged) = tt
+globally_bare wanted Gives_up_sessions = tt
 
 global_bare : (known : Option KnownGlobal) (wanted : Bool) →
     AllBare (globally_asked_by known wanted)

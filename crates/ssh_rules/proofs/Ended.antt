@@ -1,6 +1,6 @@
 -- A run ends well only by an input that ends it.
 use Rattle.std.proofs.Common.{◌≡◌, ◌⊎◌, ℕ, List, [], ◌∷◌, Bool, true, false}
-use Rattle.std.proofs.Common.{refl, sym, ◌∙◌, subst, inl, inr, cond, map, ◌||◌, not}
+use Rattle.std.proofs.Common.{refl, sym, ◌∙◌, subst, inl, inr, cond, map, ◌||◌, not, Option, None}
 use Rattle.std.specs.List.{list_any}
 use Rattle.std.specs.Prelude.{drop, Result, Ok, Err}
 use Rattle.ssh_wire.specs.declared.error.WireError.{WireError}
@@ -22,7 +22,7 @@ use Rattle.ssh_rules.specs.declared.gate.Gate.{Gate}
 use Rattle.ssh_rules.specs.declared.gate.Gate.TheVariants as gate
 use Rattle.ssh_rules.specs.Acts.{acts, frames_given}
 use Rattle.ssh_rules.specs.Effect.{effect, done_by, done_apart, refused_for, said, sends}
-use Rattle.ssh_rules.specs.Effect.{is_too_long}
+use Rattle.ssh_rules.specs.Effect.{is_too_long, effect_at}
 use Rattle.ssh_rules.specs.OwnMessages.{OwnMessage, forward, cancel, keepalive, ping, debug}
 use Rattle.ssh_rules.specs.OwnMessages.{disconnect}
 use Rattle.ssh_rules.specs.OwnOpens.{asking}
@@ -47,7 +47,7 @@ use Rattle.ssh_rules.proofs.Acting.{PlanComes, EffectComes, AllBuilt, Law, acts_
 use Rattle.ssh_rules.proofs.Acting.{one_comes, comes_then, told_come, exchange_comes}
 use Rattle.ssh_rules.proofs.Passing.{payload_so}
 use Rattle.ssh_rules.proofs.Settled.{Anything}
-use Rattle.ssh_rules.specs.World.{hears}
+use Rattle.ssh_rules.specs.World.{hears, ChannelRequest}
 use Rattle.ssh_rules.proofs.Apart.{sent_comes, refused_comes, tick_comes}
 use Rattle.ssh_rules.proofs.Beside.{done_beside, settles_beside, opens_or_not_beside, row_beside}
 use Rattle.ssh_rules.proofs.Beside.{IsOther}
@@ -114,11 +114,11 @@ apart_live w (command.Disconnect reason description language) mild h =
     long_live message w (is_too_long message.payload) refl mild h
 apart_live w other mild h = opens_or_not_beside IsLive same_live (asking other) w h
 
-pub effect_live : (w : World) (one : Command) → IsMild one → IsLive w
-    → EffectComes IsLive (effect w one)
-effect_live w one mild h =
-    refused_comes IsLive (refused_for w.disconnected w one) w (done_by w one) h
-    (done_beside IsLive same_live w one h (apart_live w one mild h))
+pub effect_live : (at : Option ChannelRequest) (w : World) (one : Command) → IsMild one
+    → IsLive w → EffectComes IsLive (effect_at at w one)
+effect_live at w one mild h =
+    refused_comes IsLive (refused_for w.disconnected w one) w (done_by at w one) h
+    (done_beside IsLive same_live at w one h (apart_live w one mild h))
 
 abbrev law : Law
 law = record {
@@ -130,7 +130,7 @@ law = record {
   lends = λ lent commands s. s;
   judges = λ judged answer s. s;
   listens = λ address port answer s. s;
-  keeps = λ w one h mild. effect_live w one mild h;
+  keeps = λ at w one h mild. effect_live at w one mild h;
 }
 
 row_on : (w : World) (moment : ℕ) (said : Said) → IsOther said → IsLive w
@@ -141,7 +141,7 @@ command_on : (w : World) (ticket : ℕ) (one : Command) → IsMild one → IsLiv
     → PlanComes IsMildAnswer IsNoEnd (command_row w ticket one)
 command_on w ticket one mild h =
     one_comes law (effect w one) (λ outcome world. Tell (Answered ticket outcome)
-    (Finish (Goes world))) (effect_live w one mild h) (λ outcome world k. k)
+    (Finish (Goes world))) (effect_live None w one mild h) (λ outcome world k. k)
 
 tick_on : (w : World) → IsLive w → PlanComes IsMildAnswer IsNoEnd (acts (keepalive_acts w) w)
 tick_on w h =

@@ -44,12 +44,12 @@ use Rattle.ssh_rules.specs.declared.messages.Spoken.TheVariants as spoken
 use Rattle.ssh_rules.specs.declared.state.EncryptedState.{EncryptedState}
 use Rattle.ssh_rules.specs.declared.state.EncryptedState.TheVariants.{WaitingAuthRequest}
 use Rattle.ssh_rules.specs.Acts.{acts, Turns}
-use Rattle.ssh_rules.specs.Effect.{Effect, Does, effect, said}
+use Rattle.ssh_rules.specs.Effect.{Effect, Does, effect, effect_at, said}
 use Rattle.ssh_rules.specs.Gate.{gate_of}
 use Rattle.ssh_rules.specs.Layout.{banner}
 use Rattle.ssh_rules.specs.Types.{handling}
 use Rattle.ssh_rules.specs.declared.opens.Handling.{Handling}
-use Rattle.ssh_rules.specs.declared.opens.Handling.TheVariants.{Asks, Unsupported, Unknown}
+use Rattle.ssh_rules.specs.declared.opens.Handling.TheVariants.{Asks, GivenUp, Unsupported, Unknown}
 use Rattle.ssh_rules.specs.Outcome.{Outcome, Goes, Fails, Starved}
 use Rattle.ssh_rules.specs.Messages.{message_layout}
 use Rattle.ssh_rules.specs.Reading.{Said, Open, Agreed, Unread, Service, Connection}
@@ -65,7 +65,7 @@ use Rattle.ssh_rules.specs.declared.exchange.Passage.{Passage}
 use Rattle.ssh_rules.specs.declared.exchange.Passage.TheVariants.{Begins, Steps, Barred, Late}
 use Rattle.ssh_rules.specs.declared.exchange.Passage.TheVariants.{Passes}
 use Rattle.ssh_rules.specs.World.{World, circumstances, hears, waits_for, lined, is_there}
-use Rattle.ssh_rules.specs.World.{is_waiting}
+use Rattle.ssh_rules.specs.World.{is_waiting, target_on}
 use Rattle.ssh_rules.specs.Valid.{AreValidMethodFields, AreValidFields, FitsLayout, HasNoPrompt}
 use Rattle.ssh_rules.specs.Valid.{IsFineAnswer, IsFineBanner}
 use Rattle.ssh_rules.specs.Valid.{IsServed, IsValidKind, IsValidPassed}
@@ -105,7 +105,7 @@ law kind = record {
   lends = λ lent commands s. any_built commands;
   judges = λ judged answer s. any_built answer.commands;
   listens = λ address port answer s. any_built answer.commands;
-  keeps = λ w command h b. any_effect (effect w command);
+  keeps = λ at w command h b. any_effect (effect_at at w command);
 }
 
 -- ---- authentication
@@ -237,17 +237,15 @@ spoken_fine : (kind : InputKind) (w : World) (said : Spoken) → IsServed w said
 spoken_fine kind w spoken.Nothing is = tt
 spoken_fine kind w (spoken.Grant channel amount) is =
     on_come (law kind) w (find channel.0 w.channels.lines.entries) _ (λ e. (tt, λ world k. tt))
-spoken_fine kind w (spoken.Data channel piece) is = (
-  tt,
-  told_fine kind (coming_of (length piece.bytes) w.channels.target
-      (find channel.0 w.channels.lines.entries)) channel piece
-      w.channels.target (lined (takes_in channel.0 (length piece.bytes) w.channels.target) w),
-)
+spoken_fine kind w (spoken.Data channel piece) is =
+    let target = target_on channel.0 w in
+    let came = coming_of (length piece.bytes) target (find channel.0 w.channels.lines.entries) in
+    let v = lined (takes_in channel.0 (length piece.bytes) target) w in
+    (tt, told_fine kind came channel piece target v)
 spoken_fine kind w (spoken.Tells channel message happening) is =
     on_come (law kind) w (find channel.0 w.channels.lines.entries) _ (λ e. λ world k. tt)
 spoken_fine kind w (spoken.Close channel) is =
     on_come (law kind) w (find channel.0 w.channels.lines.entries) _ (λ e. (tt, λ world k. tt))
-spoken_fine kind w (spoken.Wants channel wanted) is = (tt, tt)
 spoken_fine kind w (spoken.Failed channel reason) is =
     failure_fine kind w (is_there w channel.0) (is_waiting w channel.0) channel reason is
 spoken_fine kind w (spoken.Asks channel wanted message happening) is = (tt, λ world k. tt)
@@ -259,6 +257,7 @@ spoken_fine kind w (spoken.AsksToForward wanted address port) is = (
 )
 spoken_fine kind w (spoken.AsksGlobally wanted judged) is = (tt, λ granted world k. (tt, tt))
 spoken_fine kind w (spoken.AsksGloballyUnknown wanted) is = (tt, (tt, tt))
+spoken_fine kind w (spoken.GivesUpSessions wanted) is = (tt, (tt, (tt, tt)))
 spoken_fine kind w (spoken.Settles None) is = (tt, tt)
 spoken_fine kind w (spoken.Settles (Some notice)) is = (tt, tt)
 spoken_fine kind w spoken.Inconsistent is = absurd is
@@ -281,6 +280,7 @@ open_comes : (kind : InputKind) (w : World) (number : Option ℕ) (message : Ope
     (does : Handling) → IsSome number → ActsCome (law kind) (open_acts number message does) w
 open_comes kind w None message does some = absurd (never_some some)
 open_comes kind w (Some number) message (Asks type) some = (tt, λ world k. tt)
+open_comes kind w (Some number) message GivenUp some = (tt, tt)
 open_comes kind w (Some number) message Unsupported some = (tt, tt)
 open_comes kind w (Some number) message Unknown some = (tt, tt)
 
@@ -291,7 +291,8 @@ open_fine : (kind : InputKind) (given : Circumstances) (w : World) (moment : ℕ
     PlanComes (IsFineAnswer kind) IsNoFault (row w moment said)
 open_fine kind given w moment fields (Open message) v h =
     acts_come (law kind) (owed w (Open message)) w tt
-    (open_comes kind w (next_number w.channels.lines) message (handling message.typ) v.3)
+    (open_comes kind w (next_number w.channels.lines) message
+    (handling w.channels.no_more_sessions message.typ) v.3)
 open_fine kind given w moment fields Unread v h = refl
 open_fine kind given w moment fields Without_packets v h =
     absurd (misfits_open_not_spells v.0 fields v.1 Inconsistent h v.2)

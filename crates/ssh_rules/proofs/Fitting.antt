@@ -1,7 +1,7 @@
 -- At each moment of a plan no more was passed on a number than had been granted there before it
 -- (RFC 4254 section 5.2).
 use Rattle.std.proofs.Common.{◌≡◌, ◌==◌, ◌≤◌, ◌+◌, ℕ, List, [], ◌∷◌, map, Bool, true, false, cond}
-use Rattle.std.proofs.Common.{refl, sym, ap, subst, arith}
+use Rattle.std.proofs.Common.{Option, None, refl, sym, ap, subst, arith}
 use Rattle.std.specs.Prelude.{length}
 use Rattle.std.specs.List.{filter}
 use Rattle.ssh_link.specs.Frames.{Frame}
@@ -19,7 +19,7 @@ use Rattle.ssh_rules.specs.Acts.{Act, Notes, Calls, Judges_by, Listens_by, Adjus
 use Rattle.ssh_rules.specs.Acts.{Is_over, Stops, Exchanges, Exchanging, Beginning, Stepping}
 use Rattle.ssh_rules.specs.Acts.{exchange_question, payloads_given, frames_given, moved, tell_all}
 use Rattle.ssh_rules.specs.Acts.{tell_done, done, done_all, acts, exchanged}
-use Rattle.ssh_rules.specs.Effect.{Effect, Does, effect}
+use Rattle.ssh_rules.specs.Effect.{Effect, Does, effect_at}
 use Rattle.ssh_rules.specs.Exchange.{is_of_transport}
 use Rattle.ssh_rules.specs.Layout.{at_once}
 use Rattle.ssh_rules.specs.Outcome.{Outcome, Goes, Ends, Fails}
@@ -27,7 +27,7 @@ use Rattle.ssh_rules.specs.Received.{bytes_of, passed_lent, passed_done, passed_
 use Rattle.ssh_rules.specs.Received.{passed_noticed, passed_told}
 use Rattle.ssh_rules.specs.Run.{finish_input, going_out, handed_on, goes_unless_ended, begins}
 use Rattle.ssh_rules.specs.Run.{is_due, is_over}
-use Rattle.ssh_rules.specs.World.{World, is_held}
+use Rattle.ssh_rules.specs.World.{World, ChannelRequest, is_held}
 use Rattle.ssh_rules.proofs.Acting.{ActsCome, EffectComes}
 use Rattle.ssh_rules.proofs.Granting.{Roomy, grown_by, grown_told, all_room}
 use Rattle.ssh_rules.proofs.Keeping.{Kept, effect_on}
@@ -62,8 +62,8 @@ KeepsRoom by = (n window passed grew : ℕ) (w : World) → InRoom n window pass
 abbrev pub AreBare : List Act → Type 0
 AreBare [] = Unit {0}
 AreBare (Notes notice ∷ later) = AreBare later
-AreBare (Calls lent ∷ later) = IsBare lent × AreBare later
-AreBare (Judges_by judged by ∷ later) = ((granted : Bool) → KeepsRoom (by granted))
+AreBare (Calls at lent ∷ later) = IsBare lent × AreBare later
+AreBare (Judges_by at judged by ∷ later) = ((granted : Bool) → KeepsRoom (by granted))
     × AreBare later
 AreBare (Listens_by address port by ∷ later) =
     ((granted : Bool) (bound : ℕ) → KeepsRoom (by granted bound)) × AreBare later
@@ -133,21 +133,21 @@ module _ (n window top : ℕ)
         (later (passed_through n passed notices) outcome world (omega (arith, low, less)) room
         kept)
 
-    pub all_fit : (past : List TraceEntry) (passed grew place : ℕ) (commands : List Command)
-        (w : World) (next : World → Plan Outcome) → passed ≤ top
+    pub all_fit : (at : Option ChannelRequest) (past : List TraceEntry) (passed grew place : ℕ)
+        (commands : List Command) (w : World) (next : World → Plan Outcome) → passed ≤ top
         → InRoom n window passed grew w → Kept past w
         → ((j : ℕ) (world : World) → j ≤ top → InRoom n window j grew world → Kept past world
         → Fits n window top j grew (next world))
-        → Fits n window top passed grew (done_all place commands w next)
-    all_fit past passed grew place [] w next low room kept later = later passed w low room kept
-    all_fit past passed grew place (one ∷ commands) w next low room kept later =
-        one_fits past passed grew (effect w one)
-        (λ outcome world. tell_done place outcome (done_all (place + 1) commands world next)) low
-        (effect_room n window passed grew past w one kept room) (effect_on past w one kept)
+        → Fits n window top passed grew (done_all at place commands w next)
+    all_fit at past passed grew place [] w next low room kept later = later passed w low room kept
+    all_fit at past passed grew place (one ∷ commands) w next low room kept later =
+        one_fits past passed grew (effect_at at w one)
+        (λ outcome world. tell_done place outcome (done_all at (place + 1) commands world next)) low
+        (effect_room n window passed grew at past w one kept room) (effect_on at past w one kept)
         (λ j outcome world l r k.
         let less = done_low n j outcome in
-        told_fits j grew place outcome (done_all (place + 1) commands world next) l
-        (all_fit past (passed_done n j outcome) grew (place + 1) commands world next
+        told_fits j grew place outcome (done_all at (place + 1) commands world next) l
+        (all_fit at past (passed_done n j outcome) grew (place + 1) commands world next
         (omega (arith, l, less)) r k later))
 
     -- ---- the exchange of keys
@@ -165,7 +165,7 @@ module _ (n window top : ℕ)
         → InRoom n window passed grew (moved asked answer w)
     moved_room passed grew asked answer w h =
         moved_so (InRoom n window passed grew) asked answer w (λ keys. h)
-        (λ keys. (h.0, h.1, all_room n passed window grew w.channels.lines h.2))
+        (λ keys. (h.0, all_room n passed window grew w.channels.lines h.1))
 
     exchange_fits : (passed grew : ℕ) (asked : Exchanging) (w : World)
         (next : World → Plan Outcome) → passed ≤ top → InRoom n window passed grew w
@@ -197,17 +197,17 @@ module _ (n window top : ℕ)
         let less = noticed_low n passed notice in
         acts_fit past (passed_noticed n passed notice) grew later w (omega (arith, low, less))
         (less_room n window passed (passed_noticed n passed notice) grew w less h) bare kept come
-    acts_fit past passed grew (Calls lent ∷ later) w low h bare kept come =
+    acts_fit past passed grew (Calls at lent ∷ later) w low h bare kept come =
         let same = bare_same n passed lent bare.0 in (
           omega (arith, same, low),
-          λ commands. subst (λ p. Fits n window top p grew (done_all 0 commands w (acts later)))
+          λ commands. subst (λ p. Fits n window top p grew (done_all at 0 commands w (acts later)))
               (sym same)
-              (all_fit past passed grew 0 commands w (acts later) low h kept
+              (all_fit at past passed grew 0 commands w (acts later) low h kept
               (λ j world l r k. acts_fit past j grew later world l r bare.1 k (come world k))),
         )
-    acts_fit past passed grew (Judges_by judged by ∷ later) w low h bare kept come = (
+    acts_fit past passed grew (Judges_by at judged by ∷ later) w low h bare kept come = (
       low,
-      λ answer. all_fit past passed grew 0 answer.commands w
+      λ answer. all_fit at past passed grew 0 answer.commands w
           (λ world. acts later (by answer.granted world)) low h kept
           (λ j world l r k.
           let c = come answer.granted world k in
@@ -216,7 +216,7 @@ module _ (n window top : ℕ)
     )
     acts_fit past passed grew (Listens_by address port by ∷ later) w low h bare kept come = (
       low,
-      λ answer. all_fit past passed grew 0 answer.commands w
+      λ answer. all_fit None past passed grew 0 answer.commands w
           (λ world. acts later (by answer.granted answer.port world)) low h kept
           (λ j world l r k.
           let c = come answer.granted answer.port world k in
@@ -266,7 +266,7 @@ module _ (n window top : ℕ)
         let v = handed_on w in
         frames_fit passed grew (going_out w) (goes_unless_ended ticked v)
         (ended_fits passed (grown_by n window grew (going_out w)) v.disconnected (is_due ticked v) v
-        low (h.0, h.1, handed_room (is_held w) passed grew w.channels.lines h.2))
+        low (h.0, handed_room (is_held w) passed grew w.channels.lines h.1))
     finished_fits passed grew ticked (Ends w) low h =
         frames_fit passed grew (going_out w) (is_over (handed_on w)) tt
     finished_fits passed grew ticked (Fails why) low h = tt

@@ -1,7 +1,7 @@
 -- Data are passed where the room has them, and no other row passes any (RFC 4254 section 5.2).
-use Rattle.std.proofs.Common.{◌≡◌, ◌==◌, ◌≤◌, ◌+◌, ◌-◌, ℕ, List, [], ◌∷◌, Bool, true, false, cond}
-use Rattle.std.proofs.Common.{Option, Some, None, refl, sym, ◌∙◌, ap, subst, arith}
-use Rattle.std.specs.Prelude.{length, bytes_eq, codes, if◌then◌else◌}
+use Rattle.std.proofs.Common.{◌≡◌, ◌==◌, ◌≤◌, ◌<◌, ◌+◌, ◌-◌, ◌^◌, ℕ, List, [], ◌∷◌, Bool, true, false}
+use Rattle.std.proofs.Common.{cond, Option, Some, None, refl, sym, ◌∙◌, ap, subst, arith}
+use Rattle.std.specs.Prelude.{length, bytes_eq, codes, IfSome, if◌then◌else◌}
 use Rattle.ssh_wire.specs.declared.channel_id.ChannelId.{ChannelId}
 use Rattle.ssh_link.specs.declared.link.TraceEntry.{TraceEntry}
 use Rattle.ssh_auth.specs.declared.auth_request.AuthRequest.{AuthRequest}
@@ -20,9 +20,10 @@ use Rattle.ssh_channels.specs.declared.chunk.Chunk.{Chunk}
 use Rattle.ssh_channels.specs.declared.chunk.DataKind.{DataKind}
 use Rattle.ssh_channels.specs.declared.chunk.DataKind.TheVariants.{Plain, Extended}
 use Rattle.ssh_channels.specs.Does.{coming_of}
-use Rattle.ssh_channels.specs.Entry.{Entry}
+use Rattle.ssh_channels.specs.Entry.{Entry, Sound}
 use Rattle.ssh_channels.specs.Lines.{Lines, find, turns, where_found, takes_in}
 use Rattle.ssh_channels.specs.Room.{coming, having, adjust_out}
+use Rattle.ssh_channels.proofs.Dues.{all_sound}
 use Rattle.ssh_channels.proofs.Listed.{found_number, find_again}
 use Rattle.ssh_rules.specs.declared.messages.Spoken.{Spoken}
 use Rattle.ssh_rules.specs.declared.messages.Spoken.TheVariants as spoken
@@ -35,15 +36,15 @@ use Rattle.ssh_rules.specs.Reading.{Said, Service, Request, Response, Connection
 use Rattle.ssh_rules.specs.Received.{bytes_of, passed_lent}
 use Rattle.ssh_rules.specs.Rows.{row, owed, greets, greeting, is_short, replied, concluded}
 use Rattle.ssh_rules.specs.Rows.{asked_of, moment_after, rejection_hold, finishes, lets_in}
-use Rattle.ssh_rules.specs.Rows.{spoken_acts, data_acts, data_happening, aims}
-use Rattle.ssh_rules.specs.World.{World, lined, waits_for}
+use Rattle.ssh_rules.specs.Rows.{spoken_acts, data_acts, data_happening, aims_at}
+use Rattle.ssh_rules.specs.World.{World, lined, waits_for, target_of, target_on}
 use Rattle.ssh_rules.proofs.BareRows.{plain_silent, aims_keeps, BringsNoData, owed_bare}
 use Rattle.ssh_rules.proofs.Carried.{IsBareSpoken, IsBareSaid}
 use Rattle.ssh_rules.proofs.Filling.{kept_low, granted_low, kept_room, granted_room, passed_low}
 use Rattle.ssh_rules.proofs.Fitting.{Fits, acts_fit, all_fit}
 use Rattle.ssh_rules.proofs.Granting.{Roomy, grown_by, turned, written_room}
 use Rattle.ssh_rules.proofs.Keeping.{Kept, plain_kept, beside_on}
-use Rattle.ssh_rules.proofs.Ledger.{IsFairSaid, owed_on}
+use Rattle.ssh_rules.proofs.Ledger.{IsFairSaid, aims_on, owed_on}
 use Rattle.ssh_rules.proofs.Replying.{EndsSo, IsBeside, verdict_beside, response_beside}
 use Rattle.ssh_rules.proofs.Roomed.{InRoom}
 
@@ -61,106 +62,102 @@ taken_is m count target came e l at is =
     (adjust_out (coming count target f) f)) l) at
     ∙ ap (λ c. turns (having c count target e) (adjust_out c e) l) is
 
+-- a room is filled up to a number of four bytes
+aimed : (o : Option Entry) → IfSome o Sound → target_of o < 2 ^ 32
+aimed None h = omega arith
+aimed (Some e) h = h.aimed
+
 module _ (n window top : ℕ) (past : List TraceEntry)
   where
     -- a callback that is the last act, and what it recorded
     call_fits : (passed grew j : ℕ) (lent : Lent) (w : World) → passed_lent n passed lent ≡ j
         → j ≤ top → InRoom n window j grew w → Kept past w
-        → Fits n window top passed grew (acts (Calls lent ∷ []) w)
+        → Fits n window top passed grew (acts (Calls None lent ∷ []) w)
     call_fits passed grew j lent w same low h kept = (
       omega (arith, same, low),
-      λ commands. subst (λ p. Fits n window top p grew (done_all 0 commands w (acts [])))
+      λ commands. subst (λ p. Fits n window top p grew (done_all None 0 commands w (acts [])))
           (sym same)
-          (all_fit n window top past j grew 0 commands w (acts []) low h kept
+          (all_fit n window top None past j grew 0 commands w (acts []) low h kept
           (λ k world l r q. r)),
     )
 
-    came_fits : (came : Adjusted) (passed grew : ℕ) (channel : ChannelId) (piece : Chunk)
+    came_fits : (came : Adjusted) (passed grew target : ℕ) (channel : ChannelId) (piece : Chunk)
         (e : Entry) (w : World) → find channel.0 w.channels.lines.entries ≡ Some e
-        → coming (length piece.bytes) w.channels.target e ≡ came
+        → coming (length piece.bytes) target e ≡ came → target < 2 ^ 32
         → passed ≤ top → grown_by n window grew w.channels.lines.written - 1 ≤ top
         → InRoom n window passed grew w
-        → Kept past (lined (takes_in channel.0 (length piece.bytes) w.channels.target) w)
-        → Fits n window top passed grew
-        (acts (data_acts came channel piece w.channels.target) w)
-    came_fits Dropped passed grew channel piece e w at is low high h kept =
+        → Kept past (lined (takes_in channel.0 (length piece.bytes) target) w)
+        → Fits n window top passed grew (acts (data_acts came channel piece target) w)
+    came_fits Dropped passed grew target channel piece e w at is small low high h kept =
         let lines = w.channels.lines in (
           h.0,
-          h.1,
           subst (Roomy n passed window grew)
-              (sym (taken_is channel.0 (length piece.bytes) w.channels.target Dropped e lines at
-              is))
+              (sym (taken_is channel.0 (length piece.bytes) target Dropped e lines at is))
               (turned n passed window grew e e [] lines (find_again channel.0 lines.entries e at)
-              refl tt h.2),
+              refl tt h.1),
         )
-    came_fits Within passed grew channel piece e w at is low high h kept =
+    came_fits Within passed grew target channel piece e w at is small low high h kept =
         let lines = w.channels.lines in
         let count = length piece.bytes in
         let b = n == channel.0 in
         let t : (n == e.number) ≡ (n == channel.0) =
         ap (λ m. n == m) (found_number channel.0 lines.entries e at) in
         let again = find_again channel.0 lines.entries e at in
-        let few = kept_low count w.channels.target e is in
-        let less = passed_low b n passed window grew count e lines t again few h.2 in
+        let few = kept_low count target e is in
+        let less = passed_low b n passed window grew count e lines t again few h.1 in
         call_fits passed grew (cond b (passed + count) passed)
         (Happened channel (data_happening piece.kind piece.bytes))
-        (lined (takes_in channel.0 count w.channels.target) w)
+        (lined (takes_in channel.0 count target) w)
         (ap (λ l. cond b (passed + length l) passed) (carried piece.kind piece.bytes))
         (omega (arith, less, high)) (
           h.0,
-          h.1,
           subst (Roomy n (cond b (passed + count) passed) window grew)
-              (sym (taken_is channel.0 count w.channels.target Within e lines at is))
-              (kept_room b n passed window grew count e lines t again few h.2),
+              (sym (taken_is channel.0 count target Within e lines at is))
+              (kept_room b n passed window grew count e lines t again few h.1),
         ) kept
-    came_fits (Granted amount) passed grew channel piece e w at is low high h kept =
+    came_fits (Granted amount) passed grew target channel piece e w at is small low high h kept =
         let lines = w.channels.lines in
         let count = length piece.bytes in
-        let target = w.channels.target in
         let b = n == channel.0 in
         let t : (n == e.number) ≡ (n == channel.0) =
         ap (λ m. n == m) (found_number channel.0 lines.entries e at) in
         let again = find_again channel.0 lines.entries e at in
-        let few = granted_low count w.channels.target amount e is in
-        let less = passed_low b n passed window grew count e lines t again few.0 h.2 in
-        let v = lined (takes_in channel.0 count w.channels.target) w in
+        let few = granted_low count target amount e is in
+        let less = passed_low b n passed window grew count e lines t again few.0 h.1 in
+        let v = lined (takes_in channel.0 count target) w in
         let room : InRoom n window (cond b (passed + count) passed) grew v = (
           h.0,
-          h.1,
           subst (Roomy n (cond b (passed + count) passed) window grew)
-              (sym (taken_is channel.0 count w.channels.target (Granted amount) e lines at is))
-              (granted_room b n passed window grew count w.channels.target amount e lines t again
-              few.0 few.1 few.2 h.1 h.2),
+              (sym (taken_is channel.0 count target (Granted amount) e lines at is))
+              (granted_room b n passed window grew count target amount e lines t again
+              few.0 few.1 few.2 small h.1),
         ) in (
           low,
           λ aim. call_fits passed grew (cond b (passed + count) passed)
-              (Happened channel (data_happening piece.kind piece.bytes)) (aims aim v)
+              (Happened channel (data_happening piece.kind piece.bytes)) (aims_at channel aim v)
               (ap (λ l. cond b (passed + length l) passed) (carried piece.kind piece.bytes))
               (omega (arith, less, high))
-              (aims_keeps aim n window (cond b (passed + count) passed) grew v room)
-              (record { ledger = kept.ledger; due = kept.due; waiting = kept.waiting }),
+              (aims_keeps channel aim n window (cond b (passed + count) passed) grew v room)
+              (aims_on past channel aim v kept),
         )
 
-    data_fits : (o : Option Entry) (passed grew : ℕ) (channel : ChannelId) (piece : Chunk)
-        (w : World) → find channel.0 w.channels.lines.entries ≡ o
+    data_fits : (o : Option Entry) (passed grew target : ℕ) (channel : ChannelId) (piece : Chunk)
+        (w : World) → find channel.0 w.channels.lines.entries ≡ o → target < 2 ^ 32
         → passed ≤ top → grown_by n window grew w.channels.lines.written - 1 ≤ top
         → InRoom n window passed grew w
-        → Kept past (lined (takes_in channel.0 (length piece.bytes) w.channels.target) w)
+        → Kept past (lined (takes_in channel.0 (length piece.bytes) target) w)
         → Fits n window top passed grew
-        (acts (data_acts (coming_of (length piece.bytes) w.channels.target o) channel piece
-        w.channels.target) w)
-    data_fits None passed grew channel piece w is low high h kept = (
+        (acts (data_acts (coming_of (length piece.bytes) target o) channel piece target) w)
+    data_fits None passed grew target channel piece w is small low high h kept = (
       h.0,
-      h.1,
       subst (λ o. Roomy n passed window grew (where_found o
-          (λ f. turns (having (coming (length piece.bytes) w.channels.target f)
-          (length piece.bytes) w.channels.target f)
-          (adjust_out (coming (length piece.bytes) w.channels.target f) f)) w.channels.lines))
-          (sym is) h.2,
+          (λ f. turns (having (coming (length piece.bytes) target f) (length piece.bytes) target f)
+          (adjust_out (coming (length piece.bytes) target f) f)) w.channels.lines))
+          (sym is) h.1,
     )
-    data_fits (Some e) passed grew channel piece w is low high h kept =
-        came_fits (coming (length piece.bytes) w.channels.target e) passed grew channel piece e w
-        is refl low high h kept
+    data_fits (Some e) passed grew target channel piece w is small low high h kept =
+        came_fits (coming (length piece.bytes) target e) passed grew target channel piece e w
+        is refl small low high h kept
 
     -- ---- what is owed
 
@@ -176,8 +173,10 @@ module _ (n window top : ℕ) (past : List TraceEntry)
         → InRoom n window passed grew w → Kept past w
         → Fits n window top passed grew (acts (spoken_acts w said) w)
     spoken_fits passed grew w (spoken.Data channel piece) bare low high h kept =
-        data_fits (find channel.0 w.channels.lines.entries) passed grew channel piece w refl low
-        high h (owed_on past w (Connection (spoken.Data channel piece)) tt kept).0
+        let o = find channel.0 w.channels.lines.entries in
+        let small = aimed o (all_sound w.channels.lines past kept.ledger channel.0) in
+        data_fits o passed grew (target_on channel.0 w) channel piece w refl small low high h
+        (owed_on past w (Connection (spoken.Data channel piece)) tt kept).0
     spoken_fits passed grew w said bare low high h kept =
         said_fits passed grew w (Connection said) tt bare tt low h kept
 
@@ -191,8 +190,7 @@ module _ (n window top : ℕ) (past : List TraceEntry)
         w low h (
           λ m size p g v k. (
             k.0,
-            k.1,
-            written_room m p size g (at_once reply ∷ []) v.channels.lines (refl, tt) k.2,
+            written_room m p size g (at_once reply ∷ []) v.channels.lines (refl, tt) k.1,
           ),
           (tt, tt),
         ) kept (
@@ -202,15 +200,13 @@ module _ (n window top : ℕ) (past : List TraceEntry)
         )
     replied_fits passed grew w moment requested reply (verdict.Rejected none_method) low h kept = (
       h.0,
-      h.1,
       written_room n passed window grew (held reply (moment_after moment
           (rejection_hold w.settings.config none_method w.user.requested)) ∷ []) w.channels.lines
-          (refl, tt) h.2,
+          (refl, tt) h.1,
     )
     replied_fits passed grew w moment requested reply verdict.Continued low h kept = (
       h.0,
-      h.1,
-      written_room n passed window grew (at_once reply ∷ []) w.channels.lines (refl, tt) h.2,
+      written_room n passed window grew (at_once reply ∷ []) w.channels.lines (refl, tt) h.1,
     )
 
     concluded_fits : (passed grew : ℕ) (w : World) (moment : ℕ) (requested : Bool)
@@ -250,9 +246,8 @@ module _ (n window top : ℕ) (past : List TraceEntry)
     greets_fit passed grew w message true is h =
         rw is (
           h.0,
-          h.1,
           written_room n passed window grew (greeting message) w.channels.lines
-              (plain_silent n message) h.2,
+              (plain_silent n message) h.1,
         )
     greets_fit passed grew w message false is h = rw is tt
 

@@ -6,8 +6,7 @@ use Rattle.std.proofs.Common.{arith}
 use Rattle.std.specs.Prelude.{option_to_list}
 use Rattle.ssh_link.specs.declared.frame.InputKind.TheVariants as input
 use Rattle.ssh_auth.specs.Publickey.{Acceptance}
-use Rattle.ssh_channels.specs.Layout.{bare_frame}
-use Rattle.ssh_channels.specs.Lines.{Lines, find, put, wants}
+use Rattle.ssh_channels.specs.Lines.{Lines, find, put}
 use Rattle.ssh_rules.specs.declared.error.RunError.{RunError}
 use Rattle.ssh_rules.specs.Account.{Closes}
 use Rattle.ssh_channels.proofs.Listed.{one_number}
@@ -18,15 +17,19 @@ use Rattle.ssh_rules.specs.Layout.{at_once}
 use Rattle.ssh_rules.specs.Opens.{failure_frame}
 use Rattle.ssh_rules.specs.Reading.{Said}
 use Rattle.ssh_rules.specs.Run.{Turn, Run}
-use Rattle.ssh_rules.specs.World.{Settings, World, wants_global, opening_world}
+use Rattle.ssh_rules.specs.World.{Settings, World, wants_global, opening_world, wants_if}
 use Rattle.ssh_rules.proofs.Accepting.{AllWalk, run_walks, last_walks, behind}
 use Rattle.ssh_rules.proofs.Counting.{still_low}
 use Rattle.ssh_rules.proofs.Measures.{Measure, LinesOwe, one_if, no_more, lines_owe, found}
-use Rattle.ssh_rules.proofs.Measures.{silent_more}
+use Rattle.ssh_rules.proofs.Measures.{silent_more, silent_none, replies_silent, chosen}
 use Rattle.ssh_rules.proofs.Measuring.{owing, OwesUpTo, RequestOwes, lined_upto, same_lines}
 use Rattle.ssh_rules.proofs.Measured.{OfRead, read_weaker}
 use Rattle.ssh_rules.proofs.Repaying.{left_with, Repays, past_few}
 use Rattle.ssh_rules.proofs.Wanting.{BytesSay}
+use Rattle.ssh_channels.specs.Layout.{reply_frame}
+use Rattle.ssh_channels.specs.Entry.{Entry, requesting, replies_out}
+use Rattle.ssh_rules.proofs.Requested.{wants_kept}
+use Rattle.ssh_rules.specs.Answered.{how_many}
 
 -- ---- the measure
 
@@ -51,6 +54,18 @@ one_most : (b : Bool) → one_if b + 0 ≤ 1
 one_most true = omega arith
 one_most false = omega arith
 
+-- a reply to a request on a channel is none
+reply_unlike : (own peer : ℕ) (success : Bool) →
+    is_global_reply (reply_frame own peer success) ≡ false
+reply_unlike own peer true = refl
+reply_unlike own peer false = refl
+
+none_globally : (place : Option ℕ) (success : Bool) (e : Entry) →
+    how_many is_global_reply (replies_out place success e) ≡ 0
+none_globally place success e =
+    silent_none is_global_reply (replies_out place success e)
+    (replies_silent is_global_reply e.number e.peer (reply_unlike e.number e.peer) _)
+
 -- replies to global requests, and whether the peer's last one wants one; no question makes one
 abbrev global_replies : Measure
 global_replies = record {
@@ -65,8 +80,8 @@ global_replies = record {
   kept = λ e f entries at same. omega arith;
   parted = λ m entries. omega arith;
   begun = λ e entries none. omega arith;
-  replied = λ message e entries unlike at wanted.
-      no_more (is_global_reply (bare_frame message e.number e.peer)) 0 unlike.1;
+  replied = λ place success e entries at.
+      let none = none_globally place success e in omega (arith, none);
   answered = λ m payload opening opens unlike is.
       no_more (is_global_reply (failure_frame m payload)) 0 unlike.1;
   settled = λ payload. one_most (is_global_reply (at_once payload));
@@ -76,13 +91,14 @@ global_replies = record {
 
 -- a request on a channel makes none
 wants_owe : (m : ℕ) (wanted : Bool) (l : Lines) →
-    LinesOwe global_replies (lines_owe global_replies l) (wants m wanted l)
+    LinesOwe global_replies (lines_owe global_replies l) (wants_if wanted m l)
 wants_owe m wanted l =
     let k = lines_owe global_replies l in
-    found (find m l.entries) global_replies k m _ l refl
-    (λ e is. silent_more global_replies k l.written [] l.entries
-    (put (record e { wants_reply = wanted }) l.entries) tt (omega arith)
-    (same_lines global_replies l)) (same_lines global_replies l)
+    wants_kept (LinesOwe global_replies k) wanted m l
+    (λ h. found (find m l.entries) global_replies k m _ l refl
+    (λ e is. chosen e.confirmed global_replies k _ _
+    (silent_more global_replies k l.written [] l.entries (put (requesting e) l.entries) tt
+    (omega arith) h) h) h) (same_lines global_replies l)
 
 -- a request makes one more where it wants one
 wanted_step : (b wanted : Bool) (left : ℕ) (w : World) → b ≡ wanted →
@@ -101,7 +117,7 @@ request_reads left w payload said q h =
     let b = wants_global_reply (input.Payload payload) in
     let k = cond b (left + 1) left in
     read_weaker (BytesSay w payload) (RequestOwes global_replies k w) said
-    (λ channel wanted is. lined_upto global_replies k (wants channel.0 wanted) w
+    (λ channel wanted is. lined_upto global_replies k (wants_if wanted channel.0) w
     (wants_owe channel.0 wanted w.channels.lines)
     (still_low b (owing global_replies w) left h))
     (λ wanted is. wanted_step b wanted left w is h) (λ told is. tt) q

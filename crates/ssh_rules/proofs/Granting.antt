@@ -1,7 +1,7 @@
 -- What this side granted on a number, frame by frame, and the room that its channel has (RFC 4254
 -- section 5.2). No call of the table but one makes more room.
 use Rattle.std.proofs.Common.{◌≡◌, ◌≤◌, ◌<◌, ◌+◌, ◌-◌, ◌==◌, ◌&&◌, ◌||◌, ℕ, zero, suc, List, []}
-use Rattle.std.proofs.Common.{◌∷◌, ◌++◌, map, Bool, true, false, not, cond, Option, Some, None}
+use Rattle.std.proofs.Common.{◌∷◌, ◌++◌, map, length, drop, Bool, true, false, not, cond, Option, Some, None}
 use Rattle.std.proofs.Common.{refl, sym, ◌∙◌, ap, arith}
 use Rattle.ssh_link.specs.Frames.{Frame}
 use Rattle.ssh_link.specs.declared.link.TraceEntry.{TraceEntry}
@@ -12,18 +12,21 @@ use Rattle.ssh_channels.specs.declared.chunk.DataKind.TheVariants.{Plain, Extend
 use Rattle.ssh_channels.specs.Cut.{piece_limit, cut, left_of}
 use Rattle.ssh_channels.specs.Entry.{Entry, agreed, accepting, after_eof, all_framed, closes_now}
 use Rattle.ssh_channels.specs.Entry.{eof_out, tells_eof, flush_out, flushed, granting}
-use Rattle.ssh_channels.specs.Entry.{more_may_come, close_may_come}
-use Rattle.ssh_channels.specs.Layout.{chunk, data_frame, bare_frame, eof_frame, close_frame}
+use Rattle.ssh_channels.specs.Entry.{more_may_come, close_may_come, requesting, reply_may_come}
+use Rattle.ssh_channels.specs.Entry.{replying, replies_out}
+use Rattle.ssh_channels.specs.Layout.{chunk, data_frame, eof_frame, close_frame, reply_frame}
+use Rattle.ssh_channels.specs.Replies.{ready, settling}
 use Rattle.ssh_channels.specs.Lines.{Lines, find, put, without, write, turns, closes, settles}
 use Rattle.ssh_channels.specs.Lines.{where_found, takes_data, takes_eof, takes_close, peer_closes}
-use Rattle.ssh_channels.specs.Lines.{takes_grant, says, wants, confirms, fails, numbers, goes_on}
+use Rattle.ssh_channels.specs.Lines.{takes_grant, takes_request, takes_reply, aims, confirms, fails}
+use Rattle.ssh_channels.specs.Lines.{numbers, goes_on}
 use Rattle.ssh_channels.specs.Lines.{each_goes_on, all_go_on}
 use Rattle.ssh_channels.specs.Sent.{is_tagged, is_opening, after_frame, since_from, since}
 use Rattle.ssh_channels.proofs.Listed.{one_number, found_put, find_other, find_again, find_without}
 use Rattle.ssh_channels.proofs.Listed.{without_other}
 use Rattle.ssh_rules.specs.Received.{added_by, added_by_all, was_opened, granted_on}
-use Rattle.ssh_rules.specs.World.{Settings, wants_reply, replies}
-use Rattle.ssh_rules.proofs.Measures.{AreSilent, silent_both, untold}
+use Rattle.ssh_rules.specs.World.{Settings}
+use Rattle.ssh_rules.proofs.Measures.{AreSilent, silent_both, replies_silent, untold}
 
 -- ---- frame by frame
 
@@ -351,26 +354,34 @@ module _ (n passed window grew : ℕ)
         → Roomy n passed window grew (all_go_on l)
     all_room l h = each_room (numbers l.entries) l h
 
-    pub wants_room : (m : ℕ) (wanted : Bool) (l : Lines) → Roomy n passed window grew l
-        → Roomy n passed window grew (wants m wanted l)
-    wants_room m wanted l h = found (find m l.entries) m _ l refl
-        (λ e is. turned (record e { wants_reply = wanted }) e [] l is refl tt h) h
+    pub aims_room : (m target : ℕ) (l : Lines) → Roomy n passed window grew l
+        → Roomy n passed window grew (aims m target l)
+    aims_room m target l h = found (find m l.entries) m _ l refl
+        (λ e is. turned (record e { target = target }) e [] l is refl tt h) h
 
-    -- a message that opens no channel
-    says_room : (m message : ℕ) (l : Lines)
-        → ((e : Entry) → is_opening (bare_frame message e.number e.peer).payload ≡ false)
-        → Roomy n passed window grew l → Roomy n passed window grew (says m message l)
-    says_room m message l unlike h = found (find m l.entries) m _ l refl
-        (λ e is. chosen e.confirmed _ _
-        (turned e e (bare_frame message e.number e.peer ∷ []) l is refl
-        (unopened n (bare_frame message e.number e.peer) (unlike e), tt) h) h) h
+    -- a request, and the replies that go out as one is settled, which open no channel
+    pub request_room : (m : ℕ) (l : Lines) → Roomy n passed window grew l
+        → Roomy n passed window grew (takes_request m l)
+    request_room m l h = found (find m l.entries) m _ l refl
+        (λ e is. chosen e.confirmed _ _ (turned (requesting e) e [] l is refl tt h) h) h
 
-    pub replies_room : (m message : ℕ) (l : Lines)
-        → ((e : Entry) → is_opening (bare_frame message e.number e.peer).payload ≡ false)
-        → Roomy n passed window grew l → Roomy n passed window grew (replies m message l)
-    replies_room m message l unlike h =
-        chosen (wants_reply m l) (wants m false (says m message l)) l
-        (wants_room m false (says m message l) (says_room m message l unlike h)) h
+    reply_unopened : (own peer : ℕ) (success : Bool)
+        → opens_on n (reply_frame own peer success) ≡ false
+    reply_unopened own peer true = unopened n (reply_frame own peer true) refl
+    reply_unopened own peer false = unopened n (reply_frame own peer false) refl
+
+    replied_silent : (place : Option ℕ) (success : Bool) (e : Entry)
+        → AreSilent (opens_on n) (replies_out place success e)
+    replied_silent place success e =
+        replies_silent (opens_on n) e.number e.peer (reply_unopened e.number e.peer)
+        (drop (length (ready e.replies)) (ready (settling place success 0 e.replies)))
+
+    pub reply_room : (m : ℕ) (success : Bool) (l : Lines) (place : Option ℕ)
+        → Roomy n passed window grew l → Roomy n passed window grew (takes_reply m place success l)
+    reply_room m success l place h = found (find m l.entries) m _ l refl
+        (λ e is. chosen (reply_may_come place e) _ _
+        (turned (replying place success e) e (replies_out place success e) l is refl
+        (replied_silent place success e) h) h) h
 
     pub confirmed_room : (m peer limit granted : ℕ) (l : Lines) → Roomy n passed window grew l
         → Roomy n passed window grew (confirms m peer granted limit l)

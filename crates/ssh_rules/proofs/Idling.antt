@@ -2,7 +2,7 @@
 -- one that ends an exchange is outside then: all that is due goes out there before this side may
 -- begin one.
 use Rattle.std.proofs.Common.{◌≡◌, ◌⊎◌, ◌||◌, ℕ, List, [], ◌∷◌, ◌++◌, map, Bool, true, false, cond}
-use Rattle.std.proofs.Common.{refl, sym, ap, subst, inl, inr}
+use Rattle.std.proofs.Common.{refl, sym, ap, subst, inl, inr, Option, None}
 use Rattle.std.specs.Prelude.{◌==◌, flat_map}
 use Rattle.ssh_link.specs.declared.command.Command.{Command}
 use Rattle.ssh_link.specs.declared.command.Command.TheVariants as command
@@ -19,7 +19,7 @@ use Rattle.ssh_rules.specs.declared.exchange.ExchangeState.{ExchangeState}
 use Rattle.ssh_rules.specs.declared.exchange.ExchangeState.TheVariants.{Idle, Own, Both}
 use Rattle.ssh_rules.specs.declared.exchange.Passage.TheVariants.{Passes}
 use Rattle.ssh_rules.specs.Acts.{Beginning, acts, payloads_given, frames_given, moved}
-use Rattle.ssh_rules.specs.Effect.{effect, refused_for, done_by}
+use Rattle.ssh_rules.specs.Effect.{effect, refused_for, done_by, effect_at}
 use Rattle.ssh_rules.specs.Exchange.{early_with, is_running, passage_in, passage_of}
 use Rattle.ssh_rules.specs.Exchanged.{ends_exchange}
 use Rattle.ssh_rules.specs.Ledger.{EndsOutside, is_kexinit}
@@ -30,7 +30,7 @@ use Rattle.ssh_rules.specs.Run.{Turn, Turns, Run, Owes, OwesKind, OwesPassed, co
 use Rattle.ssh_rules.specs.Run.{passage, asks_for_keys, begins, entries, finish_input, going_out}
 use Rattle.ssh_rules.specs.Run.{goes_unless_ended, handed_on, is_due, is_over}
 use Rattle.ssh_rules.specs.Ticks.{keepalive_acts}
-use Rattle.ssh_rules.specs.World.{World, hears, in_exchange, is_held}
+use Rattle.ssh_rules.specs.World.{World, hears, in_exchange, is_held, ChannelRequest}
 use Rattle.ssh_rules.proofs.Acting.{PlanComes, EffectComes, Law, acts_come, one_comes}
 use Rattle.ssh_rules.proofs.Answered.{taken_outside}
 use Rattle.ssh_rules.proofs.Apart.{refused_comes, apart_comes, tick_comes}
@@ -56,10 +56,11 @@ same_idle : (w v : World) → v.settings ≡ w.settings → v.disconnected ≡ w
     → v.keys ≡ w.keys → IsIdle w → IsIdle v
 same_idle w v is ended keys h = subst (λ k. is_running k.exchange ≡ false) (sym keys) h
 
-effect_idle : (w : World) (commanded : Command) → IsIdle w → EffectComes IsIdle (effect w commanded)
-effect_idle w commanded h =
-    refused_comes IsIdle (refused_for w.disconnected w commanded) w (done_by w commanded) h
-    (done_beside IsIdle same_idle w commanded h
+effect_idle : (at : Option ChannelRequest) (w : World) (commanded : Command) → IsIdle w
+    → EffectComes IsIdle (effect_at at w commanded)
+effect_idle at w commanded h =
+    refused_comes IsIdle (refused_for w.disconnected w commanded) w (done_by at w commanded) h
+    (done_beside IsIdle same_idle at w commanded h
     (apart_comes IsIdle (λ message v k. k) (settles_beside IsIdle same_idle)
     (opens_or_not_beside IsIdle same_idle) w commanded h))
 
@@ -73,7 +74,7 @@ law = record {
   lends = λ lent commands s. any_built commands;
   judges = λ judged answer s. any_built answer.commands;
   listens = λ address port answer s. any_built answer.commands;
-  keeps = λ w commanded h b. effect_idle w commanded h;
+  keeps = λ at w commanded h b. effect_idle at w commanded h;
 }
 
 pub row_idle : (w : World) (moment : ℕ) (said : Said) → IsIdle w
@@ -86,7 +87,7 @@ command_idle : (w : World) (ticket : ℕ) (commanded : Command) → IsIdle w
     → PlanComes Anything ComesIdle (command_row w ticket commanded)
 command_idle w ticket commanded h =
     one_comes law (effect w commanded) (λ outcome world. Tell (Answered ticket outcome)
-    (Finish (Goes world))) (effect_idle w commanded h) (λ outcome world k. k)
+    (Finish (Goes world))) (effect_idle None w commanded h) (λ outcome world k. k)
 
 -- ---- where no exchange runs, all but a KEXINIT is read
 

@@ -4,7 +4,7 @@
 use Rattle.std.proofs.Common.{◌≡◌, ◌==◌, ◌||◌, ℕ, List, [], ◌∷◌, Bool}
 use Rattle.std.proofs.Common.{true, false, Option, Some, None}
 use Rattle.std.proofs.Common.{refl, sym, ◌∙◌, ap, subst, arith, append_assoc}
-use Rattle.std.specs.Prelude.{min, not, IfSome, if◌then◌else◌, cond}
+use Rattle.std.specs.Prelude.{min, not, IfSome, if◌then◌else◌}
 use Rattle.std.specs.List.{list_any}
 use Rattle.std.specs.Ordering.{nat_cmp}
 use Rattle.std.specs.BTreeMap.{is_at}
@@ -19,17 +19,17 @@ use Rattle.ssh_link.specs.declared.open_answer.OpenAnswer.{OpenAnswer}
 use Rattle.ssh_channels.specs.declared.chunk.Chunk.{Chunk}
 use Rattle.ssh_channels.specs.declared.chunk.DataKind.TheVariants.{Plain, Extended}
 use Rattle.ssh_channels.specs.Calls.{Op, Send, Eof, Close, Drop_pending}
-use Rattle.ssh_channels.specs.Calls.{Stage, Open_next, Byte, Set_wants_reply, Flush_all}
+use Rattle.ssh_channels.specs.Calls.{Stage, Open_next, Settle, Flush_all}
 use Rattle.ssh_channels.specs.Does.{IsFair, is_idle, does}
 use Rattle.ssh_channels.specs.Entry.{Entry, IsDue, opened, asked}
-use Rattle.ssh_channels.specs.Layout.{chunk, on_channel, bare_frame}
+use Rattle.ssh_channels.specs.Layout.{chunk, on_channel}
 use Rattle.ssh_channels.specs.Lines.{Lines, find, added, next_number, drops_pending, takes_data}
-use Rattle.ssh_channels.specs.Lines.{asks, asks_next, says, wants, all_go_on}
-use Rattle.ssh_channels.specs.Sent.{Each, Ledgered, may_go, is_beside}
+use Rattle.ssh_channels.specs.Lines.{asks, asks_next, takes_reply, all_go_on}
+use Rattle.ssh_channels.specs.Sent.{Each, Ledgered, may_go}
 use Rattle.ssh_channels.proofs.Booked.{op_kept, opens_kept, asks_kept}
 use Rattle.ssh_channels.proofs.Dues.{all_sound, all_due, op_due}
 use Rattle.ssh_channels.proofs.Listed.{one_number, find_new, find_beside}
-use Rattle.ssh_rules.specs.Effect.{effect, refused_for, done_by, answers, said}
+use Rattle.ssh_rules.specs.Effect.{effect_at, refused_for, done_by, answers, said}
 use Rattle.ssh_rules.specs.Effect.{decides, fails_open, failure_of, is_too_long, opens_at}
 use Rattle.ssh_rules.specs.Effect.{opens, opens_or_not, requests_on, refuses}
 use Rattle.ssh_rules.specs.OwnOpens.{OwnOpen, open_payload}
@@ -38,23 +38,23 @@ use Rattle.ssh_rules.specs.Opens.{own, opening_of, answered}
 use Rattle.ssh_rules.specs.Outcome.{Outcome, Goes, Ends, Fails}
 use Rattle.ssh_rules.specs.Layout.{at_once}
 use Rattle.ssh_rules.specs.OwnMessages.{OwnMessage}
-use Rattle.ssh_rules.specs.World.{World, lined, writes, replies, wants_reply, awaits}
+use Rattle.ssh_rules.specs.World.{World, ChannelRequest, lined, writes, settles_for, awaits}
 use Rattle.ssh_rules.specs.World.{wants_global, settles_global, in_exchange, keyed}
 use Rattle.ssh_rules.specs.declared.exchange.Keys.{Keys}
 use Rattle.ssh_rules.proofs.Absent.{IsAbsent, data_absent, eof_absent, close_absent}
-use Rattle.ssh_rules.proofs.Absent.{says_absent, wants_absent, all_absent}
+use Rattle.ssh_rules.proofs.Absent.{reply_absent, all_absent}
 use Rattle.ssh_rules.proofs.Acting.{EffectComes}
 use Rattle.ssh_rules.proofs.Apart.{either, refused_comes, apart_comes}
 use Rattle.ssh_rules.proofs.Pending.{IsReserved, data_pends, eof_pends, close_pends}
 use Rattle.ssh_rules.proofs.Passing.{AreLater}
-use Rattle.ssh_rules.proofs.Pending.{dropped_pending, next_apart, says_pends, wants_pends}
+use Rattle.ssh_rules.proofs.Pending.{dropped_pending, next_apart, reply_pends}
 use Rattle.ssh_rules.proofs.Pending.{all_pends}
 use Rattle.ssh_rules.proofs.Waiting.{AllWaiting, found_waiting, still_waiting}
 use Rattle.ssh_rules.proofs.Waiting.{removed_waiting}
+use Rattle.ssh_rules.proofs.Requested.{for_kept}
 use Rattle.ssh_rules.specs.OwnRequests.{OwnRequest, request_payload, xon_xoff, exit_status}
 use Rattle.ssh_rules.specs.OwnRequests.{exit_signal}
 use Rattle.ssh_link.specs.declared.outcome.Refusal.TheVariants.{TooLong}
-use Rattle.ssh_wire.specs.Messages.{channel_success, channel_failure}
 
 -- after this trace the channels have sent what they have to, all that is due is framed where no
 -- exchange of keys runs, and opens wait on free numbers
@@ -299,29 +299,20 @@ opens_or_not_on past (Some asked) w k = opens_on past asked w
     (is_too_long (open_payload asked 0 w.settings.config.window_size
     w.settings.config.maximum_packet_size)) refl k
 
--- the reply to a request is said, and wanted no longer
-replied_step : (past : List TraceEntry) (channel message : ℕ) (w : World) (wanted : Bool)
-    → is_beside (bare_frame message channel 0) ≡ true → wants_reply channel w.channels.lines
-    ≡ wanted → Kept past w → Kept past (lined (replies channel message) w)
-replied_step past channel message w true beside is k =
-    let lines = w.channels.lines in
-    let said = call_on past (Byte channel message) w beside refl
-    (λ n. says_absent n channel message lines) (says_pends channel message lines) k in
-    let v = lined (says channel message) w in
-    subst (λ b. Kept past (lined (λ l. cond b (wants channel false (says channel message l)) l) w))
-    (sym is)
-    (call_on past (Set_wants_reply channel false) v tt refl
-    (λ n. wants_absent n channel false v.channels.lines)
-    (wants_pends channel false v.channels.lines) said)
-replied_step past channel message w false beside is k =
-    subst (λ b. Kept past (lined (λ l. cond b (wants channel false (says channel message l)) l) w))
-    (sym is) k
+-- a reply is settled, and those that are ready go out
+pub replied_on : (past : List TraceEntry) (channel : ℕ) (success : Bool) (w : World)
+    (place : Option ℕ) → Kept past w → Kept past (lined (takes_reply channel place success) w)
+replied_on past channel success w place k =
+    call_on past (Settle channel place success) w tt refl
+    (λ n. reply_absent n channel place success w.channels.lines)
+    (reply_pends channel place success w.channels.lines) k
 
-pub replied_on : (past : List TraceEntry) (channel message : ℕ) (w : World)
-    → is_beside (bare_frame message channel 0) ≡ true → Kept past w
-    → Kept past (lined (replies channel message) w)
-replied_on past channel message w beside k =
-    replied_step past channel message w (wants_reply channel w.channels.lines) beside refl k
+-- .. as the callback of a request says, or another
+settled_on : (at : Option ChannelRequest) (past : List TraceEntry) (channel : ℕ) (success : Bool)
+    (w : World) → Kept past w → Kept past (lined (settles_for at channel success) w)
+settled_on at past channel success w k =
+    for_kept (λ l. Kept past (lined (λ _. l) w)) channel success w.channels.lines
+    (replied_on past channel success w) at k
 
 requested_on : (past : List TraceEntry) (long : Bool) (e : Option Entry) (channel : ChannelId)
     (asked : OwnRequest) (w : World) → find channel.0 w.channels.lines.entries ≡ e → Kept past w
@@ -368,39 +359,39 @@ data_on past number piece w k =
     (λ n. data_absent n number piece (in_exchange w) w.channels.lines)
     (data_pends number piece (in_exchange w) w.channels.lines) k
 
-done_on : (past : List TraceEntry) (w : World) (commanded : Command) → Kept past w →
-    EffectComes (Kept past) (done_by w commanded)
-done_on past w (command.Data channel bytes) k =
+done_on : (at : Option ChannelRequest) (past : List TraceEntry) (w : World)
+    (commanded : Command) → Kept past w → EffectComes (Kept past) (done_by at w commanded)
+done_on at past w (command.Data channel bytes) k =
     data_on past channel.0 (chunk Plain bytes) w k
-done_on past w (command.ExtendedData channel code bytes) k =
+done_on at past w (command.ExtendedData channel code bytes) k =
     data_on past channel.0 (chunk (Extended code) bytes) w k
-done_on past w (command.Eof channel) k =
+done_on at past w (command.Eof channel) k =
     call_on past (Eof channel.0) w tt refl (λ n. eof_absent n channel.0 w.channels.lines)
     (eof_pends channel.0 w.channels.lines) k
-done_on past w (command.Close channel) k =
+done_on at past w (command.Close channel) k =
     call_on past (Close channel.0) w tt refl (λ n. close_absent n channel.0 w.channels.lines)
     (close_pends channel.0 w.channels.lines) k
-done_on past w (command.ChannelSuccess channel) k =
-    replied_on past channel.0 channel_success.number w refl k
-done_on past w (command.ChannelFailure channel) k =
-    replied_on past channel.0 channel_failure.number w refl k
-done_on past w (command.XonXoff channel client_can_do) k =
+done_on at past w (command.ChannelSuccess channel) k =
+    settled_on at past channel.0 true w k
+done_on at past w (command.ChannelFailure channel) k =
+    settled_on at past channel.0 false w k
+done_on at past w (command.XonXoff channel client_can_do) k =
     requested_on past (is_too_long (request_payload 0 (xon_xoff client_can_do)))
     (find channel.0 w.channels.lines.entries) channel (xon_xoff client_can_do) w refl k
-done_on past w (command.ExitStatus channel status) k =
+done_on at past w (command.ExitStatus channel status) k =
     requested_on past (is_too_long (request_payload 0 (exit_status status)))
     (find channel.0 w.channels.lines.entries) channel (exit_status status) w refl k
-done_on past w (command.ExitSignal channel signal core message language) k =
+done_on at past w (command.ExitSignal channel signal core message language) k =
     let asked = exit_signal signal core message language in
     requested_on past (is_too_long (request_payload 0 asked))
     (find channel.0 w.channels.lines.entries) channel asked w refl k
-done_on past w (command.Answer answer) k = answered_on past answer (opening_of answer.channel.0 w) w
-    refl k
-done_on past w other k =
+done_on at past w (command.Answer answer) k =
+    answered_on past answer (opening_of answer.channel.0 w) w refl k
+done_on at past w other k =
     apart_comes (Kept past) (said_on past) (settles_on past) (opens_or_not_on past) w other k
 
-pub effect_on : (past : List TraceEntry) (w : World) (commanded : Command) → Kept past w →
-    EffectComes (Kept past) (effect w commanded)
-effect_on past w commanded k =
-    refused_comes (Kept past) (refused_for w.disconnected w commanded) w (done_by w commanded) k
-    (done_on past w commanded k)
+pub effect_on : (at : Option ChannelRequest) (past : List TraceEntry) (w : World)
+    (commanded : Command) → Kept past w → EffectComes (Kept past) (effect_at at w commanded)
+effect_on at past w commanded k =
+    refused_comes (Kept past) (refused_for w.disconnected w commanded) w (done_by at w commanded) k
+    (done_on at past w commanded k)

@@ -17,8 +17,8 @@ use Rattle.ssh_auth.specs.Publickey.{Acceptance}
 use Rattle.ssh_auth.specs.Verdict.{AuthOutcome, Replies, verdict as verdict_on, response_verdict}
 use Rattle.ssh_auth.specs.Verdict as auth
 use Rattle.ssh_channels.specs.Does.{coming_of}
-use Rattle.ssh_channels.specs.Lines.{find, next_number, takes_in, takes_grant, peer_closes, wants}
-use Rattle.ssh_channels.specs.Lines.{confirms, fails, all_go_on}
+use Rattle.ssh_channels.specs.Lines.{find, next_number, takes_in, takes_grant, peer_closes}
+use Rattle.ssh_channels.specs.Lines.{confirms, fails, all_go_on, aims}
 use Rattle.ssh_channels.specs.declared.adjusted.Adjusted.{Adjusted}
 use Rattle.ssh_channels.specs.declared.adjusted.Adjusted.TheVariants.{Dropped, Kept, Granted}
 use Rattle.ssh_channels.specs.declared.chunk.Chunk.{Chunk}
@@ -32,12 +32,13 @@ use Rattle.ssh_rules.specs.declared.exchange.Passage.TheVariants.{Passes}
 use Rattle.ssh_rules.specs.declared.messages.Spoken.{Spoken}
 use Rattle.ssh_rules.specs.declared.messages.Spoken.TheVariants as spoken
 use Rattle.ssh_rules.specs.declared.opens.Handling.{Handling}
-use Rattle.ssh_rules.specs.declared.opens.Handling.TheVariants.{Asks, Unsupported, Unknown}
+use Rattle.ssh_rules.specs.declared.opens.Handling.TheVariants.{Asks, Unsupported, Unknown, GivenUp}
 use Rattle.ssh_rules.specs.declared.state.EncryptedState.{EncryptedState}
 use Rattle.ssh_rules.specs.declared.state.EncryptedState.TheVariants.{WaitingAuthRequest}
 use Rattle.ssh_rules.specs.Acts.{Beginning, Stepping, Exchanges, acts, frames_given}
 use Rattle.ssh_rules.specs.Acts.{moved, payloads_given}
 use Rattle.ssh_rules.specs.Effect.{Effect, Does, effect, refused_for, refused_or, done_by, said}
+use Rattle.ssh_rules.specs.Effect.{effect_at}
 use Rattle.ssh_rules.specs.Layout.{at_once, held, too_many_attempts}
 use Rattle.ssh_rules.specs.Opens.{failure_frame}
 use Rattle.ssh_rules.specs.Outcome.{Outcome, Goes, Ends, Fails}
@@ -47,16 +48,17 @@ use Rattle.ssh_rules.specs.Reading.{Said, Service, Request, Response, Open, Agre
 use Rattle.ssh_rules.specs.Reading.{Disconnect, Over_cap, Unread, Unfit, Without_packets}
 use Rattle.ssh_rules.specs.Rows.{spoken_acts, failure_acts, confirmation_acts, exchange_acts}
 use Rattle.ssh_rules.specs.Rows.{row, owed, greeting, greets, is_short, served, replied}
-use Rattle.ssh_rules.specs.Rows.{concluded, asked_of, data_told, open_acts, reply_of}
-use Rattle.ssh_rules.specs.Rows.{global_reply, bound_to, rejection_hold, moment_after, aims}
-use Rattle.ssh_rules.specs.Rows.{waits, turns_away, lets_in, finishes}
+use Rattle.ssh_rules.specs.Rows.{concluded, asked_of, data_told, open_acts}
+use Rattle.ssh_rules.specs.Rows.{global_reply, bound_to, rejection_hold, moment_after}
+use Rattle.ssh_rules.specs.Rows.{waits, turns_away, lets_in, finishes, aims_at, gives_up_sessions}
 use Rattle.ssh_rules.specs.Run.{OwesKind, command_row}
 use Rattle.ssh_rules.specs.Ticks.{keepalive_acts, ticked}
-use Rattle.ssh_rules.specs.Types.{handling, opening_by, unsupported, unknown}
-use Rattle.ssh_rules.specs.World.{World, hears, is_there, is_waiting, keyed, lined, replies}
+use Rattle.ssh_rules.specs.Types.{handling, opening_by, unsupported, unknown, given_up}
+use Rattle.ssh_rules.specs.World.{World, hears, is_there, is_waiting, keyed, lined}
 use Rattle.ssh_rules.specs.World.{settled_first, settles_global, wants_global, waits_for, writes}
+use Rattle.ssh_rules.specs.World.{target_on, ChannelRequest, asked_on, wants_if, settles_one}
 use Rattle.ssh_rules.proofs.Acting.{PlanComes, EffectComes, Law, ActsCome, acts_come, one_comes}
-use Rattle.ssh_rules.proofs.Apart.{notes_come, refused_comes, sent_comes, tick_comes}
+use Rattle.ssh_rules.proofs.Apart.{notes_come, refused_comes, sent_comes, tick_comes, either}
 use Rattle.ssh_rules.proofs.Beside.{on_come, settles_beside, IsOther as EndsNone}
 use Rattle.ssh_rules.proofs.Emptied.{told_comes}
 use Rattle.ssh_rules.proofs.Ended.{IsLive, effect_live, said_live, same_live}
@@ -68,7 +70,9 @@ use Rattle.ssh_rules.proofs.Undisconnected.{NoneDisconnect, both_none, IsSilent}
 use Rattle.ssh_rules.proofs.Undisconnected.{effect_silent, said_silent, settles_silent}
 use Rattle.ssh_rules.proofs.Undisconnected.{all_quiet, adjust_quiet, grant_quiet, reply_quiet}
 use Rattle.ssh_rules.proofs.Undisconnected.{peer_close_quiet, failed_quiet, confirmed_quiet}
-use Rattle.ssh_rules.proofs.Undisconnected.{wants_quiet, written_silent}
+use Rattle.ssh_rules.proofs.Undisconnected.{written_silent, aims_quiet, wanted_quiet, IsQuiet}
+use Rattle.ssh_channels.specs.Layout.{as_uint32}
+use Rattle.ssh_rules.proofs.Requested.{one_kept}
 
 -- ---- frames
 
@@ -142,24 +146,25 @@ refused_closing true w one does is h = h
 refused_closing false w one does is h = absurd (cc)
 
 -- the one that asks for it writes it behind the others
-live_closing : (w : World) (one : Command) → IsLive w → IsSilent w → IsClosing w
-    → EffectComes IsClosing (effect w one)
-live_closing w (command.Disconnect reason description language) live silent h =
+live_closing : (at : Option ChannelRequest) (w : World) (one : Command) → IsLive w → IsSilent w
+    → IsClosing w → EffectComes IsClosing (effect_at at w one)
+live_closing at w (command.Disconnect reason description language) live silent h =
     let one = command.Disconnect reason description language in
     let message = disconnect reason description language in
     let last = at_once message.payload in
     let frames = w.channels.lines.written in
-    refused_comes IsClosing (refused_for w.disconnected w one) w (done_by w one) h
+    refused_comes IsClosing (refused_for w.disconnected w one) w (done_by at w one) h
     (sent_comes IsClosing message w h
     (subst (λ b. AreClosing (b || true) (frames ++ last ∷ [])) (sym live)
     (one_last frames last silent)))
-live_closing w one live silent h =
-    both_closing (effect w one) (effect_live w one refl live) (effect_silent w one tt silent)
+live_closing at w one live silent h =
+    both_closing (effect_at at w one) (effect_live at w one refl live)
+    (effect_silent at w one tt silent)
 
-effect_step : (ended : Bool) (w : World) (one : Command) → w.disconnected ≡ ended → IsClosing w
-    → EffectComes IsClosing (effect w one)
-effect_step true w one is h = refused_closing w.disconnected w one (done_by w one) is h
-effect_step false w one is h = live_closing w one is (closing_silent w is h) h
+effect_step : (at : Option ChannelRequest) (ended : Bool) (w : World) (one : Command)
+    → w.disconnected ≡ ended → IsClosing w → EffectComes IsClosing (effect_at at w one)
+effect_step at true w one is h = refused_closing w.disconnected w one (done_by at w one) is h
+effect_step at false w one is h = live_closing at w one is (closing_silent w is h) h
 
 abbrev law : Law
 law = record {
@@ -171,17 +176,26 @@ law = record {
   lends = λ lent commands s. any_built commands;
   judges = λ judged answer s. any_built answer.commands;
   listens = λ address port answer s. any_built answer.commands;
-  keeps = λ w one h b. effect_step w.disconnected w one refl h;
+  keeps = λ at w one h b. effect_step at w.disconnected w one refl h;
 }
 
 -- ---- rows
+
+aims_open : (channel : ChannelId) (window : ℕ) (w : World) → IsOpen w
+    → IsOpen (aims_at channel window w)
+aims_open channel window w o =
+    either IsOpen (window == 0) w (lined (aims channel.0 (as_uint32 window)) w) o
+    (o.0, aims_quiet channel.0 (as_uint32 window) w.channels.lines o.1)
 
 told_closing : (adjusted : Adjusted) (channel : ChannelId) (piece : Chunk) (target : ℕ)
     (w : World) → IsOpen w → ActsCome law (data_told adjusted channel piece target) w
 told_closing Dropped channel piece target w o = tt
 told_closing Kept channel piece target w o = λ world k. tt
 told_closing (Granted amount) channel piece target w o =
-    λ window. (open_closing (aims window w) o.0 o.1, λ world k. tt)
+    λ window.
+    let v = aims_at channel window w in
+    let k = aims_open channel window w o in
+    (open_closing v k.0 k.1, λ world k. tt)
 
 away_closing : (number : ℕ) (payload : List ℕ) (w : World)
     → is_disconnect (failure_frame number payload) ≡ false → IsOpen w
@@ -193,10 +207,13 @@ away_closing number payload w other o =
 open_acts_closing : (number : Option ℕ) (message : OpenChannelMessage) (does : Handling)
     (w : World) → IsOpen w → ActsCome law (open_acts number message does) w
 open_acts_closing None message (Asks type) w o = tt
+open_acts_closing None message GivenUp w o = tt
 open_acts_closing None message Unsupported w o = tt
 open_acts_closing None message Unknown w o = tt
 open_acts_closing (Some number) message (Asks type) w o =
     (open_closing (waits number (opening_by message) w) o.0 o.1, λ world k. tt)
+open_acts_closing (Some number) message GivenUp w o =
+    (away_closing number (given_up message.recipient_channel) w refl o, tt)
 open_acts_closing (Some number) message Unsupported w o =
     (away_closing number (unsupported message.recipient_channel) w refl o, tt)
 open_acts_closing (Some number) message Unknown w o =
@@ -223,20 +240,17 @@ confirmation_closing w false message o = tt
 
 -- replies to requests
 wants_closing : (channel : ChannelId) (wanted : Bool) (w : World) → IsOpen w
-    → IsClosing (lined (wants channel.0 wanted) w)
+    → IsClosing (lined (wants_if wanted channel.0) w)
 wants_closing channel wanted w o =
-    open_closing (lined (wants channel.0 wanted) w) o.0
-    (wants_quiet channel.0 wanted w.channels.lines o.1)
+    open_closing (lined (wants_if wanted channel.0) w) o.0
+    (wanted_quiet channel.0 wanted w.channels.lines o.1)
 
-reply_other : (granted : Bool) → (reply_of granted == 1) ≡ false
-reply_other true = refl
-reply_other false = refl
-
-replies_closing : (channel : ChannelId) (granted : Bool) (w : World) → IsOpen w
-    → IsClosing (lined (replies channel.0 (reply_of granted)) w)
-replies_closing channel granted w o =
-    open_closing (lined (replies channel.0 (reply_of granted)) w) o.0
-    (reply_quiet channel.0 (reply_of granted) w.channels.lines (reply_other granted) o.1)
+settled_closing : (place : Option ℕ) (channel : ChannelId) (granted : Bool) (w : World) → IsOpen w
+    → IsClosing (lined (settles_one place channel.0 granted) w)
+settled_closing place channel granted w o =
+    open_closing (lined (settles_one place channel.0 granted) w) o.0
+    (one_kept IsQuiet channel.0 granted w.channels.lines
+    (λ other. reply_quiet channel.0 other granted w.channels.lines) place o.1)
 
 global_other : (granted : Bool) (port : Option ℕ)
     → is_disconnect (at_once (global_reply granted port)) ≡ false
@@ -262,11 +276,11 @@ spoken_closing w (spoken.Grant channel amount) o =
     ))
 spoken_closing w (spoken.Data channel piece) o =
     let count = length piece.bytes in
-    let came = coming_of count w.channels.target (find channel.0 w.channels.lines.entries) in
-    let v = lined (takes_in channel.0 count w.channels.target) w in
-    let silent = adjust_quiet channel.0 count w.channels.target w.channels.lines o.1 in (
+    let came = coming_of count (target_on channel.0 w) (find channel.0 w.channels.lines.entries) in
+    let v = lined (takes_in channel.0 count (target_on channel.0 w)) w in
+    let silent = adjust_quiet channel.0 count (target_on channel.0 w) w.channels.lines o.1 in (
       open_closing v o.0 silent,
-      told_closing came channel piece w.channels.target v (o.0, silent),
+      told_closing came channel piece (target_on channel.0 w) v (o.0, silent),
     )
 spoken_closing w (spoken.Tells channel message happening) o =
     on_come law w (find channel.0 w.channels.lines.entries) _ (λ e. λ world k. tt)
@@ -277,26 +291,24 @@ spoken_closing w (spoken.Close channel) o =
           (peer_close_quiet channel.0 w.channels.lines o.1),
       λ world k. tt,
     ))
-spoken_closing w (spoken.Wants channel wanted) o = (wants_closing channel wanted w o, tt)
 spoken_closing w (spoken.Failed channel reason) o =
     failure_closing w (is_there w channel.0) (is_waiting w channel.0) channel reason o
 spoken_closing w (spoken.Asks channel wanted message happening) o =
     (wants_closing channel wanted w o, λ world k. tt)
-spoken_closing w (spoken.AsksForAgent channel wanted) o = (
-  wants_closing channel wanted w o,
-  λ granted world k. (
-    unless_closing world (lined (replies channel.0 (reply_of granted)) world)
-        (replies_closing channel granted world) k,
-    tt,
-  ),
-)
-spoken_closing w (spoken.AsksUnknown channel wanted) o =
-    let v = lined (wants channel.0 wanted) w in (
+spoken_closing w (spoken.AsksForAgent channel wanted) o =
+    let place = (asked_on channel wanted w).place in (
       wants_closing channel wanted w o,
-      (
-        replies_closing channel false v (o.0, wants_quiet channel.0 wanted w.channels.lines o.1),
+      λ granted world k. (
+        unless_closing world (lined (settles_one place channel.0 granted) world)
+            (settled_closing place channel granted world) k,
         tt,
       ),
+    )
+spoken_closing w (spoken.AsksUnknown channel wanted) o =
+    let v = lined (wants_if wanted channel.0) w in
+    let silent = wanted_quiet channel.0 wanted w.channels.lines o.1 in (
+      wants_closing channel wanted w o,
+      (settled_closing (asked_on channel wanted w).place channel false v (o.0, silent), tt),
     )
 spoken_closing w (spoken.AsksToForward wanted address port) o = (
   open_closing (wants_global wanted w) o.0 o.1,
@@ -319,13 +331,22 @@ spoken_closing w (spoken.AsksGloballyUnknown wanted) o = (
   open_closing (wants_global wanted w) o.0 o.1,
   (settles_closing false None (wants_global wanted w) (o.0, o.1), tt),
 )
+spoken_closing w (spoken.GivesUpSessions wanted) o =
+    let v = gives_up_sessions w in (
+      open_closing v o.0 o.1,
+      (
+        open_closing (wants_global wanted v) o.0 o.1,
+        (settles_closing true None (wants_global wanted v) (o.0, o.1), tt),
+      ),
+    )
 spoken_closing w (spoken.Settles told) o =
     (open_closing (settled_first w) o.0 o.1, notes_come law told (settled_first w))
 spoken_closing w spoken.Inconsistent o = tt
 
 owed_closing : (w : World) (said : Said) → EndsNone said → IsOpen w → ActsCome law (owed w said) w
 owed_closing w (Open message) is o =
-    open_acts_closing (next_number w.channels.lines) message (handling message.typ) w o
+    open_acts_closing (next_number w.channels.lines) message
+    (handling w.channels.no_more_sessions message.typ) w o
 owed_closing w (Agreed message) is o =
     confirmation_closing w (is_waiting w message.recipient_channel) message o
 owed_closing w Unread is o = tt
@@ -432,7 +453,7 @@ command_closing : (w : World) (ticket : ℕ) (one : Command) → IsOpen w
 command_closing w ticket one o =
     one_comes law (effect w one) (λ outcome world. Tell (Answered ticket outcome)
     (Finish (Goes world)))
-    (effect_step w.disconnected w one refl (open_closing w o.0 o.1)) (λ outcome world k. k)
+    (effect_step None w.disconnected w one refl (open_closing w o.0 o.1)) (λ outcome world k. k)
 
 tick_closing : (w : World) → IsOpen w
     → PlanComes Anything ComesClosing (acts (keepalive_acts w) w)

@@ -20,11 +20,13 @@ use Rattle.ssh_channels.specs.declared.adjusted.Adjusted.TheVariants.{Dropped, K
 use Rattle.ssh_channels.specs.declared.adjusted.Adjusted.TheVariants.{Granted}
 use Rattle.ssh_channels.specs.declared.chunk.Chunk.{Chunk}
 use Rattle.ssh_channels.specs.Calls.{Peer_close, Grant, Adjust, Drop_pending}
-use Rattle.ssh_channels.specs.Calls.{Set_wants_reply, Stage, Draw, Confirm, Fail_open}
+use Rattle.ssh_channels.specs.Calls.{Set_target, Request as Wants_one, Stage, Draw, Confirm}
+use Rattle.ssh_channels.specs.Calls.{Fail_open}
 use Rattle.ssh_channels.specs.Does.{does, coming_of}
 use Rattle.ssh_channels.specs.Entry.{IsDue, asked}
 use Rattle.ssh_channels.specs.Lines.{Lines, find, next_number, drawn, drops_pending}
-use Rattle.ssh_channels.specs.Lines.{confirms, wants}
+use Rattle.ssh_channels.specs.Lines.{confirms, aims}
+use Rattle.ssh_channels.specs.Layout.{as_uint32}
 use Rattle.ssh_channels.specs.Sent.{Each, Ledgered, may_go}
 use Rattle.ssh_channels.proofs.Booked.{op_kept, next_absent}
 use Rattle.ssh_channels.proofs.Dues.{all_sound, op_due}
@@ -35,9 +37,9 @@ use Rattle.ssh_rules.specs.Effect.{effect}
 use Rattle.ssh_rules.specs.OwnMessages.{keepalive}
 use Rattle.ssh_rules.specs.Ticks.{keepalive_acts, ticked}
 use Rattle.ssh_rules.specs.Layout.{too_many_attempts, at_once, held}
-use Rattle.ssh_rules.specs.Types.{handling, opening_by, unsupported, unknown}
+use Rattle.ssh_rules.specs.Types.{handling, opening_by, given_up, unsupported, unknown}
 use Rattle.ssh_rules.specs.declared.opens.Handling.{Handling}
-use Rattle.ssh_rules.specs.declared.opens.Handling.TheVariants.{Asks, Unsupported, Unknown}
+use Rattle.ssh_rules.specs.declared.opens.Handling.TheVariants.{Asks, GivenUp, Unsupported, Unknown}
 use Rattle.ssh_wire.specs.declared.open.OpenChannelMessage.{OpenChannelMessage}
 use Rattle.ssh_wire.specs.declared.open.ChannelOpenConfirmation.{ChannelOpenConfirmation}
 use Rattle.ssh_rules.specs.Outcome.{Goes}
@@ -50,22 +52,23 @@ use Rattle.ssh_rules.specs.Reading as read
 use Rattle.ssh_rules.specs.Rows.{spoken_acts, failure_acts, confirmation_acts}
 use Rattle.ssh_rules.specs.Rows.{row, owed, greeting, greets, is_short, replied, concluded}
 use Rattle.ssh_rules.specs.Rows.{asked_of, rejection_hold, moment_after}
-use Rattle.ssh_rules.specs.Rows.{data_told, open_acts, turns_first, aims, served, lets_in}
-use Rattle.ssh_rules.specs.Rows.{finishes, reply_of}
+use Rattle.ssh_rules.specs.Rows.{data_told, open_acts, turns_first, aims_at, served, lets_in}
+use Rattle.ssh_rules.specs.Rows.{finishes, gives_up_sessions}
 use Rattle.ssh_rules.specs.Run.{command_row}
-use Rattle.ssh_rules.specs.World.{World, waits_for, lined, replies, is_there, is_waiting}
-use Rattle.ssh_rules.specs.World.{wants_global, settled_first, in_exchange}
+use Rattle.ssh_rules.specs.World.{World, waits_for, lined, is_there, is_waiting, target_on}
+use Rattle.ssh_rules.specs.World.{wants_if, settles_one, wants_global, settled_first, in_exchange}
+use Rattle.ssh_rules.specs.World.{asked_on as request_of}
 use Rattle.ssh_rules.proofs.Absent.{IsAbsent}
 use Rattle.ssh_rules.proofs.Absent.{peer_close_absent, grant_absent, adjust_absent}
-use Rattle.ssh_rules.proofs.Absent.{wants_absent, confirmed_absent, failed_absent}
+use Rattle.ssh_rules.proofs.Absent.{aims_absent, request_absent, confirmed_absent, failed_absent}
 use Rattle.ssh_rules.proofs.Acting.{PlanComes, AllBuilt, Law, ActsCome, IsRekeyed, acts_come}
 use Rattle.ssh_rules.proofs.Acting.{one_comes, comes_then}
 use Rattle.ssh_rules.proofs.Apart.{either, forward_comes, asked_comes, unknown_comes}
-use Rattle.ssh_rules.proofs.Apart.{settles_comes, tick_comes}
+use Rattle.ssh_rules.proofs.Apart.{given_up_comes, settles_comes, tick_comes}
 use Rattle.ssh_rules.proofs.Settled.{Anything}
 use Rattle.ssh_rules.proofs.Beside.{on_come}
 use Rattle.ssh_rules.proofs.Pending.{IsReserved, grant_pends}
-use Rattle.ssh_rules.proofs.Pending.{peer_close_pends, adjust_pends, wants_pends}
+use Rattle.ssh_rules.proofs.Pending.{peer_close_pends, adjust_pends, aims_pends, request_pends}
 use Rattle.ssh_rules.proofs.Pending.{confirmed_pends, failed_pends, drawn_pending, drawn_self}
 use Rattle.ssh_rules.proofs.Pending.{dropped_pending, next_apart}
 use Rattle.ssh_rules.proofs.Waiting.{still_waiting}
@@ -73,7 +76,7 @@ use Rattle.ssh_rules.proofs.Waiting.{inserted_waiting}
 use Rattle.ssh_rules.proofs.Keeping.{ArePlain, ComesKept, Kept, call_on, effect_on, op_on}
 use Rattle.ssh_rules.proofs.Keeping.{plain_kept, refusal_frame, replied_on, beside_on, said_on}
 use Rattle.ssh_rules.proofs.Keeping.{settles_on, keyed_on, renewed_on}
-use Rattle.ssh_wire.specs.Messages.{channel_success, channel_failure}
+use Rattle.ssh_rules.proofs.Requested.{wants_kept, one_kept}
 
 abbrev Any_command : Command → Type 0
 Any_command command = Unit {0}
@@ -92,7 +95,7 @@ law past = record {
   lends = λ lent commands s. any_built commands;
   judges = λ judged answer s. any_built answer.commands;
   listens = λ address port answer s. any_built answer.commands;
-  keeps = λ w command h b. effect_on past w command h;
+  keeps = λ at w command h b. effect_on at past w command h;
 }
 
 -- through an exchange of keys
@@ -102,10 +105,18 @@ exchanged_on past w k =
 
 -- ---- rows
 
--- a window that is aimed at from now on
-aims_on : (past : List TraceEntry) (window : ℕ) (w : World) → Kept past w
-    → Kept past (aims window w)
-aims_on past window w k = record { ledger = k.ledger; due = k.due; waiting = k.waiting }
+-- the room of a channel is filled up to this window from now on
+four_bytes : (window : ℕ) → as_uint32 window < 2 ^ 32
+four_bytes window = omega arith
+
+pub aims_on : (past : List TraceEntry) (channel : ChannelId) (window : ℕ) (w : World)
+    → Kept past w → Kept past (aims_at channel window w)
+aims_on past channel window w k =
+    let target = as_uint32 window in
+    let aimed = call_on past (Set_target channel.0 target) w (four_bytes window) refl
+    (λ n. aims_absent n channel.0 target w.channels.lines)
+    (aims_pends channel.0 target w.channels.lines) k in
+    either (Kept past) (window == 0) w (lined (aims channel.0 target) w) k aimed
 
 told_on : (past : List TraceEntry) (adjusted : Adjusted) (channel : ChannelId) (piece : Chunk)
     (target : ℕ) (w : World) → Kept past w →
@@ -113,7 +124,7 @@ told_on : (past : List TraceEntry) (adjusted : Adjusted) (channel : ChannelId) (
 told_on past Dropped channel piece target w k = tt
 told_on past Within channel piece target w k = λ world h. tt
 told_on past (Granted amount) channel piece target w k = λ window. (
-  aims_on past window w k,
+  aims_on past channel window w k,
   λ world h. tt,
 )
 
@@ -173,6 +184,8 @@ open_on past (Some number) message (Asks type) w is fair k = (
   },
   λ world h. tt,
 )
+open_on past number message GivenUp w is fair k =
+    away_on past number (given_up message.recipient_channel) w is (λ n. refl) k
 open_on past number message Unsupported w is fair k =
     away_on past number (unsupported message.recipient_channel) w is (λ n. refl) k
 open_on past number message Unknown w is fair k =
@@ -216,15 +229,17 @@ confirmation_on past w true message fair k =
 confirmation_on past w false message fair k = tt
 
 wanted_on : (past : List TraceEntry) (channel : ℕ) (wanted : Bool) (w : World) → Kept past w
-    → Kept past (lined (wants channel wanted) w)
-wanted_on past channel wanted w k = call_on past (Set_wants_reply channel wanted) w tt refl
-    (λ n. wants_absent n channel wanted w.channels.lines)
-    (wants_pends channel wanted w.channels.lines) k
+    → Kept past (lined (wants_if wanted channel) w)
+wanted_on past channel wanted w k =
+    wants_kept (λ l. Kept past (lined (λ _. l) w)) wanted channel w.channels.lines
+    (call_on past (Wants_one channel) w tt refl
+    (λ n. request_absent n channel w.channels.lines) (request_pends channel w.channels.lines)) k
 
-replied_by : (past : List TraceEntry) (channel : ℕ) (granted : Bool) (w : World) → Kept past w
-    → Kept past (lined (replies channel (reply_of granted)) w)
-replied_by past channel true w k = replied_on past channel channel_success.number w refl k
-replied_by past channel false w k = replied_on past channel channel_failure.number w refl k
+replied_by : (past : List TraceEntry) (place : Option ℕ) (channel : ℕ) (granted : Bool) (w : World)
+    → Kept past w → Kept past (lined (settles_one place channel granted) w)
+replied_by past place channel granted w k =
+    one_kept (λ l. Kept past (lined (λ _. l) w)) channel granted w.channels.lines
+    (replied_on past channel granted w) place k
 
 wanting_on : (past : List TraceEntry) (wanted : Bool) (w : World) → Kept past w
     → Kept past (wants_global wanted w)
@@ -232,6 +247,9 @@ wanting_on past wanted w k = beside_on past w (wants_global wanted w) refl (λ o
 
 first_on : (past : List TraceEntry) (w : World) → Kept past w → Kept past (settled_first w)
 first_on past w k = beside_on past w (settled_first w) refl (λ out. out) k
+
+given_up_on : (past : List TraceEntry) (w : World) → Kept past w → Kept past (gives_up_sessions w)
+given_up_on past w k = record { ledger = k.ledger; due = k.due; waiting = k.waiting }
 
 spoken_on : (past : List TraceEntry) (w : World) (said : Spoken) → Kept past w
     → ActsCome (law past) (spoken_acts w said) w
@@ -244,13 +262,14 @@ spoken_on past w (spoken.Grant channel amount) k =
       λ world h. tt,
     ))
 spoken_on past w (spoken.Data channel piece) k =
-    let came = coming_of (length piece.bytes) w.channels.target
-    (find channel.0 w.channels.lines.entries) in
-    let v = lined (does (Adjust channel.0 (length piece.bytes) w.channels.target)) w in
-    let kept = call_on past (Adjust channel.0 (length piece.bytes) w.channels.target) w tt refl
-    (λ n. adjust_absent n channel.0 (length piece.bytes) w.channels.target w.channels.lines)
-    (adjust_pends channel.0 (length piece.bytes) w.channels.target w.channels.lines) k in
-    (kept, told_on past came channel piece w.channels.target v kept)
+    let count = length piece.bytes in
+    let target = target_on channel.0 w in
+    let came = coming_of count target (find channel.0 w.channels.lines.entries) in
+    let v = lined (does (Adjust channel.0 count target)) w in
+    let kept = call_on past (Adjust channel.0 count target) w tt refl
+    (λ n. adjust_absent n channel.0 count target w.channels.lines)
+    (adjust_pends channel.0 count target w.channels.lines) k in
+    (kept, told_on past came channel piece target v kept)
 spoken_on past w (spoken.Tells channel message happening) k =
     on_come (law past) w (find channel.0 w.channels.lines.entries) _ (λ e. λ world h. tt)
 spoken_on past w (spoken.Close channel) k =
@@ -261,23 +280,24 @@ spoken_on past w (spoken.Close channel) k =
           (peer_close_pends channel.0 w.channels.lines) k,
       λ world h. tt,
     ))
-spoken_on past w (spoken.Wants channel wanted) k = (wanted_on past channel.0 wanted w k, tt)
 spoken_on past w (spoken.Failed channel reason) k =
     failure_on past w (is_there w channel.0) (is_waiting w channel.0) channel reason k
 spoken_on past w (spoken.Asks channel wanted message happening) k =
     (wanted_on past channel.0 wanted w k, λ world h. tt)
-spoken_on past w (spoken.AsksForAgent channel wanted) k = (
-  wanted_on past channel.0 wanted w k,
-  λ granted world h. (
-    either (Kept past) world.disconnected world
-        (lined (replies channel.0 (reply_of granted)) world) h
-        (replied_by past channel.0 granted world h),
-    tt,
-  ),
-)
+spoken_on past w (spoken.AsksForAgent channel wanted) k =
+    let place = (request_of channel wanted w).place in (
+      wanted_on past channel.0 wanted w k,
+      λ granted world h. (
+        either (Kept past) world.disconnected world
+            (lined (settles_one place channel.0 granted) world) h
+            (replied_by past place channel.0 granted world h),
+        tt,
+      ),
+    )
 spoken_on past w (spoken.AsksUnknown channel wanted) k =
     let kept = wanted_on past channel.0 wanted w k in
-    (kept, (replied_by past channel.0 false (lined (wants channel.0 wanted) w) kept, tt))
+    let place = (request_of channel wanted w).place in
+    (kept, (replied_by past place channel.0 false (lined (wants_if wanted channel.0) w) kept, tt))
 spoken_on past w (spoken.AsksToForward wanted address port) k =
     forward_comes (law past) (wanting_on past) (settles_on past) (first_on past) w wanted address
     port k
@@ -285,6 +305,9 @@ spoken_on past w (spoken.AsksGlobally wanted judged) k =
     asked_comes (law past) (wanting_on past) (settles_on past) (first_on past) w wanted judged k
 spoken_on past w (spoken.AsksGloballyUnknown wanted) k =
     unknown_comes (law past) (wanting_on past) (settles_on past) (first_on past) w wanted k
+spoken_on past w (spoken.GivesUpSessions wanted) k =
+    given_up_comes (law past) (wanting_on past) (settles_on past) (first_on past) w wanted
+    (given_up_on past w k)
 spoken_on past w (spoken.Settles told) k =
     settles_comes (law past) (wanting_on past) (settles_on past) (first_on past) w told k
 spoken_on past w spoken.Inconsistent k = tt
@@ -292,7 +315,8 @@ spoken_on past w spoken.Inconsistent k = tt
 pub owed_on : (past : List TraceEntry) (w : World) (said : Said) → IsFairSaid said → Kept past w
     → ActsCome (law past) (owed w said) w
 owed_on past w (Open message) fair k =
-    open_on past (next_number w.channels.lines) message (handling message.typ) w refl fair k
+    open_on past (next_number w.channels.lines) message
+    (handling w.channels.no_more_sessions message.typ) w refl fair k
 owed_on past w (Agreed message) fair k =
     confirmation_on past w (is_waiting w message.recipient_channel) message fair k
 owed_on past w Unread fair k = tt
@@ -371,7 +395,7 @@ pub command_kept : (past : List TraceEntry) (w : World) (ticket : ℕ) (commande
 command_kept past w ticket commanded k =
     one_comes (law past) (effect w commanded) (λ outcome world. Tell (Answered ticket outcome)
     (Finish (Goes world)))
-    (effect_on past w commanded k) (λ outcome world h. h)
+    (effect_on None past w commanded k) (λ outcome world h. h)
 
 pub tick_kept : (past : List TraceEntry) (w : World) → Kept past w
     → PlanComes Anything (ComesKept past) (acts (keepalive_acts w) w)

@@ -16,6 +16,7 @@ pub mod Acting
 pub mod Apart
 pub mod Beside
 pub mod Settled
+pub mod Requested
 pub mod Accepting
 pub mod Ended
 pub mod Pending

@@ -2,7 +2,7 @@
 -- come. No call of the table makes more of them (RFC 4254 section 5).
 use Rattle.std.proofs.Common.{◌≡◌, ◌≤◌, ◌+◌, ◌-◌, ◌&&◌, ◌||◌, ℕ, List, [], ◌∷◌, ◌++◌, map}
 use Rattle.std.proofs.Common.{Bool, true, false, not, cond, Option, Some, None}
-use Rattle.std.proofs.Common.{refl, sym, ◌∙◌, ap, subst, arith}
+use Rattle.std.proofs.Common.{refl, arith}
 use Rattle.std.specs.Prelude.{is_some}
 use Rattle.std.specs.Ordering.{nat_cmp}
 use Rattle.std.specs.BTreeMap.{is_at}
@@ -16,28 +16,27 @@ use Rattle.ssh_channels.specs.declared.chunk.Chunk.{Chunk}
 use Rattle.ssh_channels.specs.declared.chunk.DataKind.{DataKind}
 use Rattle.ssh_channels.specs.declared.chunk.DataKind.TheVariants.{Plain, Extended}
 use Rattle.ssh_channels.specs.Cut.{piece_limit, cut, left_of}
-use Rattle.ssh_channels.specs.Does.{is_one}
 use Rattle.ssh_channels.specs.Entry.{Entry, asked, agreed, accepting, after_eof, all_framed}
 use Rattle.ssh_channels.specs.Entry.{closes_now, eof_out, tells_eof, flush_out, flushed, granting}
-use Rattle.ssh_channels.specs.Entry.{more_may_come, close_may_come}
-use Rattle.ssh_channels.specs.Layout.{chunk, data_frame, bare_frame, eof_frame, close_frame}
-use Rattle.ssh_channels.specs.Layout.{adjust_frame}
+use Rattle.ssh_channels.specs.Entry.{more_may_come, close_may_come, reply_may_come, replying}
+use Rattle.ssh_channels.specs.Entry.{replies_out}
+use Rattle.ssh_channels.specs.Layout.{chunk, data_frame, eof_frame, close_frame, adjust_frame}
+use Rattle.ssh_channels.specs.Layout.{reply_frame}
 use Rattle.ssh_channels.specs.Lines.{Lines, find, put, without, added, write, turns, closes}
 use Rattle.ssh_channels.specs.Lines.{settles, where_found, takes_data, takes_eof, takes_close}
-use Rattle.ssh_channels.specs.Lines.{peer_closes, takes_grant, takes_in, says, wants, confirms}
+use Rattle.ssh_channels.specs.Lines.{peer_closes, takes_grant, takes_in, aims, takes_reply}
+use Rattle.ssh_channels.specs.Lines.{confirms}
 use Rattle.ssh_channels.specs.Lines.{fails, adds, asks, drops_pending, numbers, goes_on}
 use Rattle.ssh_channels.specs.Lines.{each_goes_on, all_go_on}
-use Rattle.ssh_channels.specs.Sent.{is_tagged}
+use Rattle.ssh_channels.specs.Sent.{is_tagged, is_reply}
 use Rattle.ssh_channels.specs.Room.{coming, having, adjust_out}
-use Rattle.ssh_channels.proofs.Listed.{found_put, find_again, found_number}
+use Rattle.ssh_channels.proofs.Listed.{find_again}
 use Rattle.ssh_rules.specs.Answered.{how_many, is_answer}
 use Rattle.ssh_rules.specs.Exchange.{is_of_transport}
 use Rattle.ssh_rules.specs.GlobalReplied.{is_global_reply}
 use Rattle.ssh_rules.specs.Layout.{at_once}
 use Rattle.ssh_rules.specs.Opening.{Opening}
 use Rattle.ssh_rules.specs.Opens.{failure_frame}
-use Rattle.ssh_rules.specs.Replied.{is_reply}
-use Rattle.ssh_rules.specs.World.{replies}
 
 -- ---- how many
 
@@ -106,7 +105,7 @@ abbrev pub AreSilent : (such : Frame → Bool) → List Frame → Type 0
 AreSilent such [] = Unit {0}
 AreSilent such (frame ∷ frames) = (such frame ≡ false) × AreSilent such frames
 
-silent_none : (such : Frame → Bool) (frames : List Frame) → AreSilent such frames →
+pub silent_none : (such : Frame → Bool) (frames : List Frame) → AreSilent such frames →
     how_many such frames ≡ 0
 silent_none such [] h = refl
 silent_none such (frame ∷ frames) h = rw h.0 (silent_none such frames h.1)
@@ -115,6 +114,14 @@ pub silent_both : (such : Frame → Bool) (xs ys : List Frame) → AreSilent suc
     AreSilent such ys → AreSilent such (xs ++ ys)
 silent_both such [] ys h k = k
 silent_both such (x ∷ xs) ys h k = (h.0, silent_both such xs ys h.1 k)
+
+-- nor is a reply, where neither a success nor a failure is
+pub replies_silent : (such : Frame → Bool) (own peer : ℕ) →
+    ((success : Bool) → such (reply_frame own peer success) ≡ false) → (said : List Bool) →
+    AreSilent such (map (reply_frame own peer) said)
+replies_silent such own peer none [] = tt
+replies_silent such own peer none (success ∷ said) =
+    (none success, replies_silent such own peer none said)
 
 -- ---- what is counted
 
@@ -143,19 +150,19 @@ pub record Measure : Type 0 where
   pub exchanged : (frame : Frame) → frame.channel ≡ None → is_of_transport frame.payload ≡ true
       → such frame ≡ false
   pub other : (frame : Frame) → is_answer frame ≡ false → IsNoReply frame → such frame ≡ false
-  -- no more may come as a channel changes that wants a reply as before, or leaves, or is added and
-  -- wants none
+  -- no more may come as a channel changes whose replies are as before, or leaves, or is added and
+  -- has none
   pub kept : (e f : Entry) (entries : List Entry) → find e.number entries ≡ Some f
-      → e.wants_reply ≡ f.wants_reply → due (put e entries) ≤ due entries
+      → e.replies ≡ f.replies → due (put e entries) ≤ due entries
   pub parted : (number : ℕ) (entries : List Entry) → due (without number entries) ≤ due entries
-  pub begun : (e : Entry) (entries : List Entry) → e.wants_reply ≡ false
+  pub begun : (e : Entry) (entries : List Entry) → e.replies ≡ []
       → due (added e entries) ≤ due entries
-  -- a reply that is wanted is one that may come, and so is the answer to an open that waits
-  pub replied : (message : ℕ) (e : Entry) (entries : List Entry)
-      → IsNoAnswer (bare_frame message e.number e.peer)
-      → find e.number entries ≡ Some e → e.wants_reply ≡ true
-      → one_if (such (bare_frame message e.number e.peer))
-      + due (put (record e { wants_reply = false }) entries) ≤ due entries
+  -- the replies that go out as one is settled are of those that may come, and so is the answer to
+  -- an open that waits
+  pub replied : (place : Option ℕ) (success : Bool) (e : Entry) (entries : List Entry)
+      → find e.number entries ≡ Some e
+      → how_many such (replies_out place success e) + due (put (replying place success e) entries)
+      ≤ due entries
   pub answered : (number : ℕ) (payload : List ℕ) (opening : Opening) (opens : List (ℕ × Opening))
       → IsNoReply (failure_frame number payload)
       → lookup (is_at (nat_cmp number)) opens ≡ Some opening
@@ -221,7 +228,7 @@ silent_more of k written frames entries later s d h =
     omega (arith, both, none, d, h)
 
 turned : (of : Measure) (k : ℕ) (e f : Entry) (frames : List Frame) (l : Lines) →
-    find e.number l.entries ≡ Some f → e.wants_reply ≡ f.wants_reply → AreSilent of.such frames →
+    find e.number l.entries ≡ Some f → e.replies ≡ f.replies → AreSilent of.such frames →
     LinesOwe of k l → LinesOwe of k (turns e frames l)
 turned of k e f frames l at same s h =
     silent_more of k l.written frames l.entries (put e l.entries) s (of.kept e f l.entries at same)
@@ -240,7 +247,7 @@ written_owe of k frames l s h =
     silent_more of k l.written frames l.entries l.entries s (omega arith) h
 
 settled_step : (b : Bool) (of : Measure) (k : ℕ) (e f : Entry) (frames : List Frame) (l : Lines) →
-    find e.number l.entries ≡ Some f → e.wants_reply ≡ f.wants_reply → AreSilent of.such frames →
+    find e.number l.entries ≡ Some f → e.replies ≡ f.replies → AreSilent of.such frames →
     LinesOwe of k l →
     LinesOwe of k (cond b (closes (after_eof e) false frames l) (turns (after_eof e) frames l))
 settled_step true of k e f frames l at same s h =
@@ -249,13 +256,13 @@ settled_step true of k e f frames l at same s h =
 settled_step false of k e f frames l at same s h = turned of k (after_eof e) f frames l at same s h
 
 settled : (of : Measure) (k : ℕ) (e f : Entry) (frames : List Frame) (l : Lines) →
-    find e.number l.entries ≡ Some f → e.wants_reply ≡ f.wants_reply → AreSilent of.such frames →
+    find e.number l.entries ≡ Some f → e.replies ≡ f.replies → AreSilent of.such frames →
     LinesOwe of k l → LinesOwe of k (settles e frames l)
 settled of k e f frames l at same s h =
     settled_step (closes_now e) of k e f (frames ++ eof_out e) l at same
     (silent_both of.such frames (eof_out e) s (eof_silent of e)) h
 
-chosen : (b : Bool) (of : Measure) (k : ℕ) (l m : Lines) → LinesOwe of k l → LinesOwe of k m →
+pub chosen : (b : Bool) (of : Measure) (k : ℕ) (l m : Lines) → LinesOwe of k l → LinesOwe of k m →
     LinesOwe of k (cond b l m)
 chosen true of k l m h j = h
 chosen false of k l m h j = j
@@ -341,8 +348,14 @@ pub failed_owe : (of : Measure) (k m : ℕ) (l : Lines) → LinesOwe of k l → 
 failed_owe of k m l h = found (find m l.entries) of k m _ l refl
     (λ e is. chosen (not e.confirmed) of k _ _ (gone of k e.number [] l tt h) h) h
 
--- a channel that is new wants no reply
-pub added_owe : (of : Measure) (k : ℕ) (e : Entry) (l : Lines) → e.wants_reply ≡ false →
+-- its room is filled up to another target
+pub aims_owe : (of : Measure) (k m target : ℕ) (l : Lines) → LinesOwe of k l →
+    LinesOwe of k (aims m target l)
+aims_owe of k m target l h = found (find m l.entries) of k m _ l refl
+    (λ e is. turned of k (record e { target = target }) e [] l is refl tt h) h
+
+-- a channel that is new has no reply
+pub added_owe : (of : Measure) (k : ℕ) (e : Entry) (l : Lines) → e.replies ≡ [] →
     LinesOwe of k l → LinesOwe of k (adds e l)
 added_owe of k e l none h =
     let more = of.begun e l.entries none in
@@ -356,58 +369,20 @@ asked_owe of k room None l h = h
 asked_owe of k room (Some n) l h =
     let more = of.begun (asked n room) l.entries refl in omega (arith, more, h)
 
--- ---- replies
+-- ---- replies to requests (RFC 4254 section 5.4)
 
-both_so : (a b : Bool) → (a && b) ≡ true → (a ≡ true) × (b ≡ true)
-both_so true true h = (refl, refl)
-both_so true false h = absurd (cc)
-both_so false b h = absurd (cc)
+-- one is settled, and those that are ready go out
+reply_step : (b : Bool) (of : Measure) (k : ℕ) (place : Option ℕ) (success : Bool) (e : Entry)
+    (l : Lines) → find e.number l.entries ≡ Some e → LinesOwe of k l →
+    LinesOwe of k (cond b (turns (replying place success e) (replies_out place success e) l) l)
+reply_step false of k place success e l at h = h
+reply_step true of k place success e l at h =
+    let out = replies_out place success e in
+    let paid = of.replied place success e l.entries at in
+    let both = how_many_both of.such l.written out in
+    omega (arith, both, paid, h)
 
--- a reply is written, and then none is wanted
-replied_is : (m message : ℕ) (e : Entry) (l : Lines) → find m l.entries ≡ Some e →
-    e.confirmed ≡ true → wants m false (says m message l)
-    ≡ turns (record e { wants_reply = false }) []
-    (turns e (bare_frame message e.number e.peer ∷ []) l)
-replied_is m message e l is agreed =
-    let sent = turns e (bare_frame message e.number e.peer ∷ []) l in
-    let same : e.number ≡ m = found_number m l.entries e is in
-    let again : find m (put e l.entries) ≡ Some e =
-    subst (λ n. find n (put e l.entries) ≡ Some e) same
-    (found_put e l.entries e (find_again m l.entries e is)) in
-    let said : says m message l ≡ sent =
-    ap (λ o. where_found o (λ e l. cond e.confirmed
-    (turns e (bare_frame message e.number e.peer ∷ []) l) l) l) is
-    ∙ ap (λ b. cond b sent l) agreed in
-    ap (wants m false) said
-    ∙ ap (λ o. where_found o (λ e. turns (record e { wants_reply = false }) []) sent) again
-
-reply_step : (b : Bool) (of : Measure) (k m message : ℕ) (e : Entry) (l : Lines) →
-    (e.confirmed && e.wants_reply) ≡ b → find m l.entries ≡ Some e →
-    IsNoAnswer (bare_frame message e.number e.peer) → LinesOwe of k l →
-    LinesOwe of k (cond b (wants m false (says m message l)) l)
-reply_step true of k m message e l so is unlike h =
-    let frame = bare_frame message e.number e.peer in
-    let both = both_so e.confirmed e.wants_reply so in
-    let at = find_again m l.entries e is in
-    let kept = of.kept e e l.entries at refl in
-    let paid = of.replied message e (put e l.entries) unlike (found_put e l.entries e at) both.1 in
-    let one = how_many_one of.such l.written frame in
-    let none = how_many_both of.such (l.written ++ frame ∷ []) [] in
-    subst (LinesOwe of k) (sym (replied_is m message e l is both.0))
-    (omega (arith, kept, paid, one, none, h))
-reply_step false of k m message e l so is unlike h = h
-
-found_reply : (o : Option Entry) (of : Measure) (k m message : ℕ) (l : Lines) →
-    find m l.entries ≡ o →
-    ((e : Entry) → IsNoAnswer (bare_frame message e.number e.peer)) → LinesOwe of k l →
-    LinesOwe of k (cond (is_one (λ e. e.confirmed && e.wants_reply) o)
-    (wants m false (says m message l)) l)
-found_reply None of k m message l is unlike h = h
-found_reply (Some e) of k m message l is unlike h =
-    reply_step (e.confirmed && e.wants_reply) of k m message e l refl is (unlike e) h
-
--- a reply that is wanted is sent
-pub reply_owe : (of : Measure) (k m message : ℕ) (l : Lines) →
-    ((e : Entry) → IsNoAnswer (bare_frame message e.number e.peer)) → LinesOwe of k l →
-    LinesOwe of k (replies m message l)
-reply_owe of k m message l unlike h = found_reply (find m l.entries) of k m message l refl unlike h
+pub reply_owe : (of : Measure) (k m : ℕ) (place : Option ℕ) (success : Bool) (l : Lines) →
+    LinesOwe of k l → LinesOwe of k (takes_reply m place success l)
+reply_owe of k m place success l h = found (find m l.entries) of k m _ l refl
+    (λ e at. reply_step (reply_may_come place e) of k place success e l at h) h

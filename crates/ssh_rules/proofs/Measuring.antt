@@ -1,12 +1,11 @@
 -- What a measure counts in a world: no command makes more of it, and no row but an open of the
 -- peer's and a request (RFC 4254 section 5).
 use Rattle.std.proofs.Common.{◌≡◌, ◌≤◌, ◌+◌, ◌||◌, ℕ, List, [], ◌∷◌, Bool, true, false}
-use Rattle.std.proofs.Common.{Option, Some, None, cond, refl, ap, arith}
+use Rattle.std.proofs.Common.{Option, Some, None, cond, refl, ap, arith, ◌==◌}
 use Rattle.std.specs.Prelude.{length, if◌then◌else◌}
 use Rattle.ssh_wire.specs.declared.channel_id.ChannelId.{ChannelId}
 use Rattle.ssh_wire.specs.declared.open.ChannelOpenConfirmation.{ChannelOpenConfirmation}
 use Rattle.ssh_wire.specs.declared.open_failure.ChannelOpenFailure.{ChannelOpenFailure}
-use Rattle.ssh_wire.specs.Messages.{channel_success, channel_failure}
 use Rattle.ssh_link.specs.Frames.{Frame}
 use Rattle.ssh_link.specs.declared.command.Command.{Command}
 use Rattle.ssh_link.specs.declared.command.Command.TheVariants as command
@@ -18,14 +17,14 @@ use Rattle.ssh_channels.specs.declared.chunk.Chunk.{Chunk}
 use Rattle.ssh_channels.specs.declared.chunk.DataKind.TheVariants.{Plain, Extended}
 use Rattle.ssh_channels.specs.Does.{coming_of}
 use Rattle.ssh_channels.specs.Entry.{Entry, opened}
-use Rattle.ssh_channels.specs.Layout.{chunk, bare_frame, on_channel}
+use Rattle.ssh_channels.specs.Layout.{chunk, on_channel, as_uint32}
 use Rattle.ssh_channels.specs.Lines.{Lines, find, takes_data, takes_eof, takes_close, peer_closes}
-use Rattle.ssh_channels.specs.Lines.{takes_grant, takes_in, wants, confirms, fails, adds}
+use Rattle.ssh_channels.specs.Lines.{takes_grant, takes_in, takes_reply, aims, confirms, fails, adds}
 use Rattle.ssh_channels.specs.Lines.{drops_pending, asks_next, next_number, write, all_go_on}
 use Rattle.ssh_rules.specs.declared.messages.Spoken.{Spoken}
 use Rattle.ssh_rules.specs.declared.messages.Spoken.TheVariants as spoken
 use Rattle.ssh_rules.specs.GlobalReplied.{is_global_reply}
-use Rattle.ssh_rules.specs.Effect.{effect, refused_for, done_by, answers, said}
+use Rattle.ssh_rules.specs.Effect.{effect_at, refused_for, done_by, answers, said}
 use Rattle.ssh_rules.specs.Effect.{decides, fails_open, failure_of, is_too_long, opens_at}
 use Rattle.ssh_rules.specs.Effect.{opens, opens_or_not, requests_on, refuses}
 use Rattle.std.specs.Prelude.{if◌then◌else◌}
@@ -39,21 +38,23 @@ use Rattle.ssh_rules.specs.OwnOpens.{OwnOpen, open_payload, open_frame}
 use Rattle.ssh_rules.specs.OwnRequests.{OwnRequest, request_payload, xon_xoff, exit_status}
 use Rattle.ssh_rules.specs.OwnRequests.{exit_signal}
 use Rattle.ssh_rules.specs.Rows.{spoken_acts}
-use Rattle.ssh_rules.specs.Rows.{data_told}
+use Rattle.ssh_rules.specs.Rows.{data_told, aims_at}
 use Rattle.ssh_rules.specs.Rows.{failure_acts, confirmation_acts}
-use Rattle.ssh_rules.specs.Rows.{reply_of, global_reply, bound_to}
-use Rattle.ssh_rules.specs.World.{World, lined, writes, replies, is_there, is_waiting}
+use Rattle.ssh_rules.specs.Rows.{global_reply, bound_to, gives_up_sessions}
+use Rattle.ssh_rules.specs.World.{World, lined, writes, is_there, is_waiting, target_on}
+use Rattle.ssh_rules.specs.World.{ChannelRequest, asked_on, wants_if, settles_one, settles_for}
 use Rattle.ssh_rules.specs.World.{awaits, wants_global, settles_global, settled_first}
 use Rattle.ssh_rules.specs.World.{unless_ended, in_exchange}
 use Rattle.ssh_rules.proofs.Acting.{EffectComes, Law, ActsCome, IsRekeyed}
 use Rattle.ssh_rules.proofs.Apart.{either, refused_comes, own_comes, notes_come}
 use Rattle.ssh_rules.proofs.Measures.{Measure, AreSilent, LinesOwe, lines_owe, how_many_one}
-use Rattle.ssh_rules.proofs.Measures.{IsNoAnswer, IsNoReply}
+use Rattle.ssh_rules.proofs.Measures.{IsNoReply, aims_owe}
 use Rattle.ssh_rules.proofs.Measures.{written_owe, data_owe, eof_owe, close_owe, peer_close_owe}
 use Rattle.ssh_rules.proofs.Measures.{grant_owe, adjust_owe, confirmed_owe, failed_owe}
 use Rattle.ssh_rules.proofs.Measures.{added_owe, asked_owe, reply_owe, all_owe}
 use Rattle.ssh_rules.proofs.Settled.{Anything, any_built, Any_command}
 use Rattle.ssh_rules.proofs.Beside.{on_come}
+use Rattle.ssh_rules.proofs.Requested.{one_kept, for_kept}
 
 -- ---- worlds
 
@@ -85,12 +86,22 @@ writes_upto of k frames w silent h =
     lined_upto of k (write frames) w
     (written_owe of _ frames w.channels.lines silent (same_lines of w.channels.lines)) h
 
-pub replies_upto : (of : Measure) (k m message : ℕ) (w : World) →
-    ((e : Entry) → IsNoAnswer (bare_frame message e.number e.peer)) → OwesUpTo of k w →
-    OwesUpTo of k (lined (replies m message) w)
-replies_upto of k m message w unlike h =
-    lined_upto of k (replies m message) w
-    (reply_owe of _ m message w.channels.lines unlike (same_lines of w.channels.lines)) h
+-- a reply is settled, of this request or as the callback of one says
+module _ (of : Measure) (k m : ℕ) (success : Bool) (w : World) (h : OwesUpTo of k w) where
+  abbrev NoMore : Lines → Type 0
+  NoMore = LinesOwe of (lines_owe of w.channels.lines)
+
+  reply_so : (place : Option ℕ) → NoMore w.channels.lines
+      → NoMore (takes_reply m place success w.channels.lines)
+  reply_so place = reply_owe of _ m place success w.channels.lines
+
+  pub one_upto : (place : Option ℕ) → OwesUpTo of k (lined (settles_one place m success) w)
+  one_upto place = lined_upto of k (settles_one place m success) w
+      (one_kept NoMore m success w.channels.lines reply_so place (same_lines of w.channels.lines)) h
+
+  pub for_upto : (at : Option ChannelRequest) → OwesUpTo of k (lined (settles_for at m success) w)
+  for_upto at = lined_upto of k (settles_for at m success) w
+      (for_kept NoMore m success w.channels.lines reply_so at (same_lines of w.channels.lines)) h
 
 -- ---- commands
 
@@ -207,47 +218,47 @@ ended_upto of k payload w h =
     either (OwesUpTo of k) w.disconnected w (settles_global payload w) h
     (settles_upto of k payload w h)
 
-done_upto : (of : Measure) (k : ℕ) (w : World) (commanded : Command) → OwesUpTo of k w →
-    EffectComes (OwesUpTo of k) (done_by w commanded)
-done_upto of k w (command.Data channel bytes) h =
+done_upto : (at : Option ChannelRequest) (of : Measure) (k : ℕ) (w : World)
+    (commanded : Command) → OwesUpTo of k w → EffectComes (OwesUpTo of k) (done_by at w commanded)
+done_upto at of k w (command.Data channel bytes) h =
     lined_upto of k (takes_data channel.0 (chunk Plain bytes) (in_exchange w)) w
     (data_owe of _ channel.0 (chunk Plain bytes) (in_exchange w) w.channels.lines
     (same_lines of w.channels.lines)) h
-done_upto of k w (command.ExtendedData channel code bytes) h =
+done_upto at of k w (command.ExtendedData channel code bytes) h =
     lined_upto of k (takes_data channel.0 (chunk (Extended code) bytes) (in_exchange w)) w
     (data_owe of _ channel.0 (chunk (Extended code) bytes) (in_exchange w) w.channels.lines
     (same_lines of w.channels.lines)) h
-done_upto of k w (command.Eof channel) h =
+done_upto at of k w (command.Eof channel) h =
     lined_upto of k (takes_eof channel.0) w
     (eof_owe of _ channel.0 w.channels.lines (same_lines of w.channels.lines)) h
-done_upto of k w (command.Close channel) h =
+done_upto at of k w (command.Close channel) h =
     lined_upto of k (takes_close channel.0) w
     (close_owe of _ channel.0 w.channels.lines (same_lines of w.channels.lines)) h
-done_upto of k w (command.ChannelSuccess channel) h =
-    replies_upto of k channel.0 channel_success.number w (λ e. (refl, refl)) h
-done_upto of k w (command.ChannelFailure channel) h =
-    replies_upto of k channel.0 channel_failure.number w (λ e. (refl, refl)) h
-done_upto of k w (command.XonXoff channel client_can_do) h =
+done_upto at of k w (command.ChannelSuccess channel) h =
+    for_upto of k channel.0 true w h at
+done_upto at of k w (command.ChannelFailure channel) h =
+    for_upto of k channel.0 false w h at
+done_upto at of k w (command.XonXoff channel client_can_do) h =
     requested_upto of k (is_too_long (request_payload 0 (xon_xoff client_can_do)))
     (find channel.0 w.channels.lines.entries) channel (xon_xoff client_can_do) w h
-done_upto of k w (command.ExitStatus channel status) h =
+done_upto at of k w (command.ExitStatus channel status) h =
     requested_upto of k (is_too_long (request_payload 0 (exit_status status)))
     (find channel.0 w.channels.lines.entries) channel (exit_status status) w h
-done_upto of k w (command.ExitSignal channel signal core message language) h =
+done_upto at of k w (command.ExitSignal channel signal core message language) h =
     let asked = exit_signal signal core message language in
     requested_upto of k (is_too_long (request_payload 0 asked))
     (find channel.0 w.channels.lines.entries) channel asked w h
-done_upto of k w (command.Answer answer) h =
+done_upto at of k w (command.Answer answer) h =
     answers_upto of k answer (opening_of answer.channel.0 w) w refl h
-done_upto of k w other h =
+done_upto at of k w other h =
     own_comes (OwesUpTo of k) (said_upto of k) (settles_upto of k) (opens_or_not_upto of k) w
     other h
 
-pub effect_upto : (of : Measure) (k : ℕ) (w : World) (commanded : Command) → OwesUpTo of k w →
-    EffectComes (OwesUpTo of k) (effect w commanded)
-effect_upto of k w commanded h =
-    refused_comes (OwesUpTo of k) (refused_for w.disconnected w commanded) w (done_by w commanded) h
-    (done_upto of k w commanded h)
+pub effect_upto : (at : Option ChannelRequest) (of : Measure) (k : ℕ) (w : World)
+    (commanded : Command) → OwesUpTo of k w → EffectComes (OwesUpTo of k) (effect_at at w commanded)
+effect_upto at of k w commanded h =
+    refused_comes (OwesUpTo of k) (refused_for w.disconnected w commanded) w
+    (done_by at w commanded) h (done_upto at of k w commanded h)
 
 abbrev pub law : Measure → (k : ℕ) → Law
 law of k = record {
@@ -259,7 +270,7 @@ law of k = record {
   lends = λ lent commands s. any_built commands;
   judges = λ judged answer s. any_built answer.commands;
   listens = λ address port answer s. any_built answer.commands;
-  keeps = λ w command h b. effect_upto of k w command h;
+  keeps = λ at w command h b. effect_upto at of k w command h;
 }
 
 -- an exchange of keys makes no more of them
@@ -273,12 +284,21 @@ exchanged_upto of k w h = (
 
 -- ---- messages of channels
 
+aims_upto : (of : Measure) (k : ℕ) (channel : ChannelId) (window : ℕ) (w : World) →
+    OwesUpTo of k w → OwesUpTo of k (aims_at channel window w)
+aims_upto of k channel window w h =
+    let change = aims channel.0 (as_uint32 window) in
+    either (OwesUpTo of k) (window == 0) w (lined change w) h
+    (lined_upto of k change w
+    (aims_owe of _ channel.0 (as_uint32 window) w.channels.lines (same_lines of w.channels.lines)) h)
+
 told_upto : (of : Measure) (k : ℕ) (adjusted : Adjusted) (channel : ChannelId) (piece : Chunk)
     (target : ℕ) (w : World) → OwesUpTo of k w →
     ActsCome (law of k) (data_told adjusted channel piece target) w
 told_upto of k Dropped channel piece target w h = tt
 told_upto of k Kept channel piece target w h = λ world j. tt
-told_upto of k (Granted amount) channel piece target w h = λ window. (h, λ world j. tt)
+told_upto of k (Granted amount) channel piece target w h =
+    λ window. (aims_upto of k channel window w h, λ world j. tt)
 
 failure_upto : (of : Measure) (k : ℕ) (w : World) (there waiting : Bool) (channel : ChannelId)
     (why : ChannelOpenFailure) → OwesUpTo of k w →
@@ -313,13 +333,13 @@ pub record Claims : Type 1 where
 
 -- this is so of what was read, where it was one of these
 abbrev pub OfRequest : Claims → Spoken → Type 0
-OfRequest so (spoken.Wants channel wanted) = so.on channel wanted
 OfRequest so (spoken.Asks channel wanted message happening) = so.on channel wanted
 OfRequest so (spoken.AsksForAgent channel wanted) = so.on channel wanted
 OfRequest so (spoken.AsksUnknown channel wanted) = so.on channel wanted
 OfRequest so (spoken.AsksToForward wanted address port) = so.globally wanted
 OfRequest so (spoken.AsksGlobally wanted judged) = so.globally wanted
 OfRequest so (spoken.AsksGloballyUnknown wanted) = so.globally wanted
+OfRequest so (spoken.GivesUpSessions wanted) = so.globally wanted
 OfRequest so (spoken.Settles told) = so.settles told
 OfRequest so _ = Unit {0}
 
@@ -327,13 +347,13 @@ pub of_every : (so : Claims) (said : Spoken) →
     ((channel : ChannelId) (wanted : Bool) → so.on channel wanted) →
     ((wanted : Bool) → so.globally wanted) → ((told : Option Notice) → so.settles told) →
     OfRequest so said
-of_every so (spoken.Wants channel wanted) f g h = f channel wanted
 of_every so (spoken.Asks channel wanted message happening) f g h = f channel wanted
 of_every so (spoken.AsksForAgent channel wanted) f g h = f channel wanted
 of_every so (spoken.AsksUnknown channel wanted) f g h = f channel wanted
 of_every so (spoken.AsksToForward wanted address port) f g h = g wanted
 of_every so (spoken.AsksGlobally wanted judged) f g h = g wanted
 of_every so (spoken.AsksGloballyUnknown wanted) f g h = g wanted
+of_every so (spoken.GivesUpSessions wanted) f g h = g wanted
 of_every so (spoken.Settles told) f g h = h told
 of_every so _ f g h = tt
 
@@ -342,28 +362,23 @@ pub weaker : (so other : Claims) (said : Spoken) →
     ((wanted : Bool) → so.globally wanted → other.globally wanted) →
     ((told : Option Notice) → so.settles told → other.settles told) →
     OfRequest so said → OfRequest other said
-weaker so other (spoken.Wants channel wanted) f g h is = f channel wanted is
 weaker so other (spoken.Asks channel wanted message happening) f g h is = f channel wanted is
 weaker so other (spoken.AsksForAgent channel wanted) f g h is = f channel wanted is
 weaker so other (spoken.AsksUnknown channel wanted) f g h is = f channel wanted is
 weaker so other (spoken.AsksToForward wanted address port) f g h is = g wanted is
 weaker so other (spoken.AsksGlobally wanted judged) f g h is = g wanted is
 weaker so other (spoken.AsksGloballyUnknown wanted) f g h is = g wanted is
+weaker so other (spoken.GivesUpSessions wanted) f g h is = g wanted is
 weaker so other (spoken.Settles told) f g h is = h told is
 weaker so other _ f g h is = tt
 
 -- after a request no more than so many may come
 abbrev pub RequestOwes : Measure → (k : ℕ) → World → Claims
 RequestOwes of k w = record {
-  on = λ channel wanted. OwesUpTo of k (lined (wants channel.0 wanted) w);
+  on = λ channel wanted. OwesUpTo of k (lined (wants_if wanted channel.0) w);
   globally = λ wanted. OwesUpTo of k (wants_global wanted w);
   settles = λ told. Unit {0};
 }
-
-reply_no_answer : (granted : Bool) (e : Entry) →
-    IsNoAnswer (bare_frame (reply_of granted) e.number e.peer)
-reply_no_answer true e = (refl, refl)
-reply_no_answer false e = (refl, refl)
 
 pub spoken_upto : (of : Measure) (k : ℕ) (w : World) (said : Spoken) →
     OfRequest (RequestOwes of k w) said → OwesUpTo of k w →
@@ -377,13 +392,13 @@ spoken_upto of k w (spoken.Grant channel amount) q h =
       λ world j. tt,
     ))
 spoken_upto of k w (spoken.Data channel piece) q h =
-    let came = coming_of (length piece.bytes) w.channels.target
-    (find channel.0 w.channels.lines.entries) in
-    let change = takes_in channel.0 (length piece.bytes) w.channels.target in
+    let target = target_on channel.0 w in
+    let came = coming_of (length piece.bytes) target (find channel.0 w.channels.lines.entries) in
+    let change = takes_in channel.0 (length piece.bytes) target in
     let kept = lined_upto of k change w
-    (adjust_owe of _ channel.0 (length piece.bytes) w.channels.target w.channels.lines
+    (adjust_owe of _ channel.0 (length piece.bytes) target w.channels.lines
     (same_lines of w.channels.lines)) h in
-    (kept, told_upto of k came channel piece w.channels.target (lined change w) kept)
+    (kept, told_upto of k came channel piece target (lined change w) kept)
 spoken_upto of k w (spoken.Tells channel message happening) q h =
     on_come (law of k) w (find channel.0 w.channels.lines.entries) _ (λ e. λ world j. tt)
 spoken_upto of k w (spoken.Close channel) q h =
@@ -395,25 +410,20 @@ spoken_upto of k w (spoken.Close channel) q h =
     ))
 spoken_upto of k w (spoken.Failed channel reason) q h =
     failure_upto of k w (is_there w channel.0) (is_waiting w channel.0) channel reason h
-spoken_upto of k w (spoken.Wants channel wanted) q h = (q, tt)
 spoken_upto of k w (spoken.Asks channel wanted message happening) q h = (q, λ world j. tt)
-spoken_upto of k w (spoken.AsksForAgent channel wanted) q h = (
-  q,
-  λ granted world j. (
-    either (OwesUpTo of k) world.disconnected world
-        (lined (replies channel.0 (reply_of granted)) world) j
-        (replies_upto of k channel.0 (reply_of granted) world (reply_no_answer granted) j),
-    tt,
-  ),
-)
-spoken_upto of k w (spoken.AsksUnknown channel wanted) q h = (
-  q,
-  (
-    replies_upto of k channel.0 (reply_of false) (lined (wants channel.0 wanted) w)
-        (reply_no_answer false) q,
-    tt,
-  ),
-)
+spoken_upto of k w (spoken.AsksForAgent channel wanted) q h =
+    let place = (asked_on channel wanted w).place in (
+      q,
+      λ granted world j. (
+        either (OwesUpTo of k) world.disconnected world
+            (lined (settles_one place channel.0 granted) world) j
+            (one_upto of k channel.0 granted world j place),
+        tt,
+      ),
+    )
+spoken_upto of k w (spoken.AsksUnknown channel wanted) q h =
+    let asked = lined (wants_if wanted channel.0) w in
+    (q, (one_upto of k channel.0 false asked q (asked_on channel wanted w).place, tt))
 spoken_upto of k w (spoken.AsksToForward wanted address port) q h = (
   q,
   λ granted bound world j. (
@@ -425,5 +435,8 @@ spoken_upto of k w (spoken.AsksGlobally wanted judged) q h =
     (q, λ granted world j. (ended_upto of k (global_reply granted None) world j, tt))
 spoken_upto of k w (spoken.AsksGloballyUnknown wanted) q h =
     (q, (settles_upto of k (global_reply false None) (wants_global wanted w) q, tt))
+spoken_upto of k w (spoken.GivesUpSessions wanted) q h =
+    let asked = wants_global wanted (gives_up_sessions w) in
+    (h, (q, (settles_upto of k (global_reply true None) asked q, tt)))
 spoken_upto of k w (spoken.Settles told) q h = (h, notes_come (law of k) told (settled_first w))
 spoken_upto of k w spoken.Inconsistent q h = tt

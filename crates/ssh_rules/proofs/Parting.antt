@@ -1,7 +1,7 @@
 -- Where a command ends the connection, its DISCONNECT is the last that is written, and that is
 -- handed on (RFC 4253 section 11.1).
 use Rattle.std.proofs.Common.{◌≡◌, ℕ, List, [], ◌∷◌, ◌++◌, map, Option, Some, None}
-use Rattle.std.proofs.Common.{Bool, true, false, cond, refl, sym, ◌∙◌}
+use Rattle.std.proofs.Common.{Bool, true, false, cond, refl, sym, ◌∙◌, ◌==◌}
 use Rattle.std.specs.Prelude.{length, bytes_eq, codes, if◌then◌else◌}
 use Rattle.ssh_link.specs.Frames.{Frame}
 use Rattle.ssh_link.specs.declared.command.Command.{Command}
@@ -17,7 +17,7 @@ use Rattle.ssh_auth.specs.Publickey.{Acceptance}
 use Rattle.ssh_auth.specs.Verdict.{AuthOutcome, Replies, verdict as verdict_on, response_verdict}
 use Rattle.ssh_auth.specs.Verdict as auth
 use Rattle.ssh_channels.specs.Does.{coming_of}
-use Rattle.ssh_channels.specs.Lines.{find, next_number, takes_in}
+use Rattle.ssh_channels.specs.Lines.{find, next_number, takes_in, aims}
 use Rattle.ssh_channels.specs.declared.adjusted.Adjusted.{Adjusted}
 use Rattle.ssh_channels.specs.declared.adjusted.Adjusted.TheVariants.{Dropped, Kept, Granted}
 use Rattle.ssh_channels.specs.declared.chunk.Chunk.{Chunk}
@@ -31,12 +31,13 @@ use Rattle.ssh_rules.specs.declared.exchange.Passage.TheVariants.{Passes}
 use Rattle.ssh_rules.specs.declared.messages.Spoken.{Spoken}
 use Rattle.ssh_rules.specs.declared.messages.Spoken.TheVariants as spoken
 use Rattle.ssh_rules.specs.declared.opens.Handling.{Handling}
-use Rattle.ssh_rules.specs.declared.opens.Handling.TheVariants.{Asks, Unsupported, Unknown}
+use Rattle.ssh_rules.specs.declared.opens.Handling.TheVariants.{Asks, Unsupported, Unknown, GivenUp}
 use Rattle.ssh_rules.specs.declared.state.EncryptedState.{EncryptedState}
 use Rattle.ssh_rules.specs.declared.state.EncryptedState.TheVariants.{WaitingAuthRequest}
 use Rattle.ssh_rules.specs.Acts.{Beginning, Stepping, Exchanges, acts, frames_given}
 use Rattle.ssh_rules.specs.Acts.{moved, payloads_given}
 use Rattle.ssh_rules.specs.Effect.{Effect, Does, effect, refused_for, refused_or, done_by, said}
+use Rattle.ssh_rules.specs.Effect.{effect_at}
 use Rattle.ssh_rules.specs.Layout.{at_once}
 use Rattle.ssh_rules.specs.Outcome.{Outcome, Goes, Ends, Fails}
 use Rattle.ssh_rules.specs.OwnMessages.{disconnect, keepalive}
@@ -45,13 +46,15 @@ use Rattle.ssh_rules.specs.Reading.{Said, Service, Request, Response, Open, Agre
 use Rattle.ssh_rules.specs.Reading.{Disconnect, Over_cap, Unread, Unfit, Without_packets}
 use Rattle.ssh_rules.specs.Rows.{spoken_acts, failure_acts, confirmation_acts, exchange_acts}
 use Rattle.ssh_rules.specs.Rows.{row, owed, greets, is_short, replied, concluded, asked_of}
-use Rattle.ssh_rules.specs.Rows.{data_told, open_acts, reply_of, global_reply, bound_to}
+use Rattle.ssh_rules.specs.Rows.{data_told, open_acts, global_reply, bound_to}
+use Rattle.ssh_rules.specs.Rows.{aims_at, gives_up_sessions}
 use Rattle.ssh_rules.specs.Run.{OwesKind, command_row}
 use Rattle.ssh_rules.specs.Ticks.{keepalive_acts, ticked}
 use Rattle.ssh_rules.specs.Types.{handling}
 use Rattle.ssh_rules.specs.Valid.{disconnects}
-use Rattle.ssh_rules.specs.World.{World, hears, is_there, is_waiting, lined, replies}
-use Rattle.ssh_rules.specs.World.{settles_global, wants_global, waits_for, writes}
+use Rattle.ssh_rules.specs.World.{World, hears, is_there, is_waiting, lined}
+use Rattle.ssh_rules.specs.World.{settles_global, wants_global, waits_for, writes, target_on}
+use Rattle.ssh_rules.specs.World.{ChannelRequest, asked_on, settles_one}
 use Rattle.ssh_rules.proofs.Acting.{PlanComes, EffectComes, Law, ActsCome, acts_come, one_comes}
 use Rattle.ssh_rules.proofs.Acting.{comes_then}
 use Rattle.ssh_rules.proofs.Apart.{either, notes_come, refused_comes, sent_comes, tick_comes}
@@ -60,6 +63,7 @@ use Rattle.ssh_rules.proofs.Emptied.{told_comes}
 use Rattle.ssh_rules.proofs.Ended.{IsLive, effect_live, said_live}
 use Rattle.ssh_rules.proofs.Passing.{moved_so, payload_so}
 use Rattle.ssh_rules.proofs.Settled.{Anything, Any_command, any_built}
+use Rattle.ssh_channels.specs.Layout.{as_uint32}
 
 -- ---- worlds
 
@@ -109,23 +113,26 @@ refused_parts : (ended : Bool) (w : World) (one : Command) (does : Effect) → e
 refused_parts true w one does is h = h
 refused_parts false w one does is h = absurd (cc)
 
-mild_parts : (ended : Bool) (w : World) (one : Command) → w.disconnected ≡ ended
-    → disconnects one ≡ false → Parts w → EffectComes Parts (effect w one)
-mild_parts true w one is mild h = refused_parts w.disconnected w one (done_by w one) is h
-mild_parts false w one is mild h = live_parts (effect w one) (effect_live w one mild is)
+mild_parts : (at : Option ChannelRequest) (ended : Bool) (w : World) (one : Command)
+    → w.disconnected ≡ ended → disconnects one ≡ false → Parts w
+    → EffectComes Parts (effect_at at w one)
+mild_parts at true w one is mild h = refused_parts w.disconnected w one (done_by at w one) is h
+mild_parts at false w one is mild h =
+    live_parts (effect_at at w one) (effect_live at w one mild is)
 
-effect_parts : (w : World) (one : Command) → Parts w → EffectComes Parts (effect w one)
-effect_parts w (command.Disconnect reason description language) h =
+effect_parts : (at : Option ChannelRequest) (w : World) (one : Command) → Parts w
+    → EffectComes Parts (effect_at at w one)
+effect_parts at w (command.Disconnect reason description language) h =
     let one = command.Disconnect reason description language in
     let message = disconnect reason description language in
-    refused_comes Parts (refused_for w.disconnected w one) w (done_by w one) h
+    refused_comes Parts (refused_for w.disconnected w one) w (done_by at w one) h
     (sent_comes Parts message w h (λ ended. (
       w.channels.lines.written,
       at_once message.payload,
       (reason, description, language, refl),
       refl,
     )))
-effect_parts w other h = mild_parts w.disconnected w other refl refl h
+effect_parts at w other h = mild_parts at w.disconnected w other refl refl h
 
 abbrev law : Law
 law = record {
@@ -137,24 +144,31 @@ law = record {
   lends = λ lent commands s. any_built commands;
   judges = λ judged answer s. any_built answer.commands;
   listens = λ address port answer s. any_built answer.commands;
-  keeps = λ w one h b. effect_parts w one h;
+  keeps = λ at w one h b. effect_parts at w one h;
 }
 
 -- ---- rows
+
+aims_live : (channel : ChannelId) (window : ℕ) (w : World) → IsLive w
+    → IsLive (aims_at channel window w)
+aims_live channel window w h =
+    either IsLive (window == 0) w (lined (aims channel.0 (as_uint32 window)) w) h h
 
 told_parts : (adjusted : Adjusted) (channel : ChannelId) (piece : Chunk) (target : ℕ) (w : World)
     → IsLive w → ActsCome law (data_told adjusted channel piece target) w
 told_parts Dropped channel piece target w h = tt
 told_parts Kept channel piece target w h = λ world k. tt
 told_parts (Granted amount) channel piece target w h =
-    λ window. (calm h, λ world k. tt)
+    λ window. (calm (aims_live channel window w h), λ world k. tt)
 
 open_parts : (number : Option ℕ) (message : OpenChannelMessage) (does : Handling) (w : World)
     → IsLive w → ActsCome law (open_acts number message does) w
 open_parts None message (Asks type) w h = tt
+open_parts None message GivenUp w h = tt
 open_parts None message Unsupported w h = tt
 open_parts None message Unknown w h = tt
 open_parts (Some number) message (Asks type) w h = (calm h, λ world k. tt)
+open_parts (Some number) message GivenUp w h = (calm h, tt)
 open_parts (Some number) message Unsupported w h = (calm h, tt)
 open_parts (Some number) message Unknown w h = (calm h, tt)
 
@@ -176,16 +190,15 @@ spoken_parts w (spoken.Grant channel amount) h =
     on_come law w (find channel.0 w.channels.lines.entries) _
     (λ e. (calm h, λ world k. tt))
 spoken_parts w (spoken.Data channel piece) h =
-    let came = coming_of (length piece.bytes) w.channels.target
+    let came = coming_of (length piece.bytes) (target_on channel.0 w)
     (find channel.0 w.channels.lines.entries) in
-    let v = lined (takes_in channel.0 (length piece.bytes) w.channels.target) w in
-    (calm h, told_parts came channel piece w.channels.target v h)
+    let v = lined (takes_in channel.0 (length piece.bytes) (target_on channel.0 w)) w in
+    (calm h, told_parts came channel piece (target_on channel.0 w) v h)
 spoken_parts w (spoken.Tells channel message happening) h =
     on_come law w (find channel.0 w.channels.lines.entries) _ (λ e. λ world k. tt)
 spoken_parts w (spoken.Close channel) h =
     on_come law w (find channel.0 w.channels.lines.entries) _
     (λ e. (calm h, λ world k. tt))
-spoken_parts w (spoken.Wants channel wanted) h = (calm h, tt)
 spoken_parts w (spoken.Failed channel reason) h =
     failure_parts w (is_there w channel.0) (is_waiting w channel.0) channel reason h
 spoken_parts w (spoken.Asks channel wanted message happening) h =
@@ -193,7 +206,8 @@ spoken_parts w (spoken.Asks channel wanted message happening) h =
 spoken_parts w (spoken.AsksForAgent channel wanted) h = (
   calm h,
   λ granted world k. (
-    unless_parts world (lined (replies channel.0 (reply_of granted)) world) refl k,
+    unless_parts world
+        (lined (settles_one (asked_on channel wanted w).place channel.0 granted) world) refl k,
     tt,
   ),
 )
@@ -219,12 +233,17 @@ spoken_parts w (spoken.AsksGloballyUnknown wanted) h =
     let payload = global_reply false None in
     let v = wants_global wanted w in
     (calm h, (calm (settled_ended payload v ∙ h), tt))
+spoken_parts w (spoken.GivesUpSessions wanted) h =
+    let payload = global_reply true None in
+    let v = wants_global wanted (gives_up_sessions w) in
+    (calm h, (calm h, (calm (settled_ended payload v ∙ h), tt)))
 spoken_parts w (spoken.Settles told) h = (calm h, notes_come law told _)
 spoken_parts w spoken.Inconsistent h = tt
 
 owed_parts : (w : World) (said : Said) → IsLive w → ActsCome law (owed w said) w
 owed_parts w (Open message) h =
-    open_parts (next_number w.channels.lines) message (handling message.typ) w h
+    open_parts (next_number w.channels.lines) message
+    (handling w.channels.no_more_sessions message.typ) w h
 owed_parts w (Agreed message) h =
     confirmation_parts w (is_waiting w message.recipient_channel) message h
 owed_parts w Unread h = tt
@@ -302,7 +321,7 @@ command_parts : (w : World) (ticket : ℕ) (one : Command) → IsLive w
     → PlanComes Anything ComesParts (command_row w ticket one)
 command_parts w ticket one h =
     one_comes law (effect w one) (λ outcome world. Tell (Answered ticket outcome)
-    (Finish (Goes world))) (effect_parts w one (calm h)) (λ outcome world k. k)
+    (Finish (Goes world))) (effect_parts None w one (calm h)) (λ outcome world k. k)
 
 tick_parts : (w : World) → IsLive w → PlanComes Anything ComesParts (acts (keepalive_acts w) w)
 tick_parts w h =

@@ -10,10 +10,11 @@ use Rattle.std.specs.Set.{remove_key}
 use Rattle.ssh_link.specs.Frames.{Frame}
 use Rattle.ssh_channels.specs.declared.chunk.Chunk.{Chunk}
 use Rattle.ssh_channels.specs.Entry.{Entry, closes_now, flushed, flush_out, granting}
-use Rattle.ssh_channels.specs.Entry.{more_may_come, close_may_come, all_framed}
+use Rattle.ssh_channels.specs.Entry.{more_may_come, close_may_come, reply_may_come, all_framed}
 use Rattle.ssh_channels.specs.Lines.{Lines, find, settles, where_found, is_taken, next_number}
 use Rattle.ssh_channels.specs.Lines.{takes_data, takes_eof, takes_close, peer_closes, takes_grant}
-use Rattle.ssh_channels.specs.Lines.{takes_in, wants, says, confirms, fails, drawn, numbers}
+use Rattle.ssh_channels.specs.Lines.{takes_in, takes_request, takes_reply, aims, says, confirms}
+use Rattle.ssh_channels.specs.Lines.{fails, drawn, numbers}
 use Rattle.ssh_channels.specs.Lines.{goes_on, each_goes_on, all_go_on}
 use Rattle.ssh_channels.proofs.Frees.{found_free}
 use Rattle.ssh_channels.proofs.Standing.{at_is}
@@ -164,8 +165,17 @@ pub adjust_pends : (m count target : ℕ) (l : Lines)
     → (takes_in m count target l).pending ≡ l.pending
 adjust_pends m count target l = at_pends m (find m l.entries) _ l (λ e. refl)
 
-pub wants_pends : (m : ℕ) (wanted : Bool) (l : Lines) → (wants m wanted l).pending ≡ l.pending
-wants_pends m wanted l = at_pends m (find m l.entries) _ l (λ e. refl)
+pub aims_pends : (m target : ℕ) (l : Lines) → (aims m target l).pending ≡ l.pending
+aims_pends m target l = at_pends m (find m l.entries) _ l (λ e. refl)
+
+pub request_pends : (m : ℕ) (l : Lines) → (takes_request m l).pending ≡ l.pending
+request_pends m l = at_pends m (find m l.entries) _ l
+    (λ e. chosen_pends e.confirmed _ _ l.pending refl refl)
+
+pub reply_pends : (m : ℕ) (place : Option ℕ) (success : Bool) (l : Lines)
+    → (takes_reply m place success l).pending ≡ l.pending
+reply_pends m place success l = at_pends m (find m l.entries) _ l
+    (λ e. chosen_pends (reply_may_come place e) _ _ l.pending refl refl)
 
 pub says_pends : (m message : ℕ) (l : Lines) → (says m message l).pending ≡ l.pending
 says_pends m message l = at_pends m (find m l.entries) _ l

@@ -1,6 +1,6 @@
 -- What a row asks waits for its reply behind what waited (RFC 4254 section 4).
 use Rattle.std.proofs.Common.{◌≡◌, ◌||◌, ℕ, List, [], ◌∷◌, ◌++◌, map, Bool, false}
-use Rattle.std.proofs.Common.{Ok, refl, sym, ◌∙◌, ap, subst}
+use Rattle.std.proofs.Common.{Option, None, Ok, refl, sym, ◌∙◌, ap, subst}
 use Rattle.std.specs.List.{list_any}
 use Rattle.std.proofs.lemmas.List.{append-nil}
 use Rattle.std.proofs.lemmas.List.Folds.{list_any-append}
@@ -18,7 +18,7 @@ use Rattle.ssh_rules.specs.Acts.{frames_given, moved, tell_all}
 use Rattle.ssh_rules.specs.InOrder.{recorded, refuses_at, asked_from, asked_within, replied_in}
 use Rattle.ssh_rules.specs.Outcome.{Outcome, Goes, Ends, Fails}
 use Rattle.ssh_rules.specs.Valid.{recorded_so}
-use Rattle.ssh_rules.specs.World.{World}
+use Rattle.ssh_rules.specs.World.{World, ChannelRequest}
 use Rattle.ssh_rules.proofs.Passing.{moved_so}
 use Rattle.ssh_rules.proofs.Queueing.{AreUnlent, all_done, asked_same}
 
@@ -82,8 +82,8 @@ AreApart (_ ∷ later) = ⊥
 abbrev pub AreCalling : List Act → Type 0
 AreCalling [] = Unit {0}
 AreCalling (Notes notice ∷ later) = (replied_in notice ≡ []) × AreCalling later
-AreCalling (Calls lent ∷ later) = AreApart later
-AreCalling (Judges_by judged by ∷ later) = ((granted : Bool) → KeepsQueue (by granted))
+AreCalling (Calls at lent ∷ later) = AreApart later
+AreCalling (Judges_by at judged by ∷ later) = ((granted : Bool) → KeepsQueue (by granted))
     × AreApart later
 AreCalling (Listens_by address port by ∷ later) =
     ((granted : Bool) (bound : ℕ) → KeepsQueue (by granted bound)) × AreApart later
@@ -140,23 +140,24 @@ apart_stays (Is_over ∷ later) w (event ∷ events) outcome a f = absurd f
 apart_stays (Stops why ∷ later) w [] outcome a f =
     stays_end w.globals.outstanding (Fails why) outcome tt f
 apart_stays (Stops why ∷ later) w (event ∷ events) outcome a f = absurd f
-apart_stays (Calls lent ∷ later) w events outcome a f = absurd a
-apart_stays (Judges_by judged by ∷ later) w events outcome a f = absurd a
+apart_stays (Calls at lent ∷ later) w events outcome a f = absurd a
+apart_stays (Judges_by at judged by ∷ later) w events outcome a f = absurd a
 apart_stays (Listens_by address port by ∷ later) w events outcome a f = absurd a
 apart_stays (Exchanges asked ∷ later) w events outcome a f = absurd a
 
 -- ---- acts with a callback
 
 -- what a callback recorded is asked, and then nothing is
-called_waits : {E F : Type 0} (event : Event E F) (commands : List Command) (w : World)
-    (next : World → Plan Outcome) (events : List (Event E F)) (outcome : Outcome) →
+called_waits : {E F : Type 0} (at : Option ChannelRequest) (event : Event E F)
+    (commands : List Command) (w : World) (next : World → Plan Outcome)
+    (events : List (Event E F)) (outcome : Outcome) →
     recorded event ≡ commands →
     ((v : World) (rest : List (Event E F)) → Follows (next v) rest outcome →
     Stays v.globals.outstanding outcome rest) →
-    Follows (done_all 0 commands w next) events outcome →
+    Follows (done_all at 0 commands w next) events outcome →
     Waits (w.globals.outstanding ++ asked_within (event ∷ events)) outcome
-called_waits event commands w next events outcome is stays f =
-    let d = all_done next outcome 0 commands w events f in
+called_waits at event commands w next events outcome is stays f =
+    let d = all_done at next outcome 0 commands w events f in
     let s = stays d.world d.rest d.follows in
     let none : asked_within events ≡ [] =
     ap asked_within d.is
@@ -221,23 +222,23 @@ calling_waits (Notes notice ∷ later) w [] outcome a f = absurd (cc)
 calling_waits (Notes notice ∷ later) w (event ∷ events) outcome a f =
     waits_more w.globals.outstanding outcome event events (ap recorded f.0)
     (calling_waits later w events outcome a.1 f.1)
-calling_waits (Calls lent ∷ later) w [] outcome a f = absurd (cc)
-calling_waits {E} {F} (Calls lent ∷ later) w (event ∷ events) outcome a f =
-    called_waits event f.0 w (acts later) events outcome
+calling_waits (Calls at lent ∷ later) w [] outcome a f = absurd (cc)
+calling_waits {E} {F} (Calls at lent ∷ later) w (event ∷ events) outcome a f =
+    called_waits at event f.0 w (acts later) events outcome
     (ap recorded f.1 ∙ ap recorded_so (lent_back E lent (Ok tt) f.0))
     (λ v rest g. apart_stays later v rest outcome a g) f.2
-calling_waits (Judges_by judged by ∷ later) w [] outcome a f = absurd (cc)
-calling_waits {E} {F} (Judges_by judged by ∷ later) w (event ∷ events) outcome a f =
+calling_waits (Judges_by at judged by ∷ later) w [] outcome a f = absurd (cc)
+calling_waits {E} {F} (Judges_by at judged by ∷ later) w (event ∷ events) outcome a f =
     let answer = f.0 in
-    called_waits event answer.commands w (λ v. acts later (by answer.granted v)) events outcome
+    called_waits at event answer.commands w (λ v. acts later (by answer.granted v)) events outcome
     (ap recorded f.1 ∙ ap recorded_so (judged_back E judged (Ok answer.granted) answer.commands))
     (λ v rest g. subst (λ l. Stays l outcome rest) (a.0 answer.granted v)
     (apart_stays later (by answer.granted v) rest outcome a.1 g)) f.2
 calling_waits (Listens_by address port by ∷ later) w [] outcome a f = absurd (cc)
 calling_waits (Listens_by address port by ∷ later) w (event ∷ events) outcome a f =
     let answer = f.0 in
-    called_waits event answer.commands w (λ v. acts later (by answer.granted answer.port v)) events
-    outcome (ap recorded f.1)
+    called_waits None event answer.commands w
+    (λ v. acts later (by answer.granted answer.port v)) events outcome (ap recorded f.1)
     (λ v rest g. subst (λ l. Stays l outcome rest) (a.0 answer.granted answer.port v)
     (apart_stays later (by answer.granted answer.port v) rest outcome a.1 g)) f.2
 calling_waits (Adjusts_by channel current by ∷ later) w [] outcome a f = absurd (cc)

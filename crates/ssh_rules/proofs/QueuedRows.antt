@@ -1,7 +1,7 @@
 -- No row but a reply to this side's requests tells of one or takes one from what waits (RFC 4254
 -- section 4).
 use Rattle.std.proofs.Common.{◌≡◌, ℕ, List, [], ◌∷◌, ◌++◌, Bool, true, false, cond}
-use Rattle.std.proofs.Common.{Option, Some, None, Ok, refl, ◌∙◌, ap}
+use Rattle.std.proofs.Common.{Option, Some, None, Ok, refl, ◌∙◌, ap, ◌==◌}
 use Rattle.std.specs.Prelude.{length, bytes_eq, codes, if◌then◌else◌}
 use Rattle.ssh_wire.specs.declared.channel_id.ChannelId.{ChannelId}
 use Rattle.ssh_wire.specs.declared.open.OpenChannelMessage.{OpenChannelMessage}
@@ -20,14 +20,15 @@ use Rattle.ssh_channels.specs.declared.adjusted.Adjusted.TheVariants.{Dropped, K
 use Rattle.ssh_channels.specs.declared.chunk.Chunk.{Chunk}
 use Rattle.ssh_channels.specs.Does.{coming_of}
 use Rattle.ssh_channels.specs.Entry.{Entry}
-use Rattle.ssh_channels.specs.Lines.{find, next_number}
+use Rattle.ssh_channels.specs.Layout.{as_uint32}
+use Rattle.ssh_channels.specs.Lines.{find, next_number, aims}
 use Rattle.ssh_rules.specs.declared.exchange.Passage.{Passage}
 use Rattle.ssh_rules.specs.declared.exchange.Passage.TheVariants.{Begins, Steps, Barred, Late}
 use Rattle.ssh_rules.specs.declared.exchange.Passage.TheVariants.{Passes}
 use Rattle.ssh_rules.specs.declared.messages.Spoken.{Spoken}
 use Rattle.ssh_rules.specs.declared.messages.Spoken.TheVariants as spoken
 use Rattle.ssh_rules.specs.declared.opens.Handling.{Handling}
-use Rattle.ssh_rules.specs.declared.opens.Handling.TheVariants.{Asks, Unsupported, Unknown}
+use Rattle.ssh_rules.specs.declared.opens.Handling.TheVariants.{Asks, GivenUp, Unsupported, Unknown}
 use Rattle.ssh_rules.specs.declared.outstanding.Outstanding.{Outstanding}
 use Rattle.ssh_rules.specs.declared.state.EncryptedState.{EncryptedState}
 use Rattle.ssh_rules.specs.declared.state.EncryptedState.TheVariants.{WaitingAuthRequest}
@@ -40,11 +41,11 @@ use Rattle.ssh_rules.specs.Reading as read
 use Rattle.ssh_rules.specs.Rows.{row, owed, greets, is_short, replied, concluded, asked_of}
 use Rattle.ssh_rules.specs.Rows.{spoken_acts, on_entry, on_confirmed, data_told}
 use Rattle.ssh_rules.specs.Rows.{failure_acts, confirmation_acts, open_acts, global_reply}
-use Rattle.ssh_rules.specs.Rows.{bound_to, reply_of, fault_of, exchange_acts}
+use Rattle.ssh_rules.specs.Rows.{bound_to, aims_at, fault_of, exchange_acts}
 use Rattle.ssh_rules.specs.Types.{handling}
 use Rattle.ssh_rules.specs.Valid.{recorded_so}
-use Rattle.ssh_rules.specs.World.{World, waits_for, lined, replies, settles_global, unless_ended}
-use Rattle.ssh_rules.specs.World.{is_there, is_waiting}
+use Rattle.ssh_rules.specs.World.{World, waits_for, lined, settles_global, unless_ended}
+use Rattle.ssh_rules.specs.World.{is_there, is_waiting, target_on, asked_on, settles_one}
 use Rattle.ssh_rules.proofs.Queueing.{settles_same}
 use Rattle.ssh_rules.proofs.Queued.{Waits, KeepsQueue, AreCalling, calling_waits, waits_more}
 use Rattle.ssh_rules.proofs.Replying.{EndsSo, IsBeside, verdict_beside, response_beside}
@@ -81,11 +82,15 @@ entry_calling : (e : Option Entry) (owes : Entry → List Act) →
 entry_calling None owes h = tt
 entry_calling (Some e) owes h = confirmed_calling e.confirmed (owes e) (h e)
 
+aims_same : (channel : ChannelId) (window : ℕ) → KeepsQueue (aims_at channel window)
+aims_same channel window w =
+    either_keeps (window == 0) (lined (aims channel.0 (as_uint32 window))) w refl
+
 told_calling : (adjusted : Adjusted) (channel : ChannelId) (piece : Chunk) (target : ℕ) →
     AreCalling (data_told adjusted channel piece target)
 told_calling Dropped channel piece target = tt
 told_calling Kept channel piece target = (refl, tt)
-told_calling (Granted amount) channel piece target = (refl, (λ window w. refl, tt))
+told_calling (Granted amount) channel piece target = (refl, (aims_same channel, tt))
 
 failure_calling : (there waiting : Bool) (channel : ChannelId) (why : ChannelOpenFailure) →
     AreCalling (failure_acts there waiting channel why)
@@ -101,9 +106,11 @@ confirmation_calling false message = tt
 open_calling : (number : Option ℕ) (message : OpenChannelMessage) (does : Handling) →
     AreCalling (open_acts number message does)
 open_calling None message (Asks type) = tt
+open_calling None message GivenUp = tt
 open_calling None message Unsupported = tt
 open_calling None message Unknown = tt
 open_calling (Some number) message (Asks type) = (λ w. refl, tt)
+open_calling (Some number) message GivenUp = (λ w. refl, tt)
 open_calling (Some number) message Unsupported = (λ w. refl, tt)
 open_calling (Some number) message Unknown = (λ w. refl, tt)
 
@@ -112,26 +119,24 @@ spoken_calling w spoken.Nothing is = tt
 spoken_calling w (spoken.Grant channel amount) is =
     entry_calling (find channel.0 w.channels.lines.entries) _
     (λ e. (λ v. refl, (refl, (refl, tt))))
-spoken_calling w (spoken.Data channel piece) is = (
-  λ v. refl,
-  told_calling (coming_of (length piece.bytes) w.channels.target
-      (find channel.0 w.channels.lines.entries)) channel piece w.channels.target,
-)
+spoken_calling w (spoken.Data channel piece) is =
+    let target = target_on channel.0 w in
+    let came = coming_of (length piece.bytes) target (find channel.0 w.channels.lines.entries) in
+    (λ v. refl, told_calling came channel piece target)
 spoken_calling w (spoken.Tells channel message happening) is =
     entry_calling (find channel.0 w.channels.lines.entries) _ (λ e. (refl, tt))
 spoken_calling w (spoken.Close channel) is =
     entry_calling (find channel.0 w.channels.lines.entries) _ (λ e. (λ v. refl, (refl, tt)))
 spoken_calling w (spoken.Failed channel reason) is =
     failure_calling (is_there w channel.0) (is_waiting w channel.0) channel reason
-spoken_calling w (spoken.Wants channel wanted) is = (λ v. refl, tt)
 spoken_calling w (spoken.Asks channel wanted message happening) is = (λ v. refl, (refl, tt))
 spoken_calling w (spoken.AsksForAgent channel wanted) is = (
   λ v. refl,
   (
     refl,
     (
-      λ granted v. either_keeps v.disconnected (lined (replies channel.0 (reply_of granted))) v
-          refl,
+      λ granted v. either_keeps v.disconnected
+          (lined (settles_one (asked_on channel wanted w).place channel.0 granted)) v refl,
       tt,
     ),
   ),
@@ -145,12 +150,15 @@ spoken_calling w (spoken.AsksGlobally wanted judged) is =
     (λ v. refl, (λ granted. ended_keeps (global_reply granted None), tt))
 spoken_calling w (spoken.AsksGloballyUnknown wanted) is =
     (λ v. refl, (settles_same (global_reply false None), tt))
+spoken_calling w (spoken.GivesUpSessions wanted) is =
+    (λ v. refl, (λ v. refl, (settles_same (global_reply true None), tt)))
 spoken_calling w (spoken.Settles told) is = absurd is
 spoken_calling w spoken.Inconsistent is = tt
 
 pub owed_calling : (w : World) (said : Said) → SaysNoReply said → AreCalling (owed w said)
 owed_calling w (Open message) is =
-    open_calling (next_number w.channels.lines) message (handling message.typ)
+    open_calling (next_number w.channels.lines) message
+    (handling w.channels.no_more_sessions message.typ)
 owed_calling w (Agreed message) is =
     confirmation_calling (is_waiting w message.recipient_channel) message
 owed_calling w (read.Connection said) is = spoken_calling w said is

@@ -24,11 +24,11 @@ use Rattle.ssh_channels.specs.Entry.{Entry}
 use Rattle.ssh_channels.specs.Lines.{find, next_number}
 use Rattle.ssh_rules.specs.declared.outstanding.Outstanding.{Outstanding}
 use Rattle.ssh_rules.specs.Acts.{tell_all, tell_done, done, done_all}
-use Rattle.ssh_rules.specs.Effect.{Effect, Does, effect, refused_for, refused_or, done_by}
+use Rattle.ssh_rules.specs.Effect.{Effect, Does, refused_for, refused_or, done_by}
 use Rattle.ssh_rules.specs.Effect.{done_apart, answers, decides, fails_open, failure_of, opens_at}
 use Rattle.ssh_rules.specs.Effect.{opens, opens_or_not, requests_on, is_too_long, refuses}
 use Rattle.ssh_rules.specs.Effect.{accepts}
-use Rattle.ssh_rules.specs.Effect.{sends, said}
+use Rattle.ssh_rules.specs.Effect.{sends, said, effect_at}
 use Rattle.ssh_rules.specs.InOrder.{asked_by, recorded, refuses_at, asked_from, replied_in}
 use Rattle.ssh_rules.specs.Layout.{at_once}
 use Rattle.ssh_rules.specs.Opening.{Opening}
@@ -39,7 +39,7 @@ use Rattle.ssh_rules.specs.OwnMessages.{disconnect}
 use Rattle.ssh_rules.specs.OwnOpens.{OwnOpen, asking, open_payload}
 use Rattle.ssh_rules.specs.OwnRequests.{OwnRequest, request_payload, xon_xoff, exit_status}
 use Rattle.ssh_rules.specs.OwnRequests.{exit_signal}
-use Rattle.ssh_rules.specs.World.{World, writes, wants_global, settles_global}
+use Rattle.ssh_rules.specs.World.{World, writes, wants_global, settles_global, ChannelRequest}
 
 -- ---- one command
 
@@ -155,38 +155,39 @@ apart_asks w (command.Disconnect reason description language) =
 apart_asks w other =
     keeps_asks w.globals.outstanding (opens_or_not (asking other) w) (or_not_keeps (asking other) w)
 
-done_asks : (w : World) (one : Command) → Asks w.globals.outstanding (asked_by one) (done_by w one)
-done_asks w (command.Data channel bytes) =
-    keeps_asks w.globals.outstanding (done_by w (command.Data channel bytes)) (tt, refl)
-done_asks w (command.ExtendedData channel code bytes) =
-    keeps_asks w.globals.outstanding (done_by w (command.ExtendedData channel code bytes))
+done_asks : (at : Option ChannelRequest) (w : World) (one : Command) →
+    Asks w.globals.outstanding (asked_by one) (done_by at w one)
+done_asks at w (command.Data channel bytes) =
+    keeps_asks w.globals.outstanding (done_by at w (command.Data channel bytes)) (tt, refl)
+done_asks at w (command.ExtendedData channel code bytes) =
+    keeps_asks w.globals.outstanding (done_by at w (command.ExtendedData channel code bytes))
     (tt, refl)
-done_asks w (command.Eof channel) =
-    keeps_asks w.globals.outstanding (done_by w (command.Eof channel)) (tt, refl)
-done_asks w (command.Close channel) =
-    keeps_asks w.globals.outstanding (done_by w (command.Close channel)) (tt, refl)
-done_asks w (command.ChannelSuccess channel) =
-    keeps_asks w.globals.outstanding (done_by w (command.ChannelSuccess channel)) (tt, refl)
-done_asks w (command.ChannelFailure channel) =
-    keeps_asks w.globals.outstanding (done_by w (command.ChannelFailure channel)) (tt, refl)
-done_asks w (command.XonXoff channel client_can_do) =
-    keeps_asks w.globals.outstanding (done_by w (command.XonXoff channel client_can_do))
+done_asks at w (command.Eof channel) =
+    keeps_asks w.globals.outstanding (done_by at w (command.Eof channel)) (tt, refl)
+done_asks at w (command.Close channel) =
+    keeps_asks w.globals.outstanding (done_by at w (command.Close channel)) (tt, refl)
+done_asks at w (command.ChannelSuccess channel) =
+    keeps_asks w.globals.outstanding (done_by at w (command.ChannelSuccess channel)) (tt, refl)
+done_asks at w (command.ChannelFailure channel) =
+    keeps_asks w.globals.outstanding (done_by at w (command.ChannelFailure channel)) (tt, refl)
+done_asks at w (command.XonXoff channel client_can_do) =
+    keeps_asks w.globals.outstanding (done_by at w (command.XonXoff channel client_can_do))
     (requested_keeps (is_too_long (request_payload 0 (xon_xoff client_can_do)))
     (find channel.0 w.channels.lines.entries) channel (xon_xoff client_can_do) w)
-done_asks w (command.ExitStatus channel status) =
-    keeps_asks w.globals.outstanding (done_by w (command.ExitStatus channel status))
+done_asks at w (command.ExitStatus channel status) =
+    keeps_asks w.globals.outstanding (done_by at w (command.ExitStatus channel status))
     (requested_keeps (is_too_long (request_payload 0 (exit_status status)))
     (find channel.0 w.channels.lines.entries) channel (exit_status status) w)
-done_asks w (command.ExitSignal channel signal core message language) =
+done_asks at w (command.ExitSignal channel signal core message language) =
     let asked = exit_signal signal core message language in
     keeps_asks w.globals.outstanding
-    (done_by w (command.ExitSignal channel signal core message language))
+    (done_by at w (command.ExitSignal channel signal core message language))
     (requested_keeps (is_too_long (request_payload 0 asked))
     (find channel.0 w.channels.lines.entries) channel asked w)
-done_asks w (command.Answer answer) =
-    keeps_asks w.globals.outstanding (done_by w (command.Answer answer))
+done_asks at w (command.Answer answer) =
+    keeps_asks w.globals.outstanding (done_by at w (command.Answer answer))
     (answers_keeps answer (opening_of answer.channel.0 w) w)
-done_asks w other = apart_asks w other
+done_asks at w other = apart_asks w other
 
 refused_asks : (why : Option Refusal) (w : World) (asked : List Outstanding) (does : Effect) →
     Asks w.globals.outstanding asked does →
@@ -194,11 +195,11 @@ refused_asks : (why : Option Refusal) (w : World) (asked : List Outstanding) (do
 refused_asks None w asked does h = h
 refused_asks (Some why) w asked does h = (tt, refl)
 
-pub effect_asks : (w : World) (one : Command) →
-    Asks w.globals.outstanding (asked_by one) (effect w one)
-effect_asks w one =
-    refused_asks (refused_for w.disconnected w one) w (asked_by one) (done_by w one)
-    (done_asks w one)
+pub effect_asks : (at : Option ChannelRequest) (w : World) (one : Command) →
+    Asks w.globals.outstanding (asked_by one) (effect_at at w one)
+effect_asks at w one =
+    refused_asks (refused_for w.disconnected w one) w (asked_by one) (done_by at w one)
+    (done_asks at w one)
 
 -- ---- events
 
@@ -327,47 +328,51 @@ done_noticed next outcome place commands w (notice ∷ notices) plan (event ∷ 
     (done_noticed next outcome place commands w notices plan events f.1 k))
 
 -- one command, of which the handler is told where it opens a channel or is refused
-told_done : {E F : Type 0} (next : World → Plan Outcome) (outcome : Outcome) (place : ℕ)
+told_done : {E F : Type 0} (at : Option ChannelRequest) (next : World → Plan Outcome)
+    (outcome : Outcome) (place : ℕ)
     (one : Command) (commands : List Command) (w v : World) (done_so : CommandOutcome)
     (notices : List Notice) (events : List (Event E F)) →
     Asks w.globals.outstanding (asked_by one) (Does notices done_so v) →
-    Follows (tell_done place done_so (done_all (place + 1) commands v next)) events outcome →
-    ((rest : List (Event E F)) → Follows (done_all (place + 1) commands v next) rest outcome →
+    Follows (tell_done place done_so (done_all at (place + 1) commands v next)) events outcome →
+    ((rest : List (Event E F)) → Follows (done_all at (place + 1) commands v next) rest outcome →
     Done next outcome (place + 1) commands v rest) →
     Done next outcome place (one ∷ commands) w events
-told_done next outcome place one commands w v Accepted notices events asks f k =
+told_done at next outcome place one commands w v Accepted notices events asks f k =
     done_accepted next outcome place one commands w v events asks.1 (k events f)
-told_done next outcome place one commands w v (Opened channel) notices [] asks f k = absurd (cc)
-told_done next outcome place one commands w v (Opened channel) notices (event ∷ events) asks f k =
+told_done at next outcome place one commands w v (Opened channel) notices [] asks f k = absurd (cc)
+told_done at next outcome place one commands w v (Opened channel) notices (event ∷ events) asks f
+    k =
     subst (λ x. Done next outcome place (one ∷ commands) w (x ∷ events)) (sym f.1)
     (done_quiet next outcome place (one ∷ commands) w _ events (refl, λ p. refl)
     (done_accepted next outcome place one commands w v events asks.1 (k events f.2)))
-told_done next outcome place one commands w v (Refused why) notices [] asks f k = absurd (cc)
-told_done next outcome place one commands w v (Refused why) notices (event ∷ events) asks f k =
+told_done at next outcome place one commands w v (Refused why) notices [] asks f k = absurd (cc)
+told_done at next outcome place one commands w v (Refused why) notices (event ∷ events) asks f k =
     subst (λ x. Done next outcome place (one ∷ commands) w (x ∷ events)) (sym f.1)
     (done_refused next outcome place one commands w v _ events asks.1 refl (λ p. refl)
     (k events f.2))
 
-effect_done : {E F : Type 0} (next : World → Plan Outcome) (outcome : Outcome) (place : ℕ)
+effect_done : {E F : Type 0} (at : Option ChannelRequest) (next : World → Plan Outcome)
+    (outcome : Outcome) (place : ℕ)
     (one : Command) (commands : List Command) (w : World) (does : Effect)
     (events : List (Event E F)) → Asks w.globals.outstanding (asked_by one) does →
     Follows (done does (λ done_so v. tell_done place done_so
-    (done_all (place + 1) commands v next))) events outcome →
+    (done_all at (place + 1) commands v next))) events outcome →
     ((v : World) (rest : List (Event E F)) →
-    Follows (done_all (place + 1) commands v next) rest outcome →
+    Follows (done_all at (place + 1) commands v next) rest outcome →
     Done next outcome (place + 1) commands v rest) →
     Done next outcome place (one ∷ commands) w events
-effect_done next outcome place one commands w (Does notices done_so v) events asks f k =
+effect_done at next outcome place one commands w (Does notices done_so v) events asks f k =
     done_noticed next outcome place (one ∷ commands) w notices
-    (tell_done place done_so (done_all (place + 1) commands v next)) events f
-    (λ rest g. told_done next outcome place one commands w v done_so notices rest asks g (k v))
+    (tell_done place done_so (done_all at (place + 1) commands v next)) events f
+    (λ rest g. told_done at next outcome place one commands w v done_so notices rest asks g (k v))
 
 -- all that was recorded
-pub all_done : {E F : Type 0} (next : World → Plan Outcome) (outcome : Outcome) (place : ℕ)
+pub all_done : {E F : Type 0} (at : Option ChannelRequest) (next : World → Plan Outcome)
+    (outcome : Outcome) (place : ℕ)
     (commands : List Command) (w : World) (events : List (Event E F)) →
-    Follows (done_all place commands w next) events outcome →
+    Follows (done_all at place commands w next) events outcome →
     Done next outcome place commands w events
-all_done next outcome place [] w events f = record {
+all_done at next outcome place [] w events f = record {
   world = w;
   early = [];
   rest = events;
@@ -377,6 +382,7 @@ all_done next outcome place [] w events f = record {
   unlent = tt;
   low = λ p l. refl;
 }
-all_done next outcome place (one ∷ commands) w events f =
-    effect_done next outcome place one commands w (effect w one) events (effect_asks w one) f
-    (λ v rest g. all_done next outcome (place + 1) commands v rest g)
+all_done at next outcome place (one ∷ commands) w events f =
+    effect_done at next outcome place one commands w (effect_at at w one) events
+    (effect_asks at w one) f
+    (λ v rest g. all_done at next outcome (place + 1) commands v rest g)

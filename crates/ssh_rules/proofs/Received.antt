@@ -1,9 +1,8 @@
 -- The bytes of data that are passed to the handler on a channel never exceed what this side granted
 -- there: input by input, and by induction over a run (RFC 4254 section 5.2).
-use Rattle.std.proofs.Common.{◌≡◌, ◌≤◌, ◌^◌, ℕ, List, [], ◌∷◌, ◌++◌, map, drop, Option}
-use Rattle.std.proofs.Common.{Some, Bool, true, false, Result, refl, sym, ◌∙◌, ap, subst, inl, inr}
+use Rattle.std.proofs.Common.{◌≡◌, ◌≤◌, ℕ, List, [], ◌∷◌, ◌++◌, map, drop, Option}
+use Rattle.std.proofs.Common.{Some, None, Bool, true, false, Result, refl, sym, ◌∙◌, ap, subst, inl, inr}
 use Rattle.std.proofs.Common.{◌-◌, arith}
-use Rattle.std.proofs.Math.Nat.{min-le_right}
 use Rattle.std.specs.Prelude.{flat_map, option_to_list, if◌then◌else◌}
 use Rattle.ssh_link.specs.declared.command.Command.{Command}
 use Rattle.ssh_link.specs.declared.command.Command.TheVariants as command
@@ -76,7 +75,7 @@ module _ (n window top : ℕ) (past : List TraceEntry) (passed grew : ℕ)
     command_fits w ticket one low h kept =
         one_fits n window top past passed grew (effect w one)
         (λ outcome world. Tell (Answered ticket outcome) (Finish (Goes world))) low
-        (effect_room n window passed grew past w one kept h) (effect_on past w one kept)
+        (effect_room n window passed grew None past w one kept h) (effect_on None past w one kept)
         (λ j outcome world l r k. r)
 
     tick_fits : (w : World) (many : Bool) → InRoom n window passed grew w
@@ -118,7 +117,7 @@ top_of number window grew w = grown_by number window grew w.channels.lines.writt
 -- no more was passed than that
 room_low : (n window passed grew : ℕ) (w : World) → InRoom n window passed grew w →
     passed ≤ top_of n window grew w
-room_low n window passed grew w h = h.2.1
+room_low n window passed grew w h = h.1.1
 
 owed_fits : (accepts : Acceptance) (n window passed grew : ℕ) (past : List TraceEntry) (w : World)
     (taken : Input) (plan : Plan Outcome) → Owes accepts w taken plan →
@@ -264,7 +263,6 @@ taken_received : {E F : Type 0} (accepts : Acceptance) (settings : Settings)
 taken_received accepts settings before after turn at =
     let past = flat_map entries before in
     let window = settings.config.window_size in
-    let fits = min-le_right window (2 ^ 32 - 1) in
     let kept = run_kept accepts [] (opening_world settings) before at.world at.run
     (nothing_kept settings) in
     record {
@@ -274,7 +272,7 @@ taken_received accepts settings before after turn at =
           let passed = passed_on n (events_of before) in
           let grew = grown_in n window 0 past in
           let room = run_room accepts n window 0 0 [] (opening_world settings) before at.world
-          at.run (refl, omega (arith, fits), (omega arith, omega arith))
+          at.run (refl, (omega arith, omega arith))
           (nothing_kept settings) in
           let low = walks_low n window (top_of n window grew at.world) passed grew at.walks.0
           turn.events seen more (room_low n window passed grew at.world room)

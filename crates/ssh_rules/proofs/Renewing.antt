@@ -1,7 +1,7 @@
 -- An exchange of keys ends in the exchange's own acts alone, and where it ended none runs any more
 -- before the frames of its input are handed on (RFC 4253 section 7.3).
 use Rattle.std.proofs.Common.{◌≡◌, ◌||◌, ◌+◌, ℕ, List, [], ◌∷◌, map, Bool, true, false}
-use Rattle.std.proofs.Common.{refl, ◌∙◌, ap, subst}
+use Rattle.std.proofs.Common.{refl, ◌∙◌, ap, subst, Option, None}
 use Rattle.std.specs.Prelude.{bytes_eq, codes, if◌then◌else◌}
 use Rattle.ssh_link.specs.declared.command.Command.{Command}
 use Rattle.ssh_link.specs.declared.command.Command.TheVariants as command
@@ -26,7 +26,7 @@ use Rattle.ssh_rules.specs.Acts.{Act, Notes, Calls, Judges_by, Listens_by, Adjus
 use Rattle.ssh_rules.specs.Acts.{Is_over, Stops, Exchanges, Beginning, Stepping, tell_all}
 use Rattle.ssh_rules.specs.Acts.{tell_done, done, done_all, acts, moved, payloads_given}
 use Rattle.ssh_rules.specs.Acts.{frames_given, gives, steps_on}
-use Rattle.ssh_rules.specs.Effect.{Effect, Does, effect}
+use Rattle.ssh_rules.specs.Effect.{Effect, Does, effect, effect_at}
 use Rattle.ssh_rules.specs.Exchanged.{is_renewal, ends_exchange}
 use Rattle.ssh_rules.specs.Outcome.{Outcome, Goes}
 use Rattle.ssh_rules.specs.Reading.{Said, Service, Request, Response}
@@ -34,7 +34,7 @@ use Rattle.ssh_rules.specs.Rows.{row, owed, greets, is_short, replied, concluded
 use Rattle.ssh_rules.specs.Rows.{exchange_acts}
 use Rattle.ssh_rules.specs.Run.{OwesKind, command_row}
 use Rattle.ssh_rules.specs.Ticks.{keepalive_acts, is_too_many, one_more}
-use Rattle.ssh_rules.specs.World.{World, hears, waits_for}
+use Rattle.ssh_rules.specs.World.{World, hears, waits_for, ChannelRequest}
 use Rattle.ssh_rules.proofs.Passing.{payload_so}
 use Rattle.ssh_rules.proofs.Replying.{EndsSo, IsBeside, verdict_beside, response_beside}
 use Rattle.ssh_rules.proofs.Untouched.{AreUntouched, IsRunning, owed_untouched}
@@ -81,25 +81,26 @@ one_renews (Does notices outcome world) next h =
     tells_renew (IsRunning false) false (map Noticed notices) (next outcome world)
     (h outcome world)
 
-all_renew : (place : ℕ) (commands : List Command) (w : World) (next : World → Plan Outcome)
-    → ((world : World) → RenewsIdle (next world)) → RenewsIdle (done_all place commands w next)
-all_renew place [] w next h = h w
-all_renew place (one ∷ commands) w next h =
-    one_renews (effect w one) (λ outcome world. tell_done place outcome
-    (done_all (place + 1) commands world next))
-    (λ outcome world. told_renews place outcome (done_all (place + 1) commands world next)
-    (all_renew (place + 1) commands world next h))
+all_renew : (at : Option ChannelRequest) (place : ℕ) (commands : List Command) (w : World)
+    (next : World → Plan Outcome) → ((world : World) → RenewsIdle (next world))
+    → RenewsIdle (done_all at place commands w next)
+all_renew at place [] w next h = h w
+all_renew at place (one ∷ commands) w next h =
+    one_renews (effect_at at w one) (λ outcome world. tell_done place outcome
+    (done_all at (place + 1) commands world next))
+    (λ outcome world. told_renews place outcome (done_all at (place + 1) commands world next)
+    (all_renew at (place + 1) commands world next h))
 
 acts_renew : (now : List Act) (w : World) → AreUntouched now → RenewsIdle (acts now w)
 acts_renew [] w a = unended w
 acts_renew (Notes notice ∷ later) w a = acts_renew later w a
-acts_renew (Calls lent ∷ later) w a = λ commands.
-    all_renew 0 commands w (acts later) (λ v. acts_renew later v a)
-acts_renew (Judges_by judged by ∷ later) w a = λ answer.
-    all_renew 0 answer.commands w (λ v. acts later (by answer.granted v))
+acts_renew (Calls at lent ∷ later) w a = λ commands.
+    all_renew at 0 commands w (acts later) (λ v. acts_renew later v a)
+acts_renew (Judges_by at judged by ∷ later) w a = λ answer.
+    all_renew at 0 answer.commands w (λ v. acts later (by answer.granted v))
     (λ v. acts_renew later (by answer.granted v) a.1)
 acts_renew (Listens_by address port by ∷ later) w a = λ answer.
-    all_renew 0 answer.commands w (λ v. acts later (by answer.granted answer.port v))
+    all_renew None 0 answer.commands w (λ v. acts later (by answer.granted answer.port v))
     (λ v. acts_renew later (by answer.granted answer.port v) a.1)
 acts_renew (Adjusts_by channel current by ∷ later) w a = λ window.
     acts_renew later (by window w) a.1

@@ -14,7 +14,7 @@ use Rattle.ssh_auth.specs.Publickey.{Acceptance}
 use Rattle.ssh_channels.specs.Lines.{next_number, drawn, drops_pending}
 use Rattle.ssh_rules.specs.declared.exchange.Passage.{Passage}
 use Rattle.ssh_rules.specs.declared.opens.Handling.{Handling}
-use Rattle.ssh_rules.specs.declared.opens.Handling.TheVariants.{Asks, Unsupported, Unknown}
+use Rattle.ssh_rules.specs.declared.opens.Handling.TheVariants.{Asks, GivenUp, Unsupported, Unknown}
 use Rattle.ssh_rules.specs.Acts.{acts}
 use Rattle.ssh_rules.specs.Answered.{how_many, sends}
 use Rattle.ssh_rules.specs.Gate.{gate_of}
@@ -23,10 +23,10 @@ use Rattle.ssh_rules.specs.Opens.{failure_frame}
 use Rattle.ssh_rules.specs.Outcome.{Outcome, Goes}
 use Rattle.ssh_rules.specs.Reading.{Said, Open, Says}
 use Rattle.ssh_rules.specs.Replied.{events_of}
-use Rattle.ssh_rules.specs.Rows.{row, exchange_acts, open_acts, waits}
+use Rattle.ssh_rules.specs.Rows.{row, exchange_acts, open_acts, turns_away, waits}
 use Rattle.ssh_rules.specs.Run.{Turn, Owes, OwesKind, asks_for_keys, command_row}
 use Rattle.ssh_rules.specs.Ticks.{keepalive_acts}
-use Rattle.ssh_rules.specs.Types.{handling, opening_by, unsupported, unknown}
+use Rattle.ssh_rules.specs.Types.{handling, opening_by, given_up, unsupported, unknown}
 use Rattle.ssh_rules.specs.World.{World, circumstances, hears, lined}
 use Rattle.ssh_rules.proofs.Accepting.{AllWalk}
 use Rattle.ssh_rules.proofs.Acting.{PlanComes, ActsCome, acts_come, exchange_comes}
@@ -89,35 +89,35 @@ module _ (of : Measure) (wants : InputKind → Bool) (pays : Repays of wants) wh
       let later = pays.none_wait (waits m opening w).channels.opens in
       omega (arith, before, later, h)
 
+  -- an open that is refused at once
+  away_upto : (k m : ℕ) (payload : List ℕ) (w : World) → IsNoReply (failure_frame m payload)
+      → OwesUpTo of k w → OwesUpTo of k (turns_away m payload w)
+  away_upto k m payload w unlike h =
+      writes_upto of k (failure_frame m payload ∷ [])
+      (lined (λ l. drops_pending m (drawn (Some m) l)) w) (pays.apart m payload unlike, tt) h
+
   open_come : (k : ℕ) (number : Option ℕ) (message : OpenChannelMessage) (does : Handling)
       (w : World) → OwesUpTo of k w → ActsCome (law of k) (open_acts number message does) w
   open_come k None message (Asks type) w h = tt
+  open_come k None message GivenUp w h = tt
   open_come k None message Unsupported w h = tt
   open_come k None message Unknown w h = tt
   open_come k (Some m) message (Asks type) w h =
       (waits_upto k m (opening_by message) w h, λ world j. tt)
+  open_come k (Some m) message GivenUp w h =
+      (away_upto k m (given_up message.recipient_channel) w (refl, refl) h, tt)
   open_come k (Some m) message Unsupported w h =
-      let payload = unsupported message.recipient_channel in (
-        writes_upto of k (failure_frame m payload ∷ [])
-            (lined (λ l. drops_pending m (drawn (Some m) l)) w)
-            (pays.apart m payload (refl, refl), tt) h,
-        tt,
-      )
+      (away_upto k m (unsupported message.recipient_channel) w (refl, refl) h, tt)
   open_come k (Some m) message Unknown w h =
-      let payload = unknown message.recipient_channel in (
-        writes_upto of k (failure_frame m payload ∷ [])
-            (lined (λ l. drops_pending m (drawn (Some m) l)) w)
-            (pays.apart m payload (refl, refl), tt) h,
-        tt,
-      )
+      (away_upto k m (unknown message.recipient_channel) w (refl, refl) h, tt)
 
   row_come : (k : ℕ) (w : World) (moment : ℕ) (said : Said)
       → OfRead (RequestOwes of k w) said → OwesUpTo of k w
       → PlanComes Anything (ComesUpTo of k) (row w moment said)
   row_come k w moment (Open message) q h =
       let number = next_number w.channels.lines in
-      acts_come (law of k) (open_acts number message (handling message.typ)) w h
-      (open_come k number message (handling message.typ) w h)
+      let does = handling w.channels.no_more_sessions message.typ in
+      acts_come (law of k) (open_acts number message does) w h (open_come k number message does w h)
   row_come k w moment said q h = row_upto of k w moment said tt q h
 
   -- ---- inputs

@@ -1,39 +1,52 @@
 -- The peer gets no more replies than its requests on a channel want, by induction over a run (RFC
 -- 4254 section 5.4).
-use Rattle.std.proofs.Common.{◌≡◌, ◌==◌, ◌&&◌, ◌+◌, ℕ, List, ◌∷◌, ◌++◌, Bool, true, false, cond}
-use Rattle.std.proofs.Common.{Option, Result, refl, sym, subst, arith}
+use Rattle.std.proofs.Common.{◌≡◌, ◌≤◌, ◌==◌, ◌&&◌, ◌+◌, ℕ, List, ◌∷◌, ◌++◌, Bool, true, false}
+use Rattle.std.proofs.Common.{cond, Option, Result, refl, subst, ◌∙◌, arith}
 use Rattle.std.specs.Prelude.{option_to_list}
 use Rattle.ssh_wire.specs.declared.channel_id.ChannelId.{ChannelId}
 use Rattle.ssh_link.specs.declared.frame.InputKind.TheVariants as input
 use Rattle.ssh_auth.specs.Publickey.{Acceptance}
-use Rattle.ssh_channels.specs.Lines.{wants}
+use Rattle.ssh_channels.specs.Lines.{takes_request}
+use Rattle.ssh_channels.specs.Sent.{is_reply}
 use Rattle.ssh_rules.specs.declared.error.RunError.{RunError}
 use Rattle.ssh_rules.specs.Account.{Closes}
 use Rattle.ssh_rules.specs.Opens.{failure_frame}
 use Rattle.ssh_rules.specs.Reading.{Said}
-use Rattle.ssh_rules.specs.Replied.{is_reply, wants_reply_on, Replied}
+use Rattle.ssh_rules.specs.Replied.{wants_reply_on, Replied}
 use Rattle.ssh_rules.specs.Run.{Turn, Run}
-use Rattle.ssh_rules.specs.World.{Settings, World, lined, opening_world}
+use Rattle.ssh_rules.specs.World.{Settings, World, lined, opening_world, wants_if}
 use Rattle.ssh_rules.proofs.Accepting.{AllWalk, run_walks, last_walks, behind}
 use Rattle.ssh_rules.proofs.Counting.{still_low}
-use Rattle.ssh_rules.proofs.Measures.{untold, lines_owe}
-use Rattle.ssh_rules.proofs.Measuring.{owing, OwesUpTo, RequestOwes, lined_upto, same_lines}
+use Rattle.ssh_rules.proofs.Measures.{untold}
+use Rattle.ssh_rules.proofs.Measuring.{owing, OwesUpTo, RequestOwes}
 use Rattle.ssh_rules.proofs.Measured.{OfRead, read_weaker}
-use Rattle.ssh_rules.proofs.Owing.{replies_on, unwanted_owe, request_owe}
+use Rattle.ssh_rules.proofs.Owing.{replies_on, request_owe}
 use Rattle.ssh_rules.proofs.Repaying.{left_with, Repays, past_few}
 use Rattle.ssh_rules.proofs.Wanting.{BytesSay}
+
+left_so : (b : Bool) → (b && true) ≡ b
+left_so true = refl
+left_so false = refl
+
+-- where it wants one, so many come to at most one more
+one_more : (a b : Bool) (now later left : ℕ) → a ≡ b → later ≤ now + cond b 1 0 → now ≤ left →
+    later ≤ cond a (left + 1) left
+one_more true true now later left is few h = omega (arith, few, h)
+one_more false false now later left is few h = omega (arith, few, h)
+one_more true false now later left is few h = absurd (cc)
+one_more false true now later left is few h = absurd (cc)
 
 -- a request makes one more where it wants one
 request_step : (b : Bool) (number left : ℕ) (w : World) (channel : ChannelId) (wanted : Bool) →
     b ≡ ((number == channel.0) && wanted) → OwesUpTo (replies_on number) left w →
-    OwesUpTo (replies_on number) (cond b (left + 1) left) (lined (wants channel.0 wanted) w)
-request_step true number left w channel wanted is h =
-    let most = request_owe number channel.0 wanted w.channels.lines in
-    omega (arith, most, h)
-request_step false number left w channel wanted is h =
-    lined_upto (replies_on number) left (wants channel.0 wanted) w
-    (unwanted_owe number (lines_owe (replies_on number) w.channels.lines) channel.0 wanted
-    w.channels.lines (sym is) (same_lines (replies_on number) w.channels.lines)) h
+    OwesUpTo (replies_on number) (cond b (left + 1) left) (lined (wants_if wanted channel.0) w)
+request_step b number left w channel true is h =
+    let now = owing (replies_on number) w in
+    let later = owing (replies_on number) (lined (takes_request channel.0) w) in
+    let most = request_owe number channel.0 w.channels.lines in
+    one_more b (number == channel.0) now later left (is ∙ left_so (number == channel.0))
+    (omega (arith, most)) h
+request_step b number left w channel false is h = still_low b (owing (replies_on number) w) left h
 
 request_reads : (number left : ℕ) (w : World) (payload : List ℕ) (said : Said) →
     OfRead (BytesSay w payload) said → OwesUpTo (replies_on number) left w →

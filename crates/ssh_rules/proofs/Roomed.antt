@@ -1,13 +1,12 @@
 -- What was passed on a number, and the room there, are no more than was granted in a world; a
 -- command keeps that, with what is told of it (RFC 4254 section 5.2).
-use Rattle.std.proofs.Common.{◌≡◌, ◌≤◌, ◌<◌, ◌^◌, ◌==◌, ℕ, suc, List, [], ◌∷◌, ◌++◌, Bool, true}
+use Rattle.std.proofs.Common.{◌≡◌, ◌≤◌, ◌==◌, ℕ, suc, List, [], ◌∷◌, ◌++◌, Bool, true}
 use Rattle.std.proofs.Common.{false, cond, Option, Some, None, is_some, refl, sym, ◌∙◌, ap, subst}
 use Rattle.std.proofs.Common.{arith}
 use Rattle.std.specs.Prelude.{if◌then◌else◌}
 use Rattle.ssh_wire.specs.declared.channel_id.ChannelId.{ChannelId}
 use Rattle.ssh_wire.specs.declared.open_failure.ChannelOpenFailure.{ChannelOpenFailure}
-use Rattle.ssh_wire.specs.Messages.{written, channel_success, channel_failure, request_success}
-use Rattle.ssh_wire.specs.Messages.{request_failure}
+use Rattle.ssh_wire.specs.Messages.{written, request_success, request_failure}
 use Rattle.ssh_link.specs.Frames.{Frame}
 use Rattle.ssh_link.specs.declared.command.Command.{Command}
 use Rattle.ssh_link.specs.declared.command.Command.TheVariants as command
@@ -27,7 +26,7 @@ use Rattle.ssh_channels.specs.Lines.{write}
 use Rattle.ssh_channels.specs.Sent.{is_tagged, is_opening}
 use Rattle.ssh_channels.proofs.Booked.{next_absent}
 use Rattle.ssh_channels.proofs.Listed.{one_number, find_new, find_beside}
-use Rattle.ssh_rules.specs.Effect.{Effect, Does, effect, refused_for, refused_or, done_by}
+use Rattle.ssh_rules.specs.Effect.{Effect, Does, effect_at, refused_for, refused_or, done_by}
 use Rattle.ssh_rules.specs.Effect.{done_apart, answers, said, decides, fails_open, failure_of}
 use Rattle.ssh_rules.specs.Effect.{is_too_long, opens_at, opens, opens_or_not, requests_on}
 use Rattle.ssh_rules.specs.Effect.{refuses, confirms, sends}
@@ -40,22 +39,24 @@ use Rattle.ssh_rules.specs.OwnOpens.{OwnOpen, asking, open_payload, open_frame}
 use Rattle.ssh_rules.specs.OwnRequests.{OwnRequest, request_payload, xon_xoff, exit_status}
 use Rattle.ssh_rules.specs.OwnRequests.{exit_signal}
 use Rattle.ssh_rules.specs.Received.{passed_done, passed_noticed, added_by}
-use Rattle.ssh_rules.specs.World.{World, in_exchange, lined, writes, wants_global, settles_global}
+use Rattle.ssh_rules.specs.World.{World, ChannelRequest, in_exchange, lined, writes, settles_for}
+use Rattle.ssh_rules.specs.World.{wants_global, settles_global}
 use Rattle.ssh_rules.proofs.Acting.{EffectComes}
 use Rattle.ssh_rules.proofs.Apart.{either, sent_comes}
 use Rattle.ssh_rules.proofs.Granting.{Roomy, AreGranted, fewer_granted, room_of, lifted, grown}
 use Rattle.ssh_rules.proofs.Granting.{grown_by, grown_both, unopened}
-use Rattle.ssh_rules.proofs.Granting.{written_room, data_room, eof_room, close_room, replies_room}
+use Rattle.ssh_rules.proofs.Granting.{written_room, data_room, eof_room, close_room, reply_room}
 use Rattle.ssh_rules.proofs.Keeping.{Kept}
 use Rattle.ssh_rules.proofs.Pending.{IsReserved}
+use Rattle.ssh_rules.proofs.Requested.{for_kept}
 use Rattle.ssh_rules.proofs.Waiting.{found_waiting}
 
 -- ---- worlds
 
--- rooms began as large as this window, and are filled up to a number of four bytes
+-- rooms began as large as this window
 abbrev pub InRoom : (number window passed grew : ℕ) → World → Type 0
 InRoom number window passed grew w =
-    (w.settings.config.window_size ≡ window) × (w.channels.target < 2 ^ 32)
+    (w.settings.config.window_size ≡ window)
     × Roomy number passed window grew w.channels.lines
 
 -- where less was passed
@@ -64,9 +65,8 @@ pub less_room : (n window passed less grew : ℕ) (w : World) → less ≤ passe
 less_room n window passed less grew w low h =
     let lines = w.channels.lines in (
       h.0,
-      h.1,
       fewer_granted passed less (room_of (find n lines.entries))
-          (grown_by n window grew lines.written) low h.2,
+          (grown_by n window grew lines.written) low h.1,
     )
 
 -- ---- what is told
@@ -155,10 +155,9 @@ confirms_room n window passed grew number opening w free h =
     let more : Lines = record (drops_pending number lines) { entries = added e lines.entries } in
     let is : adds e lines ≡ more = ap (λ o. cond (is_some o) lines more) free in (
       h.0,
-      h.1,
       subst (λ l. Roomy n (cond (n == number) 0 passed) window grew (write (frame ∷ []) l))
           (sym is) (begun_room (n == number) n window passed grew e frame lines refl free h.0 refl
-          refl h.2),
+          refl h.1),
     )
 
 -- this side's open draws a number
@@ -171,11 +170,10 @@ opened_room n window passed grew (Some number) own w is h =
     let room = w.settings.config.window_size in
     let frame = open_frame own number room w.settings.config.maximum_packet_size in (
       h.0,
-      h.1,
       subst (λ o. Roomy n (cond (n == number) 0 passed) window grew
           (write (frame ∷ []) (asks room o lines))) (sym is)
           (begun_room (n == number) n window passed grew (asked number room) frame lines refl
-          (next_absent number lines is) h.0 refl refl h.2),
+          (next_absent number lines is) h.0 refl refl h.1),
     )
 
 -- ---- commands
@@ -186,18 +184,16 @@ module _ (n window passed grew : ℕ)
         → InRoom n window passed grew w → InRoom n window passed grew (writes (frame ∷ []) w)
     writes_room frame w is h = (
       h.0,
-      h.1,
       written_room n passed window grew (frame ∷ []) w.channels.lines
-          (unopened n frame is, tt) h.2,
+          (unopened n frame is, tt) h.1,
     )
 
     pub said_room : (message : OwnMessage) (w : World) → InRoom n window passed grew w
         → InRoom n window passed grew (said message w)
     said_room message w h = (
       h.0,
-      h.1,
       written_room n passed window grew (at_once message.payload ∷ []) w.channels.lines (refl, tt)
-          h.2,
+          h.1,
     )
 
     pub settles_room : (payload : List ℕ) (w : World) → InRoom n window passed grew w
@@ -206,8 +202,7 @@ module _ (n window passed grew : ℕ)
         either (InRoom n window passed grew) w.globals.wanted
         (writes (at_once payload ∷ []) (wants_global false w)) w (
           h.0,
-          h.1,
-          written_room n passed window grew (at_once payload ∷ []) w.channels.lines (refl, tt) h.2,
+          written_room n passed window grew (at_once payload ∷ []) w.channels.lines (refl, tt) h.1,
         ) h
 
     fails_room : (number : ℕ) (payload : List ℕ) (w : World) (long : Bool)
@@ -285,49 +280,49 @@ module _ (n window passed grew : ℕ)
         sent_room (disconnect reason description language) w h
     apart_room w other h = or_not_room (asking other) w h
 
-    done_room : (past : List TraceEntry) (w : World) (one : Command) → Kept past w
-        → InRoom n window passed grew w → EffectRooms n window passed grew (done_by w one)
-    done_room past w (command.Data channel bytes) kept h = (
+    settled_room : (at : Option ChannelRequest) (channel : ℕ) (success : Bool) (w : World)
+        → InRoom n window passed grew w
+        → InRoom n window passed grew (lined (settles_for at channel success) w)
+    settled_room at channel success w h = (
       h.0,
-      h.1,
+      for_kept (Roomy n passed window grew) channel success w.channels.lines
+          (reply_room n passed window grew channel success w.channels.lines) at h.1,
+    )
+
+    done_room : (at : Option ChannelRequest) (past : List TraceEntry) (w : World) (one : Command)
+        → Kept past w → InRoom n window passed grew w
+        → EffectRooms n window passed grew (done_by at w one)
+    done_room at past w (command.Data channel bytes) kept h = (
+      h.0,
       data_room n passed window grew channel.0 (chunk Plain bytes) (in_exchange w)
-          w.channels.lines h.2,
+          w.channels.lines h.1,
     )
-    done_room past w (command.ExtendedData channel code bytes) kept h = (
+    done_room at past w (command.ExtendedData channel code bytes) kept h = (
       h.0,
-      h.1,
       data_room n passed window grew channel.0 (chunk (Extended code) bytes) (in_exchange w)
-          w.channels.lines h.2,
+          w.channels.lines h.1,
     )
-    done_room past w (command.Eof channel) kept h =
-        (h.0, h.1, eof_room n passed window grew channel.0 w.channels.lines h.2)
-    done_room past w (command.Close channel) kept h =
-        (h.0, h.1, close_room n passed window grew channel.0 w.channels.lines h.2)
-    done_room past w (command.ChannelSuccess channel) kept h = (
-      h.0,
-      h.1,
-      replies_room n passed window grew channel.0 channel_success.number w.channels.lines
-          (λ e. refl) h.2,
-    )
-    done_room past w (command.ChannelFailure channel) kept h = (
-      h.0,
-      h.1,
-      replies_room n passed window grew channel.0 channel_failure.number w.channels.lines
-          (λ e. refl) h.2,
-    )
-    done_room past w (command.XonXoff channel client_can_do) kept h =
+    done_room at past w (command.Eof channel) kept h =
+        (h.0, eof_room n passed window grew channel.0 w.channels.lines h.1)
+    done_room at past w (command.Close channel) kept h =
+        (h.0, close_room n passed window grew channel.0 w.channels.lines h.1)
+    done_room at past w (command.ChannelSuccess channel) kept h =
+        settled_room at channel.0 true w h
+    done_room at past w (command.ChannelFailure channel) kept h =
+        settled_room at channel.0 false w h
+    done_room at past w (command.XonXoff channel client_can_do) kept h =
         requested_room (is_too_long (request_payload 0 (xon_xoff client_can_do)))
         (find channel.0 w.channels.lines.entries) channel (xon_xoff client_can_do) w h
-    done_room past w (command.ExitStatus channel status) kept h =
+    done_room at past w (command.ExitStatus channel status) kept h =
         requested_room (is_too_long (request_payload 0 (exit_status status)))
         (find channel.0 w.channels.lines.entries) channel (exit_status status) w h
-    done_room past w (command.ExitSignal channel signal core message language) kept h =
+    done_room at past w (command.ExitSignal channel signal core message language) kept h =
         let own = exit_signal signal core message language in
         requested_room (is_too_long (request_payload 0 own))
         (find channel.0 w.channels.lines.entries) channel own w h
-    done_room past w (command.Answer answer) kept h =
+    done_room at past w (command.Answer answer) kept h =
         answers_room past answer (opening_of answer.channel.0 w) w refl kept h
-    done_room past w other kept h = apart_room w other h
+    done_room at past w other kept h = apart_room w other h
 
     refused_room : (why : Option Refusal) (w : World) (does : Effect)
         → InRoom n window passed grew w → EffectRooms n window passed grew does
@@ -335,8 +330,9 @@ module _ (n window passed grew : ℕ)
     refused_room None w does h k = k
     refused_room (Some why) w does h k = h
 
-    pub effect_room : (past : List TraceEntry) (w : World) (one : Command) → Kept past w
-        → InRoom n window passed grew w → EffectRooms n window passed grew (effect w one)
-    effect_room past w one kept h =
-        refused_room (refused_for w.disconnected w one) w (done_by w one) h
-        (done_room past w one kept h)
+    pub effect_room : (at : Option ChannelRequest) (past : List TraceEntry) (w : World)
+        (one : Command) → Kept past w → InRoom n window passed grew w
+        → EffectRooms n window passed grew (effect_at at w one)
+    effect_room at past w one kept h =
+        refused_room (refused_for w.disconnected w one) w (done_by at w one) h
+        (done_room at past w one kept h)

@@ -1,6 +1,6 @@
 -- By what happens in an input an exchange of keys runs, or none, as the world says.
 use Rattle.std.proofs.Common.{◌≡◌, ◌==◌, ◌&&◌, ◌+◌, ℕ, List, [], ◌∷◌, map, Bool, true}
-use Rattle.std.proofs.Common.{false, not, refl, sym, ◌∙◌, subst}
+use Rattle.std.proofs.Common.{false, not, refl, sym, ◌∙◌, subst, Option, None}
 use Rattle.std.specs.Prelude.{bytes_eq, codes, if◌then◌else◌}
 use Rattle.ssh_link.specs.declared.command.Command.{Command}
 use Rattle.ssh_link.specs.declared.command.Command.TheVariants as command
@@ -28,7 +28,7 @@ use Rattle.ssh_rules.specs.Acts.{Act, Notes, Calls, Judges_by, Listens_by, Adjus
 use Rattle.ssh_rules.specs.Acts.{Is_over, Stops, Exchanges, Beginning, Stepping, tell_all}
 use Rattle.ssh_rules.specs.Acts.{tell_done, done, done_all, acts, moved, payloads_given}
 use Rattle.ssh_rules.specs.Acts.{frames_given, gives, steps_on}
-use Rattle.ssh_rules.specs.Effect.{Effect, Does, effect}
+use Rattle.ssh_rules.specs.Effect.{Effect, Does, effect, effect_at}
 use Rattle.ssh_rules.specs.Exchange.{is_running, joined, early_with, passage_of}
 use Rattle.ssh_rules.specs.Outcome.{Outcome, Goes, Ends, Fails}
 use Rattle.ssh_rules.specs.Reading.{Said, Service, Request, Response}
@@ -36,7 +36,7 @@ use Rattle.ssh_rules.specs.Rows.{row, owed, greets, is_short, replied, concluded
 use Rattle.ssh_rules.specs.Rows.{exchange_acts}
 use Rattle.ssh_rules.specs.Run.{OwesKind, OwesPassed, command_row, passage}
 use Rattle.ssh_rules.specs.Ticks.{keepalive_acts, is_too_many, one_more}
-use Rattle.ssh_rules.specs.World.{World, hears, waits_for}
+use Rattle.ssh_rules.specs.World.{World, hears, waits_for, ChannelRequest}
 use Rattle.ssh_rules.proofs.Acting.{EffectComes}
 use Rattle.ssh_rules.proofs.Replying.{EndsSo, IsBeside, verdict_beside, response_beside}
 use Rattle.ssh_rules.proofs.Untouched.{AreUntouched, IsRunning, same_runs, effect_runs}
@@ -77,30 +77,31 @@ one_runs : (running : Bool) (does : Effect) (next : CommandOutcome → World →
 one_runs running (Does notices outcome world) next k h =
     tells_run running (map Noticed notices) (next outcome world) (h outcome world k)
 
-all_run : (running : Bool) (place : ℕ) (commands : List Command) (w : World)
+all_run : (at : Option ChannelRequest) (running : Bool) (place : ℕ) (commands : List Command)
+    (w : World)
     (next : World → Plan Outcome) → IsRunning running w →
     ((world : World) → IsRunning running world → Runs running (next world)) →
-    Runs running (done_all place commands w next)
-all_run running place [] w next h k = k w h
-all_run running place (one ∷ commands) w next h k =
-    one_runs running (effect w one) (λ outcome world. tell_done place outcome
-    (done_all (place + 1) commands world next)) (effect_runs running w one h)
+    Runs running (done_all at place commands w next)
+all_run at running place [] w next h k = k w h
+all_run at running place (one ∷ commands) w next h k =
+    one_runs running (effect_at at w one) (λ outcome world. tell_done place outcome
+    (done_all at (place + 1) commands world next)) (effect_runs at running w one h)
     (λ outcome world r. told_runs running place outcome
-    (done_all (place + 1) commands world next)
-    (all_run running (place + 1) commands world next r k))
+    (done_all at (place + 1) commands world next)
+    (all_run at running (place + 1) commands world next r k))
 
 pub acts_run : (running : Bool) (now : List Act) (w : World) → AreUntouched now →
     IsRunning running w → Runs running (acts now w)
 acts_run running [] w a h = h
 acts_run running (Notes notice ∷ later) w a h = acts_run running later w a h
-acts_run running (Calls lent ∷ later) w a h = λ commands.
-    all_run running 0 commands w (acts later) h (λ v k. acts_run running later v a k)
-acts_run running (Judges_by judged by ∷ later) w a h = λ answer.
-    all_run running 0 answer.commands w (λ v. acts later (by answer.granted v)) h
+acts_run running (Calls at lent ∷ later) w a h = λ commands.
+    all_run at running 0 commands w (acts later) h (λ v k. acts_run running later v a k)
+acts_run running (Judges_by at judged by ∷ later) w a h = λ answer.
+    all_run at running 0 answer.commands w (λ v. acts later (by answer.granted v)) h
     (λ v k. acts_run running later (by answer.granted v) a.1
     (same_runs running v (by answer.granted v) (a.0 answer.granted v) k))
 acts_run running (Listens_by address port by ∷ later) w a h = λ answer.
-    all_run running 0 answer.commands w (λ v. acts later (by answer.granted answer.port v)) h
+    all_run None running 0 answer.commands w (λ v. acts later (by answer.granted answer.port v)) h
     (λ v k. acts_run running later (by answer.granted answer.port v) a.1
     (same_runs running v (by answer.granted answer.port v) (a.0 answer.granted answer.port v) k))
 acts_run running (Adjusts_by channel current by ∷ later) w a h = λ window.
@@ -163,7 +164,7 @@ command_runs : (running : Bool) (w : World) (ticket : ℕ) (one : Command) → I
     Runs running (command_row w ticket one)
 command_runs running w ticket one h =
     one_runs running (effect w one) (λ outcome world. Tell (Answered ticket outcome)
-    (Finish (Goes world))) (effect_runs running w one h) (λ outcome world k. k)
+    (Finish (Goes world))) (effect_runs None running w one h) (λ outcome world k. k)
 
 tick_step : (running : Bool) (w : World) (many : Bool) →
     is_too_many w.settings.config (one_more w.keepalives) ≡ many → IsRunning running w →

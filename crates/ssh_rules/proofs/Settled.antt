@@ -1,6 +1,6 @@
 -- What is fixed in a run stays so.
 use Rattle.std.proofs.Common.{◌≡◌, ℕ, List, [], ◌∷◌, refl, subst}
-use Rattle.std.proofs.Common.{◌∙◌}
+use Rattle.std.proofs.Common.{◌∙◌, Option, None}
 use Rattle.ssh_link.specs.declared.command.Command.{Command}
 use Rattle.ssh_link.specs.declared.command.Command.TheVariants as command
 use Rattle.ssh_link.specs.declared.frame.InputKind.{InputKind}
@@ -11,7 +11,7 @@ use Rattle.ssh_auth.specs.declared.question.Question.{Question}
 use Rattle.ssh_auth.specs.Plan.{Plan, Finish, Ask, Tell, Answer, Event, Follows, Reaches}
 use Rattle.ssh_auth.specs.Publickey.{Acceptance}
 use Rattle.ssh_rules.specs.Effect.{effect, refused_for, done_by, said}
-use Rattle.ssh_rules.specs.Effect.{accepts}
+use Rattle.ssh_rules.specs.Effect.{accepts, effect_at}
 use Rattle.ssh_rules.specs.Outcome.{Outcome, Goes, Ends, Fails}
 use Rattle.ssh_rules.specs.Reading.{Said, Disconnect, Over_cap}
 use Rattle.ssh_rules.specs.Rows.{row}
@@ -21,7 +21,7 @@ use Rattle.ssh_rules.specs.declared.error.Flow.TheVariants.{Continue, Ended}
 use Rattle.ssh_rules.specs.Run.{OwesKind, Owes, command_row, asks_for_keys}
 use Rattle.ssh_rules.specs.Cause.{comes}
 use Rattle.ssh_rules.specs.World.{World, Settings}
-use Rattle.ssh_rules.specs.World.{hears}
+use Rattle.ssh_rules.specs.World.{hears, ChannelRequest}
 use Rattle.ssh_rules.proofs.Acting.{PlanComes, EffectComes, AllBuilt, Law, acts_come}
 use Rattle.ssh_rules.proofs.Acting.{one_comes, input_comes, exchange_comes}
 use Rattle.ssh_rules.proofs.Passing.{payload_so}
@@ -52,12 +52,13 @@ same_set : (settings : Settings) (w v : World) → v.settings ≡ w.settings
     → v.disconnected ≡ w.disconnected → v.keys ≡ w.keys → IsSet settings w → IsSet settings v
 same_set settings w v is ended keys h = is ∙ h
 
-pub effect_set : (settings : Settings) (w : World) (commanded : Command) → IsSet settings w →
-    EffectComes (IsSet settings) (effect w commanded)
-effect_set settings w commanded h =
+pub effect_set : (at : Option ChannelRequest) (settings : Settings) (w : World)
+    (commanded : Command) → IsSet settings w →
+    EffectComes (IsSet settings) (effect_at at w commanded)
+effect_set at settings w commanded h =
     let holds = IsSet settings in
-    refused_comes holds (refused_for w.disconnected w commanded) w (done_by w commanded) h
-    (done_beside holds (same_set settings) w commanded h
+    refused_comes holds (refused_for w.disconnected w commanded) w (done_by at w commanded) h
+    (done_beside holds (same_set settings) at w commanded h
     (apart_comes holds (λ message v k. k) (settles_beside holds (same_set settings))
     (opens_or_not_beside holds (same_set settings)) w commanded h))
 
@@ -71,7 +72,7 @@ law settings = record {
   lends = λ lent commands s. any_built commands;
   judges = λ judged answer s. any_built answer.commands;
   listens = λ address port answer s. any_built answer.commands;
-  keeps = λ w command h b. effect_set settings w command h;
+  keeps = λ at w command h b. effect_set at settings w command h;
 }
 
 row_set : (settings : Settings) (w : World) (moment : ℕ) (said : Said) → IsSet settings w →
@@ -89,7 +90,7 @@ command_set : (settings : Settings) (w : World) (ticket : ℕ) (commanded : Comm
 command_set settings w ticket commanded h =
     one_comes (law settings) (effect w commanded) (λ outcome world. Tell (Answered ticket outcome)
     (Finish (Goes world)))
-    (effect_set settings w commanded h) (λ outcome world k. k)
+    (effect_set None settings w commanded h) (λ outcome world k. k)
 
 kind_set : (accepts : Acceptance) (settings : Settings) (w : World) (moment : ℕ) (kind : InputKind)
     (plan : Plan Outcome) →

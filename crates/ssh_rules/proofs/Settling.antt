@@ -2,7 +2,7 @@
 -- 4).
 use Rattle.std.proofs.Common.{◌≡◌, ◌⊎◌, ℕ, List, [], ◌∷◌, ◌++◌, map, Bool, true}
 use Rattle.std.proofs.Common.{false, cond, Option, refl, sym, ◌∙◌, ap, subst}
-use Rattle.std.proofs.Common.{inl, inr, Ok, ◌||◌}
+use Rattle.std.proofs.Common.{inl, inr, Ok, None, ◌||◌}
 use Rattle.std.specs.Prelude.{drop, flat_map, if◌then◌else◌, option_to_list}
 use Rattle.std.specs.List.{list_any}
 use Rattle.std.proofs.lemmas.List.{append-nil}
@@ -306,7 +306,7 @@ command_plain : (E F : Type 0) (w : World) (ticket : ℕ) (one : Command) →
     IsPlain E F w (input.Command ticket one) (command_row w ticket one)
 command_plain E F w ticket one = record {
   asks = λ events outcome f. effect_so w ticket one (effect w one) events outcome
-      (effect_asks w one) f;
+      (effect_asks None w one) f;
   tells = command_tells w ticket one;
 }
 
@@ -329,7 +329,7 @@ reply_plain : (E F : Type 0) (w : World) (ticket : ℕ) (answer : OpenAnswer) �
 reply_plain E F w ticket answer = record {
   asks = λ events outcome f. unasked_so w ticket answer events outcome
       (effect_so w ticket (command.Answer answer) (effect w (command.Answer answer)) events outcome
-      (effect_asks w (command.Answer answer)) f);
+      (effect_asks None w (command.Answer answer)) f);
   tells = command_tells w ticket (command.Answer answer);
 }
 

@@ -8,9 +8,10 @@ use Rattle.ssh_link.specs.declared.link.TraceEntry.TheVariants.{Sent}
 use Rattle.ssh_auth.specs.Publickey.{Acceptance}
 use Rattle.ssh_channels.specs.Entry.{Entry, IsDue, Sound, due}
 use Rattle.ssh_channels.specs.Lines.{Lines, find}
-use Rattle.ssh_channels.specs.Sent.{Each, Ledgered, Sends, since}
+use Rattle.ssh_channels.specs.Sent.{Each, Ledgered, RepliesInOrder, Sends, since}
 use Rattle.ssh_channels.proofs.Closed.{closed, all_before, due_paid}
 use Rattle.ssh_channels.proofs.Dues.{all_sound}
+use Rattle.ssh_channels.proofs.InOrder.{replied_so, replied_then, replied_before}
 use Rattle.ssh_channels.proofs.Moments.{at_moment}
 use Rattle.ssh_rules.specs.Ledger.{Ledgered_after, SentSo, SentAll, IsOut}
 use Rattle.ssh_rules.specs.Run.{Turn, Run, entries}
@@ -29,6 +30,9 @@ pub sent_so : (past : List TraceEntry) (l : Lines) → Ledgered l past → SentS
 sent_so past l h = record {
   starts = λ n e seen rest is found quiet.
       at_moment n l e seen rest found quiet (subst (Ledgered l) is h);
+  replied = λ n e seen rest is found quiet.
+      replied_then n l e seen rest found quiet (subst (Ledgered l) is h);
+  replied_before = λ n gone none left. replied_before n l past gone h none left;
   within = λ n. low (find n l.entries) (all_sound l past h n);
   last = λ n front back close closes is. closed n l past front back close h closes is;
   whole = λ n gone none left itself. all_before n l past gone h none left itself;
@@ -38,12 +42,19 @@ sent_so past l h = record {
 found_due : (o : Option Entry) (e : Entry) → o ≡ Some e → IfSome o IsDue → IsDue e
 found_due o e is h = subst (λ x. IfSome x IsDue) is h
 
+-- where nothing that was written waits, all went out
+nothing_written : (P : List TraceEntry → Type 0) (past : List TraceEntry) (l : Lines)
+    → l.written ≡ [] → P (past ++ map Sent l.written) → P past
+nothing_written P past l none h =
+    subst P (append-nil past) (subst (λ frames. P (past ++ map Sent frames)) none h)
+
 pub sent_all : (past : List TraceEntry) (l : Lines) → l.written ≡ [] → Each IsDue l
     → Ledgered l past → SentAll past l
-sent_all past l none all h = λ n e found.
-    subst (λ t. Sends e (due e) (since n t)) (append-nil past)
-    (subst (λ fs. Sends e (due e) (since n (past ++ map Sent fs))) none
-    (due_paid n l e past found (found_due (find n l.entries) e found (all n)) h))
+sent_all past l none all h = λ n e found. (
+  nothing_written (λ t. Sends e (due e) (since n t)) past l none
+      (due_paid n l e past found (found_due (find n l.entries) e found (all n)) h),
+  nothing_written (λ t. RepliesInOrder e (since n t)) past l none (replied_so n l e past found h),
+)
 
 -- outside an exchange of keys nothing that was written waits
 pub run_emptied : {E F : Type 0} (accepts : Acceptance) (w : World) (turns : List (Turn E F))

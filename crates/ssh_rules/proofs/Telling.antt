@@ -1,7 +1,7 @@
 -- What a row tells is no frame but those that the exchange of keys gives, each at once, once and in
 -- order: other frames are handed on at the end of an input.
 use Rattle.std.proofs.Common.{◌≡◌, ◌+◌, ℕ, List, [], ◌∷◌, map, Bool, true, false, cond, None, refl}
-use Rattle.std.proofs.Common.{sym, subst}
+use Rattle.std.proofs.Common.{sym, subst, Option}
 use Rattle.std.specs.Prelude.{bytes_eq, codes, drop, filter, if◌then◌else◌}
 use Rattle.ssh_link.specs.Frames.{Frame}
 use Rattle.ssh_link.specs.declared.command.Command.{Command}
@@ -26,7 +26,7 @@ use Rattle.ssh_rules.specs.Acts.{Act, Notes, Calls, Adjusts_by, Turns, Is_over, 
 use Rattle.ssh_rules.specs.Acts.{tell_done, done, done_all, acts, Judges_by, Listens_by}
 use Rattle.ssh_rules.specs.Acts.{Exchanges, Exchanging, Beginning, Stepping, exchange_question}
 use Rattle.ssh_rules.specs.Acts.{payloads_given, frames_given, moved}
-use Rattle.ssh_rules.specs.Effect.{Effect, Does, effect}
+use Rattle.ssh_rules.specs.Effect.{Effect, Does, effect, effect_at}
 use Rattle.ssh_rules.specs.Exchange.{is_of_transport}
 use Rattle.ssh_rules.specs.Layout.{at_once}
 use Rattle.ssh_rules.specs.Outcome.{Outcome}
@@ -34,7 +34,7 @@ use Rattle.ssh_rules.specs.Reading.{Said, Service, Request, Response}
 use Rattle.ssh_rules.specs.Rows.{row, owed, exchange_acts, greets, replied, concluded, asked_of}
 use Rattle.ssh_rules.specs.Run.{OwesKind, command_row}
 use Rattle.ssh_rules.specs.Ticks.{keepalive_acts}
-use Rattle.ssh_rules.specs.World.{World, hears, waits_for}
+use Rattle.ssh_rules.specs.World.{World, hears, waits_for, ChannelRequest}
 use Rattle.ssh_rules.proofs.Passing.{payload_so}
 use Rattle.ssh_rules.proofs.Replying.{EndsSo, IsBeside, verdict_beside, response_beside}
 
@@ -142,14 +142,15 @@ one_done : (does : Effect) (next : CommandOutcome → World → Plan Outcome) �
     → SendsGiven (done does next)
 one_done (Does notices outcome world) next h = noted notices (next outcome world) (h outcome world)
 
-all_done : (place : ℕ) (commands : List Command) (w : World) (next : World → Plan Outcome) →
-    ((world : World) → SendsGiven (next world)) → SendsGiven (done_all place commands w next)
-all_done place [] w next h = h w
-all_done place (command ∷ commands) w next h =
-    one_done (effect w command) (λ outcome world. tell_done place outcome
-    (done_all (place + 1) commands world next))
-    (λ outcome world. told_done place outcome (done_all (place + 1) commands world next)
-    (all_done (place + 1) commands world next h))
+all_done : (at : Option ChannelRequest) (place : ℕ) (commands : List Command) (w : World)
+    (next : World → Plan Outcome) → ((world : World) → SendsGiven (next world)) →
+    SendsGiven (done_all at place commands w next)
+all_done at place [] w next h = h w
+all_done at place (command ∷ commands) w next h =
+    one_done (effect_at at w command) (λ outcome world. tell_done place outcome
+    (done_all at (place + 1) commands world next))
+    (λ outcome world. told_done place outcome (done_all at (place + 1) commands world next)
+    (all_done at (place + 1) commands world next h))
 
 -- what an exchange gives
 frames_sent : (frames : List Frame) (next : Plan Outcome) → SendsGiven next
@@ -167,18 +168,18 @@ step_sent (Stepping payload) step next h = frames_sent (frames_given step.frames
 pub acts_given : (now : List Act) (w : World) → SendsGiven (acts now w)
 acts_given [] w = refl
 acts_given (Notes notice ∷ later) w = (tt, acts_given later w)
-acts_given (Calls lent ∷ later) w = (
+acts_given (Calls at lent ∷ later) w = (
   refl,
-  λ commands. all_done 0 commands w (acts later) (λ world. acts_given later world),
+  λ commands. all_done at 0 commands w (acts later) (λ world. acts_given later world),
 )
-acts_given (Judges_by judged by ∷ later) w = (
+acts_given (Judges_by at judged by ∷ later) w = (
   refl,
-  λ answer. all_done 0 answer.commands w (λ world. acts later (by answer.granted world))
+  λ answer. all_done at 0 answer.commands w (λ world. acts later (by answer.granted world))
       (λ world. acts_given later (by answer.granted world)),
 )
 acts_given (Listens_by address port by ∷ later) w = (
   refl,
-  λ answer. all_done 0 answer.commands w
+  λ answer. all_done None 0 answer.commands w
       (λ world. acts later (by answer.granted answer.port world))
       (λ world. acts_given later (by answer.granted answer.port world)),
 )

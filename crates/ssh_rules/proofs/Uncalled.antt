@@ -25,7 +25,7 @@ use Rattle.ssh_rules.specs.declared.exchange.ExchangeState.{ExchangeState}
 use Rattle.ssh_rules.specs.declared.exchange.ExchangeState.TheVariants.{Idle, Own, Both}
 use Rattle.ssh_rules.specs.declared.exchange.Passage.TheVariants.{Passes}
 use Rattle.ssh_rules.specs.declared.opens.Handling.{Handling}
-use Rattle.ssh_rules.specs.declared.opens.Handling.TheVariants.{Asks, Unsupported, Unknown}
+use Rattle.ssh_rules.specs.declared.opens.Handling.TheVariants.{Asks, Unsupported, Unknown, GivenUp}
 use Rattle.ssh_rules.specs.declared.state.EncryptedState.{EncryptedState}
 use Rattle.ssh_rules.specs.declared.state.EncryptedState.TheVariants.{WaitingAuthServiceRequest}
 use Rattle.ssh_rules.specs.declared.state.EncryptedState.TheVariants.{WaitingAuthRequest}
@@ -42,7 +42,7 @@ use Rattle.ssh_rules.specs.Reading.{SaysOpen}
 use Rattle.ssh_rules.specs.Rows.{row, open_acts, turns_first}
 use Rattle.ssh_rules.specs.Run.{OwesKind, OwesRead, OwesPassed, OwesPayload, finish_input}
 use Rattle.ssh_rules.specs.Run.{going_out, handed_on, begins, goes_unless_ended, is_due, is_over}
-use Rattle.ssh_rules.specs.Types.{handling, unsupported, unknown}
+use Rattle.ssh_rules.specs.Types.{handling, unsupported, unknown, given_up}
 use Rattle.ssh_rules.specs.World.{World, circumstances, hears, in_exchange, is_held}
 use Rattle.ssh_rules.proofs.Acting.{PlanComes}
 use Rattle.ssh_rules.proofs.Calling.{asked_silent}
@@ -86,6 +86,8 @@ opens_uncalled : (w : World) (drawn : Option ℕ) (message : OpenChannelMessage)
     IsIdle w → IsUncalled w (acts (open_acts drawn message does) w)
 opens_uncalled w None message (Asks type) idle = tt
 opens_uncalled w (Some number) message (Asks type) idle = tt
+opens_uncalled w drawn message GivenUp idle =
+    away_uncalled w drawn (given_up message.recipient_channel) idle
 opens_uncalled w drawn message Unsupported idle =
     away_uncalled w drawn (unsupported message.recipient_channel) idle
 opens_uncalled w drawn message Unknown idle =
@@ -94,7 +96,8 @@ opens_uncalled w drawn message Unknown idle =
 open_uncalled : (w : World) (moment : ℕ) (fields : List ℕ) (said : Said) → IsIdle w →
     SaysOpen fields said → IsUncalled w (row w moment said)
 open_uncalled w moment fields (Open message) idle h =
-    opens_uncalled w (next_number w.channels.lines) message (handling message.typ) idle
+    opens_uncalled w (next_number w.channels.lines) message
+    (handling w.channels.no_more_sessions message.typ) idle
 open_uncalled w moment fields Unread idle h = tt
 open_uncalled w moment fields Without_packets idle h = tt
 open_uncalled w moment fields (Unfit why) idle h = tt

@@ -1,11 +1,11 @@
 -- No call of the table writes a DISCONNECT, and no command but the one that asks for it (RFC 4253
 -- section 11.1).
-use Rattle.std.proofs.Common.{◌≡◌, ◌-◌, ◌==◌, ◌||◌, ℕ, List, [], ◌∷◌, ◌++◌, map, Bool}
+use Rattle.std.proofs.Common.{◌≡◌, ◌-◌, ◌||◌, ℕ, List, [], ◌∷◌, ◌++◌, map, Bool}
 use Rattle.std.proofs.Common.{true, false, not, cond, Option, Some, None, refl}
 use Rattle.std.specs.Prelude.{is_some, if◌then◌else◌}
 use Rattle.ssh_wire.specs.declared.channel_id.ChannelId.{ChannelId}
 use Rattle.ssh_wire.specs.declared.open_failure.ChannelOpenFailure.{ChannelOpenFailure}
-use Rattle.ssh_wire.specs.Messages.{written, channel_success, channel_failure, request_success}
+use Rattle.ssh_wire.specs.Messages.{written, request_success}
 use Rattle.ssh_wire.specs.Messages.{request_failure}
 use Rattle.ssh_link.specs.Frames.{Frame}
 use Rattle.ssh_link.specs.declared.command.Command.{Command}
@@ -21,17 +21,18 @@ use Rattle.ssh_channels.specs.Cut.{piece_limit, cut, left_of}
 use Rattle.ssh_channels.specs.Entry.{Entry, opened, accepting, after_eof, all_framed, agreed}
 use Rattle.ssh_channels.specs.Entry.{closes_now, eof_out, tells_eof, flush_out, flushed, granting}
 use Rattle.ssh_channels.specs.Entry.{more_may_come, close_may_come}
-use Rattle.ssh_channels.specs.Layout.{chunk, data_frame, bare_frame, eof_frame, close_frame}
-use Rattle.ssh_channels.specs.Layout.{adjust_frame, on_channel}
+use Rattle.ssh_channels.specs.Entry.{requesting, reply_may_come, replying, replies_out}
+use Rattle.ssh_channels.specs.Layout.{chunk, data_frame, eof_frame, close_frame}
+use Rattle.ssh_channels.specs.Layout.{adjust_frame, on_channel, reply_frame}
 use Rattle.ssh_channels.specs.Lines.{Lines, find, turns, closes, leaves, settles, where_found}
 use Rattle.ssh_channels.specs.Lines.{takes_data, takes_eof, takes_close, peer_closes, takes_grant}
-use Rattle.ssh_channels.specs.Lines.{takes_in, says, wants, confirms, fails, adds, asks, asks_next}
+use Rattle.ssh_channels.specs.Lines.{takes_in, confirms, fails, adds, asks, asks_next}
 use Rattle.ssh_channels.specs.Lines.{added, drops_pending, next_number, numbers, goes_on}
-use Rattle.ssh_channels.specs.Lines.{each_goes_on, all_go_on}
+use Rattle.ssh_channels.specs.Lines.{each_goes_on, all_go_on, aims, takes_request, takes_reply}
 use Rattle.ssh_channels.specs.Room.{coming, having, adjust_out}
-use Rattle.ssh_rules.specs.Effect.{effect, refused_for, done_by, done_apart, answers, decides}
+use Rattle.ssh_rules.specs.Effect.{refused_for, done_by, done_apart, answers, decides}
 use Rattle.ssh_rules.specs.Effect.{fails_open, failure_of, is_too_long, opens_at, opens}
-use Rattle.ssh_rules.specs.Effect.{opens_or_not, requests_on, refuses, said, sends}
+use Rattle.ssh_rules.specs.Effect.{opens_or_not, requests_on, refuses, said, sends, effect_at}
 use Rattle.ssh_rules.specs.Layout.{at_once}
 use Rattle.ssh_rules.specs.Opening.{Opening}
 use Rattle.ssh_rules.specs.Opens.{opening_of, confirmation_frame, failure_frame}
@@ -40,11 +41,12 @@ use Rattle.ssh_rules.specs.OwnOpens.{OwnOpen, asking, open_payload, open_frame}
 use Rattle.ssh_rules.specs.OwnRequests.{OwnRequest, request_payload, xon_xoff, exit_status}
 use Rattle.ssh_rules.specs.OwnRequests.{exit_signal}
 use Rattle.ssh_rules.specs.Parting.{is_disconnect}
-use Rattle.ssh_rules.specs.World.{World, writes, replies, wants_reply, wants_global}
-use Rattle.ssh_rules.specs.World.{settles_global, in_exchange}
+use Rattle.ssh_rules.specs.World.{World, writes, wants_global}
+use Rattle.ssh_rules.specs.World.{settles_global, in_exchange, ChannelRequest, wants_if}
 use Rattle.ssh_rules.proofs.Acting.{EffectComes}
 use Rattle.ssh_rules.proofs.Apart.{either, refused_comes, sent_comes}
 use Rattle.ssh_rules.proofs.Measures.{AreSilent, silent_both}
+use Rattle.ssh_rules.proofs.Requested.{wants_kept, for_kept}
 
 -- ---- frames of a channel
 
@@ -173,9 +175,30 @@ pub failed_quiet : (m : ℕ) (l : Lines) → IsQuiet l → IsQuiet (fails m l)
 failed_quiet m l h = found (find m l.entries) _ l
     (λ e. chosen (not e.confirmed) (leaves e true [] l) l (both_none l.written [] h tt) h) h
 
-pub wants_quiet : (m : ℕ) (wanted : Bool) (l : Lines) → IsQuiet l → IsQuiet (wants m wanted l)
-wants_quiet m wanted l h = found (find m l.entries) _ l
-    (λ e. turned (record e { wants_reply = wanted }) [] l tt h) h
+pub aims_quiet : (m target : ℕ) (l : Lines) → IsQuiet l → IsQuiet (aims m target l)
+aims_quiet m target l h = found (find m l.entries) _ l
+    (λ e. turned (record e { target = target }) [] l tt h) h
+
+request_quiet : (m : ℕ) (l : Lines) → IsQuiet l → IsQuiet (takes_request m l)
+request_quiet m l h = found (find m l.entries) _ l
+    (λ e. chosen e.confirmed _ _ (turned (requesting e) [] l tt h) h) h
+
+pub wanted_quiet : (m : ℕ) (wanted : Bool) (l : Lines) → IsQuiet l → IsQuiet (wants_if wanted m l)
+wanted_quiet m wanted l h = wants_kept IsQuiet wanted m l (request_quiet m l) h
+
+-- a reply is no DISCONNECT
+replies_none : (own peer : ℕ) (said : List Bool) →
+    NoneDisconnect (map (reply_frame own peer) said)
+replies_none own peer [] = tt
+replies_none own peer (true ∷ said) = (refl, replies_none own peer said)
+replies_none own peer (false ∷ said) = (refl, replies_none own peer said)
+
+pub reply_quiet : (m : ℕ) (place : Option ℕ) (success : Bool) (l : Lines) → IsQuiet l
+    → IsQuiet (takes_reply m place success l)
+reply_quiet m place success l h = found (find m l.entries) _ l
+    (λ e. chosen (reply_may_come place e) _ _
+    (turned (replying place success e) (replies_out place success e) l
+    (replies_none e.number e.peer _) h) h) h
 
 added_quiet : (e : Entry) (l : Lines) → IsQuiet l → IsQuiet (adds e l)
 added_quiet e l h =
@@ -185,19 +208,6 @@ added_quiet e l h =
 asked_quiet : (room : ℕ) (drawn : Option ℕ) (l : Lines) → IsQuiet l → IsQuiet (asks room drawn l)
 asked_quiet room None l h = h
 asked_quiet room (Some n) l h = h
-
-said_quiet : (m message : ℕ) (l : Lines) → (message == 1) ≡ false → IsQuiet l
-    → IsQuiet (says m message l)
-said_quiet m message l other h = found (find m l.entries) _ l
-    (λ e. chosen e.confirmed _ _ (turned e (bare_frame message e.number e.peer ∷ []) l
-    (other, tt) h) h) h
-
--- a reply is no DISCONNECT
-pub reply_quiet : (m message : ℕ) (l : Lines) → (message == 1) ≡ false → IsQuiet l
-    → IsQuiet (replies m message l)
-reply_quiet m message l other h =
-    chosen (wants_reply m l) (wants m false (says m message l)) l
-    (wants_quiet m false (says m message l) (said_quiet m message l other h)) h
 
 -- ---- commands
 
@@ -308,34 +318,36 @@ apart_silent w (command.Debug always message language) other h =
 apart_silent w (command.Disconnect reason description language) other h = absurd other
 apart_silent w one other h = or_not_silent (asking one) w h
 
-done_silent : (w : World) (one : Command) → IsOther one → IsSilent w
-    → EffectComes IsSilent (done_by w one)
-done_silent w (command.Data channel bytes) other h =
+done_silent : (at : Option ChannelRequest) (w : World) (one : Command) → IsOther one → IsSilent w
+    → EffectComes IsSilent (done_by at w one)
+done_silent at w (command.Data channel bytes) other h =
     data_quiet channel.0 (chunk Plain bytes) (in_exchange w) w.channels.lines h
-done_silent w (command.ExtendedData channel code bytes) other h =
+done_silent at w (command.ExtendedData channel code bytes) other h =
     data_quiet channel.0 (chunk (Extended code) bytes) (in_exchange w) w.channels.lines h
-done_silent w (command.Eof channel) other h = eof_quiet channel.0 w.channels.lines h
-done_silent w (command.Close channel) other h = close_quiet channel.0 w.channels.lines h
-done_silent w (command.ChannelSuccess channel) other h =
-    reply_quiet channel.0 channel_success.number w.channels.lines refl h
-done_silent w (command.ChannelFailure channel) other h =
-    reply_quiet channel.0 channel_failure.number w.channels.lines refl h
-done_silent w (command.XonXoff channel client_can_do) other h =
+done_silent at w (command.Eof channel) other h = eof_quiet channel.0 w.channels.lines h
+done_silent at w (command.Close channel) other h = close_quiet channel.0 w.channels.lines h
+done_silent at w (command.ChannelSuccess channel) other h =
+    for_kept IsQuiet channel.0 true w.channels.lines
+    (λ place. reply_quiet channel.0 place true w.channels.lines) at h
+done_silent at w (command.ChannelFailure channel) other h =
+    for_kept IsQuiet channel.0 false w.channels.lines
+    (λ place. reply_quiet channel.0 place false w.channels.lines) at h
+done_silent at w (command.XonXoff channel client_can_do) other h =
     requested_silent (is_too_long (request_payload 0 (xon_xoff client_can_do)))
     (find channel.0 w.channels.lines.entries) channel (xon_xoff client_can_do) w h
-done_silent w (command.ExitStatus channel status) other h =
+done_silent at w (command.ExitStatus channel status) other h =
     requested_silent (is_too_long (request_payload 0 (exit_status status)))
     (find channel.0 w.channels.lines.entries) channel (exit_status status) w h
-done_silent w (command.ExitSignal channel signal core message language) other h =
+done_silent at w (command.ExitSignal channel signal core message language) other h =
     let asked = exit_signal signal core message language in
     requested_silent (is_too_long (request_payload 0 asked))
     (find channel.0 w.channels.lines.entries) channel asked w h
-done_silent w (command.Answer answer) other h =
+done_silent at w (command.Answer answer) other h =
     answers_silent answer (opening_of answer.channel.0 w) w h
-done_silent w one other h = apart_silent w one other h
+done_silent at w one other h = apart_silent w one other h
 
-pub effect_silent : (w : World) (one : Command) → IsOther one → IsSilent w
-    → EffectComes IsSilent (effect w one)
-effect_silent w one other h =
-    refused_comes IsSilent (refused_for w.disconnected w one) w (done_by w one) h
-    (done_silent w one other h)
+pub effect_silent : (at : Option ChannelRequest) (w : World) (one : Command) → IsOther one
+    → IsSilent w → EffectComes IsSilent (effect_at at w one)
+effect_silent at w one other h =
+    refused_comes IsSilent (refused_for w.disconnected w one) w (done_by at w one) h
+    (done_silent at w one other h)

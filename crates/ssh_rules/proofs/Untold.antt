@@ -1,7 +1,7 @@
 -- No row but a reply to this side's requests tells of one (RFC 4254 section 4).
 use Rattle.std.proofs.Common.{◌≡◌, ◌+◌, ℕ, List, [], ◌∷◌, ◌++◌, map, Bool, true, false, Some}
 use Rattle.std.proofs.Common.{cond}
-use Rattle.std.proofs.Common.{refl, ◌∙◌, ap, inl, inr}
+use Rattle.std.proofs.Common.{refl, ◌∙◌, ap, inl, inr, Option, None}
 use Rattle.std.specs.Prelude.{bytes_eq, codes, if◌then◌else◌}
 use Rattle.ssh_link.specs.Frames.{Frame}
 use Rattle.ssh_link.specs.declared.command.Command.{Command}
@@ -23,7 +23,7 @@ use Rattle.ssh_rules.specs.declared.state.EncryptedState.TheVariants.{WaitingAut
 use Rattle.ssh_rules.specs.Acts.{Act, Notes, Calls, Judges_by, Listens_by, Adjusts_by, Turns}
 use Rattle.ssh_rules.specs.Acts.{Is_over, Stops, tell_all, tell_done, done, done_all, acts}
 use Rattle.ssh_rules.specs.Acts.{Exchanges, payloads_given, frames_given, moved}
-use Rattle.ssh_rules.specs.Effect.{Effect, Does, effect}
+use Rattle.ssh_rules.specs.Effect.{Effect, Does, effect, effect_at}
 use Rattle.ssh_rules.specs.InOrder.{asked_by, told_in_entry, told_in_event, replies_told}
 use Rattle.ssh_rules.specs.Outcome.{Outcome, Goes, Ends, Fails}
 use Rattle.ssh_rules.specs.Reading.{Said, Service, Request, Response}
@@ -31,7 +31,7 @@ use Rattle.ssh_rules.specs.Rows.{row, owed, greets, is_short, replied, concluded
 use Rattle.ssh_rules.specs.Run.{command_row, finish_input, handed_on, goes_unless_ended}
 use Rattle.ssh_rules.specs.Run.{going_out, begins, is_due}
 use Rattle.ssh_rules.specs.Ticks.{keepalive_acts, is_too_many, one_more}
-use Rattle.ssh_rules.specs.World.{World, waits_for}
+use Rattle.ssh_rules.specs.World.{World, waits_for, ChannelRequest}
 use Rattle.ssh_rules.proofs.Guards.{Walks}
 use Rattle.ssh_rules.proofs.Queueing.{AreBeside, Asks, asks_beside, effect_asks}
 use Rattle.ssh_rules.proofs.Queued.{AreApart, AreCalling}
@@ -66,15 +66,16 @@ one_done waiting asked (Does notices outcome world) next a h =
     noted notices (next outcome world) (asks_beside waiting asked notices outcome world a)
     (h outcome world)
 
-all_done : (place : ℕ) (commands : List Command) (w : World) (next : World → Plan Outcome) →
-    ((world : World) → TellsNone (next world)) → TellsNone (done_all place commands w next)
-all_done place [] w next h = h w
-all_done place (one ∷ commands) w next h =
-    one_done w.globals.outstanding (asked_by one) (effect w one)
-    (λ outcome world. tell_done place outcome (done_all (place + 1) commands world next))
-    (effect_asks w one)
-    (λ outcome world. told_done place outcome (done_all (place + 1) commands world next)
-    (all_done (place + 1) commands world next h))
+all_done : (at : Option ChannelRequest) (place : ℕ) (commands : List Command) (w : World)
+    (next : World → Plan Outcome) → ((world : World) → TellsNone (next world)) →
+    TellsNone (done_all at place commands w next)
+all_done at place [] w next h = h w
+all_done at place (one ∷ commands) w next h =
+    one_done w.globals.outstanding (asked_by one) (effect_at at w one)
+    (λ outcome world. tell_done place outcome (done_all at (place + 1) commands world next))
+    (effect_asks at w one)
+    (λ outcome world. told_done place outcome (done_all at (place + 1) commands world next)
+    (all_done at (place + 1) commands world next h))
 
 -- frames are no notices
 frames_tell : (frames : List Frame) (next : Plan Outcome) → TellsNone next →
@@ -90,21 +91,21 @@ apart_tell (Adjusts_by channel current by ∷ later) w a = λ window.
 apart_tell (Turns by ∷ later) w a = apart_tell later (by w) a.1
 apart_tell (Is_over ∷ later) w a = tt
 apart_tell (Stops why ∷ later) w a = tt
-apart_tell (Calls lent ∷ later) w a = absurd a
-apart_tell (Judges_by judged by ∷ later) w a = absurd a
+apart_tell (Calls at lent ∷ later) w a = absurd a
+apart_tell (Judges_by at judged by ∷ later) w a = absurd a
 apart_tell (Listens_by address port by ∷ later) w a = absurd a
 apart_tell (Exchanges asked ∷ later) w a = absurd a
 
 pub calling_tell : (now : List Act) (w : World) → AreCalling now → TellsNone (acts now w)
 calling_tell [] w a = tt
 calling_tell (Notes notice ∷ later) w a = (a.0, calling_tell later w a.1)
-calling_tell (Calls lent ∷ later) w a = λ commands.
-    all_done 0 commands w (acts later) (λ world. apart_tell later world a)
-calling_tell (Judges_by judged by ∷ later) w a = λ answer.
-    all_done 0 answer.commands w (λ world. acts later (by answer.granted world))
+calling_tell (Calls at lent ∷ later) w a = λ commands.
+    all_done at 0 commands w (acts later) (λ world. apart_tell later world a)
+calling_tell (Judges_by at judged by ∷ later) w a = λ answer.
+    all_done at 0 answer.commands w (λ world. acts later (by answer.granted world))
     (λ world. apart_tell later (by answer.granted world) a.1)
 calling_tell (Listens_by address port by ∷ later) w a = λ answer.
-    all_done 0 answer.commands w (λ world. acts later (by answer.granted answer.port world))
+    all_done None 0 answer.commands w (λ world. acts later (by answer.granted answer.port world))
     (λ world. apart_tell later (by answer.granted answer.port world) a.1)
 calling_tell (Adjusts_by channel current by ∷ later) w a = λ window.
     calling_tell later (by window w) a.1
@@ -162,7 +163,7 @@ pub command_tells : (w : World) (ticket : ℕ) (one : Command) →
     TellsNone (command_row w ticket one)
 command_tells w ticket one =
     one_done w.globals.outstanding (asked_by one) (effect w one)
-    (λ outcome world. Tell (Answered ticket outcome) (Finish (Goes world))) (effect_asks w one)
+    (λ outcome world. Tell (Answered ticket outcome) (Finish (Goes world))) (effect_asks None w one)
     (λ outcome world. (refl, tt))
 
 tick_step : (w : World) (many : Bool) → is_too_many w.settings.config (one_more w.keepalives) ≡ many

@@ -1,6 +1,6 @@
 -- No row and no command touches the keys: an exchange begins and goes on by its own acts alone.
 use Rattle.std.proofs.Common.{◌≡◌, ℕ, List, [], ◌∷◌, Option, Some, None, Bool, true, false, cond}
-use Rattle.std.proofs.Common.{refl, ◌∙◌, ap}
+use Rattle.std.proofs.Common.{refl, ◌∙◌, ap, ◌==◌}
 use Rattle.std.specs.Prelude.{length}
 use Rattle.ssh_wire.specs.declared.channel_id.ChannelId.{ChannelId}
 use Rattle.ssh_wire.specs.declared.open.OpenChannelMessage.{OpenChannelMessage}
@@ -15,27 +15,29 @@ use Rattle.ssh_channels.specs.declared.adjusted.Adjusted.TheVariants.{Dropped, K
 use Rattle.ssh_channels.specs.declared.chunk.Chunk.{Chunk}
 use Rattle.ssh_channels.specs.Does.{coming_of}
 use Rattle.ssh_channels.specs.Entry.{Entry}
-use Rattle.ssh_channels.specs.Lines.{find, next_number}
+use Rattle.ssh_channels.specs.Lines.{find, next_number, aims}
 use Rattle.ssh_rules.specs.declared.messages.Spoken.{Spoken}
 use Rattle.ssh_rules.specs.declared.messages.Spoken.TheVariants as spoken
 use Rattle.ssh_rules.specs.declared.opens.Handling.{Handling}
-use Rattle.ssh_rules.specs.declared.opens.Handling.TheVariants.{Asks, Unsupported, Unknown}
+use Rattle.ssh_rules.specs.declared.opens.Handling.TheVariants.{Asks, Unsupported, Unknown, GivenUp}
 use Rattle.ssh_rules.specs.Acts.{Act, Notes, Calls, Judges_by, Listens_by, Adjusts_by, Turns}
 use Rattle.ssh_rules.specs.Acts.{Is_over, Stops, Exchanges}
-use Rattle.ssh_rules.specs.Effect.{effect, refused_for, done_by}
+use Rattle.ssh_rules.specs.Effect.{refused_for, done_by, effect_at}
 use Rattle.ssh_rules.specs.Exchange.{is_running}
 use Rattle.ssh_rules.specs.Layout.{at_once}
 use Rattle.ssh_rules.specs.Reading.{Said, Disconnect, Over_cap, Open, Agreed, Unfit, Unread}
 use Rattle.ssh_rules.specs.Reading.{Without_packets, Connection}
 use Rattle.ssh_rules.specs.Rows.{owed, greets, is_short, replied, spoken_acts, on_entry}
 use Rattle.ssh_rules.specs.Rows.{on_confirmed, data_told, failure_acts, confirmation_acts}
-use Rattle.ssh_rules.specs.Rows.{open_acts, global_reply, bound_to, reply_of, notes}
+use Rattle.ssh_rules.specs.Rows.{open_acts, global_reply, bound_to, notes, aims_at}
 use Rattle.ssh_rules.specs.Types.{handling}
-use Rattle.ssh_rules.specs.World.{World, in_exchange, lined, replies, settles_global}
+use Rattle.ssh_rules.specs.World.{World, in_exchange, lined, settles_global}
 use Rattle.ssh_rules.specs.World.{unless_ended, is_there, is_waiting, writes, wants_global}
+use Rattle.ssh_rules.specs.World.{target_on, ChannelRequest, asked_on, settles_one}
 use Rattle.ssh_rules.proofs.Acting.{EffectComes}
 use Rattle.ssh_rules.proofs.Apart.{refused_comes, apart_comes}
 use Rattle.ssh_rules.proofs.Beside.{done_beside, settles_beside, opens_or_not_beside}
+use Rattle.ssh_channels.specs.Layout.{as_uint32}
 
 -- the keys stay as they are
 abbrev pub KeepsKeys : (World → World) → Type 0
@@ -45,8 +47,8 @@ KeepsKeys by = (w : World) → (by w).keys ≡ w.keys
 abbrev pub AreUntouched : List Act → Type 0
 AreUntouched [] = Unit {0}
 AreUntouched (Notes notice ∷ later) = AreUntouched later
-AreUntouched (Calls lent ∷ later) = AreUntouched later
-AreUntouched (Judges_by judged by ∷ later) = ((granted : Bool) → KeepsKeys (by granted))
+AreUntouched (Calls at lent ∷ later) = AreUntouched later
+AreUntouched (Judges_by at judged by ∷ later) = ((granted : Bool) → KeepsKeys (by granted))
     × AreUntouched later
 AreUntouched (Listens_by address port by ∷ later) =
     ((granted : Bool) (bound : ℕ) → KeepsKeys (by granted bound)) × AreUntouched later
@@ -72,12 +74,12 @@ beside_runs : (running : Bool) (w v : World) → v.settings ≡ w.settings
     → IsRunning running v
 beside_runs running w v settings ended keys h = same_runs running w v keys h
 
-pub effect_runs : (running : Bool) (w : World) (one : Command) → IsRunning running w →
-    EffectComes (IsRunning running) (effect w one)
-effect_runs running w one h =
+pub effect_runs : (at : Option ChannelRequest) (running : Bool) (w : World) (one : Command)
+    → IsRunning running w → EffectComes (IsRunning running) (effect_at at w one)
+effect_runs at running w one h =
     let holds = IsRunning running in
-    refused_comes holds (refused_for w.disconnected w one) w (done_by w one) h
-    (done_beside holds (beside_runs running) w one h
+    refused_comes holds (refused_for w.disconnected w one) w (done_by at w one) h
+    (done_beside holds (beside_runs running) at w one h
     (apart_comes holds (λ message v k. k) (settles_beside holds (beside_runs running))
     (opens_or_not_beside holds (beside_runs running)) w one h))
 
@@ -108,11 +110,15 @@ entry_untouched : (e : Option Entry) (owes : Entry → List Act) →
 entry_untouched None owes h = tt
 entry_untouched (Some e) owes h = confirmed_untouched e.confirmed (owes e) (h e)
 
+aims_keeps : (channel : ChannelId) (window : ℕ) → KeepsKeys (aims_at channel window)
+aims_keeps channel window w =
+    ended_keeps (window == 0) (lined (aims channel.0 (as_uint32 window)) w) w refl
+
 told_untouched : (adjusted : Adjusted) (channel : ChannelId) (piece : Chunk) (target : ℕ) →
     AreUntouched (data_told adjusted channel piece target)
 told_untouched Dropped channel piece target = tt
 told_untouched Kept channel piece target = tt
-told_untouched (Granted amount) channel piece target = (λ window w. refl, tt)
+told_untouched (Granted amount) channel piece target = (aims_keeps channel, tt)
 
 failure_untouched : (there waiting : Bool) (channel : ChannelId) (why : ChannelOpenFailure) →
     AreUntouched (failure_acts there waiting channel why)
@@ -128,9 +134,11 @@ confirmation_untouched false message = tt
 open_untouched : (number : Option ℕ) (message : OpenChannelMessage) (does : Handling) →
     AreUntouched (open_acts number message does)
 open_untouched None message (Asks type) = tt
+open_untouched None message GivenUp = tt
 open_untouched None message Unsupported = tt
 open_untouched None message Unknown = tt
 open_untouched (Some number) message (Asks type) = (λ w. refl, tt)
+open_untouched (Some number) message GivenUp = (λ w. refl, tt)
 open_untouched (Some number) message Unsupported = (λ w. refl, tt)
 open_untouched (Some number) message Unknown = (λ w. refl, tt)
 
@@ -144,8 +152,8 @@ spoken_untouched w (spoken.Grant channel amount) =
     entry_untouched (find channel.0 w.channels.lines.entries) _ (λ e. (λ v. refl, tt))
 spoken_untouched w (spoken.Data channel piece) = (
   λ v. refl,
-  told_untouched (coming_of (length piece.bytes) w.channels.target
-      (find channel.0 w.channels.lines.entries)) channel piece w.channels.target,
+  told_untouched (coming_of (length piece.bytes) (target_on channel.0 w)
+      (find channel.0 w.channels.lines.entries)) channel piece (target_on channel.0 w),
 )
 spoken_untouched w (spoken.Tells channel message happening) =
     entry_untouched (find channel.0 w.channels.lines.entries) _ (λ e. tt)
@@ -153,12 +161,12 @@ spoken_untouched w (spoken.Close channel) =
     entry_untouched (find channel.0 w.channels.lines.entries) _ (λ e. (λ v. refl, tt))
 spoken_untouched w (spoken.Failed channel reason) =
     failure_untouched (is_there w channel.0) (is_waiting w channel.0) channel reason
-spoken_untouched w (spoken.Wants channel wanted) = (λ v. refl, tt)
 spoken_untouched w (spoken.Asks channel wanted message happening) = (λ v. refl, tt)
 spoken_untouched w (spoken.AsksForAgent channel wanted) = (
   λ v. refl,
   (
-    λ granted. unless_keeps (lined (replies channel.0 (reply_of granted))) (λ v. refl),
+    λ granted. unless_keeps
+        (lined (settles_one (asked_on channel wanted w).place channel.0 granted)) (λ v. refl),
     tt,
   ),
 )
@@ -181,12 +189,15 @@ spoken_untouched w (spoken.AsksGlobally wanted judged) = (
 )
 spoken_untouched w (spoken.AsksGloballyUnknown wanted) =
     (λ v. refl, (settles_keeps (global_reply false None), tt))
+spoken_untouched w (spoken.GivesUpSessions wanted) =
+    (λ v. refl, (λ v. refl, (settles_keeps (global_reply true None), tt)))
 spoken_untouched w (spoken.Settles told) = (λ v. refl, notes_untouched told)
 spoken_untouched w spoken.Inconsistent = tt
 
 pub owed_untouched : (w : World) (said : Said) → AreUntouched (owed w said)
 owed_untouched w (Open message) =
-    open_untouched (next_number w.channels.lines) message (handling message.typ)
+    open_untouched (next_number w.channels.lines) message
+    (handling w.channels.no_more_sessions message.typ)
 owed_untouched w (Agreed message) =
     confirmation_untouched (is_waiting w message.recipient_channel) message
 owed_untouched w (Connection said) = spoken_untouched w said

@@ -40,7 +40,7 @@ use Rattle.ssh_rules.specs.Globals.{KnownGlobal, globally_asked_by, global_named
 use Rattle.ssh_rules.specs.Globals.{oldest, success, denial, denied, says_so, Globally, Listens}
 use Rattle.ssh_rules.specs.Globals.{port_told}
 use Rattle.ssh_rules.specs.InOrder.{is_own_reply, replied_in, with_notice}
-use Rattle.ssh_rules.specs.Globals.{Judges}
+use Rattle.ssh_rules.specs.Globals.{Judges, Gives_up_sessions}
 use Rattle.ssh_rules.specs.declared.outstanding.Outstanding.{Outstanding}
 use Rattle.ssh_rules.specs.declared.outstanding.Outstanding.TheVariants as outstanding
 use Rattle.ssh_rules.specs.GlobalReplied.{globally_wanted_of, wants_global_reply}
@@ -212,7 +212,7 @@ asked_say so (Some known) channel wanted q h = λ values.
 request_say : (so : Claims) (there wanted : Bool) (channel : ℕ)
     (name : List ℕ) → so.on (own channel) wanted →
     AllSay (OfRequest so) (request_on there wanted channel name)
-request_say so false wanted channel name h = h
+request_say so false wanted channel name h = tt
 request_say so true wanted channel name h =
     asked_say so (request_named name) (own channel) wanted
     (λ known is. found_says so (λ known. bytes_eq known.name name) requests known (table_says so)
@@ -224,6 +224,7 @@ globally_so : (so : Claims) (wanted : Bool) (asked : Globally) → so.globally w
     OfRequest so (says_so wanted asked)
 globally_so so wanted (Listens address port) h = h
 globally_so so wanted (Judges judged) h = h
+globally_so so wanted Gives_up_sessions h = h
 
 global_say : (so : Claims) (known : Option KnownGlobal) (wanted : Bool) → so.globally wanted →
     AllSay (OfRequest so) (globally_asked_by known wanted)

@@ -1,5 +1,5 @@
 -- What an input owes, as a list of acts, and the plan that they make.
-use Rattle.std.specs.Prelude.{ℕ, ◌+◌, Bool, true, false, List, [], ◌∷◌, map, filter}
+use Rattle.std.specs.Prelude.{ℕ, ◌+◌, Bool, true, false, List, [], ◌∷◌, map, filter, Option, None}
 use Rattle.ssh_link.specs.declared.command.Command.{Command}
 use Rattle.ssh_link.specs.declared.link.TraceEntry.{TraceEntry}
 use Rattle.ssh_link.specs.declared.link.TraceEntry.TheVariants.{Noticed, Sent}
@@ -17,8 +17,8 @@ use Rattle.ssh_auth.specs.Plan.{Plan, Finish, Ask, Tell, Answer}
 use Rattle.ssh_channels.specs.Lines.{all_go_on}
 use Rattle.ssh_rules.specs.Exchange.{is_of_transport, given, begun, joined, renewed}
 use Rattle.ssh_rules.specs.Layout.{at_once}
-use Rattle.ssh_rules.specs.World.{World, keyed, lined}
-use Rattle.ssh_rules.specs.Effect.{Effect, Does, effect}
+use Rattle.ssh_rules.specs.World.{World, ChannelRequest, keyed, lined}
+use Rattle.ssh_rules.specs.Effect.{Effect, Does, effect_at}
 use Rattle.ssh_rules.specs.Outcome.{Fault, Outcome, Goes, Ends, Fails}
 
 -- what the exchange of keys is asked: to begin, or to take a payload of the peer's
@@ -29,11 +29,13 @@ pub data Exchanging : Type 0 where
 pub data Act : Type 0 where
   -- the users of the channels are told this
   Notes : (notice : Notice) → Act
-  -- a callback is made, and the commands that it recorded are done
-  Calls : (lent : Lent) → Act
-  -- the handler is asked whether this is granted, the commands that it recorded are done, and then
-  -- the world turns by its answer
-  Judges_by : (judged : Judged) → (by : (granted : Bool) → World → World) → Act
+  -- a callback is made, which tells of the request at where it is one's, and the commands that it
+  -- recorded are done
+  Calls : (at : Option ChannelRequest) → (lent : Lent) → Act
+  -- the handler is asked whether this is granted, which is what the request at asks where it is
+  -- one's; the commands that it recorded are done, and then the world turns by its answer
+  Judges_by : (at : Option ChannelRequest) → (judged : Judged)
+      → (by : (granted : Bool) → World → World) → Act
   -- the handler is asked whether connections to this address are forwarded and at which port it
   -- listens, the commands that it recorded are done, and then the world turns by its answer
   Listens_by : (address : List ℕ) → (port : ℕ) → (by : (granted : Bool) → (bound : ℕ) → World
@@ -66,11 +68,12 @@ abbrev pub done : Effect → (CommandOutcome → World → Plan Outcome) → Pla
 done (Does notices outcome world) next = tell_all (map Noticed notices) (next outcome world)
 
 -- what a callback recorded is done in order, and then this follows
-abbrev pub done_all : (place : ℕ) → List Command → World → (World → Plan Outcome) → Plan Outcome
-done_all place [] w next = next w
-done_all place (command ∷ commands) w next =
-    done (effect w command) (λ outcome world. tell_done place outcome
-    (done_all (place + 1) commands world next))
+abbrev pub done_all : (at : Option ChannelRequest) → (place : ℕ) → List Command → World
+    → (World → Plan Outcome) → Plan Outcome
+done_all at place [] w next = next w
+done_all at place (command ∷ commands) w next =
+    done (effect_at at w command) (λ outcome world. tell_done place outcome
+    (done_all at (place + 1) commands world next))
 
 -- ---- the exchange of keys
 
@@ -121,11 +124,12 @@ exchanged asked answer w next =
 abbrev pub acts : List Act → World → Plan Outcome
 acts [] w = Finish (Goes w)
 acts (Notes notice ∷ later) w = Tell (Noticed notice) (acts later w)
-acts (Calls lent ∷ later) w = Ask (Lends lent) (λ commands. done_all 0 commands w (acts later))
-acts (Judges_by judged by ∷ later) w = Ask (Judges judged) (λ judgement.
-    done_all 0 judgement.commands w (λ world. acts later (by judgement.granted world)))
+acts (Calls at lent ∷ later) w = Ask (Lends lent) (λ commands.
+    done_all at 0 commands w (acts later))
+acts (Judges_by at judged by ∷ later) w = Ask (Judges judged) (λ judgement.
+    done_all at 0 judgement.commands w (λ world. acts later (by judgement.granted world)))
 acts (Listens_by address port by ∷ later) w = Ask (Listens address port) (λ listening.
-    done_all 0 listening.commands w
+    done_all None 0 listening.commands w
     (λ world. acts later (by listening.granted listening.port world)))
 acts (Adjusts_by channel current by ∷ later) w = Ask (Adjusts channel current)
     (λ window. acts later (by window w))

@@ -1,5 +1,5 @@
 -- Requests of the peer's on a channel: which are known, and what each says (RFC 4254 section 6).
-use Rattle.std.specs.Prelude.{ℕ, Bool, true, List, [], ◌∷◌, Option, Some, None, find, bytes_eq}
+use Rattle.std.specs.Prelude.{ℕ, Bool, List, [], ◌∷◌, Option, Some, None, find, bytes_eq}
 use Rattle.std.specs.Prelude.{codes}
 use Rattle.std.specs.Prelude.{Result, Ok, Err}
 use Rattle.ssh_wire.specs.Field.{Field, Values, Flag, Number, Bytes, Text}
@@ -24,7 +24,7 @@ pub record KnownRequest : Type 0 where
   pub fields : List Field
   pub says : (channel : ChannelId) → (wanted : Bool) → Values fields → Spoken
 
--- ---- one entry a request; a notice says that a reply is wanted, whether one is or not
+-- ---- one entry a request; a notice with a field for it says whether a reply is wanted
 
 -- string terminal type, uint32 width and height in characters, uint32 width and height in pixels,
 -- string modes, of which there are 130 at most (section 6.2)
@@ -32,7 +32,7 @@ abbrev pub terminal_asked : (channel : ChannelId) → (wanted : Bool) → (term 
     → (columns rows width height : ℕ) → Option (List (Pty × ℕ)) → Spoken
 terminal_asked channel wanted term columns rows width height None = spoken.Inconsistent
 terminal_asked channel wanted term columns rows width height (Some modes) = spoken.Asks channel
-    wanted (msg.RequestPty true term columns rows width height modes)
+    wanted (msg.RequestPty wanted term columns rows width height modes)
     (what.PtyRequest term columns rows width height modes)
 
 abbrev pub terminal : KnownRequest
@@ -50,7 +50,7 @@ x11 = record {
   name = codes "x11-req";
   fields = Flag ∷ Text ∷ Text ∷ Number ∷ [];
   says = λ channel wanted (single, (protocol, (cookie, (screen, _)))).
-      spoken.Asks channel wanted (msg.RequestX11 true single protocol cookie screen)
+      spoken.Asks channel wanted (msg.RequestX11 wanted single protocol cookie screen)
       (what.X11Request single protocol cookie screen);
 }
 
@@ -60,7 +60,7 @@ environment = record {
   name = codes "env";
   fields = Text ∷ Text ∷ [];
   says = λ channel wanted (name, (value, _)).
-      spoken.Asks channel wanted (msg.SetEnv true name value) (what.EnvRequest name value);
+      spoken.Asks channel wanted (msg.SetEnv wanted name value) (what.EnvRequest name value);
 }
 
 -- nothing (section 6.5)
@@ -68,7 +68,7 @@ abbrev pub shell : KnownRequest
 shell = record {
   name = codes "shell";
   fields = [];
-  says = λ channel wanted _. spoken.Asks channel wanted (msg.RequestShell true)
+  says = λ channel wanted _. spoken.Asks channel wanted (msg.RequestShell wanted)
       what.ShellRequest;
 }
 
@@ -78,7 +78,7 @@ exec = record {
   name = codes "exec";
   fields = Bytes ∷ [];
   says = λ channel wanted (command, _).
-      spoken.Asks channel wanted (msg.Exec true command) (what.ExecRequest command);
+      spoken.Asks channel wanted (msg.Exec wanted command) (what.ExecRequest command);
 }
 
 -- string subsystem name (section 6.5)
@@ -87,7 +87,7 @@ subsystem = record {
   name = codes "subsystem";
   fields = Text ∷ [];
   says = λ channel wanted (name, _).
-      spoken.Asks channel wanted (msg.RequestSubsystem true name) (what.SubsystemRequest name);
+      spoken.Asks channel wanted (msg.RequestSubsystem wanted name) (what.SubsystemRequest name);
 }
 
 -- uint32 width and height in characters, uint32 width and height in pixels (section 6.7)

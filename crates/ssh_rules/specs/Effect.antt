@@ -4,8 +4,7 @@ use Rattle.std.specs.Prelude.{if◌then◌else◌, Bool, Option, Some, None}
 use Rattle.ssh_wire.specs.declared.channel_id.ChannelId.{ChannelId}
 use Rattle.ssh_wire.specs.declared.open_failure.ChannelOpenFailure.{ChannelOpenFailure}
 use Rattle.ssh_wire.specs.Open.{open_failure}
-use Rattle.ssh_wire.specs.Messages.{written, channel_success, channel_failure, request_success}
-use Rattle.ssh_wire.specs.Messages.{request_failure}
+use Rattle.ssh_wire.specs.Messages.{written, request_success, request_failure}
 use Rattle.ssh_wire.specs.OpenFailures.{open_failure_code, open_failure_text}
 use Rattle.ssh_link.specs.declared.command.Command.{Command}
 use Rattle.ssh_link.specs.declared.command.Command.TheVariants as command
@@ -35,8 +34,8 @@ use Rattle.ssh_rules.specs.OwnRequests.{exit_signal}
 use Rattle.ssh_rules.specs.Layout.{at_once}
 use Rattle.ssh_rules.specs.OwnMessages.{OwnMessage, forward, cancel, keepalive, ping, debug}
 use Rattle.ssh_rules.specs.OwnMessages.{disconnect}
-use Rattle.ssh_rules.specs.World.{World, in_exchange, lined, writes, replies, awaits, ends_by}
-use Rattle.ssh_rules.specs.World.{settles_global}
+use Rattle.ssh_rules.specs.World.{World, ChannelRequest, in_exchange, lined, writes, awaits}
+use Rattle.ssh_rules.specs.World.{ends_by, settles_for, settles_global}
 
 -- what a command needs, to be done
 pub data Need : Type 0 where
@@ -227,24 +226,25 @@ done_apart w (command.Disconnect reason description language) =
     sends (disconnect reason description language) w
 done_apart w other = opens_or_not (asking other) w
 
--- a command that lacks nothing is done: one line a command
-abbrev pub done_by : World → Command → Effect
-done_by w (command.Data channel bytes) =
+-- a command that lacks nothing is done: one line a command; it was recorded in the callback of the
+-- request at, where there is one
+abbrev pub done_by : (at : Option ChannelRequest) → World → Command → Effect
+done_by at w (command.Data channel bytes) =
     accepts (lined (takes_data channel.0 (chunk Plain bytes) (in_exchange w)) w)
-done_by w (command.ExtendedData channel code bytes) =
+done_by at w (command.ExtendedData channel code bytes) =
     accepts (lined (takes_data channel.0 (chunk (Extended code) bytes) (in_exchange w)) w)
-done_by w (command.Eof channel) = accepts (lined (takes_eof channel.0) w)
-done_by w (command.Close channel) = accepts (lined (takes_close channel.0) w)
-done_by w (command.ChannelSuccess channel) =
-    accepts (lined (replies channel.0 channel_success.number) w)
-done_by w (command.ChannelFailure channel) =
-    accepts (lined (replies channel.0 channel_failure.number) w)
-done_by w (command.XonXoff channel client_can_do) = requests channel (xon_xoff client_can_do) w
-done_by w (command.ExitStatus channel status) = requests channel (exit_status status) w
-done_by w (command.ExitSignal channel signal core message language) =
+done_by at w (command.Eof channel) = accepts (lined (takes_eof channel.0) w)
+done_by at w (command.Close channel) = accepts (lined (takes_close channel.0) w)
+done_by at w (command.ChannelSuccess channel) =
+    accepts (lined (settles_for at channel.0 true) w)
+done_by at w (command.ChannelFailure channel) =
+    accepts (lined (settles_for at channel.0 false) w)
+done_by at w (command.XonXoff channel client_can_do) = requests channel (xon_xoff client_can_do) w
+done_by at w (command.ExitStatus channel status) = requests channel (exit_status status) w
+done_by at w (command.ExitSignal channel signal core message language) =
     requests channel (exit_signal signal core message language) w
-done_by w (command.Answer answer) = answers answer (opening_of answer.channel.0 w) w
-done_by w other = done_apart w other
+done_by at w (command.Answer answer) = answers answer (opening_of answer.channel.0 w) w
+done_by at w other = done_apart w other
 
 -- a command that is refused does nothing
 abbrev pub refused_or : Option Refusal → World → Effect → Effect
@@ -256,5 +256,11 @@ abbrev pub refused_for : (disconnected : Bool) → World → Command → Option 
 refused_for true w command = Some Disconnected
 refused_for false w command = lacks w (needs command)
 
+-- what a command does that was recorded in the callback of this request, where it was in one's
+abbrev pub effect_at : (at : Option ChannelRequest) → World → Command → Effect
+effect_at at w command =
+    refused_or (refused_for w.disconnected w command) w (done_by at w command)
+
+-- what one does that comes from outside, or from any other callback
 abbrev pub effect : World → Command → Effect
-effect w command = refused_or (refused_for w.disconnected w command) w (done_by w command)
+effect w command = effect_at None w command

@@ -22,6 +22,8 @@ use Rattle.ssh_rules.specs.Spelling.{Layout, Leaves, Rest, Whole, Fields}
 pub data Globally : Type 0 where
   Listens : (address : List ℕ) → (port : ℕ) → Globally
   Judges : (judged : Judged) → Globally
+  -- nothing: the peer will open no more sessions
+  Gives_up_sessions : Globally
 
 -- a request: its name, its own fields, and what it asks
 pub record KnownGlobal : Type 0 where
@@ -59,16 +61,25 @@ cancel_socket = record {
   asks = λ (path, _). Judges (whether.CancelStreamlocalForward path);
 }
 
+-- nothing (OpenSSH PROTOCOL section 2.2)
+abbrev pub no_more_sessions : KnownGlobal
+no_more_sessions = record {
+  name = codes "no-more-sessions@openssh.com";
+  fields = [];
+  asks = λ _. Gives_up_sessions;
+}
+
 -- the known request of this name
 abbrev pub global_named : List ℕ → Option KnownGlobal
 global_named name =
     find (λ known. bytes_eq known.name name)
-    (forward ∷ cancel_forward ∷ forward_socket ∷ cancel_socket ∷ [])
+    (forward ∷ cancel_forward ∷ forward_socket ∷ cancel_socket ∷ no_more_sessions ∷ [])
 
 -- what a request says that asks this, where a reply is wanted or not
 abbrev pub says_so : (wanted : Bool) → Globally → Spoken
 says_so wanted (Listens address port) = spoken.AsksToForward wanted address port
 says_so wanted (Judges judged) = spoken.AsksGlobally wanted judged
+says_so wanted Gives_up_sessions = spoken.GivesUpSessions wanted
 
 -- how a request is read behind its flag; of an unknown one nothing is
 abbrev pub globally_asked_by : Option KnownGlobal → (wanted : Bool) → Layout Spoken

@@ -12,6 +12,7 @@ use Rattle.ssh_auth.specs.Publickey.{Acceptance}
 use Rattle.ssh_channels.specs.Entry.{Entry, IsDue, accepted, due}
 use Rattle.ssh_channels.specs.Lines.{Left, Lines, find, last_left}
 use Rattle.ssh_channels.specs.Sent.{Ledgered, Each, Sends, StartsWith, IsUnopened, AllRefuse}
+use Rattle.ssh_channels.specs.Sent.{RepliesInOrder, StartsInOrder}
 use Rattle.ssh_channels.specs.Sent.{is_close, message_of, since, farewell}
 use Rattle.ssh_rules.specs.declared.error.Flow.{Flow}
 use Rattle.ssh_rules.specs.Exchanged.{ends_exchange}
@@ -31,7 +32,18 @@ pub record SentSo (past : List TraceEntry) (l : Lines) : Type 0 where
   pub starts : (n : ℕ) → (e : Entry) → (seen rest : List TraceEntry) → past ≡ seen ++ rest
       → find n l.entries ≡ Some e → IsUnopened n (outgoing rest l)
       → StartsWith e (take e.framed (accepted e)) (since n seen)
-  -- and at most as much as the peer granted
+  -- and the replies that had been sent on it are those to its first requests that want one, to each
+  -- as it was settled, in the order of the requests, and none behind one that is owed (section 5.4)
+  pub replied : (n : ℕ) → (e : Entry) → (seen rest : List TraceEntry) → past ≡ seen ++ rest
+      → find n l.entries ≡ Some e → IsUnopened n (outgoing rest l)
+      → StartsInOrder e (since n seen)
+  -- so are those that were sent on a channel that left, before its CLOSE
+  pub replied_before : (n : ℕ) → (gone : Left) → find n l.entries ≡ None
+      → last_left n l.left ≡ Some gone
+      → (before after : List Frame)
+      × (since n (outgoing past l) ≡ before ++ (farewell gone.entry ++ after))
+      × RepliesInOrder gone.entry before
+  -- of what a channel accepted no more is sent than the peer granted
   pub within : Each (λ e. e.framed ≤ e.granted) l
   -- behind a CLOSE nothing goes out on its number but an open, or the answer to one (section 5.3)
   pub last : (n : ℕ) → (front back : List Frame) → (close : Frame)
@@ -44,9 +56,11 @@ pub record SentSo (past : List TraceEntry) (l : Lines) : Type 0 where
       × (since n (outgoing past l) ≡ before ++ (farewell gone.entry ++ after))
       × Sends gone.entry (accepted gone.entry) before
 
--- where all that is due went out: exactly the first min(accepted, granted) bytes of each channel
+-- where all that is due went out: exactly the first min(accepted, granted) bytes of each channel,
+-- and each of its replies that none before it keeps back
 abbrev pub SentAll : (past : List TraceEntry) → Lines → Type 0
-SentAll past l = (n : ℕ) → (e : Entry) → find n l.entries ≡ Some e → Sends e (due e) (since n past)
+SentAll past l = (n : ℕ) → (e : Entry) → find n l.entries ≡ Some e
+    → Sends e (due e) (since n past) × RepliesInOrder e (since n past)
 
 -- a KEXINIT, whose number is 20, begins an exchange of keys (RFC 4253 section 7.1)
 abbrev pub is_kexinit : InputKind → Bool

@@ -1,26 +1,22 @@
 -- The peer gets no more replies to its requests on a channel than it wanted (RFC 4254 section 5.4).
-use Rattle.std.specs.Prelude.{◌≡◌, ◌≤◌, ◌+◌, ◌==◌, ◌&&◌, ◌||◌, ℕ, List, ◌∷◌, ◌++◌, flat_map, cond}
-use Rattle.std.specs.Prelude.{Bool, false, not, take, drop, get_or}
+use Rattle.std.specs.Prelude.{◌≡◌, ◌≤◌, ◌+◌, ◌==◌, ◌&&◌, ℕ, List, ◌∷◌, ◌++◌, length, flat_map}
+use Rattle.std.specs.Prelude.{Bool, false, not, take, drop, get_or, Option, Some, None}
 use Rattle.std.specs.Int.{w32, from_be_bytes}
-use Rattle.ssh_wire.specs.Messages.{channel_request, channel_success, channel_failure}
+use Rattle.ssh_wire.specs.Messages.{channel_request}
 use Rattle.ssh_link.specs.Frames.{Frame}
 use Rattle.ssh_link.specs.declared.frame.InputKind.{InputKind}
 use Rattle.ssh_link.specs.declared.frame.InputKind.TheVariants.{Payload}
 use Rattle.ssh_auth.specs.Plan.{Event}
 use Rattle.ssh_auth.specs.Publickey.{Acceptance}
-use Rattle.ssh_channels.specs.Does.{has}
-use Rattle.ssh_channels.specs.Sent.{is_tagged, message_of}
+use Rattle.ssh_channels.specs.Entry.{Entry}
+use Rattle.ssh_channels.specs.Lines.{find}
+use Rattle.ssh_channels.specs.Replies.{held}
+use Rattle.ssh_channels.specs.Sent.{is_reply, is_tagged, message_of}
 use Rattle.ssh_rules.specs.Answered.{how_many, sends}
 use Rattle.ssh_rules.specs.Run.{Turn, Run}
 use Rattle.ssh_rules.specs.World.{Settings, World, opening_world}
 
--- a frame that replies to a request: CHANNEL_SUCCESS is 99, CHANNEL_FAILURE 100 (section 5.4)
-abbrev pub is_reply : Frame → Bool
-is_reply frame =
-    (message_of frame.payload == channel_success.number)
-    || (message_of frame.payload == channel_failure.number)
-
--- on this side's number of the channel
+-- a frame that replies to a request on this side's number of the channel (section 5.4)
 abbrev pub is_reply_on : (number : ℕ) → Frame → Bool
 is_reply_on number frame = is_tagged number frame.channel && is_reply frame
 
@@ -50,11 +46,16 @@ wants_on number turn = wants_reply_on number turn.input.kind
 abbrev pub events_of : {E F : Type 0} → List (Turn E F) → List (Event E F)
 events_of turns = flat_map (λ turn. turn.events) turns
 
+-- how many replies of a channel are owed, or settled behind one that is
+abbrev pub unsent_of : Option Entry → ℕ
+unsent_of None = 0
+unsent_of (Some e) = length (held e.replies)
+
 -- how many replies may go out on this side's number though no further request comes: those that are
--- held in an exchange of keys, and one where the channel's last request wants one
+-- written and wait for the end of an exchange of keys, and those of the channel that are not
 abbrev pub replies_left : (number : ℕ) → World → ℕ
 replies_left number w = how_many (is_reply_on number) w.channels.lines.written
-    + cond (has (λ e. e.wants_reply) number w.channels.lines) 1 0
+    + unsent_of (find number w.channels.lines.entries)
 
 -- in these inputs, taken one after another behind those before, no more replies are sent on a
 -- number than were left there, and than requests on it have come in them that want one

@@ -3,8 +3,7 @@ use Rattle.std.specs.Prelude.{ℕ, ◌+◌, ◌-◌, ◌^◌, ◌==◌, ◌&&◌
 use Rattle.std.specs.Prelude.{Bool, true, false, not, Option, Some, None, unwrap_or, if◌then◌else◌}
 use Rattle.std.specs.Prelude.{bytes_eq, codes}
 use Rattle.ssh_wire.specs.declared.error.WireError.TheVariants.{TooLong}
-use Rattle.ssh_wire.specs.Messages.{written, channel_success, channel_failure, request_success}
-use Rattle.ssh_wire.specs.Messages.{forward_success, request_failure}
+use Rattle.ssh_wire.specs.Messages.{written, request_success, forward_success, request_failure}
 use Rattle.ssh_wire.specs.declared.channel_id.ChannelId.{ChannelId}
 use Rattle.ssh_wire.specs.declared.open.OpenChannelMessage.{OpenChannelMessage}
 use Rattle.ssh_wire.specs.declared.open.ChannelOpenConfirmation.{ChannelOpenConfirmation}
@@ -35,7 +34,7 @@ use Rattle.ssh_channels.specs.declared.chunk.Chunk.{Chunk}
 use Rattle.ssh_channels.specs.declared.chunk.DataKind.{DataKind}
 use Rattle.ssh_channels.specs.declared.chunk.DataKind.TheVariants.{Plain, Extended}
 use Rattle.ssh_channels.specs.Entry.{Entry, flushed, granting}
-use Rattle.ssh_channels.specs.Lines.{find, takes_grant, takes_in, peer_closes, wants, drawn}
+use Rattle.ssh_channels.specs.Lines.{find, takes_grant, takes_in, peer_closes, aims, drawn}
 use Rattle.ssh_channels.specs.Lines.{next_number, drops_pending, confirms, fails}
 use Rattle.ssh_channels.specs.Does.{coming_of, has}
 use Rattle.ssh_channels.specs.Layout.{as_uint32}
@@ -50,17 +49,19 @@ use Rattle.ssh_rules.specs.declared.state.EncryptedState.{EncryptedState}
 use Rattle.ssh_rules.specs.declared.state.EncryptedState.TheVariants.{WaitingAuthRequest}
 use Rattle.ssh_rules.specs.declared.state.EncryptedState.TheVariants.{InitCompression}
 use Rattle.ssh_rules.specs.declared.opens.Handling.{Handling}
-use Rattle.ssh_rules.specs.declared.opens.Handling.TheVariants.{Asks, Unsupported, Unknown}
+use Rattle.ssh_rules.specs.declared.opens.Handling.TheVariants.{Asks, GivenUp, Unsupported}
+use Rattle.ssh_rules.specs.declared.opens.Handling.TheVariants.{Unknown}
 use Rattle.ssh_rules.specs.declared.messages.Spoken.{Spoken}
 use Rattle.ssh_rules.specs.declared.messages.Spoken.TheVariants as spoken
 use Rattle.ssh_rules.specs.Layout.{service_accept, banner, too_many_attempts, at_once, held}
 use Rattle.ssh_rules.specs.Opens.{own, failure_frame}
-use Rattle.ssh_rules.specs.Types.{handling, opening_by, unsupported, unknown}
+use Rattle.ssh_rules.specs.Types.{handling, opening_by, given_up, unsupported, unknown}
 use Rattle.ssh_rules.specs.Outcome.{Fault, Encoding, Inconsistent, Key, Unsupported, Starved}
 use Rattle.ssh_rules.specs.Outcome.{Channels_full, Pending, Outcome}
 use Rattle.ssh_rules.specs.Reading.{Said, Disconnect, Over_cap, Service, Request, Response, Open}
 use Rattle.ssh_rules.specs.Reading.{Agreed, Connection, Unread, Unfit, Without_packets}
-use Rattle.ssh_rules.specs.World.{World, waits_for, lined, writes, replies, wants_global}
+use Rattle.ssh_rules.specs.World.{World, ChannelRequest, asked_on, wants_if, settles_one, target_on}
+use Rattle.ssh_rules.specs.World.{waits_for, lined, writes, wants_global}
 use Rattle.ssh_rules.specs.World.{settles_global, settled_first, unless_ended}
 use Rattle.ssh_rules.specs.Acts.{Act, Notes, Calls, Judges_by, Listens_by, Adjusts_by, Turns}
 use Rattle.ssh_rules.specs.Acts.{Exchanges, Beginning, Stepping, Is_over, Stops, acts}
@@ -127,7 +128,8 @@ lets_in w = record w {
 -- a reply: a rejection is held, and an accepted user is told to the handler
 abbrev pub replied : World → (moment : ℕ) → (requested : Bool) → List ℕ → AuthVerdict → List Act
 replied w moment requested reply verdict.Accepted =
-    Turns (λ v. writes (at_once reply ∷ []) (lets_in (finishes requested v))) ∷ Calls Succeeded ∷ []
+    Turns (λ v. writes (at_once reply ∷ []) (lets_in (finishes requested v)))
+    ∷ Calls None Succeeded ∷ []
 replied w moment requested reply (verdict.Rejected none_method) =
     Turns (λ v. writes (held reply (moment_after moment
     (rejection_hold w.settings.config none_method w.user.requested)) ∷ [])
@@ -171,10 +173,14 @@ response_row w moment responded =
 
 -- ---- channels (RFC 4254 section 5)
 
--- a message of a channel is told twice: to its user as a notice, and to the handler as a callback
+-- a message of a channel is told twice: to its user as a notice, and to the handler as a callback;
+-- it is the request at, where there is one
+abbrev pub told_at : (at : Option ChannelRequest) → ChannelId → ChannelMsg → Happening → List Act
+told_at at channel message happening = Notes (notice.Channel channel message)
+    ∷ Calls at (Happened channel happening) ∷ []
+
 abbrev pub told : ChannelId → ChannelMsg → Happening → List Act
-told channel message happening = Notes (notice.Channel channel message)
-    ∷ Calls (Happened channel happening) ∷ []
+told channel message happening = told_at None channel message happening
 
 -- on a channel that both sides agreed to, and nothing on another
 abbrev pub on_confirmed : Bool → List Act → List Act
@@ -208,26 +214,23 @@ abbrev pub data_happening : DataKind → List ℕ → Happening
 data_happening Plain bytes = what.Data bytes
 data_happening (Extended code) bytes = what.ExtendedData code bytes
 
--- the window that a channel's room is filled up to from now on: 0 leaves it as it is
-abbrev pub aims : (window : ℕ) → World → World
-aims window w = record w {
-  channels = record w.channels {
-    target = if window == 0 then w.channels.target else as_uint32 window;
-  };
-}
+-- the window that the channel's room is filled up to from now on: 0 leaves it as it is
+abbrev pub aims_at : ChannelId → (window : ℕ) → World → World
+aims_at channel window w =
+    if window == 0 then w else lined (aims channel.0 (as_uint32 window)) w
 
 -- both are told of data, and the handler is asked for the next window where the room was filled up
 abbrev pub noted : ChannelId → Chunk → Act
 noted channel piece = Notes (notice.Channel channel (data_notice piece.kind piece.bytes))
 
 abbrev pub called : ChannelId → Chunk → Act
-called channel piece = Calls (Happened channel (data_happening piece.kind piece.bytes))
+called channel piece = Calls None (Happened channel (data_happening piece.kind piece.bytes))
 
 abbrev pub data_told : Adjusted → ChannelId → Chunk → (target : ℕ) → List Act
 data_told Dropped channel piece target = []
 data_told Kept channel piece target = noted channel piece ∷ called channel piece ∷ []
 data_told (Filled amount) channel piece target =
-    noted channel piece ∷ Adjusts_by channel target aims ∷ called channel piece ∷ []
+    noted channel piece ∷ Adjusts_by channel target (aims_at channel) ∷ called channel piece ∷ []
 
 -- data come in; those that are larger than the room are dropped (section 5.2)
 abbrev pub data_acts : Adjusted → ChannelId → Chunk → (target : ℕ) → List Act
@@ -255,7 +258,7 @@ turns_away number payload w = writes (failure_frame number payload ∷ [])
 abbrev pub asks_first : (number : Option ℕ) → Opening → OpenType → List Act
 asks_first None opening type = Stops Channels_full ∷ []
 asks_first (Some number) opening type = Turns (waits number opening)
-    ∷ Calls (Opens (own number) type) ∷ []
+    ∷ Calls None (Opens (own number) type) ∷ []
 
 abbrev pub turns_first : (number : Option ℕ) → (payload : List ℕ) → List Act
 turns_first None payload = Stops Channels_full ∷ []
@@ -264,6 +267,7 @@ turns_first (Some number) payload = Turns (turns_away number payload) ∷ []
 -- one line a handling of its type
 abbrev pub open_acts : (number : Option ℕ) → OpenChannelMessage → Handling → List Act
 open_acts number message (Asks type) = asks_first number (opening_by message) type
+open_acts number message GivenUp = turns_first number (given_up message.recipient_channel)
 open_acts number message Unsupported = turns_first number (unsupported message.recipient_channel)
 open_acts number message Unknown = turns_first number (unknown message.recipient_channel)
 
@@ -295,19 +299,27 @@ failure_acts false false channel reason = []
 
 -- ---- requests of the peer's (section 5.4)
 
--- a reply, by whether the request is granted
-abbrev pub reply_of : (granted : Bool) → ℕ
-reply_of true = channel_success.number
-reply_of false = channel_failure.number
+-- the reply that a request wants is owed before anything is told of it
+abbrev pub request_acts : ChannelRequest → (wanted : Bool) → List Act → List Act
+request_acts asked wanted owes = Turns (lined (wants_if wanted asked.channel.0)) ∷ owes
 
--- whether the peer's agent may be reached is for the handler to say, which is the reply where one
--- is still wanted
-abbrev pub agent_acts : (channel : ChannelId) → (wanted : Bool) → List Act
-agent_acts channel wanted =
-    Turns (lined (wants channel.0 wanted))
-    ∷ Notes (notice.Channel channel (msg.AgentForward true))
-    ∷ Judges_by (whether.AgentRequest channel)
-    (λ granted. unless_ended (lined (replies channel.0 (reply_of granted)))) ∷ []
+-- both are told of it
+abbrev pub asking_acts : ChannelRequest → (wanted : Bool) → ChannelMsg → Happening → List Act
+asking_acts asked wanted message happening =
+    request_acts asked wanted (told_at (Some asked) asked.channel message happening)
+
+-- whether the peer's agent may be reached is for the handler to say, which is the reply where it is
+-- still owed
+abbrev pub agent_acts : ChannelRequest → (wanted : Bool) → List Act
+agent_acts asked wanted = request_acts asked wanted
+    (Notes (notice.Channel asked.channel (msg.AgentForward wanted))
+    ∷ Judges_by (Some asked) (whether.AgentRequest asked.channel)
+    (λ granted. unless_ended (lined (settles_one asked.place asked.channel.0 granted))) ∷ [])
+
+-- an unknown request is refused
+abbrev pub refusal_acts : ChannelRequest → (wanted : Bool) → List Act
+refusal_acts asked wanted = request_acts asked wanted
+    (Turns (lined (settles_one asked.place asked.channel.0 false)) ∷ [])
 
 -- ---- global requests of the peer's, and replies to this side's (section 4)
 
@@ -328,6 +340,10 @@ abbrev pub notes : Option Notice → List Act
 notes None = []
 notes (Some what) = Notes what ∷ []
 
+-- an open of a session is refused from now on (OpenSSH PROTOCOL section 2.2)
+abbrev pub gives_up_sessions : World → World
+gives_up_sessions w = record w { channels = record w.channels { no_more_sessions = true } }
+
 -- ---- messages of the connection protocol, by what they say
 
 abbrev pub spoken_acts : World → Spoken → List Act
@@ -338,19 +354,17 @@ spoken_acts w (spoken.Failed channel reason) =
 spoken_acts w (spoken.Grant channel amount) =
     on channel.0 w (λ e. grant_acts channel.0 amount (credit_left amount e))
 spoken_acts w (spoken.Data channel piece) = data_acts
-    (coming_of (length piece.bytes) w.channels.target (find channel.0 w.channels.lines.entries))
-    channel piece w.channels.target
+    (coming_of (length piece.bytes) (target_on channel.0 w)
+    (find channel.0 w.channels.lines.entries))
+    channel piece (target_on channel.0 w)
 spoken_acts w (spoken.Tells channel message happening) =
     on channel.0 w (λ e. told channel message happening)
 spoken_acts w (spoken.Close channel) = on channel.0 w (λ e.
     Turns (lined (peer_closes channel.0)) ∷ told channel msg.Close what.Close)
--- a channel keeps whether its last request wants a reply, also one that the peer has not agreed to
-spoken_acts w (spoken.Wants channel wanted) = Turns (lined (wants channel.0 wanted)) ∷ []
 spoken_acts w (spoken.Asks channel wanted message happening) =
-    Turns (lined (wants channel.0 wanted)) ∷ told channel message happening
-spoken_acts w (spoken.AsksForAgent channel wanted) = agent_acts channel wanted
-spoken_acts w (spoken.AsksUnknown channel wanted) =
-    Turns (lined (wants channel.0 wanted)) ∷ Turns (lined (replies channel.0 (reply_of false))) ∷ []
+    asking_acts (asked_on channel wanted w) wanted message happening
+spoken_acts w (spoken.AsksForAgent channel wanted) = agent_acts (asked_on channel wanted w) wanted
+spoken_acts w (spoken.AsksUnknown channel wanted) = refusal_acts (asked_on channel wanted w) wanted
 -- the handler says whether connections are forwarded, which is the reply where one is still wanted
 spoken_acts w (spoken.AsksToForward wanted address port) =
     Turns (wants_global wanted)
@@ -358,9 +372,13 @@ spoken_acts w (spoken.AsksToForward wanted address port) =
     unless_ended (settles_global (global_reply granted (bound_to port bound)))) ∷ []
 spoken_acts w (spoken.AsksGlobally wanted judged) =
     Turns (wants_global wanted)
-    ∷ Judges_by judged (λ granted. unless_ended (settles_global (global_reply granted None))) ∷ []
+    ∷ Judges_by None judged
+    (λ granted. unless_ended (settles_global (global_reply granted None))) ∷ []
 spoken_acts w (spoken.AsksGloballyUnknown wanted) =
     Turns (wants_global wanted) ∷ Turns (settles_global (global_reply false None)) ∷ []
+spoken_acts w (spoken.GivesUpSessions wanted) =
+    Turns gives_up_sessions ∷ Turns (wants_global wanted)
+    ∷ Turns (settles_global (global_reply true None)) ∷ []
 -- the oldest request of this side's has its reply
 spoken_acts w (spoken.Settles told) = Turns settled_first ∷ notes told
 spoken_acts w spoken.Inconsistent = Stops Inconsistent ∷ []
@@ -378,7 +396,8 @@ exchange_acts payload passage.Passes = []
 -- ---- one line a row
 
 abbrev pub owed : World → Said → List Act
-owed w (Open message) = open_acts (next_number w.channels.lines) message (handling message.typ)
+owed w (Open message) = open_acts (next_number w.channels.lines) message
+    (handling w.channels.no_more_sessions message.typ)
 owed w (Agreed message) = confirmation_acts (has (λ e. not e.confirmed)
     message.recipient_channel w.channels.lines) message
 owed w Unread = Stops Starved ∷ []

@@ -1,17 +1,18 @@
 -- The state of a session in the standard's terms. It is a record of the definitions alone: the code
 -- has what it needs of it, and the relation `Refines` of `ssh_session` ties the two.
 use Rattle.std.specs.Prelude.{◌&&◌, ◌||◌, ◌++◌, ◌∷◌, ℕ, Bool, List, [], true, false, not, cond}
-use Rattle.std.specs.Prelude.{drop}
-use Rattle.std.specs.Prelude.{Option, option_to_list}
+use Rattle.std.specs.Prelude.{◌==◌, drop, Option, Some, None, option_to_list}
 use Rattle.ssh_link.specs.Frames.{Frame}
 use Rattle.ssh_handler.specs.declared.config.Config.{Config}
 use Rattle.ssh_auth.specs.Publickey.{Acceptance, Circumstances}
-use Rattle.ssh_channels.specs.Does.{has}
-use Rattle.ssh_channels.specs.Layout.{as_uint32}
-use Rattle.ssh_channels.specs.Lines.{Lines, no_lines, write, wants, says}
+use Rattle.ssh_wire.specs.declared.channel_id.ChannelId.{ChannelId}
+use Rattle.ssh_channels.specs.Does.{has, place_of}
+use Rattle.ssh_channels.specs.Entry.{Entry}
+use Rattle.ssh_channels.specs.Lines.{Lines, no_lines, find, write, takes_request, takes_reply}
 use Rattle.ssh_rules.specs.declared.exchange.ExchangeState.TheVariants.{Idle}
 use Rattle.ssh_rules.specs.declared.exchange.Keys.{Keys}
 use Rattle.ssh_rules.specs.declared.outstanding.Outstanding.{Outstanding}
+pub use Rattle.ssh_rules.specs.declared.request.ChannelRequest.{ChannelRequest}
 use Rattle.ssh_rules.specs.declared.state.EncryptedState.{EncryptedState}
 use Rattle.ssh_rules.specs.declared.state.EncryptedState.TheVariants.{WaitingAuthServiceRequest}
 use Rattle.ssh_rules.specs.Exchange.{heard, is_running}
@@ -53,8 +54,8 @@ pub record Channels : Type 0 where
   pub lines : Lines
   -- what the peer said of each open that waits for its answer, by this side's number
   pub opens : List (ℕ × Opening)
-  -- up to how many bytes the room of a channel is filled
-  pub target : ℕ
+  -- the peer gave up opening sessions, and an open of one is refused (OpenSSH PROTOCOL section 2.2)
+  pub no_more_sessions : Bool
 
 -- the global requests, which are no channel's (RFC 4254 section 4)
 pub record Globals : Type 0 where
@@ -84,7 +85,7 @@ opening_world settings = record {
   channels = record {
     lines = no_lines;
     opens = [];
-    target = as_uint32 settings.config.window_size;
+    no_more_sessions = false;
   };
   globals = record { wanted = false; outstanding = [] };
   keepalives = 0;
@@ -113,15 +114,57 @@ is_there w channel = has (λ e. e.confirmed) channel w.channels.lines
 abbrev pub is_waiting : World → ℕ → Bool
 is_waiting w channel = has (λ e. not e.confirmed) channel w.channels.lines
 
--- the last request on the channel wants a reply, which goes to a channel that both sides agreed to
-abbrev pub wants_reply : (number : ℕ) → Lines → Bool
-wants_reply number = has (λ e. e.confirmed && e.wants_reply) number
+-- ---- requests of the peer's on a channel, and their replies (RFC 4254 section 5.4)
 
--- the reply that the last request on the channel wants, where it wants one; then it wants none
--- (RFC 4254 section 5.4)
-abbrev pub replies : (number message : ℕ) → Lines → Lines
-replies number message l =
-    cond (wants_reply number l) (wants number false (says number message l)) l
+-- the place that the next reply has that is wanted on the channel
+abbrev pub next_place : (number : ℕ) → World → Option ℕ
+next_place number w = place_of (find number w.channels.lines.entries)
+
+-- the request that comes now, as the commands of its callback know it: its channel, and the place of
+-- its reply among those of the channel, where it wants one
+abbrev pub asked_on : ChannelId → (wanted : Bool) → World → ChannelRequest
+asked_on channel wanted w = record {
+  channel = channel;
+  place = cond wanted (next_place channel.0 w) None;
+}
+
+-- its reply is owed from now on, where it wants one
+abbrev pub wants_if : (wanted : Bool) → (number : ℕ) → Lines → Lines
+wants_if wanted number l = cond wanted (takes_request number l) l
+
+-- the reply of this place is settled, if it is still owed; where there is no place, nothing changes
+abbrev pub settles_one : (place : Option ℕ) → (number : ℕ) → (success : Bool) → Lines → Lines
+settles_one None number success l = l
+settles_one (Some place) number success l = takes_reply number (Some place) success l
+
+-- a command in the callback of a request on the same channel settles the reply of that request, and
+-- nothing else; any other settles the first reply that is owed on the channel
+abbrev pub settles_for : (at : Option ChannelRequest) → (number : ℕ) → (success : Bool) → Lines
+    → Lines
+settles_for None number success l = takes_reply number None success l
+settles_for (Some asked) number success l = cond (number == asked.channel.0)
+    (settles_one asked.place number success l)
+    (takes_reply number None success l)
+
+-- ---- the room of a channel (RFC 4254 section 5.2)
+
+-- up to how many bytes it is filled; of no channel up to 0
+abbrev pub target_of : Option Entry → ℕ
+target_of None = 0
+target_of (Some e) = e.target
+
+abbrev pub target_on : (number : ℕ) → World → ℕ
+target_on number w = target_of (find number w.channels.lines.entries)
+
+-- how many bytes the peer may still send on it; on no channel none
+abbrev pub room_of : Option Entry → ℕ
+room_of None = 0
+room_of (Some e) = e.room
+
+abbrev pub room_on : (number : ℕ) → World → ℕ
+room_on number w = room_of (find number w.channels.lines.entries)
+
+-- ---- what changes of the world
 
 -- these frames are written
 abbrev pub writes : List Frame → World → World

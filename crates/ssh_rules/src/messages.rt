@@ -72,8 +72,6 @@ pub enum Spoken {
     Tells(ChannelId, ChannelMsg, Happening),
     /// The end of the channel.
     Close(ChannelId),
-    /// A request where no channel is, and whether it wants a reply.
-    Wants(ChannelId, bool),
     /// A request on the channel, whether it wants a reply, and what the user of the channel and the
     /// handler are told of it.
     Asks(ChannelId, bool, ChannelMsg, Happening),
@@ -87,6 +85,9 @@ pub enum Spoken {
     AsksGlobally(bool, Judged),
     /// A global request that is not known, and whether it wants a reply.
     AsksGloballyUnknown(bool),
+    /// The peer will open no more sessions, and whether it wants a reply (OpenSSH PROTOCOL section
+    /// 2.2).
+    GivesUpSessions(bool),
     /// The reply to the oldest global request of this side that waits, of which this is told.
     Settles(Option<Notice>),
     /// Its fields fit, but one has a value that it cannot have.

@@ -10,17 +10,21 @@ use ssh_wire::ChannelType;
 pub enum Handling {
     /// The handler is asked.
     Asks(OpenType),
+    /// It is refused: the peer gave up opening sessions (OpenSSH PROTOCOL section 2.2).
+    GivenUp,
     /// It is refused: a server takes no channel of this type.
     Unsupported,
     /// It is refused: the type is not known.
     Unknown,
 }
 
-/// How an open of this type is handled: one line a type.
-pub fn handled_by(typ: ChannelType) -> Handling
-    ensures { result ≡ handling typ }
+/// How an open of this type is handled, by whether the peer said that it opens no more sessions: one
+/// line a type.
+pub fn handled_by(typ: ChannelType, no_more_sessions: bool) -> Handling
+    ensures { result ≡ handling no_more_sessions typ }
 {
     match typ {
+        ChannelType::Session if no_more_sessions => Handling::GivenUp,
         ChannelType::Session => Handling::Asks(OpenType::Session),
         ChannelType::X11 {
             originator_address,
