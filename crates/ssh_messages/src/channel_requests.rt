@@ -1,5 +1,5 @@
 // Requests of the peer on a channel, as they are read (RFC 4254 section 6).
-ghost use Rattle.std.specs.Prelude.{◌≡◌, true, Some, IfOk, IfErr};
+ghost use Rattle.std.specs.Prelude.{◌≡◌, Some, IfOk, IfErr};
 ghost use Rattle.ssh_wire.specs.declared.error.WireError.TheVariants.{NoMemory};
 ghost use Rattle.ssh_link.specs.declared.notice.ChannelMsg.TheVariants as msg;
 ghost use Rattle.ssh_auth.specs.declared.question.Happening.TheVariants as what;
@@ -30,8 +30,7 @@ pub struct Asking {
     pub wanted: bool,
 }
 
-/// What the user of the channel and the handler are told of a request. A notice says that a reply
-/// is wanted, whether one is or not.
+/// What the user of the channel and the handler are told of a request.
 type Told = (ChannelMsg, Happening);
 
 /// The request says what is told of it, where there was memory for that.
@@ -50,18 +49,18 @@ fn asks(asking: Asking, told: Result<Told, WireError>) -> Result<Spoken, WireErr
 }
 
 /// A terminal is asked for (section 6.2).
-fn terminal_told(alloc: Global, terminal: Terminal<'_>, modes: Modes) -> Result<Told, WireError>
+fn terminal_told(asking: Asking, terminal: Terminal<'_>, modes: Modes) -> Result<Told, WireError>
     ensures ok { IfOk result (λ told. told ≡ (
-      msg.RequestPty true terminal.entry.term.now terminal.entry.col_width
+      msg.RequestPty asking.wanted terminal.entry.term.now terminal.entry.col_width
           terminal.entry.row_height terminal.entry.pix_width terminal.entry.pix_height modes,
       what.PtyRequest terminal.entry.term.now terminal.entry.col_width terminal.entry.row_height
           terminal.entry.pix_width terminal.entry.pix_height modes,
     )) }
     ensures memory { IfErr result (λ e. e ≡ NoMemory) }
 {
-    let term = Text::new(alloc, terminal.term)?;
+    let term = Text::new(asking.alloc, terminal.term)?;
     let message = ChannelMsg::RequestPty {
-        want_reply: true,
+        want_reply: asking.wanted,
         term: term.copy()?,
         col_width: terminal.col_width,
         row_height: terminal.row_height,
@@ -82,22 +81,22 @@ fn terminal_told(alloc: Global, terminal: Terminal<'_>, modes: Modes) -> Result<
 
 /// X11 is to be forwarded (section 6.3.1).
 fn x11_told(
-    alloc: Global,
+    asking: Asking,
     single: bool,
     protocol: &str,
     cookie: &str,
     screen: u32,
 ) -> Result<Told, WireError>
     ensures ok { IfOk result (λ told. told ≡ (
-      msg.RequestX11 true single protocol.now cookie.now screen,
+      msg.RequestX11 asking.wanted single protocol.now cookie.now screen,
       what.X11Request single protocol.now cookie.now screen,
     )) }
     ensures memory { IfErr result (λ e. e ≡ NoMemory) }
 {
-    let x11_auth_protocol = Text::new(alloc, protocol)?;
-    let x11_auth_cookie = Text::new(alloc, cookie)?;
+    let x11_auth_protocol = Text::new(asking.alloc, protocol)?;
+    let x11_auth_cookie = Text::new(asking.alloc, cookie)?;
     let message = ChannelMsg::RequestX11 {
-        want_reply: true,
+        want_reply: asking.wanted,
         single_connection: single,
         x11_authentication_protocol: x11_auth_protocol.copy()?,
         x11_authentication_cookie: x11_auth_cookie.copy()?,
@@ -113,17 +112,17 @@ fn x11_told(
 }
 
 /// A variable of the environment is set (section 6.4).
-fn environment_told(alloc: Global, name: &str, value: &str) -> Result<Told, WireError>
+fn environment_told(asking: Asking, name: &str, value: &str) -> Result<Told, WireError>
     ensures ok { IfOk result (λ told. told ≡ (
-      msg.SetEnv true name.now value.now,
+      msg.SetEnv asking.wanted name.now value.now,
       what.EnvRequest name.now value.now,
     )) }
     ensures memory { IfErr result (λ e. e ≡ NoMemory) }
 {
-    let variable_name = Text::new(alloc, name)?;
-    let variable_value = Text::new(alloc, value)?;
+    let variable_name = Text::new(asking.alloc, name)?;
+    let variable_value = Text::new(asking.alloc, value)?;
     let message = ChannelMsg::SetEnv {
-        want_reply: true,
+        want_reply: asking.wanted,
         variable_name: variable_name.copy()?,
         variable_value: variable_value.copy()?,
     };
@@ -135,28 +134,28 @@ fn environment_told(alloc: Global, name: &str, value: &str) -> Result<Told, Wire
 }
 
 /// A program is to be run (section 6.5).
-fn exec_told(alloc: Global, command: &[u8]) -> Result<Told, WireError>
+fn exec_told(asking: Asking, command: &[u8]) -> Result<Told, WireError>
     ensures ok { IfOk result (λ told. told
-        ≡ (msg.Exec true command.now, what.ExecRequest command.now)) }
+        ≡ (msg.Exec asking.wanted command.now, what.ExecRequest command.now)) }
     ensures memory { IfErr result (λ e. e ≡ NoMemory) }
 {
-    let bytes = Bytes::copy_from_slice(alloc, command)?;
+    let bytes = Bytes::copy_from_slice(asking.alloc, command)?;
     let message = ChannelMsg::Exec {
-        want_reply: true,
+        want_reply: asking.wanted,
         command: bytes.clone()?,
     };
     Ok((message, Happening::ExecRequest { bytes }))
 }
 
 /// A subsystem is asked for (section 6.5).
-fn subsystem_told(alloc: Global, name: &str) -> Result<Told, WireError>
+fn subsystem_told(asking: Asking, name: &str) -> Result<Told, WireError>
     ensures ok { IfOk result (λ told. told
-        ≡ (msg.RequestSubsystem true name.now, what.SubsystemRequest name.now)) }
+        ≡ (msg.RequestSubsystem asking.wanted name.now, what.SubsystemRequest name.now)) }
     ensures memory { IfErr result (λ e. e ≡ NoMemory) }
 {
-    let name = Text::new(alloc, name)?;
+    let name = Text::new(asking.alloc, name)?;
     let message = ChannelMsg::RequestSubsystem {
-        want_reply: true,
+        want_reply: asking.wanted,
         name: name.copy()?,
     };
     Ok((message, Happening::SubsystemRequest { name }))
@@ -215,7 +214,7 @@ fn ask_at_end(
         terminal.entry.pix_width terminal.entry.pix_height (Some modes))) after.now result }
 {
     match read_end(after) {
-        Ok(()) => asks(asking, terminal_told(asking.alloc, terminal, modes)),
+        Ok(()) => asks(asking, terminal_told(asking, terminal, modes)),
         Err(e) => {
             drop(modes);
             Err(e)
@@ -228,10 +227,7 @@ fn ask_x11(asking: Asking, rest: &[u8]) -> Result<Spoken, WireError>
 {
     match read_x11(rest) {
         Ok((single, protocol, cookie, screen)) => {
-            asks(
-                asking,
-                x11_told(asking.alloc, single, protocol, cookie, screen),
-            )
+            asks(asking, x11_told(asking, single, protocol, cookie, screen))
         }
         Err(e) => Err(e),
     }
@@ -242,7 +238,7 @@ fn ask_environment(asking: Asking, rest: &[u8]) -> Result<Spoken, WireError>
         result }
 {
     match read_texts(rest) {
-        Ok((name, value)) => asks(asking, environment_told(asking.alloc, name, value)),
+        Ok((name, value)) => asks(asking, environment_told(asking, name, value)),
         Err(e) => Err(e),
     }
 }
@@ -250,7 +246,9 @@ fn ask_environment(asking: Asking, rest: &[u8]) -> Result<Spoken, WireError>
 fn ask_shell(asking: Asking, rest: &[u8]) -> Result<Spoken, WireError>
     ensures { IsRead (asked_by (Some known.shell) asking.channel asking.wanted) rest.now result }
 {
-    let message = ChannelMsg::RequestShell { want_reply: true };
+    let message = ChannelMsg::RequestShell {
+        want_reply: asking.wanted,
+    };
     match read_end(rest) {
         Ok(()) => asks(asking, Ok((message, Happening::ShellRequest))),
         Err(e) => {
@@ -264,7 +262,7 @@ fn ask_exec(asking: Asking, rest: &[u8]) -> Result<Spoken, WireError>
     ensures { IsRead (asked_by (Some known.exec) asking.channel asking.wanted) rest.now result }
 {
     match read_data(rest) {
-        Ok(command) => asks(asking, exec_told(asking.alloc, command)),
+        Ok(command) => asks(asking, exec_told(asking, command)),
         Err(e) => Err(e),
     }
 }
@@ -274,7 +272,7 @@ fn ask_subsystem(asking: Asking, rest: &[u8]) -> Result<Spoken, WireError>
         result }
 {
     match read_text(rest) {
-        Ok(name) => asks(asking, subsystem_told(asking.alloc, name)),
+        Ok(name) => asks(asking, subsystem_told(asking, name)),
         Err(e) => Err(e),
     }
 }

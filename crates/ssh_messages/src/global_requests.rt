@@ -64,6 +64,15 @@ fn ask_cancel_socket(asking: AskingGlobally, rest: &[u8]) -> Result<Spoken, Wire
     Ok(Spoken::AsksGlobally(asking.wanted, judged))
 }
 
+/// The peer will open no more sessions (OpenSSH PROTOCOL section 2.2).
+fn give_up_sessions(asking: AskingGlobally, rest: &[u8]) -> Result<Spoken, WireError>
+    ensures { IsRead (globally_asked_by (Some known.no_more_sessions) asking.wanted) rest.now
+        result }
+{
+    read_end(rest)?;
+    Ok(Spoken::GivesUpSessions(asking.wanted))
+}
+
 /// What a request of this name says: one line a request. Of one that is not known nothing is read.
 pub fn ask_globally(asking: AskingGlobally, name: &str, rest: &[u8]) -> Result<Spoken, WireError>
     ensures { IsRead (globally_asked_by (global_named name.now) asking.wanted) rest.now result }
@@ -73,6 +82,7 @@ pub fn ask_globally(asking: AskingGlobally, name: &str, rest: &[u8]) -> Result<S
         "cancel-tcpip-forward" => ask_cancel(asking, rest),
         "streamlocal-forward@openssh.com" => ask_forward_socket(asking, rest),
         "cancel-streamlocal-forward@openssh.com" => ask_cancel_socket(asking, rest),
+        "no-more-sessions@openssh.com" => give_up_sessions(asking, rest),
         _ => Ok(Spoken::AsksGloballyUnknown(asking.wanted)),
     }
 }
