@@ -22,7 +22,7 @@ use Rattle.ssh_session.specs.declared.apply.Done.{Done}
 use Rattle.ssh_rules.specs.declared.error.RunError.{RunError}
 use Rattle.ssh_rules.specs.declared.error.RunError.TheVariants.{NoMemory}
 use Rattle.ssh_session.specs.declared.session.Session.{Session}
-use Rattle.ssh_rules.specs.Effect.{Effect, Does, effect, lacks, needs, done_by, accepts}
+use Rattle.ssh_rules.specs.Effect.{Effect, Does, effect_at, lacks, needs, done_by, accepts}
 use Rattle.ssh_rules.specs.Effect.{refuses, refused_or, fails_open, is_too_long, opens_need}
 use Rattle.ssh_rules.specs.Effect.{opens_or_not, apart_needs, done_apart, refused_for, said}
 use Rattle.ssh_rules.specs.Effect.{sends}
@@ -30,6 +30,7 @@ use Rattle.ssh_rules.specs.OwnMessages.{OwnMessage, IsUnbuilt}
 use Rattle.ssh_rules.specs.OwnOpens.{asking}
 use Rattle.ssh_rules.specs.Opens.{answered, failure_frame}
 use Rattle.ssh_session.specs.Serve.{Refines, HasEffect}
+use Rattle.ssh_rules.specs.declared.request.ChannelRequest.{ChannelRequest}
 use Rattle.ssh_rules.specs.World.{World, lined, writes}
 
 -- a command that was done, and gives no notice
@@ -59,9 +60,9 @@ starved_effect does session e result h is =
     subst (HasEffect does session) (sym (p.1 ∙ ap Err (p.2 ∙ is))) tt
 
 -- why a command is refused
-pub refusing : (w : World) (one : Command) (why : Option Refusal) →
-    refused_for w.disconnected w one ≡ why → effect w one ≡ refused_or why w (done_by w one)
-refusing w one why h = ap (λ o. refused_or o w (done_by w one)) h
+pub refusing : (at : Option ChannelRequest) (w : World) (one : Command) (why : Option Refusal) →
+    refused_for w.disconnected w one ≡ why → effect_at at w one ≡ refused_or why w (done_by at w one)
+refusing at w one why h = ap (λ o. refused_or o w (done_by at w one)) h
 
 module _ (w : World) where
   -- the other commands concern no channel that is there
@@ -94,7 +95,7 @@ module _ (w : World) where
   needs_other (command.Answer answer) a b c d s f x y z e = absurd (e answer refl)
   needs_other _ a b c d s f x y z e = refl
 
-  pub done_other : (one : Command) → ((channel : ChannelId) (bytes : List ℕ) → one
+  pub done_other : (at : Option ChannelRequest) (one : Command) → ((channel : ChannelId) (bytes : List ℕ) → one
       ≡ command.Data channel bytes → ⊥) →
       ((channel : ChannelId) (code : ℕ) (bytes : List ℕ) → one ≡ command.ExtendedData channel code
       bytes → ⊥) →
@@ -107,21 +108,21 @@ module _ (w : World) where
       ((channel : ChannelId) (signal : Sig) (core : Bool) (message language : List ℕ) → one
       ≡ command.ExitSignal channel signal core message language → ⊥) →
       ((answer : OpenAnswer) → one ≡ command.Answer answer → ⊥) →
-      done_by w one ≡ done_apart w one
-  done_other (command.Data channel bytes) a b c d s f x y z e = absurd (a channel bytes refl)
-  done_other (command.ExtendedData channel code bytes) a b c d s f x y z e =
+      done_by at w one ≡ done_apart w one
+  done_other at (command.Data channel bytes) a b c d s f x y z e = absurd (a channel bytes refl)
+  done_other at (command.ExtendedData channel code bytes) a b c d s f x y z e =
       absurd (b channel code bytes refl)
-  done_other (command.Eof channel) a b c d s f x y z e = absurd (c channel refl)
-  done_other (command.Close channel) a b c d s f x y z e = absurd (d channel refl)
-  done_other (command.ChannelSuccess channel) a b c d s f x y z e = absurd (s channel refl)
-  done_other (command.ChannelFailure channel) a b c d s f x y z e = absurd (f channel refl)
-  done_other (command.XonXoff channel can) a b c d s f x y z e = absurd (x channel can refl)
-  done_other (command.ExitStatus channel status) a b c d s f x y z e =
+  done_other at (command.Eof channel) a b c d s f x y z e = absurd (c channel refl)
+  done_other at (command.Close channel) a b c d s f x y z e = absurd (d channel refl)
+  done_other at (command.ChannelSuccess channel) a b c d s f x y z e = absurd (s channel refl)
+  done_other at (command.ChannelFailure channel) a b c d s f x y z e = absurd (f channel refl)
+  done_other at (command.XonXoff channel can) a b c d s f x y z e = absurd (x channel can refl)
+  done_other at (command.ExitStatus channel status) a b c d s f x y z e =
       absurd (y channel status refl)
-  done_other (command.ExitSignal channel signal core message language) a b c d s f x y z e =
+  done_other at (command.ExitSignal channel signal core message language) a b c d s f x y z e =
       absurd (z channel signal core message language refl)
-  done_other (command.Answer answer) a b c d s f x y z e = absurd (e answer refl)
-  done_other _ a b c d s f x y z e = refl
+  done_other at (command.Answer answer) a b c d s f x y z e = absurd (e answer refl)
+  done_other at _ a b c d s f x y z e = refl
 
   -- .. and of these, the others open one
   pub needs_open : (one : Command) → ((address : List ℕ) (port : ℕ) (reply : Option ℕ) → one

@@ -8,48 +8,17 @@ use Rattle.ssh_wire.specs.declared.channel_id.ChannelId.{ChannelId}
 use Rattle.ssh_link.specs.declared.outcome.Refusal.{Refusal}
 use Rattle.ssh_link.specs.declared.outcome.Refusal.TheVariants.{UnknownChannel, TooLong}
 use Rattle.ssh_channels.specs.declared.params.ChannelParams.{ChannelParams}
-use Rattle.ssh_channels.specs.Does as standard
 use Rattle.ssh_channels.specs.Entry.{Entry}
 use Rattle.ssh_channels.specs.Layout.{on_channel}
-use Rattle.ssh_channels.specs.Lines.{find, wants, says}
-use Rattle.ssh_channels.specs.Table.{is_one, line_at}
+use Rattle.ssh_channels.specs.Lines.{find}
+use Rattle.ssh_channels.specs.Table.{line_at}
 use Rattle.ssh_channels.proofs.Standing.{Found, found}
 use Rattle.ssh_session.specs.declared.session.Session.{Session}
 use Rattle.ssh_rules.specs.Effect.{Effect, accepts, refuses, requests, requests_on, is_too_long}
 use Rattle.ssh_rules.specs.Effect.{not_usable, no_established}
 use Rattle.ssh_rules.specs.OwnRequests.{OwnRequest, request_payload}
 use Rattle.ssh_session.specs.Serve.{Refines}
-use Rattle.ssh_rules.specs.World.{World, writes, lined, replies, wants_reply}
-
--- ---- whether a reply is wanted
-
-wants_at : (n : ℕ) (line : Option ChannelParams) (e : Option Entry) → Found n line e →
-    is_one (λ line. line.confirmed && line.wants_reply) line
-    ≡ standard.is_one (λ e. e.confirmed && e.wants_reply) e
-wants_at n None None f = refl
-wants_at n None (Some e) f = absurd f
-wants_at n (Some line) None f = absurd f
-wants_at n (Some line) (Some e) f =
-    ap (λ b. b && line.wants_reply) f.0.confirmed ∙ ap (λ b. e.confirmed && b) f.0.wants_reply
-
-pub wanting : (n : ℕ) (session : Session) (w : World) (line : Option ChannelParams)
-    → Refines session w → line ≡ line_at n session.table
-    → is_one (λ line. line.confirmed && line.wants_reply) line ≡ wants_reply n w.channels.lines
-wanting n session w line r e =
-    ap (is_one (λ line. line.confirmed && line.wants_reply)) e
-    ∙ wants_at n _ _ (found 0 n session.table.lines w.channels.lines.entries r.table.entries)
-
--- where none is wanted nothing is said
-pub unreplied : (n message : ℕ) (w : World) → wants_reply n w.channels.lines ≡ false
-    → lined (replies n message) w ≡ w
-unreplied n message w is =
-    ap (λ b. lined (λ l. cond b (wants n false (says n message l)) l) w) is
-
--- .. and else the reply, and none is wanted
-pub replied : (n message : ℕ) (w : World) → wants_reply n w.channels.lines ≡ true
-    → lined (replies n message) w ≡ lined (wants n false) (lined (says n message) w)
-replied n message w is =
-    ap (λ b. lined (λ l. cond b (wants n false (says n message l)) l) w) is
+use Rattle.ssh_rules.specs.World.{World, writes}
 
 -- ---- why nothing can be said on a channel
 

@@ -10,6 +10,7 @@ pub mod Opened
 pub mod OwnOpens
 pub mod Unchanged
 pub mod Greeting
+pub mod Replying
 pub mod Requests
 pub mod Stepping
 pub mod Stopping

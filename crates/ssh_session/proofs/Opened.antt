@@ -27,12 +27,12 @@ use Rattle.ssh_session.proofs.Rows.{confirms_as}
 -- the table and the opens that wait changed alone
 pub changed : (old new : Session) (w : World) (waiting : List (ℕ × Opening)) (lines : Lines)
     → new.common ≡ old.common → new.session_id ≡ old.session_id → new.state ≡ old.state →
-    new.requested ≡ old.requested → new.target ≡ old.target →
+    new.requested ≡ old.requested → new.no_more_sessions ≡ old.no_more_sessions →
     new.outstanding ≡ old.outstanding → new.keepalives ≡ old.keepalives → new.keys ≡ old.keys →
     new.spent ≡ old.spent → new.opens.entries ≡ waiting →
     Stands new.table lines → Refines old w →
     Refines new (record w { channels = record w.channels { lines = lines; opens = waiting } })
-changed old new w waiting lines common id state requested target outstanding keepalives keys spent
+changed old new w waiting lines common id state requested no_more outstanding keepalives keys spent
     opens stands r =
     record {
       config = ap (λ c. c.config) common ∙ r.config;
@@ -43,7 +43,7 @@ changed old new w waiting lines common id state requested target outstanding kee
       name = ap (λ c. c.auth_user) common ∙ r.name;
       table = stands;
       opens = opens;
-      target = target ∙ r.target;
+      no_more_sessions = no_more ∙ r.no_more_sessions;
       wanted = ap (λ c. c.wants_reply) common ∙ r.wanted;
       outstanding = ap (λ q. q.items) outstanding ∙ r.outstanding;
       keepalives = keepalives ∙ r.keepalives;

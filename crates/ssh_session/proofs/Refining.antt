@@ -9,15 +9,15 @@ use Rattle.ssh_link.specs.Frames.{Frame}
 use Rattle.ssh_link.specs.declared.outcome.Refusal.{Refusal}
 use Rattle.ssh_link.specs.declared.outcome.Refusal.TheVariants.{UnknownChannel}
 use Rattle.ssh_channels.specs.declared.params.ChannelParams.{ChannelParams}
-use Rattle.ssh_channels.specs.Line.{is_established, data_waits}
+use Rattle.ssh_channels.specs.Line.{is_established, data_waits, may_send}
 use Rattle.ssh_channels.specs.Table.{Table, line_at, has, is_one, some_wait}
 use Rattle.ssh_channels.specs.Numbers as numbers
 use Rattle.ssh_channels.specs.declared.chunk.Chunk.{Chunk}
 use Rattle.ssh_channels.specs.Calls.{Send}
-use Rattle.ssh_channels.specs.Calls.{Op, Byte, Flush_all, Flush_line, Grant, Adjust, Draw, op, adjust}
+use Rattle.ssh_channels.specs.Calls.{Op, Eof, Request, Byte, Flush_all, Flush_line, Grant, Adjust, Draw, op, adjust}
 use Rattle.ssh_channels.specs.Calls.{credit_after, adjusting_at, framed_at}
 use Rattle.ssh_channels.specs.Calls as calls
-use Rattle.ssh_channels.specs.Entry.{Entry, all_framed}
+use Rattle.ssh_channels.specs.Entry.{Entry, all_framed, more_may_come}
 use Rattle.ssh_channels.specs.Lines.{Lines, find, next_number, takes_in, hands_on}
 use Rattle.ssh_channels.specs.Lines.{all_go_on, takes_data, handed as handed_of}
 use Rattle.ssh_channels.specs.Stands.{Stands, AllHold}
@@ -35,7 +35,7 @@ use Rattle.ssh_rules.specs.Exchange.{given, heard, renewed}
 use Rattle.ssh_rules.specs.Run.{nothing_waits, going_out, handed_on}
 use Rattle.ssh_session.specs.Serve.{Refines}
 use Rattle.ssh_rules.specs.World.{World, hears, in_exchange, is_empty, is_held, keyed, lined}
-use Rattle.ssh_rules.specs.World.{is_there}
+use Rattle.ssh_rules.specs.World.{is_there, next_place, room_of, room_on, target_of, target_on}
 
 -- ---- the table
 
@@ -53,7 +53,7 @@ tabled session table fits w change r s = record {
   name = r.name;
   table = s;
   opens = r.opens;
-  target = r.target;
+  no_more_sessions = r.no_more_sessions;
   wanted = r.wanted;
   outstanding = r.outstanding;
   keepalives = r.keepalives;
@@ -182,16 +182,55 @@ asks session w r =
     ap not (waiting_at 0 session.table.lines w.channels.lines.entries r.table.entries)
     ∙ not_not (nothing_waits w)
 
--- data came in, up to the session's target
-pub taken_in : (n count : ℕ) (session : Session) (table : Table) (fits : length session.session_id <
-    2 ^ 32) (w : World) →
-    table ≡ adjust n count session.target session.table → Refines session w →
+-- up to how many bytes the room of a channel is filled
+target_of_same : (n : ℕ) (line : Option ChannelParams) (e : Option Entry) → Found n line e →
+    calls.target_of line ≡ target_of e
+target_of_same n None None f = refl
+target_of_same n None (Some e) f = absurd f
+target_of_same n (Some line) None f = absurd f
+target_of_same n (Some line) (Some e) f = f.0.target
+
+pub target_same : (n : ℕ) (session : Session) (w : World) → Refines session w →
+    calls.target_at n session.table ≡ target_on n w
+target_same n session w r =
+    target_of_same n _ _ (found 0 n session.table.lines w.channels.lines.entries r.table.entries)
+
+-- how many bytes the peer may still send on a channel
+room_of_same : (n : ℕ) (line : Option ChannelParams) (e : Option Entry) → Found n line e →
+    calls.room_of line ≡ room_of e
+room_of_same n None None f = refl
+room_of_same n None (Some e) f = absurd f
+room_of_same n (Some line) None f = absurd f
+room_of_same n (Some line) (Some e) f = f.0.room
+
+pub room_same : (n : ℕ) (session : Session) (w : World) → Refines session w →
+    calls.room_at n session.table ≡ room_on n w
+room_same n session w r =
+    room_of_same n _ _ (found 0 n session.table.lines w.channels.lines.entries r.table.entries)
+
+-- whether data would be accepted on it
+pub may_send_same : (n : ℕ) (session : Session) (w : World) → Refines session w →
+    has may_send n session.table ≡ standard.has more_may_come n w.channels.lines
+may_send_same n session w r =
+    let e = op_answers session.table w.channels.lines r.table (Eof n) in cc
+
+-- data came in, up to the channel's target
+pub taken_in : (n count target : ℕ) (session : Session) (table : Table)
+    (fits : length session.session_id < 2 ^ 32) (w : World) →
+    target ≡ calls.target_at n session.table → table ≡ adjust n count target session.table →
+    Refines session w →
     Refines (record session { table = table; session_id_fits = fits })
-    (lined (takes_in n count w.channels.target) w)
-taken_in n count session table fits w e r =
+    (lined (takes_in n count (target_on n w)) w)
+taken_in n count target session table fits w is e r =
     subst (λ k. Refines (record session { table = table; session_id_fits = fits })
-    (lined (takes_in n count k) w)) r.target
-    (called (Adjust n count session.target) session table fits w tt e r)
+    (lined (takes_in n count k) w)) (is ∙ target_same n session w r)
+    (called (Adjust n count target) session table fits w tt e r)
+
+-- the place that the next reply has that is wanted on a channel
+pub place_same : (n : ℕ) (session : Session) (w : World) → Refines session w →
+    calls.place_at n session.table ≡ next_place n w
+place_same n session w r =
+    let e = op_answers session.table w.channels.lines r.table (Request n) in cc
 
 -- ---- the exchange of keys
 
@@ -208,7 +247,7 @@ rekeyed session keys fits w to is r = record {
   name = r.name;
   table = r.table;
   opens = r.opens;
-  target = r.target;
+  no_more_sessions = r.no_more_sessions;
   wanted = r.wanted;
   outstanding = r.outstanding;
   keepalives = r.keepalives;
@@ -233,7 +272,7 @@ heard_by session keepalives keys fits w payload ticks is r = record {
   name = r.name;
   table = r.table;
   opens = r.opens;
-  target = r.target;
+  no_more_sessions = r.no_more_sessions;
   wanted = r.wanted;
   outstanding = r.outstanding;
   keepalives = ticks ∙ ap (λ n. cond (is_empty payload) n 0) r.keepalives;

@@ -42,7 +42,7 @@ use Rattle.ssh_rules.specs.Rows.{spoken_acts, failure_acts, row, notes}
 use Rattle.ssh_rules.proofs.Misread.{full_packet}
 use Rattle.ssh_rules.specs.Cause.{comes}
 use Rattle.ssh_session.specs.Serve.{Refines, Answers, Completes}
-use Rattle.ssh_rules.specs.World.{World, lined, is_there, is_waiting}
+use Rattle.ssh_rules.specs.World.{World, lined, is_there, is_waiting, target_on}
 use Rattle.ssh_session.proofs.Serving.{unfit, starves, hears_nothing}
 
 -- ---- a row on a channel, where there is one and where there is none
@@ -180,9 +180,9 @@ undrawn {E} {F} w owes e later session error result i is h n f =
 -- ---- data that come in
 
 pub arrives : (n : ℕ) (w : World) (piece : Chunk) (adjusted : Adjusted) →
-    coming_of (length piece.bytes) w.channels.target (find n w.channels.lines.entries) ≡ adjusted →
-    spoken_acts w (Data (own n) piece) ≡ data_acts adjusted (own n) piece w.channels.target
-arrives n w piece adjusted h = ap (λ a. data_acts a (own n) piece w.channels.target) h
+    coming_of (length piece.bytes) (target_on n w) (find n w.channels.lines.entries) ≡ adjusted →
+    spoken_acts w (Data (own n) piece) ≡ data_acts adjusted (own n) piece (target_on n w)
+arrives n w piece adjusted h = ap (λ a. data_acts a (own n) piece (target_on n w)) h
 
 pub not_inconsistent : (e : TableError) → (e ≡ table.NoMemory) ⊎ (e ≡ table.Full) → e
     ≡ table.Inconsistent → ⊥

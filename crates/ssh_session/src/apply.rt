@@ -4,7 +4,7 @@ ghost use Rattle.ssh_rules.specs.World.{World};
 ghost use Rattle.ssh_rules.specs.Opens.{opening_of};
 ghost use Rattle.ssh_wire.specs.Open.{open_failure};
 ghost use Rattle.ssh_wire.specs.OpenFailures.{open_failure_code};
-ghost use Rattle.ssh_rules.specs.Effect.{not_usable, effect, done_by, needs, lacks, Sending};
+ghost use Rattle.ssh_rules.specs.Effect.{not_usable, effect_at, done_by, needs, lacks, Sending};
 ghost use Rattle.ssh_rules.specs.Effect.{Closing, Opening_of, answers, confirms};
 ghost use Rattle.ssh_rules.specs.Effect.{fails_open, failure_of, refused_for, apart_needs};
 ghost use Rattle.ssh_rules.specs.Effect.{done_apart};
@@ -15,7 +15,7 @@ use crate::{RunError, Session};
 use ssh_channels::ChannelParams;
 use ssh_link::{Command, CommandOutcome, Notice, OpenAnswer, Refusal};
 use ssh_messages::{confirmation_frame, failure_frame};
-use ssh_rules::Outstanding;
+use ssh_rules::{ChannelRequest, Outstanding};
 use ssh_wire::{ChannelId, ChannelOpenFailure, Text, WireError};
 
 /// What came of a command, and the notice that it gives.
@@ -63,10 +63,15 @@ pub(crate) fn unusable(confirmed: bool, ended: bool) -> Option<Refusal>
 }
 
 impl Session {
-    /// Does one command, or refuses it.
-    pub(crate) fn carry_out<E, F>(&mut self, command: Command) -> Result<Done, RunError<E, F>>
+    /// Does one command, or refuses it. It was recorded in the callback of the request `at`, where
+    /// there is one.
+    pub(crate) fn carry_out<E, F>(
+        &mut self,
+        at: Option<ChannelRequest>,
+        command: Command,
+    ) -> Result<Done, RunError<E, F>>
         ensures does { (w : World) → Refines self.old w →
-            HasEffect (effect w command) self.new result }
+            HasEffect (effect_at at w command) self.new result }
         ensures unchanged { OnErr result (IsUnchanged self.old self.new) }
         ensures session { IsSameSession self.old self.new }
     {
@@ -75,7 +80,7 @@ impl Session {
                 drop(command);
                 Ok(Done::refused(why))
             }
-            None => self.do_command(command),
+            None => self.do_command(at, command),
         }
     }
 
@@ -149,9 +154,13 @@ impl Session {
     }
 
     /// A command that lacks nothing is done.
-    fn do_command<E, F>(&mut self, command: Command) -> Result<Done, RunError<E, F>>
+    fn do_command<E, F>(
+        &mut self,
+        at: Option<ChannelRequest>,
+        command: Command,
+    ) -> Result<Done, RunError<E, F>>
         ensures does { (w : World) → Refines self.old w →
-            HasEffect (done_by w command) self.new result }
+            HasEffect (done_by at w command) self.new result }
         ensures unchanged { OnErr result (IsUnchanged self.old self.new) }
         ensures session { IsSameSession self.old self.new }
     {
@@ -178,8 +187,8 @@ impl Session {
                 self.table.close(channel)?;
                 Ok(Done::accepted())
             }
-            Command::ChannelSuccess { channel } => self.reply_to(channel, true),
-            Command::ChannelFailure { channel } => self.reply_to(channel, false),
+            Command::ChannelSuccess { channel } => self.reply_to(at, channel, true),
+            Command::ChannelFailure { channel } => self.reply_to(at, channel, false),
             Command::XonXoff {
                 channel,
                 client_can_do,

@@ -169,7 +169,7 @@ impl Session {
         self.common.auth_user = user;
         self.state = EncryptedState::InitCompression;
         self.requested = requested;
-        self.call(outside, Lent::Succeeded)
+        self.call(outside, None, Lent::Succeeded)
     }
 
     /// A request after as many rejected ones as are allowed: it is not read, and ends the run.

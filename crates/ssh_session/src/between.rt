@@ -61,7 +61,7 @@ impl Session {
             drop(command);
             return Err(WireError::NoMemory);
         }
-        match self.carry_out::<(), ()>(command) {
+        match self.carry_out::<(), ()>(None, command) {
             Ok(Done { notice, outcome }) => {
                 add(notices, notice);
                 Ok(outcome)

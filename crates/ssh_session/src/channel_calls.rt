@@ -64,8 +64,8 @@ impl Session {
         self.apply(Command::Close { channel })
     }
 
-    /// Answers the peer's last request on the channel by success, where that wants an answer and
-    /// has none yet (RFC 4254 section 5.4).
+    /// Answers the oldest request of the peer on the channel that has no answer yet, by success (RFC
+    /// 4254 section 5.4). Where none waits for one, nothing goes out.
     pub fn channel_success(&mut self, channel: ChannelId) -> Result<CommandOutcome, WireError>
         requires live { is_spent self.old ≡ false }
         ensures applied { Applies (command.ChannelSuccess channel) self.old self.new result }
@@ -73,8 +73,8 @@ impl Session {
         self.apply(Command::ChannelSuccess { channel })
     }
 
-    /// Answers the peer's last request on the channel by failure, where that wants an answer and
-    /// has none yet (RFC 4254 section 5.4).
+    /// Answers the oldest request of the peer on the channel that has no answer yet, by failure (RFC
+    /// 4254 section 5.4). Where none waits for one, nothing goes out.
     pub fn channel_failure(&mut self, channel: ChannelId) -> Result<CommandOutcome, WireError>
         requires live { is_spent self.old ≡ false }
         ensures applied { Applies (command.ChannelFailure channel) self.old self.new result }

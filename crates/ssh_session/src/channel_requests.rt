@@ -22,7 +22,7 @@ impl Session {
             wanted: asked.wanted,
         };
         if !self.is_there(asked.channel) {
-            return Ok(Spoken::Wants(asked.channel, asked.wanted));
+            return Ok(Spoken::Nothing);
         }
         ask(asking, asked.name, asked.rest)
     }

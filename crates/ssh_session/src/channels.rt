@@ -2,9 +2,8 @@
 ghost use Rattle.std.specs.Prelude.{◌≡◌, ◌∷◌, [], false, length, OnOk, OnErr, IfOk, IfErr};
 ghost use Rattle.ssh_channels.specs.declared.error.TableError.TheVariants.{NoMemory};
 ghost use Rattle.ssh_channels.specs.Lines.{find, takes_grant, takes_in, peer_closes, goes_on};
-ghost use Rattle.ssh_channels.specs.Lines.{wants};
-ghost use Rattle.ssh_rules.specs.World.{World, lined, writes, is_there, unless_ended};
-ghost use Rattle.ssh_session.specs.Between.{goes_out_unless_ended};
+ghost use Rattle.ssh_rules.specs.World.{World, lined, writes, is_there, target_on, unless_ended};
+ghost use Rattle.ssh_session.specs.Between.{goes_out_unless_ended, untold};
 ghost use Rattle.ssh_channels.specs.Does.{credit_after, coming_of};
 ghost use Rattle.ssh_session.specs.Serve.{Refines, IsSameSession, IsUnchanged, is_spent};
 
@@ -61,15 +60,17 @@ impl Session {
     ) -> Result<Adjusted, TableError>
         ensures coming { (w : World) → Refines self.old w →
             IfOk result (λ adjusted. adjusted
-            ≡ coming_of (length bytes.now) w.channels.target
+            ≡ coming_of (length bytes.now) (target_on channel.0 w)
             (find channel.0 w.channels.lines.entries)) }
         ensures world { OnOk result ((w : World) → Refines self.old w →
-            Refines self.new (lined (takes_in channel.0 (length bytes.now) w.channels.target) w)) }
+            Refines self.new (lined (takes_in channel.0 (length bytes.now)
+            (target_on channel.0 w)) w)) }
         ensures memory { IfErr result (λ e. e ≡ NoMemory) }
         ensures session { IsSameSession self.old self.new }
     {
+        let target = self.table.target(channel);
         self.table
-            .adjust_window_size(channel, bytes.as_slice(), self.target)
+            .adjust_window_size(channel, bytes.as_slice(), target)
     }
 
     /// The peer closes the channel, which is answered by a CLOSE. Says whether it was there.
@@ -84,27 +85,20 @@ impl Session {
         self.table.peer_close(channel)
     }
 
-    /// The last request on the channel wants a reply, or none.
-    pub(crate) fn want_reply(&mut self, channel: ChannelId, wanted: bool)
-        ensures world { (w : World) → Refines self.old w →
-            Refines self.new (lined (wants channel.0 wanted) w) }
-        ensures session { IsSameSession self.old self.new }
-    {
-        let _is_there = self.table.set_wants_reply(channel, wanted);
-    }
-
     /// What waits on the channel is written as far as the credit goes, and then the EOF and the
     /// CLOSE that waited behind it; with the CLOSE the channel is gone (RFC 4254 sections 5.2 and
     /// 5.3). Answers how many bytes of data were written, and 0 where there is no such channel.
     /// Behind a DISCONNECT nothing is written, and the answer is 0. `NoMemory` is the only error,
     /// and leaves the session as it was. What is written is handed on at the end of the next input,
-    /// or by `flush`, and in an exchange of keys not before it ends. The session must not be spent.
+    /// or by `flush`, and in an exchange of keys not before it ends; notices that are to be told are
+    /// kept. The session must not be spent.
     pub fn flush_pending(&mut self, channel: ChannelId) -> Result<usize, TableError>
         requires live { is_spent self.old ≡ false }
         ensures framed { (w : World) → Refines self.old w →
             IfOk result (λ count. count ≡ goes_out_unless_ended w channel.0) }
         ensures world { OnOk result ((w : World) → Refines self.old w →
             Refines self.new (unless_ended (lined (goes_on channel.0)) w)) }
+        ensures told { untold self.new ≡ untold self.old }
         ensures unchanged { OnErr result (self.new ≡ self.old) }
         ensures memory { IfErr result (λ e. e ≡ NoMemory) }
         ensures session { IsSameSession self.old self.new }

@@ -14,6 +14,7 @@ use crate::apply::Done;
 use crate::outside::Outside;
 use crate::{Flow, RunError, Session};
 use ssh_link::{Command, CommandList, CommandOutcome, Notice};
+use ssh_rules::ChannelRequest;
 
 impl Session {
     /// A command from outside, or a reply to an open: its ticket is answered.
@@ -27,20 +28,22 @@ impl Session {
             (O.Transport.heard outside.old) (O.Transport.heard outside.new) self.new result }
         ensures same { AreSame (O.Transport.heard outside.old) (O.Transport.heard outside.new) }
     {
-        let Done { notice, outcome } = self.carry_out(command)?;
+        let Done { notice, outcome } = self.carry_out(None, command)?;
         self.give(outside, notice)?;
         outside.answer(ticket, outcome)?;
         Ok(Flow::Continue)
     }
 
-    /// Does the commands that a callback recorded, one after another.
+    /// Does the commands that a callback recorded, one after another; it told of the request `at`,
+    /// where there is one.
     pub(crate) fn finish_commands<O: Outside>(
         &mut self,
         outside: &mut O,
+        at: Option<ChannelRequest>,
         mut commands: CommandList,
     ) -> Result<(), RunError<O::Error, O::KexError>>
         ensures does { (w : World) → Refines self.old w → (next : World → Plan Outcome) →
-            Serves (done_all 0 commands w next) (λ _. next) (O.Transport.heard outside.old)
+            Serves (done_all at 0 commands w next) (λ _. next) (O.Transport.heard outside.old)
             (O.Transport.heard outside.new) self.new result }
         ensures session { IsSameSession self.old self.new }
         ensures same { AreSame (O.Transport.heard outside.old) (O.Transport.heard outside.new) }
@@ -50,7 +53,7 @@ impl Session {
                 drop(commands);
                 return Ok(());
             };
-            if let Err(e) = self.finish_command(outside, place, command) {
+            if let Err(e) = self.finish_command(outside, at, place, command) {
                 drop(commands);
                 return Err(e);
             }
@@ -63,18 +66,19 @@ impl Session {
     fn finish_command<O: Outside>(
         &mut self,
         outside: &mut O,
+        at: Option<ChannelRequest>,
         place: usize,
         command: Command,
     ) -> Result<(), RunError<O::Error, O::KexError>>
         ensures does { (w : World) → Refines self.old w →
             (later : List CommandOf) (next : World → Plan Outcome) →
-            Serves (done_all place (command ∷ later) w next)
-            (λ _ world. done_all (place + 1) later world next)
+            Serves (done_all at place (command ∷ later) w next)
+            (λ _ world. done_all at (place + 1) later world next)
             (O.Transport.heard outside.old) (O.Transport.heard outside.new) self.new result }
         ensures session { IsSameSession self.old self.new }
         ensures same { AreSame (O.Transport.heard outside.old) (O.Transport.heard outside.new) }
     {
-        let Done { notice, outcome } = self.carry_out(command)?;
+        let Done { notice, outcome } = self.carry_out(at, command)?;
         self.give(outside, notice)?;
         self.tell_done(outside, place, outcome)
     }

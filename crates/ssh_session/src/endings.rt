@@ -28,6 +28,6 @@ impl Session {
         if !there {
             return Ok(());
         }
-        self.tell(outside, channel, ChannelMsg::Close, Happening::Close)
+        self.tell(outside, None, channel, ChannelMsg::Close, Happening::Close)
     }
 }

@@ -5,6 +5,7 @@ ghost use Rattle.ssh_rules.specs.declared.error.RunError.TheVariants.{NoMemory};
 ghost use Rattle.ssh_rules.specs.declared.messages.Spoken.TheVariants.{AsksToForward};
 ghost use Rattle.ssh_rules.specs.declared.messages.Spoken.TheVariants.{AsksGlobally};
 ghost use Rattle.ssh_rules.specs.declared.messages.Spoken.TheVariants.{AsksGloballyUnknown};
+ghost use Rattle.ssh_rules.specs.declared.messages.Spoken.TheVariants.{GivesUpSessions};
 ghost use Rattle.ssh_rules.specs.declared.messages.Spoken.TheVariants.{Settles};
 ghost use Rattle.ssh_rules.specs.Layout.{at_once};
 ghost use Rattle.ssh_rules.specs.World.{World, wants_global, settles_global, unless_ended};
@@ -143,7 +144,7 @@ impl Session {
         ensures same { AreSame (O.Transport.heard outside.old) (O.Transport.heard outside.new) }
     {
         self.want_global(wanted);
-        let granted = self.judge(outside, judged)?;
+        let granted = self.judge(outside, None, judged)?;
         self.settle_unless_ended(granted, None)
     }
 
@@ -158,6 +159,17 @@ impl Session {
     {
         self.want_global(wanted);
         self.settle_global(false, None)
+    }
+
+    /// The peer opens no more sessions, which is granted (OpenSSH PROTOCOL section 2.2).
+    pub(crate) fn gave_up_sessions<E, F>(&mut self, wanted: bool) -> Result<(), RunError<E, F>>
+        ensures does { (w : World) → Refines self.old w →
+            Turned (spoken_acts w (GivesUpSessions wanted)) w self.new result }
+        ensures session { IsSameSession self.old self.new }
+    {
+        self.no_more_sessions = true;
+        self.want_global(wanted);
+        self.settle_global(true, None)
     }
 
     /// The oldest global request of this side has its reply, of which this is told.

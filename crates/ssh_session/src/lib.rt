@@ -41,4 +41,5 @@ mod windows;
 pub use exchange_data::Exchange;
 pub use run::run_stream;
 pub use session::Session;
-pub use ssh_rules::{Flow, FlushError, RunError};
+pub use ssh_rules::{EncryptedState, Flow, FlushError, RunError};
+pub use state::CommonSession;

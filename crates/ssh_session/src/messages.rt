@@ -80,10 +80,6 @@ impl Session {
                 self.tell_on(outside, channel, message, happening)
             }
             Spoken::Close(channel) => self.peer_close(outside, channel),
-            Spoken::Wants(channel, wanted) => {
-                self.want_reply(channel, wanted);
-                Ok(())
-            }
             Spoken::Asks(channel, wanted, message, happening) => {
                 self.asked(outside, channel, wanted, message, happening)
             }
@@ -94,6 +90,7 @@ impl Session {
             }
             Spoken::AsksGlobally(wanted, judged) => self.asked_globally(outside, wanted, judged),
             Spoken::AsksGloballyUnknown(wanted) => self.asked_globally_unknown(wanted),
+            Spoken::GivesUpSessions(wanted) => self.gave_up_sessions(wanted),
             Spoken::Settles(told) => self.settle(outside, told),
             Spoken::Inconsistent => Err(RunError::Inconsistent),
         }
@@ -118,6 +115,6 @@ impl Session {
             drop(happening);
             return Ok(());
         }
-        self.tell(outside, channel, message, happening)
+        self.tell(outside, None, channel, message, happening)
     }
 }

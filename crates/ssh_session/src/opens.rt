@@ -62,8 +62,13 @@ impl Session {
             window: message.recipient_window_size,
             packet: message.recipient_maximum_packet_size,
         };
-        match handled_by(message.typ) {
+        match handled_by(message.typ, self.no_more_sessions) {
             Handling::Asks(kind) => self.ask_open(outside, said, kind),
+            Handling::GivenUp => self.turn_away(
+                said.peer,
+                ChannelOpenFailure::AdministrativelyProhibited,
+                "No more sessions",
+            ),
             Handling::Unsupported => self.turn_away(
                 said.peer,
                 ChannelOpenFailure::AdministrativelyProhibited,
@@ -91,7 +96,7 @@ impl Session {
         ensures same { AreSame (O.Transport.heard outside.old) (O.Transport.heard outside.new) }
     {
         match self.draw(said) {
-            Ok(number) => self.call(outside, Lent::Opens(number, kind)),
+            Ok(number) => self.call(outside, None, Lent::Opens(number, kind)),
             Err(e) => {
                 drop(kind);
                 Err(RunError::from(e))

@@ -80,6 +80,7 @@ impl Session {
         )?;
         self.tell(
             outside,
+            None,
             channel,
             ChannelMsg::Open {
                 id: channel,

@@ -1,11 +1,13 @@
-// Replies to the requests of the peer (RFC 4254 section 5.4).
-ghost use Rattle.std.specs.Prelude.{◌≡◌, ◌&&◌, OnOk, OnErr, IfErr};
+// Replies to the requests of the peer on a channel, in the order of the requests (RFC 4254 section
+// 5.4).
+ghost use Rattle.std.specs.Prelude.{◌≡◌, IfOk, IfErr, OnOk, OnErr};
 ghost use Rattle.ssh_channels.specs.declared.error.TableError.TheVariants.{NoMemory};
 ghost use Rattle.ssh_rules.specs.declared.messages.Spoken.TheVariants.{Asks, AsksForAgent};
 ghost use Rattle.ssh_rules.specs.declared.messages.Spoken.TheVariants.{AsksUnknown};
-ghost use Rattle.ssh_rules.specs.World.{World, lined, replies, wants_reply, unless_ended};
+ghost use Rattle.ssh_rules.specs.World.{World, lined, asked_on, wants_if, settles_one};
+ghost use Rattle.ssh_rules.specs.World.{settles_for, unless_ended};
 ghost use Rattle.ssh_rules.specs.Effect.{accepts};
-ghost use Rattle.ssh_rules.specs.Rows.{spoken_acts, reply_of};
+ghost use Rattle.ssh_rules.specs.Rows.{spoken_acts};
 ghost use Rattle.ssh_rules.specs.Heard.{AreSame};
 ghost use Rattle.ssh_session.specs.Serve.{Refines, Does, Turned, HasEffect, IsSameSession};
 ghost use Rattle.ssh_session.specs.Serve.{IsSuited, IsUnchanged};
@@ -14,84 +16,115 @@ use crate::apply::Done;
 use crate::outside::Outside;
 use crate::{RunError, Session};
 use ssh_auth::{Happening, Judged};
-use ssh_channels::{ChannelParams, TableError};
+use ssh_channels::TableError;
 use ssh_link::{ChannelMsg, Notice};
+use ssh_rules::ChannelRequest;
 use ssh_wire::ChannelId;
-use ssh_wire::message::{CHANNEL_FAILURE, CHANNEL_SUCCESS};
-
-/// The number of the reply to a request that is granted, or is not.
-fn reply_of(granted: bool) -> u8
-    ensures { result ≡ reply_of granted }
-{
-    if granted {
-        CHANNEL_SUCCESS
-    } else {
-        CHANNEL_FAILURE
-    }
-}
-
-/// Whether the channel is one that both sides agreed to, and its last request wants a reply.
-fn wants_one(line: &ChannelParams) -> bool
-    ensures { result ≡ line.now.confirmed && line.now.wants_reply }
-{
-    line.confirmed && line.wants_reply
-}
 
 impl Session {
-    /// Whether the last request on the channel wants a reply, and has none yet.
-    fn wants_reply(&self, channel: ChannelId) -> bool
-        ensures { (w : World) → Refines self.now w →
-            result ≡ wants_reply channel.0 w.channels.lines }
+    /// A request comes on the channel. Its reply is owed from now on, where it wants one.
+    fn owe_reply(&mut self, channel: ChannelId, wanted: bool) -> Result<ChannelRequest, TableError>
+        ensures asked { (w : World) → Refines self.old w →
+            IfOk result (λ asked. asked ≡ asked_on channel wanted w) }
+        ensures world { OnOk result ((w : World) → Refines self.old w →
+            Refines self.new (lined (wants_if wanted channel.0) w)) }
+        ensures memory { IfErr result (λ e. e ≡ NoMemory) }
+        ensures session { IsSameSession self.old self.new }
     {
-        match self.table.params(channel) {
-            Some(line) => wants_one(line),
-            None => false,
-        }
+        let place = if wanted {
+            self.table.request(channel)?
+        } else {
+            None
+        };
+        Ok(ChannelRequest { channel, place })
     }
 
-    /// The reply to the last request on the channel goes out, where that wants one.
-    fn take_reply(&mut self, channel: ChannelId, message: u8) -> Result<(), TableError>
+    /// The reply of this request is settled, if it is still owed.
+    fn settle_one(&mut self, asked: ChannelRequest, success: bool) -> Result<(), TableError>
         ensures world { OnOk result ((w : World) → Refines self.old w →
-            Refines self.new (lined (replies channel.0 message) w)) }
+            Refines self.new (lined (settles_one asked.place asked.channel.0 success) w)) }
         ensures memory { IfErr result (λ e. e ≡ NoMemory) }
         ensures unchanged { OnErr result (IsUnchanged self.old self.new) }
         ensures session { IsSameSession self.old self.new }
     {
-        if !self.wants_reply(channel) {
-            return Ok(());
+        match asked.place {
+            Some(place) => {
+                let _was_owed = self.table.settle(asked.channel, Some(place), success)?;
+                Ok(())
+            }
+            None => Ok(()),
         }
-        self.table.byte(channel, message)?;
-        self.want_reply(channel, false);
+    }
+
+    /// The first reply that is owed on the channel is settled.
+    fn settle_first_owed(&mut self, channel: ChannelId, success: bool) -> Result<(), TableError>
+        ensures world { OnOk result ((w : World) → Refines self.old w →
+            Refines self.new (lined (settles_for None channel.0 success) w)) }
+        ensures memory { IfErr result (λ e. e ≡ NoMemory) }
+        ensures unchanged { OnErr result (IsUnchanged self.old self.new) }
+        ensures session { IsSameSession self.old self.new }
+    {
+        let _was_owed = self.table.settle(channel, None, success)?;
         Ok(())
     }
 
-    /// The reply goes out where it is wanted, unless a command of the callback ended the
-    /// connection.
-    fn reply_unless_ended(&mut self, channel: ChannelId, message: u8) -> Result<(), TableError>
+    /// The reply that a command settles: recorded in the callback of a request on the channel, that
+    /// of the request, and else the first that is owed.
+    fn settle_for(
+        &mut self,
+        at: Option<ChannelRequest>,
+        channel: ChannelId,
+        success: bool,
+    ) -> Result<(), TableError>
         ensures world { OnOk result ((w : World) → Refines self.old w →
-            Refines self.new (unless_ended (lined (replies channel.0 message)) w)) }
+            Refines self.new (lined (settles_for at channel.0 success) w)) }
+        ensures memory { IfErr result (λ e. e ≡ NoMemory) }
+        ensures unchanged { OnErr result (IsUnchanged self.old self.new) }
+        ensures session { IsSameSession self.old self.new }
+    {
+        match at {
+            Some(asked) => {
+                if asked.channel.0 == channel.0 {
+                    self.settle_one(asked, success)
+                } else {
+                    self.settle_first_owed(channel, success)
+                }
+            }
+            None => self.settle_first_owed(channel, success),
+        }
+    }
+
+    /// CHANNEL_SUCCESS or CHANNEL_FAILURE, as a command.
+    pub(crate) fn reply_to<E, F>(
+        &mut self,
+        at: Option<ChannelRequest>,
+        channel: ChannelId,
+        success: bool,
+    ) -> Result<Done, RunError<E, F>>
+        ensures does { (w : World) → Refines self.old w →
+            HasEffect (accepts (lined (settles_for at channel.0 success) w)) self.new result }
+        ensures unchanged { OnErr result (IsUnchanged self.old self.new) }
+        ensures session { IsSameSession self.old self.new }
+    {
+        self.settle_for(at, channel, success)?;
+        Ok(Done::accepted())
+    }
+
+    /// The reply of this request is settled, unless a command of its callback ended the connection.
+    fn settle_unless_disconnected(
+        &mut self,
+        asked: ChannelRequest,
+        granted: bool,
+    ) -> Result<(), TableError>
+        ensures world { OnOk result ((w : World) → Refines self.old w → Refines self.new
+            (unless_ended (lined (settles_one asked.place asked.channel.0 granted)) w)) }
         ensures memory { IfErr result (λ e. e ≡ NoMemory) }
         ensures session { IsSameSession self.old self.new }
     {
         if self.common.disconnected {
             return Ok(());
         }
-        self.take_reply(channel, message)
-    }
-
-    /// CHANNEL_SUCCESS or CHANNEL_FAILURE, as a command.
-    pub(crate) fn reply_to<E, F>(
-        &mut self,
-        channel: ChannelId,
-        granted: bool,
-    ) -> Result<Done, RunError<E, F>>
-        ensures does { (w : World) → Refines self.old w →
-            HasEffect (accepts (lined (replies channel.0 (reply_of granted)) w)) self.new result }
-        ensures unchanged { OnErr result (IsUnchanged self.old self.new) }
-        ensures session { IsSameSession self.old self.new }
-    {
-        self.take_reply(channel, reply_of(granted))?;
-        Ok(Done::accepted())
+        self.settle_one(asked, granted)
     }
 
     /// A request: its channel's user and the handler are told, and the reply is theirs.
@@ -109,8 +142,14 @@ impl Session {
             (O.Transport.heard outside.old) (O.Transport.heard outside.new) self.new result }
         ensures same { AreSame (O.Transport.heard outside.old) (O.Transport.heard outside.new) }
     {
-        self.want_reply(channel, wanted);
-        self.tell(outside, channel, message, happening)
+        match self.owe_reply(channel, wanted) {
+            Ok(asked) => self.tell(outside, Some(asked), channel, message, happening),
+            Err(e) => {
+                drop(message);
+                drop(happening);
+                Err(RunError::from(e))
+            }
+        }
     }
 
     /// A request that is not known is answered by failure.
@@ -123,8 +162,8 @@ impl Session {
             Turned (spoken_acts w (AsksUnknown channel wanted)) w self.new result }
         ensures session { IsSameSession self.old self.new }
     {
-        self.want_reply(channel, wanted);
-        self.take_reply(channel, CHANNEL_FAILURE)?;
+        let asked = self.owe_reply(channel, wanted)?;
+        self.settle_one(asked, false)?;
         Ok(())
     }
 
@@ -141,11 +180,11 @@ impl Session {
             (O.Transport.heard outside.new) self.new result }
         ensures same { AreSame (O.Transport.heard outside.old) (O.Transport.heard outside.new) }
     {
-        self.want_reply(channel, wanted);
-        let message = ChannelMsg::AgentForward { want_reply: true };
+        let asked = self.owe_reply(channel, wanted)?;
+        let message = ChannelMsg::AgentForward { want_reply: wanted };
         self.note(outside, Notice::Channel(channel, message))?;
-        let granted = self.judge(outside, Judged::AgentRequest { channel })?;
-        self.reply_unless_ended(channel, reply_of(granted))?;
+        let granted = self.judge(outside, Some(asked), Judged::AgentRequest { channel })?;
+        self.settle_unless_disconnected(asked, granted)?;
         Ok(())
     }
 }

@@ -93,6 +93,7 @@ impl Session {
         let message = ChannelMsg::WindowAdjusted { new_size };
         self.tell(
             outside,
+            None,
             channel,
             message,
             Happening::WindowAdjusted { new_size },
@@ -112,7 +113,7 @@ impl Session {
             (O.Transport.heard outside.new) self.new result }
         ensures same { AreSame (O.Transport.heard outside.old) (O.Transport.heard outside.new) }
     {
-        let target = self.target;
+        let target = self.table.target(channel);
         match self.take_in(channel, &piece.bytes)? {
             Adjusted::Dropped => Ok(()),
             Adjusted::Kept => self.tell_data(outside, channel, piece),
@@ -155,7 +156,7 @@ impl Session {
         ensures same { AreSame (O.Transport.heard outside.old) (O.Transport.heard outside.new) }
     {
         let happening = happening_of(piece.kind, piece.bytes);
-        self.call(outside, Lent::Happened(channel, happening))
+        self.call(outside, None, Lent::Happened(channel, happening))
     }
 
     /// Both are told of data.

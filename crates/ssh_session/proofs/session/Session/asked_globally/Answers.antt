@@ -16,7 +16,7 @@ returns-in_err-granted-clause-does g c = λ w r later.
     let next : Bool → World → Plan Outcome = λ granted world.
     acts later (unless_ended (settles_global (global_reply granted None)) world) in
     let all : Plan Outcome = Ask (Judges c.args.judged) (λ (answer : Judgement).
-    done_all 0 answer.commands v (next answer.granted)) in
+    done_all None 0 answer.commands v (next answer.granted)) in
     passed all next (λ (_ : Unit {0}). acts later) _ _ c.judge.new.self c.judge.new.self _ _
     c.from_residual.ensures.1 (c.in_err-granted.ensures.does v q next)
 
@@ -27,7 +27,7 @@ returns-clause-does g c = λ w r later.
     let next : Bool → World → Plan Outcome = λ granted world.
     acts later (unless_ended (settles_global (global_reply granted None)) world) in
     let all : Plan Outcome = Ask (Judges c.args.judged) (λ (answer : Judgement).
-    done_all 0 answer.commands v (next answer.granted)) in
+    done_all None 0 answer.commands v (next answer.granted)) in
     let granted = c.in_ok-granted.granted in
     let settled = c.settle_unless_ended in
     served_both granted all next (λ (_ : Unit {0}). acts later) _ _ _ c.judge.new.self

@@ -1,4 +1,4 @@
-use Rattle.std.proofs.Common.{Bool, ℕ}
+use Rattle.std.proofs.Common.{None, Bool, ℕ}
 use Rattle.ssh_auth.specs.declared.question.Question.TheVariants.{Listens}
 use Rattle.ssh_auth.specs.Plan.{Plan, Ask, Listening}
 use Rattle.ssh_rules.specs.Acts.{acts, done_all}
@@ -17,7 +17,7 @@ returns-in_err-granted-clause-does g c = λ w r later.
     let next : Bool → ℕ → World → Plan Outcome = λ granted bound world.
     acts later (unless_ended (settles_global (global_reply granted (bound_to port bound))) world) in
     let all : Plan Outcome = Ask (Listens c.args.address port) (λ (answer : Listening).
-    done_all 0 answer.commands v (next answer.granted answer.port)) in
+    done_all None 0 answer.commands v (next answer.granted answer.port)) in
     passed all (λ (told : Bool × ℕ). next told.0 told.1)
     (λ (_ : Unit {0}). acts later) _ _ c.listen.new.self
     c.listen.new.self _ _ c.from_residual.ensures.1
@@ -31,7 +31,7 @@ returns-clause-does g c = λ w r later.
     let next : Bool → ℕ → World → Plan Outcome = λ granted bound world.
     acts later (unless_ended (settles_global (global_reply granted (bound_to port bound))) world) in
     let all : Plan Outcome = Ask (Listens c.args.address port) (λ (answer : Listening).
-    done_all 0 answer.commands v (next answer.granted answer.port)) in
+    done_all None 0 answer.commands v (next answer.granted answer.port)) in
     let granted = c.in_ok-granted.granted in
     let bound = c.in_ok-granted.bound in
     let settled = c.settle_unless_ended in

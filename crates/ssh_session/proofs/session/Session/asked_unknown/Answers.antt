@@ -1,12 +1,14 @@
-use Rattle.std.proofs.Common.{refl}
-use Rattle.ssh_channels.specs.Lines.{wants}
-use Rattle.ssh_rules.specs.World.{lined}
+use Rattle.std.proofs.Common.{false, refl, subst}
+use Rattle.ssh_rules.specs.World.{lined, settles_one, wants_if}
+use Rattle.ssh_session.specs.Serve.{Refines}
 use Rattle.ssh_session.proofs.session.Session.asked_unknown.Goals as goal
 
 pub returns-clause-does : goal.returns-clause-does
 returns-clause-does g c = λ w r later.
-    let v = lined (wants c.args.channel.0 c.args.wanted) w in (
+    let v = lined (wants_if c.args.wanted c.args.channel.0) w in (
       _,
       refl,
-      c.in_ok-take_reply.ensures.world v (c.want_reply.ensures.world w r),
+      subst (λ a. Refines c.settle_one.new.self (lined (settles_one a.place a.channel.0 false) v))
+          (c.in_ok-asked.ensures.asked w r)
+          (c.in_ok-settle_one.ensures.world v (c.in_ok-asked.ensures.world w r)),
     )

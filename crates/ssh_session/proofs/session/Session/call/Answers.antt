@@ -10,7 +10,7 @@ use Rattle.ssh_session.proofs.session.Session.call.Goals as goal
 pub returns-in-Ok-clause-does : goal.returns-in-Ok-clause-does
 returns-in-Ok-clause-does g c = λ w r later.
     let question = Lends c.args.lent in
-    let next : List Command → Plan Outcome = λ commands. done_all 0 commands w (acts later) in
+    let next : List Command → Plan Outcome = λ commands. done_all c.args.at 0 commands w (acts later) in
     served_both c.in-Ok.commands (Ask question next) (λ given _. next given) (λ (_ : Unit {0}).
     acts later) _ _ _
     c.args.self.now c.finish_commands.new.self c.finish_commands.result
@@ -19,6 +19,6 @@ returns-in-Ok-clause-does g c = λ w r later.
 
 pub returns-in-Err-clause-does : goal.returns-in-Err-clause-does
 returns-in-Err-clause-does g c = λ w r later.
-    asked_in_vain (Lends c.args.lent) (λ commands. done_all 0 commands w (acts later))
+    asked_in_vain (Lends c.args.lent) (λ commands. done_all c.args.at 0 commands w (acts later))
     (λ (_ : Unit {0}). acts later) _ _
     c.args.self.now c.in-Err.e c.in-Err.ensures

@@ -3,7 +3,7 @@ use Rattle.ssh_link.specs.declared.outcome.CommandOutcome.{CommandOutcome}
 use Rattle.ssh_auth.specs.Plan.{Plan}
 use Rattle.ssh_session.specs.declared.apply.Done.{Done}
 use Rattle.ssh_rules.specs.Acts.{done_all, tell_done}
-use Rattle.ssh_rules.specs.Effect.{effect}
+use Rattle.ssh_rules.specs.Effect.{effect_at}
 use Rattle.ssh_rules.specs.Outcome.{Outcome}
 use Rattle.ssh_rules.specs.World.{World}
 use Rattle.ssh_session.proofs.Commanding.{commanded, not_noticed, not_done}
@@ -12,45 +12,45 @@ use Rattle.ssh_session.proofs.session.Session.finish_command.Goals as goal
 
 pub returns-in_err-notice-clause-does : goal.returns-in_err-notice-clause-does
 returns-in_err-notice-clause-does g c = λ w r later next.
-    let finish : Unit {0} → World → Plan Outcome = λ _ world. done_all (c.args.place + 1) later
+    let finish : Unit {0} → World → Plan Outcome = λ _ world. done_all c.args.at (c.args.place + 1) later
     world next in
     let onward : CommandOutcome → World → Plan Outcome =
-    λ outcome world. tell_done c.args.place outcome (done_all (c.args.place + 1) later world next)
+    λ outcome world. tell_done c.args.place outcome (done_all c.args.at (c.args.place + 1) later world next)
     in
-    passed (done_all c.args.place (c.args.command ∷ later) w next) finish finish _ _
+    passed (done_all c.args.at c.args.place (c.args.command ∷ later) w next) finish finish _ _
     c.carry_out.new.self c.carry_out.new.self _ _
     c.from_residual.ensures.1
-    (not_done (effect w c.args.command) onward finish _ c.carry_out.new.self c.carry_out.new.self _
+    (not_done (effect_at c.args.at w c.args.command) onward finish _ c.carry_out.new.self c.carry_out.new.self _
     (c.in_err-notice.ensures.does w r))
 
 pub returns-in_err-give-clause-does : goal.returns-in_err-give-clause-does
 returns-in_err-give-clause-does g c = λ w r later next.
-    let finish : Unit {0} → World → Plan Outcome = λ _ world. done_all (c.args.place + 1) later
+    let finish : Unit {0} → World → Plan Outcome = λ _ world. done_all c.args.at (c.args.place + 1) later
     world next in
     let onward : CommandOutcome → World → Plan Outcome =
-    λ outcome world. tell_done c.args.place outcome (done_all (c.args.place + 1) later world next)
+    λ outcome world. tell_done c.args.place outcome (done_all c.args.at (c.args.place + 1) later world next)
     in
     let made : Done = c.in_ok-notice.field-0 in
-    passed (done_all c.args.place (c.args.command ∷ later) w next) finish finish _ _
+    passed (done_all c.args.at c.args.place (c.args.command ∷ later) w next) finish finish _ _
     c.carry_out.new.self c.carry_out.new.self _ _
     c.from_residual-in_err-give.ensures.1
-    (not_noticed (effect w c.args.command) onward finish made _ _ c.carry_out.new.self
+    (not_noticed (effect_at c.args.at w c.args.command) onward finish made _ _ c.carry_out.new.self
     c.carry_out.new.self
     _
     (c.in_ok-notice.ensures.does w r) (λ v q l. c.in_err-give.ensures.does v q l))
 
 pub returns-clause-does : goal.returns-clause-does
 returns-clause-does g c = λ w r later next.
-    let finish : Unit {0} → World → Plan Outcome = λ _ world. done_all (c.args.place + 1) later
+    let finish : Unit {0} → World → Plan Outcome = λ _ world. done_all c.args.at (c.args.place + 1) later
     world next in
     let onward : CommandOutcome → World → Plan Outcome =
-    λ outcome world. tell_done c.args.place outcome (done_all (c.args.place + 1) later world next)
+    λ outcome world. tell_done c.args.place outcome (done_all c.args.at (c.args.place + 1) later world next)
     in
     let made : Done = c.in_ok-notice.field-0 in
-    commanded (effect w c.args.command) onward finish made _ _ _ c.carry_out.new.self
+    commanded (effect_at c.args.at w c.args.command) onward finish made _ _ _ c.carry_out.new.self
     c.carry_out.new.self
     c.tell_done.result
     (c.in_ok-notice.ensures.does w r) (λ v q l. c.in_ok-give.ensures.does v q l)
-    (λ v q. settled_by (onward made.outcome v) (λ u. done_all (c.args.place + 1) later u next) _ _ v
+    (λ v q. settled_by (onward made.outcome v) (λ u. done_all c.args.at (c.args.place + 1) later u next) _ _ v
     c.carry_out.new.self
-    c.tell_done.result q (c.tell_done.ensures.does v q (done_all (c.args.place + 1) later v next)))
+    c.tell_done.result q (c.tell_done.ensures.does v q (done_all c.args.at (c.args.place + 1) later v next)))

@@ -12,7 +12,7 @@ use Rattle.ssh_session.proofs.session.Session.finish_commands.Goals as goal
 pub loop-place-init : goal.loop-place-init
 loop-place-init g c = record {
   left = omega arith;
-  does = λ w r next. serves_nothing tt (λ (_ : Unit {0}) world. done_all 0 c.args.commands world
+  does = λ w r next. serves_nothing tt (λ (_ : Unit {0}) world. done_all c.args.at 0 c.args.commands world
       next) _ w c.args.self.now r;
   session = (refl, refl, refl);
   same = same_as (g.O.Transport.heard c.args.outside.now);
@@ -24,11 +24,11 @@ loop-place-preserved g c = record {
       omega (arith, l, e);
   does = λ w r next.
       let place = c.loop-place.place in
-      let done_so : Unit {0} → World → Plan Outcome = λ _ v. done_all place c.loop-place.commands v
+      let done_so : Unit {0} → World → Plan Outcome = λ _ v. done_all c.args.at place c.loop-place.commands v
       next in
-      let more : Unit {0} → World → Plan Outcome = λ _ v. done_all (place + 1) c.take_first.new.self
+      let more : Unit {0} → World → Plan Outcome = λ _ v. done_all c.args.at (place + 1) c.take_first.new.self
       v next in
-      served_both tt (done_all 0 c.args.commands w next) done_so more _ _ _ c.loop-place.self
+      served_both tt (done_all c.args.at 0 c.args.commands w next) done_so more _ _ _ c.loop-place.self
       c.finish_command.new.self (Ok tt)
       (c.loop-place.invariant.does w r next)
       (λ v q. rw c.in-Some.ensures (c.in_default-finish_command.ensures.does v q
@@ -43,13 +43,13 @@ loop-place-preserved g c = record {
 pub returns-in-Err-clause-does : goal.returns-in-Err-clause-does
 returns-in-Err-clause-does g c = λ w r next.
     let place = c.loop-place.place in
-    let done_so : Unit {0} → World → Plan Outcome = λ _ v. done_all place c.loop-place.commands v
+    let done_so : Unit {0} → World → Plan Outcome = λ _ v. done_all c.args.at place c.loop-place.commands v
     next in
-    served_then_error tt (done_all 0 c.args.commands w next) done_so (λ (_ : Unit {0}). next) _ _ _
+    served_then_error tt (done_all c.args.at 0 c.args.commands w next) done_so (λ (_ : Unit {0}). next) _ _ _
     c.loop-place.self
     c.finish_command.new.self c.in-Err.e (c.loop-place.invariant.does w r next)
-    (λ v. λ (_ : Unit {0}) u. done_all (place + 1) c.take_first.new.self u next)
-    (λ v q. subst (λ l. Serves (done_all place l v next) (λ (_ : Unit {0}) u. done_all (place + 1)
+    (λ v. λ (_ : Unit {0}) u. done_all c.args.at (place + 1) c.take_first.new.self u next)
+    (λ v q. subst (λ l. Serves (done_all c.args.at place l v next) (λ (_ : Unit {0}) u. done_all c.args.at (place + 1)
     c.take_first.new.self u next)
     (g.O.Transport.heard c.loop-place.outside) (g.O.Transport.heard c.finish_command.new.outside)
     c.finish_command.new.self (Err c.in-Err.e))
@@ -66,8 +66,8 @@ returns-clause-does g c = λ w r next.
       s.1,
       (
         s.2.0,
-        subst (λ l. Reaches (done_all 0 c.args.commands w next) s.0
-            (done_all c.loop-place.place l s.2.0 next)) none s.2.1,
+        subst (λ l. Reaches (done_all c.args.at 0 c.args.commands w next) s.0
+            (done_all c.args.at c.loop-place.place l s.2.0 next)) none s.2.1,
         s.2.2,
       ),
     )

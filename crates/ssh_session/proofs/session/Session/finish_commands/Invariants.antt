@@ -11,7 +11,7 @@ abbrev pub invariant-loop-place : goal.invariant-loop-place
 invariant-loop-place g l = record {
   left : l.place + length l.commands ≡ length l.fn.commands;
   does : (w : World) → Refines l.fn.self w → (next : World → Plan Outcome) →
-      Serves (done_all 0 l.fn.commands w next) (λ (_ : Unit {0}) world. done_all l.place l.commands
+      Serves (done_all l.fn.at 0 l.fn.commands w next) (λ (_ : Unit {0}) world. done_all l.fn.at l.place l.commands
       world next)
       (g.O.Transport.heard l.fn.outside) (g.O.Transport.heard l.outside) l.self (Ok tt);
   session : IsSameSession l.fn.self l.self;

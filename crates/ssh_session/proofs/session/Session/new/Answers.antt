@@ -1,5 +1,4 @@
-use Rattle.std.proofs.Common.{rules, sym, refl, arith}
-use Rattle.std.proofs.Math.Nat.{min-eq_left}
+use Rattle.std.proofs.Common.{rules, refl}
 use Rattle.ssh_session.proofs.session.Session.new.Goals as goal
 
 pub returns-clause-opens : goal.returns-clause-opens
@@ -12,7 +11,7 @@ returns-clause-opens c = λ repeatable. record {
   name = search rules;
   table = search rules;
   opens = search rules;
-  target = sym (min-eq_left (omega arith));
+  no_more_sessions = refl;
   wanted = refl;
   outstanding = search rules;
   keepalives = refl;

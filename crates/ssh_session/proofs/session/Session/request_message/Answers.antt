@@ -1,5 +1,5 @@
 use Rattle.std.proofs.Common.{◌∙◌, inl, inr, refl, sym, subst, Ok}
-use Rattle.ssh_rules.specs.declared.messages.Spoken.TheVariants.{Wants}
+use Rattle.ssh_rules.specs.declared.messages.Spoken.TheVariants.{Nothing}
 use Rattle.ssh_rules.specs.Messages.{request, request_on}
 use Rattle.ssh_rules.specs.World.{is_there}
 use Rattle.ssh_rules.specs.Spelling.{Spells}
@@ -21,7 +21,7 @@ returns-then-not-is_there c = λ w r.
       asked.rest.now,
       c.in_ok-asked.ensures,
       subst (λ b. Spells (request_on b asked.wanted n asked.name.now) asked.rest.now
-          (Ok (Wants asked.channel asked.wanted))) (sym absent) refl,
+          (Ok Nothing)) (sym absent) refl,
     )
 
 pub returns : goal.returns

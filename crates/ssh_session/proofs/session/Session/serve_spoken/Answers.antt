@@ -1,9 +1,8 @@
 use Rattle.std.proofs.Common.{[], false, refl}
-use Rattle.ssh_channels.specs.Lines.{wants}
 use Rattle.ssh_rules.specs.Acts.{acts}
-use Rattle.ssh_rules.specs.World.{lined}
 use Rattle.ssh_rules.specs.declared.messages.Spoken.TheVariants.{AsksUnknown}
 use Rattle.ssh_rules.specs.declared.messages.Spoken.TheVariants.{AsksGloballyUnknown}
+use Rattle.ssh_rules.specs.declared.messages.Spoken.TheVariants.{GivesUpSessions}
 use Rattle.ssh_rules.specs.Rows.{spoken_acts}
 use Rattle.ssh_session.proofs.Serving.{serves_nothing, turned, hears_nothing}
 use Rattle.ssh_session.proofs.session.Session.serve_spoken.Goals as goal
@@ -28,12 +27,6 @@ returns-in-Tells-clause-does g c = λ w r later. rw c.in-Tells.is (c.tell_on.ens
 pub returns-in-Close-clause-does : goal.returns-in-Close-clause-does
 returns-in-Close-clause-does g c = λ w r later.
     rw c.in-Close.is (c.peer_close.ensures.does w r later)
-
-pub returns-in-Wants-clause-does : goal.returns-in-Wants-clause-does
-returns-in-Wants-clause-does g c = λ w r later.
-    rw c.in-Wants.is (serves_nothing tt (λ (_ : Unit {0}). acts later) _
-    (lined (wants c.in-Wants.channel.0 c.in-Wants.wanted) w) c.want_reply.new.self
-    (c.want_reply.ensures.world w r))
 
 pub returns-in-Asks-clause-does : goal.returns-in-Asks-clause-does
 returns-in-Asks-clause-does g c = λ w r later. rw c.in-Asks.is (c.asked.ensures.does w r later)
@@ -61,6 +54,12 @@ returns-in-AsksGloballyUnknown-clause-does g c = λ w r later.
     rw c.in-AsksGloballyUnknown.is (turned (spoken_acts w
     (AsksGloballyUnknown c.in-AsksGloballyUnknown.wanted)) w _ c.asked_globally_unknown.new.self
     c.asked_globally_unknown.result (c.asked_globally_unknown.ensures.does w r) later)
+
+pub returns-in-GivesUpSessions-clause-does : goal.returns-in-GivesUpSessions-clause-does
+returns-in-GivesUpSessions-clause-does g c = λ w r later.
+    rw c.in-GivesUpSessions.is (turned (spoken_acts w
+    (GivesUpSessions c.in-GivesUpSessions.wanted)) w _ c.gave_up_sessions.new.self
+    c.gave_up_sessions.result (c.gave_up_sessions.ensures.does w r) later)
 
 pub returns-in-Settles-clause-does : goal.returns-in-Settles-clause-does
 returns-in-Settles-clause-does g c = λ w r later.

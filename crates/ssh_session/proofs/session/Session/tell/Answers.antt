@@ -9,7 +9,7 @@ use Rattle.ssh_session.proofs.session.Session.tell.Goals as goal
 
 pub returns-in-Err-clause-does : goal.returns-in-Err-clause-does
 returns-in-Err-clause-does g c = λ w r later.
-    let rest = acts (Calls (Happened c.args.channel c.args.happening) ∷ later) w in
+    let rest = acts (Calls c.args.at (Happened c.args.channel c.args.happening) ∷ later) w in
     passed (Tell (Noticed (Channel c.args.channel c.args.message)) rest) (λ (_ : Unit {0}) _. rest)
     (λ (_ : Unit {0}). acts later) _ _ c.args.self.now c.args.self.now c.in-Err.e
     (Err c.in-Err.e) refl
@@ -17,7 +17,7 @@ returns-in-Err-clause-does g c = λ w r later.
 
 pub returns-in-Ok-clause-does : goal.returns-in-Ok-clause-does
 returns-in-Ok-clause-does g c = λ w r later.
-    let rest = acts (Calls (Happened c.args.channel c.args.happening) ∷ later) w in
+    let rest = acts (Calls c.args.at (Happened c.args.channel c.args.happening) ∷ later) w in
     served_both tt (Tell (Noticed (Channel c.args.channel c.args.message)) rest)
     (λ (_ : Unit {0}) _. rest)
     (λ (_ : Unit {0}). acts later) _ _ _ c.args.self.now c.call.new.self c.call.result
