@@ -266,11 +266,10 @@ fn the_port_is_told_where_this_side_chose_it(rt: HostRuntime) {
 }
 
 // Names that no callback is for, and what stands behind the flag.
-static UNKNOWN: [(&[u8], &[u8]); 8] = [
+static UNKNOWN: [(&[u8], &[u8]); 7] = [
     (b"\0\0\0\x01x", b""),
     (b"\0\0\0\0", b"\xff"),
     (b"\0\0\0\x15keepalive@openssh.com", b""),
-    (b"\0\0\0\x1cno-more-sessions@openssh.com", b""),
     (b"\0\0\0\x17hostkeys-00@openssh.com", b"\xff\xff\xff\xff"),
     (b"\0\0\0\x0dTcpip-forward", b"\0\0\0\0\0\0\0\x16"),
     (b"\0\0\0\x0etcpip-forward ", b"\0\0\0\0\0\0\0\x16"),

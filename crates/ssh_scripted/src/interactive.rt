@@ -70,7 +70,7 @@ pub static INTERACTIVE: Case = Case {
         notice 2 RequestPty 1 787465726d2d323536636f6c6f72 80 24 640 480 129:38400,128:38400,53:1\n\
         send 2 6300000000\n\
         input 9\n\
-        notice 2 SetEnv 1 4c414e47 432e5554462d38\n\
+        notice 2 SetEnv 0 4c414e47 432e5554462d38\n\
         input 10\n\
         notice 2 RequestShell 1\n\
         send 2 6300000000\n\

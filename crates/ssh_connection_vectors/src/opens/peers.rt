@@ -2,7 +2,7 @@
 use ssh_scripted::Row;
 use std::test::*;
 
-static OPENS: [Row; 9] = [
+static OPENS: [Row; 11] = [
     Row {
         shows: "a connection to a host (RFC 4254 section 7.2)",
         settings: b"",
@@ -210,6 +210,42 @@ static OPENS: [Row; 9] = [
             send 2 5c000000070000000300000014556e6b6e6f776e206368616e6e656c207479706500000002656e\n\
             input 4\n\
             ok\n",
+    },
+    Row {
+        shows: "\
+            once the peer gave up opening sessions one is refused, and other channels are not \
+            (OpenSSH PROTOCOL section 2.2)",
+        settings: b"",
+        inputs: b"\
+            recv 500000001c6e6f2d6d6f72652d73657373696f6e73406f70656e7373682e636f6d00\n\
+            recv 5a0000000773657373696f6e000000070010000000008000\n\
+            recv 500000001c6e6f2d6d6f72652d73657373696f6e73406f70656e7373682e636f6d01\n\
+            recv 5a000000037831310000000700100000000080000000000c3139322e3136382e372e333800\
+            00177a\n",
+        status: 0,
+        calls: b"call channel_open_x11 3 3139322e3136382e372e3338 6010\n",
+        trace: b"\
+            input 3\n\
+            input 4\n\
+            send 2 5c0000000700000001000000104e6f206d6f72652073657373696f6e7300000002656e\n\
+            input 5\n\
+            send - 51\n\
+            input 6\n\
+            notice 3 Ready 1048576 32768\n\
+            send 3 5b00000007000000030020000000008000\n\
+            input 7\n\
+            ok\n",
+    },
+    Row {
+        shows: "behind the flag of giving up sessions nothing stands",
+        settings: b"",
+        inputs: b"\
+            recv 500000001c6e6f2d6d6f72652d73657373696f6e73406f70656e7373682e636f6d0000\n",
+        status: 1,
+        calls: b"",
+        trace: b"\
+            input 3\n\
+            error Encoding\n",
     },
 ];
 

@@ -11,8 +11,8 @@ struct Known {
     // Its type, and what stands behind its flag.
     name: &'static [u8],
     rest: &'static [u8],
-    // How it is told.
-    notice: &'static [u8],
+    // How it is told, where it wants no reply and where it wants one.
+    notices: [&'static [u8]; 2],
     call: &'static [u8],
     // What goes out where the callback records no answer.
     unanswered: &'static [u8],
@@ -24,36 +24,47 @@ static KNOWN: [Known; 13] = [
         rest: b"\
             \0\0\0\x05xterm\0\0\0\x50\0\0\0\x18\0\0\x02\x80\0\0\x01\xe0\
             \0\0\0\x0b\x01\0\0\0\x03\x35\0\0\0\x01\0",
-        notice: b"notice 2 RequestPty 1 787465726d 80 24 640 480 1:3,53:1\n",
+        notices: [
+            b"notice 2 RequestPty 0 787465726d 80 24 640 480 1:3,53:1\n",
+            b"notice 2 RequestPty 1 787465726d 80 24 640 480 1:3,53:1\n",
+        ],
         call: b"call pty_request 2 787465726d 80 24 640 480 1:3,53:1\n",
         unanswered: b"",
     },
     Known {
         name: b"x11-req",
         rest: b"\x01\0\0\0\x12MIT-MAGIC-COOKIE-1\0\0\0\x04beef\0\0\0\x07",
-        notice: b"\
-            notice 2 RequestX11 1 1 4d49542d4d414749432d434f4f4b49452d31 62656566 7\n",
+        notices: [
+            b"notice 2 RequestX11 0 1 4d49542d4d414749432d434f4f4b49452d31 62656566 7\n",
+            b"notice 2 RequestX11 1 1 4d49542d4d414749432d434f4f4b49452d31 62656566 7\n",
+        ],
         call: b"call x11_request 2 1 4d49542d4d414749432d434f4f4b49452d31 62656566 7\n",
         unanswered: b"",
     },
     Known {
         name: b"x11-req",
         rest: b"\0\0\0\0\0\0\0\0\0\xff\xff\xff\xff",
-        notice: b"notice 2 RequestX11 1 0 - - 4294967295\n",
+        notices: [
+            b"notice 2 RequestX11 0 0 - - 4294967295\n",
+            b"notice 2 RequestX11 1 0 - - 4294967295\n",
+        ],
         call: b"call x11_request 2 0 - - 4294967295\n",
         unanswered: b"",
     },
     Known {
         name: b"env",
         rest: b"\0\0\0\x04LANG\0\0\0\x01C",
-        notice: b"notice 2 SetEnv 1 4c414e47 43\n",
+        notices: [
+            b"notice 2 SetEnv 0 4c414e47 43\n",
+            b"notice 2 SetEnv 1 4c414e47 43\n",
+        ],
         call: b"call env_request 2 4c414e47 43\n",
         unanswered: b"",
     },
     Known {
         name: b"shell",
         rest: b"",
-        notice: b"notice 2 RequestShell 1\n",
+        notices: [b"notice 2 RequestShell 0\n", b"notice 2 RequestShell 1\n"],
         call: b"call shell_request 2\n",
         unanswered: b"",
     },
@@ -61,35 +72,41 @@ static KNOWN: [Known; 13] = [
     Known {
         name: b"exec",
         rest: b"\0\0\0\x04ls \xff",
-        notice: b"notice 2 Exec 1 6c7320ff\n",
+        notices: [b"notice 2 Exec 0 6c7320ff\n", b"notice 2 Exec 1 6c7320ff\n"],
         call: b"call exec_request 2 6c7320ff\n",
         unanswered: b"",
     },
     Known {
         name: b"exec",
         rest: b"\0\0\0\0",
-        notice: b"notice 2 Exec 1 -\n",
+        notices: [b"notice 2 Exec 0 -\n", b"notice 2 Exec 1 -\n"],
         call: b"call exec_request 2 -\n",
         unanswered: b"",
     },
     Known {
         name: b"subsystem",
         rest: b"\0\0\0\x04sftp",
-        notice: b"notice 2 RequestSubsystem 1 73667470\n",
+        notices: [
+            b"notice 2 RequestSubsystem 0 73667470\n",
+            b"notice 2 RequestSubsystem 1 73667470\n",
+        ],
         call: b"call subsystem_request 2 73667470\n",
         unanswered: b"",
     },
     Known {
         name: b"window-change",
         rest: b"\0\0\0\x84\0\0\0\x2b\0\0\x04\x20\0\0\x02\xb0",
-        notice: b"notice 2 WindowChange 132 43 1056 688\n",
+        notices: [
+            b"notice 2 WindowChange 132 43 1056 688\n",
+            b"notice 2 WindowChange 132 43 1056 688\n",
+        ],
         call: b"call window_change_request 2 132 43 1056 688\n",
         unanswered: b"",
     },
     Known {
         name: b"signal",
         rest: b"\0\0\0\x04TERM",
-        notice: b"notice 2 Signal 5445524d\n",
+        notices: [b"notice 2 Signal 5445524d\n", b"notice 2 Signal 5445524d\n"],
         call: b"call signal 2 5445524d\n",
         unanswered: b"",
     },
@@ -97,7 +114,10 @@ static KNOWN: [Known; 13] = [
     Known {
         name: b"signal",
         rest: b"\0\0\0\x05WINCH",
-        notice: b"notice 2 Signal 57494e4348\n",
+        notices: [
+            b"notice 2 Signal 57494e4348\n",
+            b"notice 2 Signal 57494e4348\n",
+        ],
         call: b"call signal 2 57494e4348\n",
         unanswered: b"",
     },
@@ -105,7 +125,7 @@ static KNOWN: [Known; 13] = [
     Known {
         name: b"auth-agent-req@openssh.com",
         rest: b"",
-        notice: b"notice 2 AgentForward 1\n",
+        notices: [b"notice 2 AgentForward 0\n", b"notice 2 AgentForward 1\n"],
         call: b"call agent_request 2\n",
         unanswered: FAILURE,
     },
@@ -113,7 +133,10 @@ static KNOWN: [Known; 13] = [
     Known {
         name: b"pty-req",
         rest: b"\0\0\0\0\0\0\0\0\0\0\0\0\0\0\0\0\0\0\0\0\0\0\0\0",
-        notice: b"notice 2 RequestPty 1 - 0 0 0 0 -\n",
+        notices: [
+            b"notice 2 RequestPty 0 - 0 0 0 0 -\n",
+            b"notice 2 RequestPty 1 - 0 0 0 0 -\n",
+        ],
         call: b"call pty_request 2 - 0 0 0 0 -\n",
         unanswered: b"",
     },
@@ -133,10 +156,10 @@ fn is_answered(alloc: Global, known: Known, setting: &[u8], frame: &'static [u8]
     let answered = Outcome {
         status: 0,
         calls: [known.call, b"", b""],
-        trace: [known.notice, frame, OVER],
+        trace: [known.notices[1], frame, OVER],
     };
     let silent = Outcome {
-        trace: [known.notice, b"", OVER],
+        trace: [known.notices[0], b"", OVER],
         ..answered
     };
     comes_to(

@@ -1,8 +1,9 @@
-// Replies to requests (RFC 4254 section 5.4): at most one for each request that wants one.
+// Replies to requests (RFC 4254 section 5.4): one for each request that wants one, in the order of
+// the requests.
 use ssh_scripted::Row;
 use std::test::*;
 
-static REPLIES: [Row; 13] = [
+static REPLIES: [Row; 15] = [
     Row {
         shows: "a reply by a command is sent once",
         settings: b"answer request silent\n",
@@ -116,7 +117,7 @@ static REPLIES: [Row; 13] = [
             ok\n",
     },
     Row {
-        shows: "a later request that wants no reply takes the place of one that waits for it",
+        shows: "a later request that wants no reply leaves the one that waits for its own",
         settings: b"answer request silent\n",
         inputs: b"\
             recv 5a0000000773657373696f6e000000070010000000008000\n\
@@ -138,17 +139,19 @@ static REPLIES: [Row; 13] = [
             notice 2 WindowChange 132 43 0 0\n\
             input 6\n\
             done 1 accepted\n\
+            send 2 6300000007\n\
             input 7\n\
             ok\n",
     },
     Row {
-        shows: "of two requests that wait the later one has the reply, and it is one",
+        shows: "two requests that wait are replied to one by one, the first one first",
         settings: b"answer request silent\n",
         inputs: b"\
             recv 5a0000000773657373696f6e000000070010000000008000\n\
             recv 620000000200000003656e760100000001410000000162\n\
             recv 6200000002000000057368656c6c01\n\
             success 2\n\
+            failure 2\n\
             success 2\n",
         status: 0,
         calls: b"\
@@ -168,11 +171,14 @@ static REPLIES: [Row; 13] = [
             send 2 6300000007\n\
             input 7\n\
             done 2 accepted\n\
+            send 2 6400000007\n\
             input 8\n\
+            done 3 accepted\n\
+            input 9\n\
             ok\n",
     },
     Row {
-        shows: "an unknown request takes the place of one that waits, and spends its reply",
+        shows: "the refusal of an unknown request waits for the reply before it",
         settings: b"answer request silent\n",
         inputs: b"\
             recv 5a0000000773657373696f6e000000070010000000008000\n\
@@ -190,14 +196,15 @@ static REPLIES: [Row; 13] = [
             input 4\n\
             notice 2 RequestShell 1\n\
             input 5\n\
-            send 2 6400000007\n\
             input 6\n\
             done 1 accepted\n\
+            send 2 6300000007\n\
+            send 2 6400000007\n\
             input 7\n\
             ok\n",
     },
     Row {
-        shows: "an unknown request that wants no reply takes the place of one that waits, too",
+        shows: "an unknown request that wants no reply changes nothing",
         settings: b"answer request silent\n",
         inputs: b"\
             recv 5a0000000773657373696f6e000000070010000000008000\n\
@@ -217,7 +224,65 @@ static REPLIES: [Row; 13] = [
             input 5\n\
             input 6\n\
             done 1 accepted\n\
+            send 2 6300000007\n\
             input 7\n\
+            ok\n",
+    },
+    Row {
+        shows: "the answer about the agent waits for the reply before it",
+        settings: b"answer request silent\n",
+        inputs: b"\
+            recv 5a0000000773657373696f6e000000070010000000008000\n\
+            recv 6200000002000000057368656c6c01\n\
+            recv 62000000020000001a617574682d6167656e742d726571406f70656e7373682e636f6d01\n\
+            failure 2\n",
+        status: 0,
+        calls: b"\
+            call channel_open_session 2\n\
+            call shell_request 2\n\
+            call agent_request 2\n",
+        trace: b"\
+            input 3\n\
+            notice 2 Ready 1048576 32768\n\
+            send 2 5b00000007000000020020000000008000\n\
+            input 4\n\
+            notice 2 RequestShell 1\n\
+            input 5\n\
+            notice 2 AgentForward 1\n\
+            input 6\n\
+            done 1 accepted\n\
+            send 2 6400000007\n\
+            send 2 6400000007\n\
+            input 7\n\
+            ok\n",
+    },
+    Row {
+        shows: "on a channel that closes the replies that are owed are dropped",
+        settings: b"answer request silent\n",
+        inputs: b"\
+            recv 5a0000000773657373696f6e000000070010000000008000\n\
+            recv 6200000002000000057368656c6c01\n\
+            recv 6200000002000000017801\n\
+            recv 6100000002\n\
+            success 2\n",
+        status: 0,
+        calls: b"\
+            call channel_open_session 2\n\
+            call shell_request 2\n\
+            call channel_close 2\n",
+        trace: b"\
+            input 3\n\
+            notice 2 Ready 1048576 32768\n\
+            send 2 5b00000007000000020020000000008000\n\
+            input 4\n\
+            notice 2 RequestShell 1\n\
+            input 5\n\
+            input 6\n\
+            notice 2 Close\n\
+            send 2 6100000007\n\
+            input 7\n\
+            done 1 refused UnknownChannel\n\
+            input 8\n\
             ok\n",
     },
     Row {

@@ -1,5 +1,5 @@
 // What callbacks of requests ask for (RFC 4254 section 6).
-use ssh_stories::Line::{In, On};
+use ssh_stories::Line::{Asks, In, On};
 use ssh_stories::{CHANNELS, CONFIRMED, Line, OPEN, Plan, QUIET, Story, Told, Wish};
 use std::test::*;
 
@@ -17,6 +17,23 @@ const KILLED: Line<'static> = On(
     \0\0\0\x0dout of memory\0\0\0\x02en",
 );
 
+// The peer asks for a program, and wants a reply.
+const ASKS_PROGRAM: Line<'static> = In(b"\x62\0\0\0\x02\0\0\0\x04exec\x01\0\0\0\x03cat");
+
+// It asks for a shell, about which this handler says nothing.
+const ASKS_SHELL: Line<'static> = In(b"\x62\0\0\0\x02\0\0\0\x05shell\x01");
+
+// A second channel, which the peer calls 8.
+const OPEN_NEXT: Line<'static> = In(b"\x5a\0\0\0\x07session\0\0\0\x08\0\x10\0\0\0\0\x80\0");
+
+const NEXT_CONFIRMED: Line<'static> = On(3, b"\x5b\0\0\0\x08\0\0\0\x03\0\x20\0\0\0\0\x80\0");
+
+// A handler that grants a program on the first channel, whichever channel it is asked for on.
+const SUCCEEDING: Plan = Plan {
+    records: &[Wish::ChannelSuccess(2)],
+    ..QUIET
+};
+
 // A request for the agent, on which the handler has opened a channel and is told of nothing more.
 const AGENT: Story = Story {
     plan: GENEROUS,
@@ -24,7 +41,7 @@ const AGENT: Story = Story {
     ..CHANNELS
 };
 
-static REQUESTS: [Story; 4] = [
+static REQUESTS: [Story; 6] = [
     Story {
         shows: "flow control, and the signal that ended a program; nothing goes out behind a close",
         plan: Plan {
@@ -42,7 +59,7 @@ static REQUESTS: [Story; 4] = [
         turns: &[
             &[OPEN, CONFIRMED],
             &[
-                In(b"\x62\0\0\0\x02\0\0\0\x04exec\x01\0\0\0\x03cat"),
+                ASKS_PROGRAM,
                 On(2, b"\x63\0\0\0\x07"),
                 On(2, b"\x62\0\0\0\x07\0\0\0\x08xon-xoff\0\x01"),
                 KILLED,
@@ -76,6 +93,37 @@ static REQUESTS: [Story; 4] = [
         },
         turns: &[&[OPEN, CONFIRMED], &[ASKS_AGENT, On(2, b"\x61\0\0\0\x07")]],
         ..AGENT
+    },
+    Story {
+        shows: "a reply that its own callback settles waits for the one before it",
+        plan: SUCCEEDING,
+        turns: &[
+            &[OPEN, CONFIRMED],
+            &[ASKS_SHELL],
+            &[ASKS_PROGRAM],
+            &[
+                Asks(Wish::ChannelFailure(2)),
+                On(2, b"\x64\0\0\0\x07"),
+                On(2, b"\x63\0\0\0\x07"),
+            ],
+        ],
+        told: Some(&[Told::Open(2)]),
+        ..CHANNELS
+    },
+    Story {
+        shows: "a callback settles the first reply that is owed on another channel",
+        plan: SUCCEEDING,
+        turns: &[
+            &[OPEN, CONFIRMED],
+            &[OPEN_NEXT, NEXT_CONFIRMED],
+            &[ASKS_SHELL],
+            &[
+                In(b"\x62\0\0\0\x03\0\0\0\x04exec\x01\0\0\0\x03cat"),
+                On(2, b"\x63\0\0\0\x07"),
+            ],
+        ],
+        told: Some(&[Told::Open(2), Told::Open(3)]),
+        ..CHANNELS
     },
 ];
 

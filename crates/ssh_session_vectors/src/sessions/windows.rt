@@ -8,6 +8,11 @@ use std::test::*;
 // The open is confirmed with a window of eight bytes.
 const CONFIRMED_8: Line<'static> = On(2, b"\x5b\0\0\0\x07\0\0\0\x02\0\0\0\x08\0\0\x80\0");
 
+// A second channel, which the peer calls 8, with as large a window.
+const OPEN_NEXT: Line<'static> = In(b"\x5a\0\0\0\x07session\0\0\0\x08\0\x10\0\0\0\0\x80\0");
+
+const NEXT_CONFIRMED_8: Line<'static> = On(3, b"\x5b\0\0\0\x08\0\0\0\x03\0\0\0\x08\0\0\x80\0");
+
 const FIVE_MORE: Line<'static> = On(2, b"\x5d\0\0\0\x07\0\0\0\x05");
 
 const ABCDE: Line<'static> = In(b"\x5e\0\0\0\x02\0\0\0\x05abcde");
@@ -47,7 +52,7 @@ static WINDOWS: [Story; 6] = [
         ..CHANNELS
     },
     Story {
-        shows: "the answer of adjust_window is what windows are filled up to from then on",
+        shows: "the answer of adjust_window is what this channel is filled up to from then on",
         window: Some(8),
         plan: Plan {
             aims: Some(16),
@@ -55,19 +60,23 @@ static WINDOWS: [Story; 6] = [
         },
         turns: &[
             &[OPEN, CONFIRMED_8],
+            &[OPEN_NEXT, NEXT_CONFIRMED_8],
             &[ABCDE, FIVE_MORE],
-            // 8 are left, and 1 byte leaves 7 of 16.
+            // 8 are left, and 1 byte leaves 7 of 16; on the other channel it leaves 7 of 8.
             &[
                 In(b"\x5e\0\0\0\x02\0\0\0\x01f"),
                 On(2, b"\x5d\0\0\0\x07\0\0\0\x09"),
             ],
+            &[In(b"\x5e\0\0\0\x03\0\0\0\x01g")],
         ],
         told: Some(&[
             Told::Open(2),
+            Told::Open(3),
             Told::Filled(2, 8),
             Told::Data(2, 5, Some(b'a')),
             Told::Filled(2, 16),
             Told::Data(2, 1, Some(b'f')),
+            Told::Data(3, 1, Some(b'g')),
         ]),
         ..CHANNELS
     },
