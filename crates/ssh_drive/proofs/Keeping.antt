@@ -1,5 +1,5 @@
 -- What was sent on the channels stays what has to be sent, by each move (RFC 4254 section 5).
-use Rattle.std.proofs.Common.{◌≡◌, ℕ, List, [], ◌∷◌, ◌++◌, map, Bool, true, false, cond}
+use Rattle.std.proofs.Common.{◌≡◌, ℕ, List, [], ◌∷◌, ◌++◌, map, Bool, true, false, cond, None}
 use Rattle.std.proofs.Common.{sym, ◌∙◌, ap, subst, append_assoc}
 use Rattle.std.specs.Prelude.{flat_map}
 use Rattle.std.proofs.lemmas.List.{append-nil}
@@ -101,7 +101,7 @@ said_kept : (past : List TraceEntry) (w : World) (command : Command) (notices : 
     → Kept past w → Kept (past ++ []) world
 said_kept past w command notices outcome world is k =
     subst (λ t. Kept t world) (sym (append-nil past))
-    (subst (EffectComes (Kept past)) is (effect_on past w command k))
+    (subst (EffectComes (Kept past)) is (effect_on None past w command k))
 
 -- ---- what is handed on
 

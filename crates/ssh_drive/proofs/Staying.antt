@@ -1,5 +1,5 @@
 -- What is fixed in a run stays so, move by move.
-use Rattle.std.proofs.Common.{◌≡◌, ℕ, map, subst}
+use Rattle.std.proofs.Common.{◌≡◌, ℕ, map, subst, None}
 use Rattle.ssh_link.specs.declared.link.TraceEntry.TheVariants.{Noticed}
 use Rattle.ssh_auth.specs.Plan.{Follows}
 use Rattle.ssh_auth.specs.Publickey.{Acceptance}
@@ -23,7 +23,7 @@ lead_set accepts settings moment before (Served payload events) to (plan, owes, 
     (owes_live w.disconnected accepts w (coming moment payload) owes.0 told.0 to.world owes.1
     told.2) told.2 set
 lead_set accepts settings moment before (Said command outcome) to leads set =
-    subst (EffectComes (IsSet settings)) leads.1 (effect_set settings before.world command set)
+    subst (EffectComes (IsSet settings)) leads.1 (effect_set None settings before.world command set)
 lead_set accepts settings moment before (Handed_on events) to (plan, owes, follows, none) set =
     let told = told_first (map Noticed before.untold) (hand_on before.world flushed) events
     (Goes to.world) (subst (λ p. Follows p events (Goes to.world)) owes follows) in
