@@ -46,7 +46,7 @@ const GRANTS: u32 = 1024;
 const WORKLOADS: &str = "copy|copy-small|open|out|out-small|in|grant|flush-all";
 
 /// The words that name a workload of a session.
-const SERVINGS: &str = "in|out|out-small|grant";
+const SERVINGS: &str = "in|out|out-small|grant|exchange";
 
 /// What is done, on a table, on a session or on a file server.
 #[derive(Clone, Copy, PartialEq, Eq)]

@@ -8,7 +8,7 @@ use ssh_link::{
     Calls, ChannelOpenHandle, Command, Input, InputKind, Inputs, MemoryLink, PlainKex, TraceEntry,
 };
 use ssh_session::{Flow, Session};
-use ssh_wire::message::{CHANNEL_DATA, CHANNEL_OPEN, CHANNEL_WINDOW_ADJUST};
+use ssh_wire::message::{CHANNEL_DATA, CHANNEL_OPEN, CHANNEL_WINDOW_ADJUST, KEXINIT, NEWKEYS};
 use ssh_wire::{ChannelId, WireError, put_bytes, put_text, put_u8, put_u32};
 use std::alloc::Global;
 
@@ -32,6 +32,9 @@ pub(crate) enum Serving {
     OutSmall,
     /// A grant of 1 KiB lets out as much of what waits: notices, a callback, a frame.
     Grant,
+    /// The peer begins an exchange of keys and ends it, and on no channel anything waits: two
+    /// inputs.
+    Exchange,
 }
 
 pub(crate) fn serving_named(word: &str) -> Option<Serving> {
@@ -40,6 +43,7 @@ pub(crate) fn serving_named(word: &str) -> Option<Serving> {
         "out" => Some(Serving::Out),
         "out-small" => Some(Serving::OutSmall),
         "grant" => Some(Serving::Grant),
+        "exchange" => Some(Serving::Exchange),
         _ => None,
     }
 }
@@ -203,6 +207,15 @@ impl Served {
         Ok(self.takes_payload(payload)? && self.sent())
     }
 
+    fn exchanges(&mut self) -> Result<bool, WireError> {
+        let mut begins = Vec::new(self.alloc);
+        put_u8(&mut begins, KEXINIT)?;
+        let began = self.takes_payload(begins)? && self.sent();
+        let mut ends = Vec::new(self.alloc);
+        put_u8(&mut ends, NEWKEYS)?;
+        Ok(self.takes_payload(ends)? && self.sent() && began)
+    }
+
     fn sends(&mut self, channel: ChannelId, bytes: Bytes) -> bool {
         self.takes(InputKind::Command(0, Command::Data { channel, bytes })) && self.sent()
     }
@@ -263,6 +276,16 @@ fn grant(served: &mut Served, channels: u32, count: u32) -> Result<u64, WireErro
     Ok(done)
 }
 
+fn exchange(served: &mut Served, count: u32) -> Result<u64, WireError> {
+    let mut done: u64 = 0;
+    for _ in 0..count {
+        if served.exchanges()? {
+            done = done.saturating_add(1);
+        }
+    }
+    Ok(done)
+}
+
 /// How many inputs were served: the link was told of each, and handed a frame where one goes out.
 pub(crate) fn serve(
     alloc: Global,
@@ -289,6 +312,10 @@ pub(crate) fn serve(
                 channels.saturating_mul(chunks),
             )?;
             grant(&mut served, channels, count)
+        }
+        Serving::Exchange => {
+            let mut served = opened(alloc, channels, 0)?;
+            exchange(&mut served, count)
         }
     }
 }
