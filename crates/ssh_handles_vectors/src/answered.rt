@@ -110,9 +110,55 @@ fn fails<R: Wait>(
     Ok(())
 }
 
+// A kind of open (RFC 4254 sections 6.1, 6.3.2 and 7.2, OpenSSH PROTOCOL section 2.4).
+#[derive(Clone, Copy)]
+enum Kind {
+    Session,
+    Agent,
+    Connection,
+    Forwarded,
+    Socket,
+    ForwardedSocket,
+    Display,
+}
+
+static KINDS: [Kind; 7] = [
+    Kind::Session,
+    Kind::Agent,
+    Kind::Connection,
+    Kind::Forwarded,
+    Kind::Socket,
+    Kind::ForwardedSocket,
+    Kind::Display,
+];
+
+fn open<R: Wait>(
+    rt: &R,
+    alloc: Global,
+    handle: &mut Handle,
+    kind: Kind,
+) -> Result<Channel, HandleError> {
+    let host = localhost(alloc)?;
+    let from = localhost(alloc)?;
+    match kind {
+        Kind::Session => handle.channel_open_session(rt),
+        Kind::Agent => handle.channel_open_agent(rt),
+        Kind::Connection => handle.channel_open_direct_tcpip(rt, host, 22, from, 4022),
+        Kind::Forwarded => handle.channel_open_forwarded_tcpip(rt, host, 22, from, 4022),
+        Kind::Socket => handle.channel_open_direct_streamlocal(rt, host),
+        Kind::ForwardedSocket => handle.channel_open_forwarded_streamlocal(rt, host),
+        Kind::Display => handle.channel_open_x11(rt, from, 4022),
+    }
+}
+
 // What an open comes to: how many bytes one message of the channel may have.
-fn opens<R: Wait>(rt: &R, mut handle: Handle) -> Result<usize, HandleError> {
-    let mut channel: Channel = handle.channel_open_session(rt)?;
+fn opens<R: Wait>(
+    rt: &R,
+    alloc: Global,
+    mut handle: Handle,
+    kind: Kind,
+) -> Result<usize, HandleError> {
+    let mut channel: Channel = open(rt, alloc, &mut handle, kind)?;
     Ok(channel.writable_packet_size(rt))
 }
 
@@ -120,6 +166,7 @@ fn opens<R: Wait>(rt: &R, mut handle: Handle) -> Result<usize, HandleError> {
 fn opened<R: Threads + Wait + Sync>(
     rt: &R,
     alloc: Global,
+    kind: Kind,
     plan: Plan,
 ) -> Result<usize, HandleError> {
     let (lock, mut seat) = hub(alloc, 3)?;
@@ -127,7 +174,7 @@ fn opened<R: Threads + Wait + Sync>(
     let lock_ref: &HubLock = &lock;
     let (opened, served) = join(
         rt,
-        || opens(rt, handle),
+        || opens(rt, alloc, handle, kind),
         || serves(rt, lock_ref, seat, plan),
     );
     served?;
@@ -195,10 +242,18 @@ fn an_open_comes_to_what_the_session_and_the_peer_answer(rt: HostRuntime) {
     );
     let alloc = rt.alloc();
     assert!(rt;
-        opened(&rt, alloc, Plan::Confirms) == Ok(4)
-            && opened(&rt, alloc, Plan::Fails(reason)) == Err(HandleError::OpenFailed(reason))
-            && opened(&rt, alloc, Plan::Refuses(why)) == Err(HandleError::Refused(why))
+        opened(&rt, alloc, Kind::Session, Plan::Fails(reason))
+            == Err(HandleError::OpenFailed(reason))
+            && opened(&rt, alloc, Kind::Session, Plan::Refuses(why))
+                == Err(HandleError::Refused(why))
     );
+}
+
+#[test]
+fn an_open_of_each_kind_is_confirmed(rt: HostRuntime) {
+    for kind in &KINDS {
+        assert!(rt; opened(&rt, rt.alloc(), *kind, Plan::Confirms) == Ok(4));
+    }
 }
 
 #[test]
@@ -227,7 +282,7 @@ fn a_forward_is_taken_back_or_not(rt: HostRuntime) {
 fn who_waits_for_an_answer_is_told_that_the_hub_ended(rt: HostRuntime) {
     assert!(rt;
         matches!(
-            opened(&rt, rt.alloc(), Plan::Ends),
+            opened(&rt, rt.alloc(), Kind::Session, Plan::Ends),
             Err(HandleError::Ended { .. })
         )
     );
