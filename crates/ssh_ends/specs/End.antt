@@ -1,0 +1,127 @@
+-- One end of a connection, and what each of its calls does (RFC 4254 section 5).
+use Rattle.std.specs.Prelude.{◌≡◌, ◌⊎◌, ℕ, false, codes, length, List, Option, Some, None}
+use Rattle.ssh_wire.specs.Messages.{written, channel_open, channel_open_confirmation}
+use Rattle.ssh_link.specs.Frames.{Frame}
+use Rattle.ssh_channels.specs.declared.adjusted.Adjusted.{Adjusted}
+use Rattle.ssh_channels.specs.declared.adjusted.Adjusted.TheVariants.{Dropped}
+use Rattle.ssh_channels.specs.declared.chunk.DataKind.{DataKind}
+use Rattle.ssh_channels.specs.declared.chunk.DataKind.TheVariants.{Plain, Extended}
+use Rattle.ssh_channels.specs.Layout.{on_channel}
+use Rattle.ssh_channels.specs.Line.{is_opening}
+use Rattle.ssh_channels.specs.Table.{Table, has}
+use Rattle.ssh_channels.specs.Numbers.{next_number, open_next}
+use Rattle.ssh_channels.specs.Calls as calls
+use Rattle.ssh_ends.specs.Incoming.{IsSilent, Says}
+use Rattle.ssh_ends.specs.declared.end.Delivered.{Delivered}
+use Rattle.ssh_ends.specs.declared.error.EndError.{EndError}
+use Rattle.ssh_ends.specs.declared.error.EndError.TheVariants.{NoMemory, Full, Unexpected}
+use Rattle.ssh_ends.specs.declared.incoming.Incoming.{Incoming}
+use Rattle.ssh_ends.specs.declared.incoming.Incoming.TheVariants.{Open, Confirmation}
+use Rattle.ssh_ends.specs.declared.incoming.Incoming.TheVariants.{WindowAdjust, Data, Eof, Close}
+
+-- its channels, and the window and the packet size that each of them begins with
+pub record Side : Type 0 where
+  pub table : Table
+  pub window : ℕ
+  pub packet : ℕ
+
+abbrev pub with_table : Table → Side → Side
+with_table t side = record side { table = t }
+
+-- the data of a message: CHANNEL_DATA, or CHANNEL_EXTENDED_DATA of a data type code
+abbrev pub kind_of : (ext : Option ℕ) → DataKind
+kind_of None = Plain
+kind_of (Some code) = Extended code
+
+-- ---- opening a channel (section 5.1)
+
+abbrev pub open_frame_of : (own window packet : ℕ) → Frame
+open_frame_of own window packet =
+    on_channel own (written channel_open (codes "session", (own, (window, (packet, tt)))))
+
+abbrev pub confirmation_frame_of : (own sender window packet : ℕ) → Frame
+confirmation_frame_of own sender window packet =
+    on_channel own (written channel_open_confirmation (sender, (own, (window, (packet, tt)))))
+
+-- a channel of the next number is opened, which waits for its confirmation, and this frame is
+-- written
+abbrev pub begun : Frame → Side → Table
+begun frame side = calls.stage frame (open_next side.window side.packet side.table)
+
+-- this side opens the channel of this number
+abbrev pub opens : (own : ℕ) → Side → Table
+opens own side = begun (open_frame_of own side.window side.packet) side
+
+-- the other side's open of a channel is accepted under this number, at once
+abbrev pub accepts : (own sender window packet : ℕ) → Side → Table
+accepts own sender window packet side = calls.confirm (record {
+  recipient_channel = own;
+  sender_channel = sender;
+  initial_window_size = window;
+  maximum_packet_size = packet;
+}) (begun (confirmation_frame_of own sender side.window side.packet) side)
+
+abbrev pub accepts_under : Option ℕ → (sender window packet : ℕ) → Side → Table
+accepts_under None sender window packet side = side.table
+accepts_under (Some own) sender window packet side = accepts own sender window packet side
+
+-- ---- what the other side says
+
+-- the channels after it; an EOF changes nothing
+abbrev pub taking : Incoming → Side → Table
+taking (Open sender window packet) side =
+    accepts_under (next_number side.table) sender window packet side
+taking (Confirmation confirmation) side = calls.confirm confirmation side.table
+taking (WindowAdjust channel amount) side = calls.grant channel.0 amount side.table
+taking (Data channel ext bytes) side =
+    calls.adjust channel.0 (length bytes) (calls.target_at channel.0 side.table) side.table
+taking (Eof channel) side = side.table
+taking (Close channel) side = calls.peer_close channel.0 side.table
+
+-- data that the room has no place for are passed over
+abbrev pub unless_dropped : Adjusted → Delivered → Option Delivered
+unless_dropped Dropped delivered = None
+unless_dropped _ delivered = Some delivered
+
+-- the data that are passed on (section 5.2)
+abbrev pub passing : Incoming → Side → Option Delivered
+passing (Data channel ext bytes) side = unless_dropped
+    (calls.adjusting_at channel.0 (length bytes) (calls.target_at channel.0 side.table) side.table)
+    (record { channel = channel; ext = ext; bytes = bytes })
+passing said side = None
+
+-- no number is free for a channel
+abbrev pub HasNoNumber : Incoming → Side → Type 0
+HasNoNumber (Open sender window packet) side = next_number side.table ≡ None
+HasNoNumber said side = ⊥
+
+-- a channel is confirmed that does not wait for it
+abbrev pub IsUncalledFor : Incoming → Side → Type 0
+IsUncalledFor (Confirmation confirmation) side =
+    has is_opening confirmation.recipient_channel side.table ≡ false
+IsUncalledFor said side = ⊥
+
+abbrev pub IsRefused : Incoming → Side → Type 0
+IsRefused said side = HasNoNumber said side ⊎ IsUncalledFor said side
+
+-- it is taken, and this is passed on
+abbrev pub IsTaken : Incoming → (old new : Side) → Option Delivered → Type 0
+IsTaken said old new delivered = (IsRefused said old → ⊥)
+    × (new ≡ with_table (taking said old) old) × (delivered ≡ passing said old)
+
+-- the payload says something that is taken
+abbrev pub Takes : (payload : List ℕ) → (old new : Side) → Option Delivered → Type 0
+Takes payload old new delivered =
+    (said : Incoming) × Says said payload × IsTaken said old new delivered
+
+-- why it is not taken
+abbrev pub IsRefusedBy : Incoming → Side → EndError → Type 0
+IsRefusedBy said side NoMemory = Unit {0}
+IsRefusedBy said side Full = HasNoNumber said side
+IsRefusedBy said side Unexpected = IsUncalledFor said side
+
+abbrev pub TakesNot : (payload : List ℕ) → Side → EndError → Type 0
+TakesNot payload side NoMemory = Unit {0}
+TakesNot payload side Full = (said : Incoming) × Says said payload × HasNoNumber said side
+TakesNot payload side Unexpected =
+    IsSilent payload ⊎ ((said : Incoming) × Says said payload × IsUncalledFor said side)
