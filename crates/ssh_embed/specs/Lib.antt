@@ -1,0 +1,4 @@
+pub mod Taking
+pub mod Transport
+pub mod Asking
+pub mod Story
