@@ -1,0 +1,5 @@
+pub mod Codes
+pub mod Commanding
+pub mod Feeding
+pub mod Owning
+pub mod Telling
