@@ -1,6 +1,6 @@
 -- What a handle does with an input, and what it tells.
 use Prim.Native.Nat.{zero, suc}
-use Rattle.std.specs.Prelude.{◌≡◌, ◌⊎◌, ℕ, List, ◌∷◌, Option, Some, None, Err}
+use Rattle.std.specs.Prelude.{◌≡◌, ◌⊎◌, ◌<◌, ℕ, List, ◌∷◌, Option, Some, None, Err}
 use Rattle.ssh_link.specs.declared.frame.Input.{Input}
 use Rattle.ssh_link.specs.declared.frame.InputKind.{InputKind}
 use Rattle.ssh_link.specs.declared.frame.InputKind.TheVariants as kind
@@ -78,16 +78,20 @@ abbrev pub HoldsOpened : Settings → Option Held → Type 0
 HoldsOpened settings (Some held) = IsOpened settings held.connection
 HoldsOpened settings None = ⊥
 
--- nothing was taken out of the outbox, or its first entry was, and what that carries stands at the
--- start of these bytes
+-- the first entry of the outbox was taken out, and what it carries stands at the start of these bytes
 abbrev pub TakesOut : Connection → Connection → (bytes : List ℕ) → (length : ℕ) → Type 0
-TakesOut before after bytes length = (after ≡ before)
-    ⊎ ((entry : TraceEntry) × (before.outbox ≡ entry ∷ after.outbox)
-    × (before ≡ record after { outbox = before.outbox }) × Carries entry bytes length)
+TakesOut before after bytes length = (entry : TraceEntry)
+    × (before.outbox ≡ entry ∷ after.outbox)
+    × (before ≡ record after { outbox = before.outbox }) × Carries entry bytes length
 
--- something was told where this is 0, and else nothing was taken out
+-- one more callback, or more, of the last input counts as told, and nothing else has changed
+abbrev pub TellsCall : Held → Held → Type 0
+TellsCall before after = (after.connection ≡ before.connection) × (before.told < after.told)
+
+-- something was told where this is 0, and else nothing has changed
 abbrev pub Tells : Held → Held → (bytes : List ℕ) → (length code : ℕ) → Type 0
-Tells before after bytes length zero = TakesOut before.connection after.connection bytes length
+Tells before after bytes length zero =
+    TellsCall before after ⊎ TakesOut before.connection after.connection bytes length
 Tells before after bytes length (suc code) = after ≡ before
 
 -- the same of a handle

@@ -7,8 +7,8 @@ use crate::notices::{notice_entry, notice_fields, notice_slice};
 use ssh_link::{CommandOutcome, Frame, Notice, Refusal, TraceEntry};
 use std::alloc::Global;
 
-/// One thing that happened, without its bytes: see `gidzork_entry` in include/gidzork.h for what the
-/// numbers are, by `kind`.
+/// One thing that happened, without its bytes: see `gidzork_entry` in include/gidzork.h for what
+/// the numbers are, by `kind`.
 #[repr(C)]
 #[derive(Clone, Copy)]
 pub struct Entry {
@@ -126,8 +126,8 @@ fn tell_notice(alloc: Global, notice: &Notice, out: &mut [u8], entry: &mut Entry
     }
 }
 
-/// Copies the fields, or where there are none the slice, to the start of `out`, where they have room
-/// there; the entry tells their length.
+/// Copies the fields, or where there are none the slice, to the start of `out`, where they have
+/// room there; the entry tells their length.
 pub(crate) fn tell_bytes(fields: &[u8], slice: &[u8], out: &mut [u8], entry: &mut Entry) -> bool {
     let bytes = if fields.is_empty() { slice } else { fields };
     entry.length = bytes.len();

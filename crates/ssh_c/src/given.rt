@@ -93,8 +93,8 @@ pub(crate) fn command_of(kind: u32, channel: u32, number: u32) -> Option<Command
     }
 }
 
-/// The answer to an open of the peer's on this channel: accepted where `reason` is 0, and else refused
-/// for it; none where there is no such reason.
+/// The answer to an open of the peer's on this channel: accepted where `reason` is 0, and else
+/// refused for it; none where there is no such reason.
 pub(crate) fn answer_of(channel: u32, reason: u32) -> Option<OpenAnswer>
     ensures { result ≡ rejected channel reason }
 {

@@ -21,7 +21,7 @@ pub struct Held {
 }
 
 impl Held {
-    ghost use Rattle.std.specs.Prelude.{◌≡◌, IfErr};
+    ghost use Rattle.std.specs.Prelude.{◌≡◌, ◌≤◌, ◌<◌, ◌+◌, ◌^◌, IfErr, IfSome};
     ghost use Rattle.ssh_c.specs.Codes.{IsUndone};
     ghost use Rattle.ssh_c.specs.Commanding.{data_command as data_of};
     ghost use Rattle.ssh_c.specs.Feeding.{Feeds, FedNow, SaysNow, Tells, payload_at, command_at};
@@ -175,8 +175,8 @@ impl Held {
         ext: u32,
         bytes: &[u8],
     ) -> u32
-        ensures { FedNow self.old (command_at moment ticket (data_of channel ext bytes.now)) self.new
-            result }
+        ensures { FedNow self.old
+            (command_at moment ticket (data_of channel ext bytes.now)) self.new result }
     {
         match Bytes::copy_from_slice(alloc, bytes) {
             Ok(bytes) => self.command_now(moment, ticket, data_command(channel, ext, bytes)),
@@ -217,7 +217,9 @@ impl Held {
     }
 
     // The next callback that is to be told, and its place.
-    fn next_call(&self) -> Option<(usize, Entry)> {
+    fn next_call(&self) -> Option<(usize, Entry)>
+        ensures { IfSome result (λ found. (self.now.told ≤ found.0) × (found.0 + 1 < 2 ^ 64)) }
+    {
         let calls = self.connection.calls();
         for place in self.told..calls.len() {
             if let Some(entry) = call_entry(&calls[place]) {
@@ -232,8 +234,8 @@ impl Held {
         self.next_call().is_some() || self.connection.first().is_some()
     }
 
-    /// Tells what comes next and takes it out: the callbacks of the last input first. What it says is
-    /// copied to the start of `out`; where it has no room there, nothing is taken out.
+    /// Tells what comes next and takes it out: the callbacks of the last input first. What it says
+    /// is copied to the start of `out`; where it has no room there, nothing is taken out.
     pub(crate) fn next(&mut self, alloc: Global, out: &mut [u8], entry: &mut Entry) -> u32
         ensures { Tells self.old self.new out.new entry.new.length result }
     {
@@ -248,13 +250,14 @@ impl Held {
 
     // Tells the callback at this place, and goes on behind it.
     fn next_told(&mut self, alloc: Global, place: usize, out: &mut [u8], entry: &mut Entry) -> u32
+        requires { (self.old.told ≤ place) × (place + 1 < 2 ^ 64) }
         ensures { Tells self.old self.new out.new entry.new.length result }
     {
         let code = self.tell_call(alloc, place, out, entry);
         if code != CONTINUES {
             return code;
         }
-        self.told = place.saturating_add(1);
+        self.told = place + 1;
         CONTINUES
     }
 
@@ -284,8 +287,8 @@ impl Held {
         CONTINUES
     }
 
-    /// Tells what this payload asks of a user, were it fed now: what it shows is copied to the start
-    /// of `out`, where it has room there.
+    /// Tells what this payload asks of a user, were it fed now: what it shows is copied to the
+    /// start of `out`, where it has room there.
     pub(crate) fn tell_question(
         &self,
         alloc: Global,

@@ -15,8 +15,8 @@ use Rattle.ssh_session.specs.Serve.{Refines}
 use Rattle.ssh_embed.specs.declared.connection.Connection.{Connection}
 use Rattle.ssh_wire.specs.declared.error.WireError.{WireError}
 
--- what is told is what taking the payload in this world asks, whichever signatures are vouched for: of
--- a USERAUTH_REQUEST, whose number is 50, and a USERAUTH_INFO_RESPONSE, whose number is 61
+-- what is told is what taking the payload in this world asks, whichever signatures are vouched for:
+-- of a USERAUTH_REQUEST, whose number is 50, and a USERAUTH_INFO_RESPONSE, whose number is 61
 pub record AsksAsTold (w : World) (moment : ℕ) (payload : List ℕ) (asked : Option Asked)
     : Type 0 where
   pub request : (auth : AuthRequest) (fields : List ℕ) (vouched : List AcceptedSignature)

@@ -19,7 +19,8 @@ use Rattle.ssh_embed.specs.Taking.{Went, IsIn, called}
 use Rattle.ssh_embed.specs.declared.connection.Connection.{Connection}
 use Rattle.ssh_embed.specs.declared.policy.NoMemory.{NoMemory}
 
--- what happens on a connection: a callback, a step of the exchange of keys, or what the link is told
+-- what happens on a connection: a callback, a step of the exchange of keys, or what the link is
+-- told
 abbrev pub Happening : Type 0
 Happening = Event (RecordError NoMemory) (Unit {0})
 

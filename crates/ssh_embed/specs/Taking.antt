@@ -54,8 +54,8 @@ told_after connection = record {
   faults = 0;
 }
 
--- in each world that the session stands for, the input was taken as `Session::step` says, with these
--- callbacks, steps of the exchange, frames, notices and answers
+-- in each world that the session stands for, the input was taken as `Session::step` says, with
+-- these callbacks, steps of the exchange, frames, notices and answers
 abbrev pub Takes : Connection → Input → Connection → Went → Type 0
 Takes before input after went = (w : World) → IsIn before w →
     StepsAfter (untold before.session) (accepted before) w input (told_before before)

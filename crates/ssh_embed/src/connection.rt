@@ -63,10 +63,10 @@ impl Connection {
     ghost use Rattle.ssh_embed.specs.Story.{Adds, Came, Round};
     ghost use Rattle.ssh_embed.specs.Taking.{IsOpened, Takes, called};
 
-    /// A connection before its first input, of a peer that named its software by this line (RFC 4253
-    /// section 4.2), under the id of its first exchange of keys (section 7.2). `repeatable` says
-    /// whether the transport can begin an exchange where the session asks for one. `NoMemory` is the
-    /// only error.
+    /// A connection before its first input, of a peer that named its software by this line (RFC
+    /// 4253 section 4.2), under the id of its first exchange of keys (section 7.2). `repeatable`
+    /// says whether the transport can begin an exchange where the session asks for one. `NoMemory`
+    /// is the only error.
     pub fn new(
         alloc: Global,
         config: &Config,
@@ -92,9 +92,9 @@ impl Connection {
         })
     }
 
-    /// Takes one input and finishes it, as `Session::step` does: what it tells the link stands behind
-    /// what waits in the outbox, and the callbacks that it made are `calls` until the next input.
-    /// The signatures that were vouched for count for this input alone.
+    /// Takes one input and finishes it, as `Session::step` does: what it tells the link stands
+    /// behind what waits in the outbox, and the callbacks that it made are `calls` until the next
+    /// input. The signatures that were vouched for count for this input alone.
     ///
     /// Nothing of the connection is served before an accepted authentication (RFC 4252 section 6):
     /// whatever the inputs so far were, each callback of the connection and each frame of a channel

@@ -46,8 +46,9 @@ impl Rules {
     }
 }
 
-/// A handler of one input. It answers the one question of authentication that the input asks by what
-/// its owner said, opens of the peer by rules, and all else as a handler that does not write it.
+/// A handler of one input. It answers the one question of authentication that the input asks by
+/// what its owner said, opens of the peer by rules, and all else as a handler that does not write
+/// it.
 #[derive(Drop)]
 pub struct Policy {
     rules: Rules,

@@ -40,8 +40,8 @@ impl Connection {
 
     /// For the next input alone, the owner vouches for the signature that this payload shows, which
     /// it has checked: that of the key that the question tells, by its algorithm, of its message.
-    /// Whether the payload shows one. A certificate's own signature is not vouched for, so nobody is
-    /// let in by a certificate. `NoMemory` is the only error, and then nothing has changed.
+    /// Whether the payload shows one. A certificate's own signature is not vouched for, so nobody
+    /// is let in by a certificate. `NoMemory` is the only error, and then nothing has changed.
     pub fn vouch(&mut self, moment: u64, payload: &[u8]) -> Result<bool, WireError>
         ensures vouches { Vouches moment payload.now self.old self.new result }
         ensures memory { IfErr result (λ e. e ≡ NoMemory) }

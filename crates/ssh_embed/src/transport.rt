@@ -11,9 +11,9 @@ use ssh_wire::{Blobs, WireError};
 use std::alloc::Global;
 
 /// The exchange of keys as the session sees it, where the transport makes it by itself (RFC 4253
-/// section 7): it sends its own payloads, so a step gives none, and says with a payload of the peer's
-/// whether the new keys are in use behind it. A KEXINIT of one byte that the session begins with
-/// stands for the one that the transport is to send.
+/// section 7): it sends its own payloads, so a step gives none, and says with a payload of the
+/// peer's whether the new keys are in use behind it. A KEXINIT of one byte that the session begins
+/// with stands for the one that the transport is to send.
 ///
 /// It tells the calls since it last forgot them.
 #[derive(Drop)]
@@ -35,7 +35,8 @@ fn pushed<T: Drop>(items: &mut Vec<T>, item: T) -> Result<(), WireError>
 }
 
 impl TransportKex {
-    /// An exchange of which none has run since the first; whether this side can begin one by itself.
+    /// An exchange of which none has run since the first; whether this side can begin one by
+    /// itself.
     pub(crate) fn new(alloc: Global, repeatable: bool) -> TransportKex
         ensures repeatable { result.repeatable ≡ repeatable }
         ensures calls { result.calls.items ≡ [] }
