@@ -43,7 +43,9 @@ impl PlannedFeed {
         }
     }
 
-    fn step(&mut self) -> Option<Step> {
+    fn step(&mut self) -> Option<Step>
+        ensures { self.new.faults ≡ self.old.faults }
+    {
         let step = self.steps.get(self.next).copied();
         self.next = self.next.saturating_add(1);
         step

@@ -4,7 +4,8 @@ ghost use Rattle.ssh_hub.specs.Words.{IsSeatOf};
 use crate::planned_feed::PlannedFeed;
 use crate::scene::{CHANNEL, Came, hub, link, put_command, what_came};
 use bytes::Bytes;
-use ssh_hub::{HandleError, HubLock, Look, Received, Seat, SlotAnswer};
+use ssh_hub::{HandleError, HubLock, Received, Seat, SlotAnswer};
+use ssh_hub_link::HubLink;
 use ssh_link::{ChannelMsg, CommandOutcome, Frame, Link, LinkFault, Notice};
 use std::alloc::Global;
 use std::sync::Wait;
@@ -61,23 +62,40 @@ fn receive<R: Wait>(rt: &R, lock: &HubLock, seat: &mut Seat) -> Inbox
     inbox
 }
 
+// Tells of a window before its channel is there, of the channel, and then of three windows.
+fn tells_windows<R: Wait + Clone + Drop>(link: &mut HubLink<R, PlannedFeed>) -> bool {
+    let told = [
+        link.notice(window_adjusted(1)).is_ok(),
+        link.notice(ready(10)).is_ok(),
+        link.notice(window_adjusted(2)).is_ok(),
+        link.notice(window_adjusted(3)).is_ok(),
+        link.notice(window_adjusted(4)).is_ok(),
+    ];
+    told == [true; 5]
+}
+
+// Whether the inbox, which holds two messages, has the first two windows that came to the channel.
+fn has_two<R: Wait>(rt: &R, lock: &HubLock, seat: &mut Seat) -> bool
+    requires { IsSeatOf lock.now seat.old }
+{
+    let inbox = [
+        receive(rt, lock, seat),
+        receive(rt, lock, seat),
+        receive(rt, lock, seat),
+    ];
+    inbox == [Inbox::Window(2), Inbox::Window(3), Inbox::Nothing]
+}
+
 // A notice of a full inbox that only says how much may be sent is dropped, and so is one for a
 // channel that is not there. Neither is a fault.
 fn drops<R: Wait + Clone + Drop>(rt: &R, alloc: Global) -> Result<bool, HandleError> {
     let (lock, seat, mut other) = hub(rt, alloc)?;
-    let mut link = link(rt.clone()?, alloc, &lock, seat, PlannedFeed::new(&[], 0, false), false)?;
-    let gone = link.notice(window_adjusted(1));
-    let made = link.notice(ready(10));
-    let first = link.notice(window_adjusted(2));
-    let second = link.notice(window_adjusted(3));
-    let third = link.notice(window_adjusted(4));
-    let all_told = gone.is_ok() && made.is_ok() && first.is_ok() && second.is_ok() && third.is_ok();
-    let inbox = [
-        receive(rt, &lock, &mut other),
-        receive(rt, &lock, &mut other),
-        receive(rt, &lock, &mut other),
-    ];
-    Ok(all_told && inbox == [Inbox::Window(2), Inbox::Window(3), Inbox::Nothing])
+    let feed = PlannedFeed::new(&[], 0, false);
+    let mut link = link(rt.clone()?, alloc, &lock, seat, feed, false)?;
+    let told = tells_windows(&mut link);
+    drop(link);
+    let held = has_two(rt, &lock, &mut other);
+    Ok(told && held)
 }
 
 #[test]
@@ -85,31 +103,44 @@ fn a_full_inbox_drops_what_only_says_how_much_may_be_sent(rt: HostRuntime) {
     assert!(rt; drops(&rt, rt.alloc()) == Ok(true));
 }
 
+// Takes the command, and tells of it, of a channel and of a slot.
+fn tells_all<R: Wait + Clone + Drop>(link: &mut HubLink<R, PlannedFeed>, slot: u64) -> bool {
+    let taken = what_came(link.next(true, true));
+    let told = [
+        link.answer(1, CommandOutcome::Accepted).is_ok(),
+        link.notice(ready(10)).is_ok(),
+        link.notice(granted(5)).is_ok(),
+        link.notice(Notice::Pong { slot }).is_ok(),
+        link.notice(closed()).is_ok(),
+    ];
+    taken == Came::Command(1) && told == [true; 5] && link.trace().len() == 6
+}
+
+// Whether the hub has what was told.
+fn has_all<R: Wait>(rt: &R, lock: &HubLock, seat: &mut Seat, slot: u64) -> bool
+    requires { IsSeatOf lock.now seat.old }
+{
+    let outcome = lock.outcome(rt, seat, 1);
+    let answer = lock.slot_outcome(rt, seat, slot);
+    let inbox = receive(rt, lock, seat);
+    let look = lock.look(rt, seat, CHANNEL);
+    outcome == Some(CommandOutcome::Accepted)
+        && answer == Some(SlotAnswer::Pong)
+        && inbox == Inbox::Close
+        && look.is_none()
+}
+
 // What is told of a channel, of slots and of a command stands in the hub.
 fn stands<R: Wait + Clone + Drop>(rt: &R, alloc: Global) -> Result<bool, HandleError> {
     let (lock, seat, mut other) = hub(rt, alloc)?;
     let slot = lock.slot(rt, &mut other)?;
     put_command(rt, &lock, &mut other);
-    let mut link = link(rt.clone()?, alloc, &lock, seat, PlannedFeed::new(&[], 0, false), true)?;
-    let taken = what_came(link.next(true, true));
-    let answered = link.answer(1, CommandOutcome::Accepted);
-    let made = link.notice(ready(10));
-    let more = link.notice(granted(5));
-    let pong = link.notice(Notice::Pong { slot });
-    let shut = link.notice(closed());
-    let all_told = answered.is_ok() && made.is_ok() && more.is_ok() && pong.is_ok() && shut.is_ok();
-    let count = link.trace().len();
-    let outcome = lock.outcome(rt, &mut other, 1);
-    let answer = lock.slot_outcome(rt, &mut other, slot);
-    let inbox = receive(rt, &lock, &mut other);
-    let look = lock.look(rt, &mut other, CHANNEL);
-    Ok(taken == Came::Command(1)
-        && all_told
-        && count == 6
-        && outcome == Some(CommandOutcome::Accepted)
-        && answer == Some(SlotAnswer::Pong)
-        && inbox == Inbox::Close
-        && look.is_none())
+    let feed = PlannedFeed::new(&[], 0, false);
+    let mut link = link(rt.clone()?, alloc, &lock, seat, feed, true)?;
+    let told = tells_all(&mut link, slot);
+    drop(link);
+    let held = has_all(rt, &lock, &mut other, slot);
+    Ok(told && held)
 }
 
 #[test]
@@ -121,24 +152,37 @@ fn frame() -> Frame {
     Frame::new(Bytes::from_static(b"\x5e"), None, None)
 }
 
+// Sends two frames, of which the feed takes one, and says whether the first alone is told.
+fn sends_one<R: Wait + Clone + Drop>(link: &mut HubLink<R, PlannedFeed>) -> bool {
+    let first = link.send(frame());
+    let second = link.send(frame());
+    let wants = [first, second] == [Ok(()), Err(LinkFault::Failed)];
+    wants && link.trace().len() == 1 && link.is_whole()
+}
+
+// Whether the hub ends by the end of the link, and how often the feed failed.
+fn ends<R: Wait + Clone + Drop>(
+    rt: &R,
+    lock: &HubLock,
+    seat: &mut Seat,
+    link: HubLink<R, PlannedFeed>,
+) -> (bool, u64)
+    requires { IsSeatOf lock.now seat.old }
+{
+    let before = lock.ended(rt, seat);
+    let (feed, _seat) = link.finish();
+    let after = lock.ended(rt, seat);
+    (before.is_none() && after.is_some(), feed.faults)
+}
+
 // A frame that the feed does not take is not told, and the end of the link ends the hub.
 fn sends<R: Wait + Clone + Drop>(rt: &R, alloc: Global) -> Result<bool, HandleError> {
     let (lock, seat, mut other) = hub(rt, alloc)?;
-    let mut link = link(rt.clone()?, alloc, &lock, seat, PlannedFeed::new(&[], 1, false), true)?;
-    let first = link.send(frame());
-    let second = link.send(frame());
-    let count = link.trace().len();
-    let before = lock.ended(rt, &mut other);
-    let whole = link.is_whole();
-    let (feed, _seat) = link.finish();
-    let after = lock.ended(rt, &mut other);
-    Ok(first.is_ok()
-        && second == Err(LinkFault::Failed)
-        && count == 1
-        && whole
-        && feed.faults == 1
-        && before.is_none()
-        && after.is_some())
+    let feed = PlannedFeed::new(&[], 1, false);
+    let mut link = link(rt.clone()?, alloc, &lock, seat, feed, true)?;
+    let sent = sends_one(&mut link);
+    let ended = ends(rt, &lock, &mut other, link);
+    Ok(sent && ended == (true, 1))
 }
 
 #[test]
