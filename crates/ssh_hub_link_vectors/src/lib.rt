@@ -9,3 +9,5 @@ mod scene;
 mod taking;
 #[cfg(test)]
 mod telling;
+#[cfg(test)]
+mod threads;
