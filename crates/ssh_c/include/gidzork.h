@@ -20,7 +20,8 @@
  *   - malloc, realloc and free are of one allocator, and align to 16 bytes.
  *
  * Who owns what: the library copies what it is given and keeps no pointer of the program's. What a
- * connection has is freed by gidzork_free, and by nothing else.
+ * connection has is freed by gidzork_free, what a file server has by gidzork_sftp_free, and by
+ * nothing else.
  *
  * Moments are milliseconds since 1970. Channels go by this side's numbers. A ticket is any number
  * that the program gives with a command, under which it is told what came of it.
@@ -59,7 +60,7 @@ enum {
     GIDZORK_KEEPALIVE_TIMEOUT = 10,
     GIDZORK_INACTIVITY_TIMEOUT = 11,
     GIDZORK_FAILED = 12,       /* does not come */
-    GIDZORK_NO_CONNECTION = 13, /* the handle holds none */
+    GIDZORK_NO_CONNECTION = 13, /* the handle holds none, or no file server */
     GIDZORK_TOO_SHORT = 14,    /* out is shorter than the length that is told: call again with more */
     GIDZORK_BAD_ARGUMENT = 15, /* a number, or a text that is not UTF-8, that the call does not take */
     GIDZORK_NOT_NOW = 16,      /* commands, or answers to opens, are not taken now */
@@ -255,6 +256,45 @@ bool gidzork_replies_wanted(gidzork_handle *handle);
 /* The name of the user who was let in: entry->length bytes. GIDZORK_NOTHING before. */
 uint32_t gidzork_user(gidzork_handle *handle, uint8_t *out, size_t out_length,
                       gidzork_entry *entry);
+
+/*
+ * File servers, by version 3 of the SSH file transfer protocol (draft-ietf-secsh-filexfer-02). One
+ * serves one channel, on which the subsystem "sftp" was asked for: the data of the channel go in as
+ * they come, and what is given out is sent on it. Its files are in memory, there are none at first,
+ * and they go with it. The rules of a gidzork_handle hold of its handle too.
+ *
+ * It serves SSH_FXP_INIT, OPEN, CLOSE, READ, WRITE, LSTAT, FSTAT, STAT, REMOVE, REALPATH and RENAME,
+ * on files in no folders; a file has at most 16 MiB. Any other request, as those of folders and those
+ * that set attributes, is answered by SSH_FX_OP_UNSUPPORTED.
+ */
+
+/* A file server, or none: all bytes 0 is none. */
+typedef struct { struct { void *at; } slot; bool live; } gidzork_files;
+
+/* Opens a file server in a handle that holds none. GIDZORK_CONTINUES; GIDZORK_BAD_ARGUMENT where the
+ * handle holds one; GIDZORK_NO_MEMORY. */
+uint32_t gidzork_sftp_open(gidzork_files *files);
+
+/* Frees what the handle holds, with its files; afterwards it holds none. */
+void gidzork_sftp_free(gidzork_files *files);
+
+/* Takes the next bytes that the client sent, of any length: behind them the answers to each request
+ * that is whole by now wait for gidzork_sftp_next. A request of 30 bytes may be answered by 65 kB.
+ * GIDZORK_CONTINUES; GIDZORK_NOT_TAKEN, and nothing was done, where answers wait; GIDZORK_ENCODING
+ * where a packet has no length that is allowed, or no id: the answers to those before it wait;
+ * GIDZORK_NO_MEMORY: those to some of them wait. After either of these the server is spent, and the
+ * answer is GIDZORK_INCONSISTENT. */
+uint32_t gidzork_sftp_feed(gidzork_files *files, const uint8_t *piece, size_t length);
+
+/* Takes out the next bytes of the answers, as many as there are and out has room for: *count is how
+ * many. GIDZORK_CONTINUES; GIDZORK_NOTHING where none wait; GIDZORK_TOO_SHORT where out_length is 0.
+ * Where it is not GIDZORK_CONTINUES, nothing was done. */
+uint32_t gidzork_sftp_next(gidzork_files *files, uint8_t *out, size_t out_length, size_t *count);
+
+/* How the stream of the client ended, where nothing more comes; nothing is changed.
+ * GIDZORK_CONTINUES: behind a request; GIDZORK_ENCODING: inside one; GIDZORK_INCONSISTENT: the server
+ * is spent. */
+uint32_t gidzork_sftp_end(gidzork_files *files);
 
 #ifdef __cplusplus
 }

@@ -3,16 +3,20 @@ use Rattle.std.proofs.Common.{◌≡◌, ℕ, List, Bool, true, false, Option, S
 use Rattle.std.proofs.Common.{refl, sym, subst, inl, inr}
 use Rattle.ssh_link.specs.declared.frame.Input.{Input}
 use Rattle.ssh_embed.specs.Asking.{Vouches}
+use Rattle.ssh_embed.specs.Story.{Came}
 use Rattle.ssh_embed.specs.Taking.{Went, Takes}
 use Rattle.ssh_embed.specs.declared.connection.Connection.{Connection}
 use Rattle.ssh_c.specs.Codes.{code_of}
 use Rattle.ssh_c.specs.Feeding.{Feeds, FedNow, Fed, SaysNow, DoesWhere, DoesSome, payload_at}
+use Rattle.ssh_c.specs.Feeding.{AddsTo}
 use Rattle.ssh_c.specs.declared.held.Held.{Held}
 
 -- an input that was taken without a word on signatures
 pub fed_plain : (before after : Held) (input : Input) (went : Went)
-    → Takes before.connection input after.connection went → Feeds before input after went
-fed_plain before after input went takes = inr (before.connection, inl refl, takes)
+    → Takes before.connection input after.connection went
+    → AddsTo before.connection before.connection input after.connection went
+    → Feeds before input after went
+fed_plain before after input went takes adds = inr (before.connection, inl refl, takes, adds)
 
 pub fed_number : (before after : Held) (input : Input) (went : Went) (code : ℕ)
     → code ≡ code_of went → Feeds before input after went → FedNow before input after code
@@ -22,20 +26,35 @@ fed_number before after input went code is feeds = inr (went, is, feeds)
 fed_behind : (before after : Held) (moment : ℕ) (payload : List ℕ) (mid : Connection)
     (shown : Bool) (went : Went) → Vouches moment payload before.connection mid (Ok shown)
     → Takes mid (payload_at moment payload) after.connection went
+    → AddsTo mid mid (payload_at moment payload) after.connection went
     → Feeds before (payload_at moment payload) after went
-fed_behind before after moment payload mid true went vouches takes =
-    inr (mid, inr (payload, refl, vouches), takes)
-fed_behind before after moment payload mid false went vouches takes =
-    inr (mid, inl vouches, takes)
+fed_behind before after moment payload mid true went vouches takes adds =
+    inr (
+      mid,
+      inr (payload, refl, vouches),
+      takes,
+      λ settings rounds came.
+          adds settings rounds (subst (Came settings rounds) (sym vouches.2) came),
+    )
+fed_behind before after moment payload mid false went vouches takes adds =
+    inr (
+      mid,
+      inl vouches,
+      takes,
+      λ settings rounds came.
+          adds settings rounds (subst (Came settings rounds) (sym vouches) came),
+    )
 
 pub fed_vouched : (before after : Held) (moment : ℕ) (payload : List ℕ) (input : Input)
     (mid : Connection) (shown : Bool) (went : Went) → input ≡ payload_at moment payload
     → Vouches moment payload before.connection mid (Ok shown)
-    → Takes mid input after.connection went → Feeds before input after went
-fed_vouched before after moment payload input mid shown went is vouches takes =
+    → Takes mid input after.connection went → AddsTo mid mid input after.connection went
+    → Feeds before input after went
+fed_vouched before after moment payload input mid shown went is vouches takes adds =
     subst (λ i. Feeds before i after went) (sym is)
     (fed_behind before after moment payload mid shown went vouches
-    (subst (λ i. Takes mid i after.connection went) is takes))
+    (subst (λ i. Takes mid i after.connection went) is takes)
+    (subst (λ i. AddsTo mid mid i after.connection went) is adds))
 
 -- ---- of what a handle holds
 

@@ -11,6 +11,7 @@ use Rattle.ssh_rules.specs.declared.error.RunError.TheVariants as error
 use Rattle.ssh_rules.specs.World.{Settings}
 use Rattle.ssh_embed.specs.declared.connection.Connection.{Connection}
 use Rattle.ssh_embed.specs.Asking.{VouchesForOne}
+use Rattle.ssh_embed.specs.Story.{Came, Adds, Round}
 use Rattle.ssh_embed.specs.Taking.{Went, IsOpened, Takes}
 use Rattle.ssh_c.specs.declared.held.Held.{Held}
 use Rattle.ssh_c.specs.Codes.{code_of, IsUndone}
@@ -37,13 +38,21 @@ abbrev pub VouchedBy : Input → Connection → Connection → Type 0
 VouchedBy input before after = (payload : List ℕ) × (input.kind ≡ kind.Payload payload)
     × VouchesForOne input.moment payload before after
 
+-- whatever became of the connection by its inputs so far, this one adds to it: what it calls and
+-- tells is there to be taken out, and nothing of it is served before an accepted authentication (RFC
+-- 4252 section 6)
+abbrev pub AddsTo : Connection → Connection → Input → Connection → Went → Type 0
+AddsTo before mid input after went = (settings : Settings) (rounds : List Round)
+    → Came settings rounds before → Adds settings rounds mid input after went
+
 -- the input was taken, with a signature vouched for or without; or there was no memory, and nothing
 -- happened
 abbrev pub Feeds : Held → Input → Held → Went → Type 0
 Feeds before input after went = ((after ≡ before) × (went ≡ Err error.NoMemory))
     ⊎ ((mid : Connection)
     × ((mid ≡ before.connection) ⊎ VouchedBy input before.connection mid)
-    × Takes mid input after.connection went)
+    × Takes mid input after.connection went
+    × AddsTo before.connection mid input after.connection went)
 
 -- the same for callers that are told a number
 abbrev pub FedNow : Held → Input → Held → (code : ℕ) → Type 0

@@ -1,9 +1,10 @@
 // How a call went, as a number.
 ghost use Rattle.std.specs.Prelude.{◌≡◌};
-ghost use Rattle.ssh_c.specs.Codes.{code_of};
+ghost use Rattle.ssh_c.specs.Codes.{code_of, piece_code};
 
 use ssh_embed::ConnectionError;
 use ssh_session::{Flow, RunError};
+use ssh_sftp::SftpError;
 
 /// It went well, and the connection goes on.
 pub(crate) const CONTINUES: u32 = 0;
@@ -42,5 +43,20 @@ pub(crate) fn code_of(went: &Result<Flow, ConnectionError>) -> u32
         Err(RunError::LinkFault) => 12,
         Err(RunError::Kex(_)) => 12,
         Err(RunError::InputLimit) => 12,
+    }
+}
+
+/// How a piece of a file server's stream went, or the end of it.
+pub(crate) fn piece_code(went: &Result<(), SftpError>) -> u32
+    ensures { result ≡ piece_code went.now }
+{
+    match went {
+        Ok(()) => 0,
+        Err(SftpError::NoMemory) => 3,
+        Err(SftpError::BadLength { .. }) => 4,
+        Err(SftpError::NoId) => 4,
+        Err(SftpError::Cut { .. }) => 4,
+        Err(SftpError::Failed) => 5,
+        Err(SftpError::Handle(_)) => 12,
     }
 }

@@ -25,7 +25,7 @@ impl Held {
     ghost use Rattle.ssh_c.specs.Codes.{IsUndone};
     ghost use Rattle.ssh_c.specs.Commanding.{data_command as data_of};
     ghost use Rattle.ssh_c.specs.Feeding.{Feeds, FedNow, SaysNow, Tells, payload_at, command_at};
-    ghost use Rattle.ssh_c.specs.Feeding.{reply_at};
+    ghost use Rattle.ssh_c.specs.Feeding.{reply_at, AddsTo};
     ghost use Rattle.ssh_embed.specs.Taking.{Takes};
 
     /// Nothing of this connection was told yet.
@@ -47,7 +47,9 @@ impl Held {
 
     // Takes an input.
     fn take(&mut self, input: Input, given: Given) -> Result<Flow, ConnectionError>
-        ensures { Takes self.old.connection input self.new.connection result }
+        ensures taken { Takes self.old.connection input self.new.connection result }
+        ensures adds { AddsTo self.old.connection self.old.connection input self.new.connection
+            result }
     {
         self.told = 0;
         self.connection.take(input, given)

@@ -1,5 +1,5 @@
 //! A connection for callers that are not Rattle: the functions of `include/gidzork.h`, over
-//! `ssh_embed`.
+//! `ssh_embed`, and file servers over `ssh_sftp`.
 #![tactic(auto)]
 
 mod calls;
@@ -13,4 +13,5 @@ mod held;
 mod notices;
 mod parts;
 mod questions;
+mod sftp;
 mod slot;

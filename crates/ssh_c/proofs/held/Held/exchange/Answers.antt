@@ -8,4 +8,5 @@ returns c =
     subst (λ bytes. Feeds c.args.self.now (payload_at c.args.moment bytes) c.take.new.self
     c.take.result) c.in_ok-copy_from_slice.ensures
     (fed_plain c.args.self.now c.take.new.self
-    (payload_at c.args.moment c.in_ok-copy_from_slice.field-0) c.take.result c.take.ensures)
+    (payload_at c.args.moment c.in_ok-copy_from_slice.field-0) c.take.result c.take.ensures.taken
+    c.take.ensures.adds)

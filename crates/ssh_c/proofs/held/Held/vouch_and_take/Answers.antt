@@ -5,4 +5,4 @@ pub returns-in-Ok : goal.returns-in-Ok
 returns-in-Ok c =
     fed_vouched c.args.self.now c.take.new.self c.args.moment c.args.payload.now c.args.input
     c.vouch.new.self c.in-Ok.field-0 c.take.result c.requires c.in-Ok.ensures.vouches
-    c.take.ensures
+    c.take.ensures.taken c.take.ensures.adds
