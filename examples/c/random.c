@@ -1,6 +1,7 @@
-/* Feeds random and mutated payloads, commands and ticks to connections, and looks that each call
- * answers a number of the header's. Arguments: how many random bytes, and how many mutated payloads;
- * 1000000 and 100000 where there are none. Ends with 0 where each did. */
+/* Feeds random and mutated payloads, commands and ticks to connections, and random and mutated
+ * packets to file servers, and looks that each call answers a number of the header's. Arguments: how
+ * many random bytes, and how many mutated payloads and packets; 1000000 and 100000 where there are
+ * none. Ends with 0 where each did. */
 #include "gidzork.h"
 #include <stdio.h>
 #include <stdlib.h>
@@ -30,7 +31,24 @@ static const struct { const uint8_t *bytes; size_t length; } payloads[] = {
 };
 enum { COUNT = sizeof payloads / sizeof payloads[0] };
 
+/* Packets of a client of SFTP. */
+static const struct { const uint8_t *bytes; size_t length; } packets[] = {
+    PAYLOAD("\0\0\0\x05\x01\0\0\0\x03"),
+    PAYLOAD("\0\0\0\x13\x03\0\0\0\1\0\0\0\2/a\0\0\0\x0b\0\0\0\0"),
+    PAYLOAD("\0\0\0\x1d\x06\0\0\0\2\0\0\0\4\0\0\0\1\0\0\0\0\0\0\0\0\0\0\0\4data"),
+    PAYLOAD("\0\0\0\x19\x05\0\0\0\3\0\0\0\4\0\0\0\1\0\0\0\0\0\0\0\0\0\0\x80\0"),
+    PAYLOAD("\0\0\0\x0d\x04\0\0\0\4\0\0\0\4\0\0\0\1"),
+    PAYLOAD("\0\0\0\x0d\x08\0\0\0\5\0\0\0\4\0\0\0\1"),
+    PAYLOAD("\0\0\0\x0b\x11\0\0\0\6\0\0\0\2/a"),
+    PAYLOAD("\0\0\0\x0b\x0d\0\0\0\7\0\0\0\2/a"),
+    PAYLOAD("\0\0\0\x11\x12\0\0\0\x08\0\0\0\2/a\0\0\0\2/b"),
+    PAYLOAD("\0\0\0\x0a\x10\0\0\0\x09\0\0\0\1."),
+    PAYLOAD("\0\0\0\x0a\x0b\0\0\0\x0a\0\0\0\1/"),
+};
+enum { PACKETS = sizeof packets / sizeof packets[0] };
+
 static gidzork_handle handle;
+static gidzork_files files;
 static uint64_t state = 88172645463325252u;
 static unsigned long calls[18], wrong;
 
@@ -88,6 +106,37 @@ static void feed(const uint8_t *bytes, size_t length)
     if (code != GIDZORK_CONTINUES && any(3) == 0) fresh();
 }
 
+/* A piece for the file server, from memory of just its length; what it answers is taken out. */
+static void serve(const uint8_t *bytes, size_t length)
+{
+    uint8_t *piece = malloc(length + 1), first[64];
+    size_t count = 0;
+    uint32_t code, again;
+    memcpy(piece, bytes, length);
+    code = gidzork_sftp_feed(&files, piece, length);
+    counts(code);
+    free(piece);
+    if (any(5) == 0) counts(gidzork_sftp_feed(&files, bytes, any((uint32_t)length + 1)));
+    do {
+        size_t room = any(4) ? 70000 : any(64);
+        uint8_t *out = malloc(room ? room : 1);
+        again = gidzork_sftp_next(&files, out, room, &count);
+        counts(again);
+        free(out);
+        if (again == GIDZORK_CONTINUES && (count == 0 || count > room)) wrong++;
+    } while (again == GIDZORK_CONTINUES || again == GIDZORK_TOO_SHORT);
+    if (any(50) == 0) counts(gidzork_sftp_end(&files));
+    if (code != GIDZORK_CONTINUES || any(500) == 0) {
+        if (any(2)) counts(gidzork_sftp_feed(&files, bytes, length));
+        gidzork_sftp_free(&files);
+        if (any(9) == 0) counts(gidzork_sftp_feed(&files, bytes, length));
+        counts(gidzork_sftp_open(&files));
+        if (any(9) == 0) counts(gidzork_sftp_open(&files));
+        counts(gidzork_sftp_feed(&files, packets[0].bytes, packets[0].length));
+        counts(gidzork_sftp_next(&files, first, sizeof first, &count));
+    }
+}
+
 int main(int argc, char **argv)
 {
     unsigned long bytes = argc > 1 ? strtoul(argv[1], 0, 10) : 1000000;
@@ -98,6 +147,7 @@ int main(int argc, char **argv)
         size_t length = any(64);
         for (size_t i = 0; i < length; i++) payload[i] = (uint8_t)any(256);
         feed(payload, length);
+        serve(payload, length);
         bytes -= length < bytes ? length : bytes;
     }
     for (fresh(); mutated > 0; mutated--) {
@@ -106,8 +156,14 @@ int main(int argc, char **argv)
         memcpy(payload, payloads[which].bytes, length);
         for (uint32_t flips = any(4); flips > 1; flips--) payload[any((uint32_t)length)] = any(256);
         feed(payload, any(10) ? length : any((uint32_t)length + 1));
+        which = any(PACKETS);
+        length = packets[which].length;
+        memcpy(payload, packets[which].bytes, length);
+        for (uint32_t flips = any(4); flips > 1; flips--) payload[any((uint32_t)length)] = any(256);
+        serve(payload, any(10) ? length : any((uint32_t)length + 1));
     }
     gidzork_free(&handle);
+    gidzork_sftp_free(&files);
     for (unsigned i = 0; i < 18; i++) printf("%u: %lu\n", i, calls[i]);
     printf("%lu others\n", wrong);
     return wrong != 0;

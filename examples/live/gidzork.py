@@ -54,19 +54,12 @@ def strings(data, count):
     return found + [data]
 
 
-class Connection:
-    """One connection. What an input led to is what `taken` gives before the next input."""
+class Held:
+    """What a handle of the library holds."""
 
-    def __init__(self, session_id, remote, **setup):
-        self.core, self.handle, self.tickets = c.CDLL(LIBRARY), Handle(), 0
-        self.here = c.byref(self.handle)
-        self.out, self.entry = c.create_string_buffer(1 << 17), Entry()
-        default = dict(methods=6, sessions=ACCEPT, window_size=1 << 21, max_auth_attempts=6,
-                       maximum_packet_size=1 << 15, keepalive_max=3, auth_rejection_time=300,
-                       repeatable=True)
-        code = self.call("open", c.byref(Setup(**(default | setup))), session_id, remote)
-        if code != CONTINUES:
-            raise OSError(code)
+    def __init__(self, room):
+        self.core, self.handle = c.CDLL(LIBRARY), Handle()
+        self.here, self.out = c.byref(self.handle), c.create_string_buffer(room)
 
     def call(self, name, *words):
         """Calls a function: bytes go as a pointer and a length."""
@@ -74,6 +67,37 @@ class Connection:
         for word in words:
             args += [c.c_char_p(word), c.c_size_t(len(word))] if isinstance(word, bytes) else [word]
         return getattr(self.core, "gidzork_" + name)(*args)
+
+
+class Files(Held):
+    """A file server for one channel."""
+
+    def __init__(self):
+        super().__init__(1 << 15)
+        self.count = c.c_size_t()
+        code = self.call("sftp_open")
+        if code != CONTINUES:
+            raise OSError(code)
+
+    def next(self, most):
+        """The next bytes of its answers, so many at most; none where none wait."""
+        room = c.c_size_t(min(most, len(self.out)))
+        code = self.call("sftp_next", self.out, room, c.byref(self.count))
+        return self.out[:self.count.value] if code == CONTINUES else b""
+
+
+class Connection(Held):
+    """One connection. What an input led to is what `taken` gives before the next input."""
+
+    def __init__(self, session_id, remote, **setup):
+        super().__init__(1 << 17)
+        self.tickets, self.entry = 0, Entry()
+        default = dict(methods=6, sessions=ACCEPT, window_size=1 << 21, max_auth_attempts=6,
+                       maximum_packet_size=1 << 15, keepalive_max=3, auth_rejection_time=300,
+                       repeatable=True)
+        code = self.call("open", c.byref(Setup(**(default | setup))), session_id, remote)
+        if code != CONTINUES:
+            raise OSError(code)
 
     def room(self, length):
         """A place for so many bytes."""

@@ -1,7 +1,7 @@
 #!/usr/bin/python3
 """A server of SSH on a loopback port: packets, ciphers and the exchange of keys are paramiko's,
 all above them is gidzork's. Users come in by password and key; it serves programs, shells (with a
-terminal where one is asked for) and connections to listed ports of this machine.
+terminal where one is asked for), connections to listed ports of this machine, and files in memory.
 
     server.py --user NAME:PASSWORD [--key NAME:FILE] [--forward PORT] [--port PORT]
 """
@@ -30,11 +30,11 @@ MOST_WAITING = 64 << 20  # bytes for a program that does not read them
 
 
 class Channel:
-    """What a channel is joined to: a program's ends, or a socket."""
+    """What a channel is joined to: a program's ends, a socket, or a file server."""
 
     def __init__(self, window, packet):
-        self.window, self.packet = window, packet
-        self.environment, self.terminal, self.program, self.socket = {}, None, None, None
+        self.window, self.packet, self.environment = window, packet, {}
+        self.terminal = self.program = self.socket = self.files = None
         self.into, self.outs = None, {}  # where its data go; what is read, and as which data
         self.waiting, self.ended = bytearray(), False  # data on their way there, and their end
 
@@ -91,6 +91,8 @@ class Wire(paramiko.Transport):
                 self.hear()
             elif reads[place] in self.channels and not self.over:
                 self.pass_out(reads[place], place)
+        for number in [it for it, channel in self.channels.items() if channel.files]:
+            self.serve_files(number)
         if time.time() >= due and self.line is not None:
             self.quiet_since = time.time()
             self.done(self.line.tick(gidzork.KEEPALIVE))
@@ -110,13 +112,12 @@ class Wire(paramiko.Transport):
             self.passes_over = payload[-5] and guessed != (self.preferred_kex[0], HOST_KEY)
         elif number == MSG_NEWKEYS:
             self._parse_newkeys(message)
-            if self.line is not None:
-                self.exchange(payload, True)
-                return
-            self.packetizer.complete_handshake()
-            self.line = gidzork.Connection(
-                self.session_id, self.remote_version.encode(),
-                direct_tcpip=gidzork.KEEP, rekey_bytes=self.settings.rekey)
+            self.exchange(payload, True)
+            if self.line is None:
+                self.packetizer.complete_handshake()
+                self.line = gidzork.Connection(
+                    self.session_id, self.remote_version.encode(),
+                    direct_tcpip=gidzork.KEEP, rekey_bytes=self.settings.rekey)
         elif 20 <= number < 50 and not self.passes_over:
             self.exchange(payload, False)
             self.kex_engine.parse_next(number, message)
@@ -180,11 +181,9 @@ class Wire(paramiko.Transport):
             return gidzork.REFUSED
         kind, certificate, shown = asked
         name, shown = strings(shown, 1)
-        user = self.settings.users.get(name)
-        if user is None or certificate:
-            return gidzork.REFUSED
-        if kind == 2:
-            return gidzork.LET_IN if strings(shown, 1)[0] == user[0] else gidzork.REFUSED
+        user = [] if certificate else self.settings.users.get(name, [])
+        if kind == 2 and strings(shown, 1)[:1] == user[:1]:
+            return gidzork.LET_IN
         if kind in (3, 4):
             algorithm, blob, shown = strings(shown, 2)
             if blob in user[1:]:
@@ -237,8 +236,12 @@ class Wire(paramiko.Transport):
                 columns, rows, width, height = struct.unpack_from(">4I", data)
                 fcntl.ioctl(channel.terminal[0], termios.TIOCSWINSZ,
                             struct.pack("4H", rows, columns, width & 65535, height & 65535))
-        elif kind in (12, 13) and not channel.program:
+        elif channel.program or channel.files:
+            return False
+        elif kind in (12, 13):
             start(channel, ["/bin/sh", "-c", data] if kind == 13 else ["/bin/sh"])
+        elif data == b"sftp":
+            channel.files = gidzork.Files()
         else:
             return False
         return True
@@ -294,26 +297,46 @@ class Wire(paramiko.Transport):
             return
         del channel.outs[place]
         if not channel.outs:
-            self.command(gidzork.EOF, number)
-            if channel.program:
-                status = channel.program.wait()
-                self.command(gidzork.EXIT_STATUS, number, status if status >= 0 else 128 - status)
-            self.later.append((self.close, (number,)))
-            self.done(gidzork.CONTINUES)
+            status = channel.program.wait() if channel.program else None
+            self.finish(number, 128 - status if status and status < 0 else status)
+
+    def serve_files(self, number):
+        """Gives a file server what its client sent, and sends its answers as far as they may go."""
+        channel = self.channels.get(number)
+        while number in self.channels and channel.window and self.line.commands_wanted():
+            if piece := channel.files.next(min(channel.packet, channel.window)):
+                channel.window -= len(piece)
+                self.done(self.line.data(number, piece, 0))
+            elif channel.waiting:
+                if channel.files.call("sftp_feed", bytes(channel.waiting[:PIECE])):
+                    channel.waiting, channel.ended = bytearray(), True
+                del channel.waiting[:PIECE]
+            elif channel.ended:
+                channel.ended = False
+                self.finish(number, channel.files.call("sftp_end"))
+            else:
+                return
+
+    def finish(self, number, status):
+        """Ends a channel's data, tells the status, and closes it."""
+        self.command(gidzork.EOF, number)
+        if status is not None:
+            self.command(gidzork.EXIT_STATUS, number, status)
+        self.later.append((self.close, (number,)))
+        self.done(gidzork.CONTINUES)
 
     def leave(self, number):
         """The channel is gone, and so is what it was joined to."""
         channel = self.channels.pop(number)
         if channel.program:
-            channel.program.kill()
-            channel.program.wait()
-            for end in (channel.program.stdin, channel.program.stdout, channel.program.stderr):
-                if end:
-                    end.close()
+            with channel.program:  # waits for it, and closes its ends
+                channel.program.kill()
         if channel.terminal:
             os.close(channel.terminal[0])
         if channel.socket:
             channel.socket.close()
+        if channel.files:
+            channel.files.call("sftp_free")
 
 
 def is_signed(algorithm, blob, message, signature):
