@@ -1,2 +1,17 @@
 pub mod Numbering
 pub mod Silences
+pub mod Strands
+pub mod Turns
+pub mod Hearings
+pub mod Sides
+pub mod Events
+pub mod Openings
+pub mod Laws
+pub mod Lookups
+pub mod Keeping
+pub mod Heard
+pub mod Joining
+pub mod Turning
+pub mod Happening
+pub mod Stories
+pub mod Posts

@@ -20,13 +20,13 @@ use Rattle.ssh_ends.specs.declared.incoming.Incoming.TheVariants.{Open, Confirma
 use Rattle.ssh_ends.specs.declared.incoming.Incoming.TheVariants.{WindowAdjust, Data, Eof, Close}
 
 -- its channels, and the window and the packet size that each of them begins with
-pub record Side : Type 0 where
+pub record EndTable : Type 0 where
   pub table : Table
   pub window : ℕ
   pub packet : ℕ
 
-abbrev pub with_table : Table → Side → Side
-with_table t side = record side { table = t }
+abbrev pub with_table : Table → EndTable → EndTable
+with_table t end = record end { table = t }
 
 -- the data of a message: CHANNEL_DATA, or CHANNEL_EXTENDED_DATA of a data type code
 abbrev pub kind_of : (ext : Option ℕ) → DataKind
@@ -45,38 +45,38 @@ confirmation_frame_of own sender window packet =
 
 -- a channel of the next number is opened, which waits for its confirmation, and this frame is
 -- written
-abbrev pub begun : Frame → Side → Table
-begun frame side = calls.stage frame (open_next side.window side.packet side.table)
+abbrev pub begun : Frame → EndTable → Table
+begun frame end = calls.stage frame (open_next end.window end.packet end.table)
 
--- this side opens the channel of this number
-abbrev pub opens : (own : ℕ) → Side → Table
-opens own side = begun (open_frame_of own side.window side.packet) side
+-- this end opens the channel of this number
+abbrev pub opens : (own : ℕ) → EndTable → Table
+opens own end = begun (open_frame_of own end.window end.packet) end
 
--- the other side's open of a channel is accepted under this number, at once
-abbrev pub accepts : (own sender window packet : ℕ) → Side → Table
-accepts own sender window packet side = calls.confirm (record {
+-- the other end's open of a channel is accepted under this number, at once
+abbrev pub accepts : (own sender window packet : ℕ) → EndTable → Table
+accepts own sender window packet end = calls.confirm (record {
   recipient_channel = own;
   sender_channel = sender;
   initial_window_size = window;
   maximum_packet_size = packet;
-}) (begun (confirmation_frame_of own sender side.window side.packet) side)
+}) (begun (confirmation_frame_of own sender end.window end.packet) end)
 
-abbrev pub accepts_under : Option ℕ → (sender window packet : ℕ) → Side → Table
-accepts_under None sender window packet side = side.table
-accepts_under (Some own) sender window packet side = accepts own sender window packet side
+abbrev pub accepts_under : Option ℕ → (sender window packet : ℕ) → EndTable → Table
+accepts_under None sender window packet end = end.table
+accepts_under (Some own) sender window packet end = accepts own sender window packet end
 
--- ---- what the other side says
+-- ---- what the other end says
 
 -- the channels after it; an EOF changes nothing
-abbrev pub taking : Incoming → Side → Table
-taking (Open sender window packet) side =
-    accepts_under (next_number side.table) sender window packet side
-taking (Confirmation confirmation) side = calls.confirm confirmation side.table
-taking (WindowAdjust channel amount) side = calls.grant channel.0 amount side.table
-taking (Data channel ext bytes) side =
-    calls.adjust channel.0 (length bytes) (calls.target_at channel.0 side.table) side.table
-taking (Eof channel) side = side.table
-taking (Close channel) side = calls.peer_close channel.0 side.table
+abbrev pub taking : Incoming → EndTable → Table
+taking (Open sender window packet) end =
+    accepts_under (next_number end.table) sender window packet end
+taking (Confirmation confirmation) end = calls.confirm confirmation end.table
+taking (WindowAdjust channel amount) end = calls.grant channel.0 amount end.table
+taking (Data channel ext bytes) end =
+    calls.adjust channel.0 (length bytes) (calls.target_at channel.0 end.table) end.table
+taking (Eof channel) end = end.table
+taking (Close channel) end = calls.peer_close channel.0 end.table
 
 -- data that the room has no place for are passed over
 abbrev pub unless_dropped : Adjusted → Delivered → Option Delivered
@@ -84,44 +84,44 @@ unless_dropped Dropped delivered = None
 unless_dropped _ delivered = Some delivered
 
 -- the data that are passed on (section 5.2)
-abbrev pub passing : Incoming → Side → Option Delivered
-passing (Data channel ext bytes) side = unless_dropped
-    (calls.adjusting_at channel.0 (length bytes) (calls.target_at channel.0 side.table) side.table)
+abbrev pub passing : Incoming → EndTable → Option Delivered
+passing (Data channel ext bytes) end = unless_dropped
+    (calls.adjusting_at channel.0 (length bytes) (calls.target_at channel.0 end.table) end.table)
     (record { channel = channel; ext = ext; bytes = bytes })
-passing said side = None
+passing said end = None
 
 -- no number is free for a channel
-abbrev pub HasNoNumber : Incoming → Side → Type 0
-HasNoNumber (Open sender window packet) side = next_number side.table ≡ None
-HasNoNumber said side = ⊥
+abbrev pub HasNoNumber : Incoming → EndTable → Type 0
+HasNoNumber (Open sender window packet) end = next_number end.table ≡ None
+HasNoNumber said end = ⊥
 
 -- a channel is confirmed that does not wait for it
-abbrev pub IsUncalledFor : Incoming → Side → Type 0
-IsUncalledFor (Confirmation confirmation) side =
-    has is_opening confirmation.recipient_channel side.table ≡ false
-IsUncalledFor said side = ⊥
+abbrev pub IsUncalledFor : Incoming → EndTable → Type 0
+IsUncalledFor (Confirmation confirmation) end =
+    has is_opening confirmation.recipient_channel end.table ≡ false
+IsUncalledFor said end = ⊥
 
-abbrev pub IsRefused : Incoming → Side → Type 0
-IsRefused said side = HasNoNumber said side ⊎ IsUncalledFor said side
+abbrev pub IsRefused : Incoming → EndTable → Type 0
+IsRefused said end = HasNoNumber said end ⊎ IsUncalledFor said end
 
 -- it is taken, and this is passed on
-abbrev pub IsTaken : Incoming → (old new : Side) → Option Delivered → Type 0
+abbrev pub IsTaken : Incoming → (old new : EndTable) → Option Delivered → Type 0
 IsTaken said old new delivered = (IsRefused said old → ⊥)
     × (new ≡ with_table (taking said old) old) × (delivered ≡ passing said old)
 
 -- the payload says something that is taken
-abbrev pub Takes : (payload : List ℕ) → (old new : Side) → Option Delivered → Type 0
+abbrev pub Takes : (payload : List ℕ) → (old new : EndTable) → Option Delivered → Type 0
 Takes payload old new delivered =
     (said : Incoming) × Says said payload × IsTaken said old new delivered
 
 -- why it is not taken
-abbrev pub IsRefusedBy : Incoming → Side → EndError → Type 0
-IsRefusedBy said side NoMemory = Unit {0}
-IsRefusedBy said side Full = HasNoNumber said side
-IsRefusedBy said side Unexpected = IsUncalledFor said side
+abbrev pub IsRefusedBy : Incoming → EndTable → EndError → Type 0
+IsRefusedBy said end NoMemory = Unit {0}
+IsRefusedBy said end Full = HasNoNumber said end
+IsRefusedBy said end Unexpected = IsUncalledFor said end
 
-abbrev pub TakesNot : (payload : List ℕ) → Side → EndError → Type 0
-TakesNot payload side NoMemory = Unit {0}
-TakesNot payload side Full = (said : Incoming) × Says said payload × HasNoNumber said side
-TakesNot payload side Unexpected =
-    IsSilent payload ⊎ ((said : Incoming) × Says said payload × IsUncalledFor said side)
+abbrev pub TakesNot : (payload : List ℕ) → EndTable → EndError → Type 0
+TakesNot payload end NoMemory = Unit {0}
+TakesNot payload end Full = (said : Incoming) × Says said payload × HasNoNumber said end
+TakesNot payload end Unexpected =
+    IsSilent payload ⊎ ((said : Incoming) × Says said payload × IsUncalledFor said end)

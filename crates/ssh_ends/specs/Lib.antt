@@ -1,2 +1,10 @@
 pub mod Incoming
 pub mod End
+pub mod Saying
+pub mod Change
+pub mod Pair
+pub mod Strand
+pub mod Sound
+pub mod Run
+pub mod Ends
+pub mod Story

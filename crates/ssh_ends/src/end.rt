@@ -45,9 +45,9 @@ pub struct End {
 
 impl Model for End {
     ghost use Rattle.std.specs.Prelude.{◌<◌};
-    ghost use Rattle.ssh_ends.specs.End.{Side};
+    ghost use Rattle.ssh_ends.specs.End.{EndTable};
 
-    ghost Value = { Side };
+    ghost Value = { EndTable };
 
     ghost view = { λ e. record { table = e.table; window = e.window; packet = e.packet } };
 

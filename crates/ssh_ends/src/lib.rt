@@ -6,11 +6,22 @@
 #![tactic(auto)]
 
 mod end;
+mod ends;
 mod error;
+mod event;
 mod frames;
 mod incoming;
+mod lists;
+mod post;
+mod promise;
 mod reading;
+mod run;
 
 pub use end::{Delivered, End};
+pub use ends::Ends;
 pub use error::EndError;
+pub use event::{EndEvent, Side};
 pub use incoming::Incoming;
+pub use lists::{Deliveries, EventList};
+pub use promise::two_ends;
+pub use run::run_ends;

@@ -4,7 +4,7 @@ use Rattle.ssh_link.specs.Frames.{Frame}
 use Rattle.ssh_channels.specs.Numbers.{next_number, open_next}
 use Rattle.ssh_channels.specs.Table.{Table}
 use Rattle.ssh_channels.specs.Calls.{confirm, stage}
-use Rattle.ssh_ends.specs.End.{Side, accepts_under, confirmation_frame_of, with_table}
+use Rattle.ssh_ends.specs.End.{EndTable, accepts_under, confirmation_frame_of, with_table}
 use Rattle.ssh_ends.proofs.Numbering.{one_number}
 use Rattle.ssh_ends.proofs.end.End.accept.Goals as goal
 
@@ -13,7 +13,7 @@ returns-clause-accepted c =
     let e = c.self.inside in
     let n = c.in_ok-own.own.0 in
     let sender = c.args.sender in
-    let side : Table → Side =
+    let side : Table → EndTable =
     λ t. record { table = t; window = e.window; packet = e.packet } in
     let own : c.in-Some.own.0 ≡ n =
     one_number (next_number e.table) _ _ c.in-Some.ensures.number c.in_ok-own.ensures.number in
@@ -25,7 +25,7 @@ returns-clause-accepted c =
       initial_window_size = c.args.window;
       maximum_packet_size = c.args.packet;
     } in
-    subst (λ (s : Side). record {
+    subst (λ (s : EndTable). record {
       table = c.confirm.new.self;
       window = e.window;
       packet = e.packet;

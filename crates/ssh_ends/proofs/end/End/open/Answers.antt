@@ -3,7 +3,7 @@ use Rattle.ssh_link.specs.Frames.{Frame}
 use Rattle.ssh_channels.specs.Numbers.{next_number, open_next}
 use Rattle.ssh_channels.specs.Table.{Table}
 use Rattle.ssh_channels.specs.Calls.{stage}
-use Rattle.ssh_ends.specs.End.{Side, open_frame_of, opens, with_table}
+use Rattle.ssh_ends.specs.End.{EndTable, open_frame_of, opens, with_table}
 use Rattle.ssh_ends.proofs.Numbering.{one_number}
 use Rattle.ssh_ends.proofs.end.End.open.Goals as goal
 
@@ -16,7 +16,7 @@ returns-clause-opened c =
     let frame : c.in_ok-frame.frame
     ≡ open_frame_of c.in_ok-new_channel_with.field-0.0 e.window e.packet =
     c.in_ok-frame.ensures.ok ∙ ap (λ n. open_frame_of n e.window e.packet) own in
-    subst (λ (s : Side). record {
+    subst (λ (s : EndTable). record {
       table = c.new_channel_with.new.self;
       window = e.window;
       packet = e.packet;
