@@ -1,27 +1,24 @@
 -- Each event keeps two sides sound.
-use Rattle.std.proofs.Common.{◌≡◌, ◌≤◌, ◌<◌, ◌+◌, ◌^◌, ◌==◌, ℕ, min, Bool, true, false, cond, List}
+use Rattle.std.proofs.Common.{◌≡◌, ◌≤◌, ◌<◌, ◌^◌, ℕ, true, false, List}
 use Rattle.std.proofs.Common.{[], ◌∷◌, ◌++◌, ◌||◌, refl, sym, ◌∙◌, ap, subst, Option, Some, None}
-use Rattle.std.proofs.Common.{◌⊎◌, inl, inr, arith}
+use Rattle.std.proofs.Common.{◌⊎◌, inl, inr}
 use Rattle.std.proofs.lemmas.List.{append-nil}
 use Rattle.std.specs.List.{list_any}
 use Rattle.ssh_channels.specs.declared.params.ChannelParams.{ChannelParams}
-use Rattle.ssh_channels.specs.declared.chunk.Chunk.{Chunk}
-use Rattle.ssh_channels.specs.Entry.{joined}
-use Rattle.ssh_channels.specs.Line.{opening, confirmed_by}
-use Rattle.ssh_ends.specs.Saying.{Saying, Open, Confirm, Data, Message, is_open, is_close}
+use Rattle.ssh_ends.specs.Saying.{Saying, Open, Message, is_open, is_close}
 use Rattle.ssh_ends.specs.Change.{Change, silent, hearing}
-use Rattle.ssh_ends.specs.Pair.{Party, Pair, at, changed, changed_at, on_channel, begins, left}
-use Rattle.ssh_ends.specs.Pair.{partnered, opens, welcomes, hears, takes_said, takes_of, takes}
-use Rattle.ssh_ends.specs.Strand.{AreCoded, Strand, direction, said_on}
-use Rattle.ssh_ends.specs.Sound.{AreSaid, IsGreeting, HearsOf, Hears, Half, IsFresh, IsAsked}
+use Rattle.ssh_ends.specs.Pair.{Party, Pair, changed, changed_at, on_channel, left}
+use Rattle.ssh_ends.specs.Pair.{hears}
+use Rattle.ssh_ends.specs.Strand.{Strand, direction, said_on}
+use Rattle.ssh_ends.specs.Sound.{AreSaid, Hears, Half, IsAsked}
 use Rattle.ssh_ends.specs.Sound.{Stands, AreRouted, Beside, IsSound}
 use Rattle.ssh_ends.proofs.Strands.{way, Turn, hears_more, gone_forth, gone_come}
 use Rattle.ssh_ends.proofs.Turns.{IsLike, Own}
 use Rattle.ssh_ends.proofs.Hearings.{second_true, heard_turn}
 use Rattle.ssh_ends.proofs.Sides.{Elsewhere, all_same, changed_elsewhere, left_elsewhere, same_way}
-use Rattle.ssh_ends.proofs.Sides.{at_here, at_other, one_value, no_value, said_next, said_past}
-use Rattle.ssh_ends.proofs.Sides.{more_here, more_past, beside_step, lone_near, lone_far}
-use Rattle.ssh_ends.proofs.Sides.{routed_both, letters_routed, routed_more}
+use Rattle.ssh_ends.proofs.Sides.{at_here, one_value, said_next}
+use Rattle.ssh_ends.proofs.Sides.{more_here, beside_step, lone_near, lone_far}
+use Rattle.ssh_ends.proofs.Sides.{routed_both, letters_routed}
 
 pub no_line : (l : ChannelParams) (o : Option ChannelParams) → o ≡ Some l → o ≡ None → ⊥
 no_line l o is none = let e : Some l ≡ None = sym is ∙ none in cc

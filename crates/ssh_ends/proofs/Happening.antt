@@ -1,9 +1,9 @@
 -- What happens to two ends happens to two sides.
-use Rattle.std.proofs.Common.{◌≡◌, ◌<◌, ◌≤◌, ◌+◌, ◌^◌, ℕ, List, [], ◌∷◌, ◌++◌, refl, sym, ◌∙◌, ap, subst}
-use Rattle.std.proofs.Common.{Option, Some, None, arith, Result, Ok, Err, IfOk, IfErr, OnOk}
+use Rattle.std.proofs.Common.{◌≡◌, ◌<◌, ◌^◌, ℕ, List, [], ◌∷◌, ◌++◌, refl, sym, ◌∙◌, ap, subst}
+use Rattle.std.proofs.Common.{Option, Result, Ok, Err, IfOk, IfErr, OnOk}
 use Rattle.std.proofs.Common.{◌⊎◌, inl, inr}
-use Rattle.ssh_ends.specs.Pair.{Party, Pair, turned}
-use Rattle.ssh_ends.specs.Sound.{Beside, IsSound}
+use Rattle.ssh_ends.specs.Pair.{Pair, turned}
+use Rattle.ssh_ends.specs.Sound.{IsSound}
 use Rattle.ssh_ends.specs.Run.{IsRanged, AreRanged, actor, acts, seen_by, happens, run_on, after}
 use Rattle.ssh_ends.specs.Run.{delivers, gives_now, new_pair, Holds, FewDraws}
 use Rattle.ssh_ends.specs.Ends.{Post, Posts, IsPost, StandsAt, Turned, Stops, Happens, FailsFor}
@@ -11,9 +11,8 @@ use Rattle.ssh_ends.specs.declared.end.Delivered.{Delivered}
 use Rattle.ssh_ends.specs.declared.error.EndError.{EndError}
 use Rattle.ssh_ends.specs.declared.error.EndError.TheVariants as error
 use Rattle.ssh_ends.specs.declared.event.EndEvent.{EndEvent}
-use Rattle.ssh_ends.specs.declared.event.Side.{Side}
 use Rattle.ssh_ends.specs.declared.event.Side.TheVariants.{A, B}
-use Rattle.ssh_ends.proofs.Laws.{Sizes, run_sound, new_sound, sound_holds}
+use Rattle.ssh_ends.proofs.Laws.{run_sound, new_sound, sound_holds}
 use Rattle.ssh_ends.proofs.Turning.{acts_draws, turns, stops}
 
 -- one event more

@@ -1,6 +1,6 @@
 -- A frame says one thing to the end that takes it.
-use Rattle.std.proofs.Common.{◌≡◌, ◌<◌, ◌^◌, ◌==◌, ℕ, true, false, List, [], ◌∷◌, length, refl, sym}
-use Rattle.std.proofs.Common.{◌∙◌, ◌≢◌, ap, subst, codes, arith, IsUtf8, Some, None}
+use Rattle.std.proofs.Common.{◌≡◌, ◌<◌, ◌^◌, ◌==◌, ℕ, false, List, [], ◌∷◌, length, refl, sym}
+use Rattle.std.proofs.Common.{◌≢◌, ap, subst, codes, arith, IsUtf8, Some, None}
 use Rattle.ssh_wire.specs.Field.{Field, Values, SpellsAll, SpellsWhole}
 use Rattle.ssh_wire.specs.Messages.{AreCarried, spellings}
 use Rattle.ssh_wire.specs.Messages.{channel_window_adjust, channel_data, channel_extended_data}
@@ -12,11 +12,11 @@ use Rattle.ssh_wire.proofs.Written.{spellings_spell}
 use Rattle.ssh_channels.specs.Layout.{chunk}
 use Rattle.ssh_channels.specs.declared.chunk.DataKind.{DataKind}
 use Rattle.ssh_channels.specs.declared.chunk.DataKind.TheVariants.{Plain, Extended}
-use Rattle.ssh_ends.specs.Incoming.{Says, SaysFields, number_of}
+use Rattle.ssh_ends.specs.Incoming.{Says, number_of}
 use Rattle.ssh_ends.specs.declared.incoming.Incoming.{Incoming}
 use Rattle.ssh_ends.specs.declared.incoming.Incoming.TheVariants as incoming
-use Rattle.ssh_ends.specs.Saying.{Saying, Open, Confirm, Grant, Data, Eof, Close, Message, heard}
-use Rattle.ssh_ends.specs.Saying.{heard_in, frame_saying, frame_of}
+use Rattle.ssh_ends.specs.Saying.{Saying, Open, Confirm, Grant, Data, Eof, Close}
+use Rattle.ssh_ends.specs.Saying.{heard_in, frame_saying}
 use Rattle.ssh_ends.specs.Strand.{IsCoded}
 use Rattle.ssh_ends.proofs.Sides.{not_same}
 

@@ -1,9 +1,9 @@
 -- What each message is to the side that takes it.
-use Rattle.std.proofs.Common.{◌≡◌, ◌≤◌, ◌<◌, ◌+◌, ◌-◌, ◌/◌, ◌^◌, ◌==◌, ◌&&◌, ℕ, min, Bool, true}
-use Rattle.std.proofs.Common.{false, not, cond, nat_le, nat_lt, List, [], ◌∷◌, ◌++◌, length, take}
-use Rattle.std.proofs.Common.{drop, map, refl, sym, ◌∙◌, ap, subst, Option, Some, None, append_assoc}
-use Rattle.std.proofs.Common.{arith, rules, length-append, length-take, zero, suc, ◌||◌, ◌⊎◌, inl, inr}
-use Rattle.std.proofs.lemmas.List.{append-nil, take-append-drop}
+use Rattle.std.proofs.Common.{◌≡◌, ◌≤◌, ◌<◌, ◌+◌, ◌-◌, ◌/◌, ◌^◌, ◌&&◌, ℕ, min, Bool, true}
+use Rattle.std.proofs.Common.{false, not, cond, nat_le, nat_lt, List, [], ◌∷◌, ◌++◌, length}
+use Rattle.std.proofs.Common.{refl, sym, ◌∙◌, ap, subst, Option, Some, None, append_assoc}
+use Rattle.std.proofs.Common.{arith, rules, length-append, ◌||◌, inl, inr}
+use Rattle.std.proofs.lemmas.List.{append-nil}
 use Rattle.std.specs.List.{list_any}
 use Rattle.ssh_channels.specs.declared.params.ChannelParams.{ChannelParams}
 use Rattle.ssh_channels.specs.declared.chunk.Chunk.{Chunk}
@@ -11,24 +11,21 @@ use Rattle.ssh_channels.specs.declared.chunk.DataKind.{DataKind}
 use Rattle.ssh_channels.specs.declared.adjusted.Adjusted.{Adjusted}
 use Rattle.ssh_channels.specs.declared.adjusted.Adjusted.TheVariants.{Dropped, Kept, Granted}
 use Rattle.ssh_channels.specs.Entry.{tagged, joined}
-use Rattle.ssh_channels.specs.Cut.{piece_limit, pieces_in, pieces, cut, left_of, raised}
-use Rattle.ssh_channels.specs.Layout.{chunk}
 use Rattle.ssh_channels.specs.Line as line
-use Rattle.ssh_channels.specs.Window.{fits, adjusting, adjusted, aimed, room_after}
-use Rattle.ssh_channels.proofs.Joined.{joined_both, joined_cut, joined_left, credit_spent}
-use Rattle.ssh_channels.proofs.Joined.{some_limit, tagged_length}
+use Rattle.ssh_channels.specs.Window.{fits, room_after}
+use Rattle.ssh_channels.proofs.Joined.{tagged_length}
 use Rattle.ssh_ends.specs.Saying.{Saying, Open, Confirm, Grant, Data, Eof, Close, is_close, is_open}
-use Rattle.ssh_ends.specs.Change.{Change, silent, saying, unchanged, data_out, ends_out, all_out}
-use Rattle.ssh_ends.specs.Change.{grant_out, adjust_out, sending, ending, closing, aiming, coming}
+use Rattle.ssh_ends.specs.Change.{Change, silent, saying, unchanged, data_out, ends_out}
+use Rattle.ssh_ends.specs.Change.{grant_out, adjust_out}
 use Rattle.ssh_ends.specs.Change.{hearing_data, hearing}
-use Rattle.ssh_ends.specs.Strand.{IsCoded, AreCoded, AtSender, AtTaker, Strand}
+use Rattle.ssh_ends.specs.Strand.{AreCoded, AtSender, AtTaker, Strand}
 use Rattle.ssh_ends.specs.Strand.{data_in, data_of, granted_in, granted_by}
-use Rattle.ssh_ends.specs.Sound.{AreSaid, HearsOf, Hears}
+use Rattle.ssh_ends.specs.Sound.{AreSaid, Hears}
 use Rattle.ssh_ends.proofs.Strands.{data_both, granted_both, said_both, way, Turn, Moves}
-use Rattle.ssh_ends.proofs.Strands.{moves_turn, alone_turn, when_confirmed, as_confirmed}
+use Rattle.ssh_ends.proofs.Strands.{moves_turn, when_confirmed, as_confirmed}
 use Rattle.ssh_ends.proofs.Strands.{said_confirmed, hears_next, when_waiting, moves_forth}
 use Rattle.ssh_ends.proofs.Strands.{NoGreeting}
-use Rattle.ssh_ends.proofs.Turns.{Flushes, flushes, IsQuiet, quiet, leaves, same_like}
+use Rattle.ssh_ends.proofs.Turns.{flushes, IsQuiet, leaves}
 use Rattle.ssh_ends.proofs.Turns.{nothing_said, idle, chosen, no_one, close_quiet, eof_quiet}
 
 -- ---- what comes of a message

@@ -1,47 +1,24 @@
 -- Two ends keep two sides at each event.
-use Rattle.std.proofs.Common.{◌≡◌, ◌≢◌, ◌≤◌, ◌<◌, ◌+◌, ◌^◌, ◌⊎◌, ℕ, Bool, true, false, cond, List}
-use Rattle.std.proofs.Common.{[], ◌∷◌, ◌++◌, map, length, refl, sym, ◌∙◌, ap, subst, Option, Some}
-use Rattle.std.proofs.Common.{None, inl, inr, arith, length-append}
-use Rattle.std.proofs.lemmas.List.{append-nil}
-use Rattle.ssh_link.specs.Frames.{Frame}
+use Rattle.std.proofs.Common.{◌≡◌, ◌≤◌, ◌<◌, ◌+◌, ◌^◌, ℕ, Bool, true, false, List}
+use Rattle.std.proofs.Common.{◌∷◌, length, refl, sym, ◌∙◌, ap, subst, Option, Some}
+use Rattle.std.proofs.Common.{None, arith, length-append}
 use Rattle.ssh_channels.specs.declared.params.ChannelParams.{ChannelParams}
 use Rattle.ssh_channels.specs.declared.chunk.Chunk.{Chunk}
 use Rattle.ssh_channels.specs.Entry.{tagged}
-use Rattle.ssh_channels.specs.Layout.{chunk}
 use Rattle.ssh_channels.specs.Line as line
-use Rattle.ssh_channels.specs.Table.{Table, line_at, is_one, has}
-use Rattle.ssh_channels.specs.Numbers as numbers
-use Rattle.ssh_channels.specs.Calls as calls
+use Rattle.ssh_channels.specs.Table.{is_one}
 use Rattle.ssh_channels.proofs.Joined.{tagged_length}
-use Rattle.ssh_ends.specs.Incoming.{IsSilent, Says}
-use Rattle.ssh_ends.specs.End as end
-use Rattle.ssh_ends.specs.End.{EndTable, with_table, kind_of, Takes, TakesNot, IsTaken, taking}
-use Rattle.ssh_ends.specs.End.{passing, unless_dropped, HasNoNumber, IsUncalledFor}
+use Rattle.ssh_ends.specs.Incoming.{Says}
 use Rattle.ssh_ends.specs.Saying.{Saying, Open, Confirm, Grant, Data, Eof, Close, Message, letter}
-use Rattle.ssh_ends.specs.Saying.{heard_in, frame_of, frame_saying, code_of, is_open}
-use Rattle.ssh_ends.specs.Pair.{Party, Pair, left, partnered, takes_said, takes_of, takes}
-use Rattle.ssh_ends.specs.Pair.{gives_at, gives_said, gives_of, gives}
-use Rattle.ssh_ends.specs.Strand.{IsCoded, Strand, direction, said_on, data_in, granted_in}
-use Rattle.ssh_ends.specs.Sound.{AreSaid, IsGreeting, HearsOf, Hears, Half, Beside, IsSound}
-use Rattle.ssh_ends.specs.Run.{acts, gives_now, IsRanged}
-use Rattle.ssh_ends.specs.Ends as ends
-use Rattle.ssh_ends.specs.Ends.{Post, Keeps, IsPost, handed_on, Accepted, accepting, opened_as}
-use Rattle.ssh_ends.specs.Ends.{TookOf, Took, TakesNone, Turned, Stops, HasNoneFree}
-use Rattle.ssh_ends.specs.declared.end.Delivered.{Delivered}
-use Rattle.ssh_ends.specs.declared.error.EndError.{EndError}
-use Rattle.ssh_ends.specs.declared.error.EndError.TheVariants as error
-use Rattle.ssh_ends.specs.declared.event.EndEvent.{EndEvent}
-use Rattle.ssh_ends.specs.declared.event.EndEvent.TheVariants as event
+use Rattle.ssh_ends.specs.Saying.{heard_in, frame_saying, is_open}
+use Rattle.ssh_ends.specs.Pair.{Party}
+use Rattle.ssh_ends.specs.Strand.{IsCoded, said_on, data_in, granted_in}
+use Rattle.ssh_ends.specs.Sound.{HearsOf, Hears, Beside}
 use Rattle.ssh_ends.specs.declared.incoming.Incoming.{Incoming}
-use Rattle.ssh_ends.specs.declared.incoming.Incoming.TheVariants as incoming
-use Rattle.ssh_ends.proofs.Strands.{when_confirmed}
 use Rattle.ssh_ends.proofs.Sides.{said_next}
 use Rattle.ssh_ends.proofs.Events.{goes_to, drawn_of}
 use Rattle.ssh_ends.proofs.Openings.{asked_first}
 use Rattle.ssh_ends.proofs.Heard.{HasRoom, says_once, says_it}
-use Rattle.ssh_ends.proofs.Keeping.{keeps_same, keeps_send, keeps_eof, keeps_close, keeps_target}
-use Rattle.ssh_ends.proofs.Keeping.{keeps_grant, keeps_peer_close, keeps_confirm, keeps_data}
-use Rattle.ssh_ends.proofs.Keeping.{next_is, keeps_begun, keeps_welcome}
 
 -- ---- what the first message says has room in a frame
 

@@ -1,7 +1,7 @@
 -- A table keeps a side's channels at each call.
-use Rattle.std.proofs.Common.{◌≡◌, ◌≤◌, ◌<◌, ◌+◌, ◌-◌, ◌%◌, ◌^◌, ◌==◌, ◌||◌, ℕ, Bool, true, false, not}
+use Rattle.std.proofs.Common.{◌≡◌, ◌<◌, ◌+◌, ◌%◌, ◌^◌, ◌==◌, ◌||◌, ℕ, Bool, true, false, not}
 use Rattle.std.proofs.Common.{cond, List, [], ◌∷◌, ◌++◌, map, length, refl, sym, ◌∙◌, ap, subst}
-use Rattle.std.proofs.Common.{Option, Some, None, is_some, append_assoc, arith, inl, inr}
+use Rattle.std.proofs.Common.{Option, Some, None, is_some, append_assoc, arith}
 use Rattle.std.proofs.lemmas.List.{append-nil, map-append}
 use Rattle.std.specs.List.{list_any}
 use Rattle.std.specs.Ordering.{nat_cmp}
@@ -16,7 +16,7 @@ use Rattle.ssh_channels.specs.Entry.{tagged}
 use Rattle.ssh_channels.specs.Cut.{piece_limit, cut}
 use Rattle.ssh_channels.specs.Line as line
 use Rattle.ssh_channels.specs.Window.{adjust_frames, adjusting, adjusted, adjusted_frames, aimed}
-use Rattle.ssh_channels.specs.Table.{Table, line_at, is_live, is_pending, put, write, act, act_on}
+use Rattle.ssh_channels.specs.Table.{Table, line_at, is_pending, put, write, act, act_on}
 use Rattle.ssh_channels.specs.Numbers as numbers
 use Rattle.ssh_channels.specs.Calls as calls
 use Rattle.ssh_channels.proofs.Frees.{free_found}
@@ -25,11 +25,11 @@ use Rattle.ssh_ends.specs.Saying.{frame_of}
 use Rattle.ssh_ends.specs.Saying.{frame_saying}
 use Rattle.ssh_ends.specs.Change.{Change, silent, saying, unchanged, data_out, ends_out, all_out}
 use Rattle.ssh_ends.specs.Change.{grant_out, hearing_data}
-use Rattle.ssh_ends.specs.Change.{adjust_out, sending, ending, closing, aiming, hearing, coming}
-use Rattle.ssh_ends.specs.Pair.{Party, at, changed, changed_at, on_channel, begins, partnered}
-use Rattle.ssh_ends.specs.Sound.{IsFresh, Stands, Beside}
-use Rattle.ssh_ends.specs.Ends.{Rises, Keeps}
-use Rattle.ssh_ends.proofs.Sides.{one_number, not_same, at_here, at_other}
+use Rattle.ssh_ends.specs.Change.{adjust_out, sending, ending, closing, aiming, hearing}
+use Rattle.ssh_ends.specs.Pair.{Party, changed, changed_at, on_channel, begins, partnered}
+use Rattle.ssh_ends.specs.Sound.{Beside}
+use Rattle.ssh_ends.specs.Ends.{Keeps}
+use Rattle.ssh_ends.proofs.Sides.{one_number, not_same, at_here}
 use Rattle.ssh_ends.proofs.Lookups.{find, put_finds, put_rises, IsAbove, is_above, added_here}
 use Rattle.ssh_ends.proofs.Lookups.{added_other, added_rises}
 use Rattle.ssh_ends.proofs.Openings.{next_is_fresh}

@@ -1,19 +1,18 @@
 -- The law of two ends, for each list of events.
-use Rattle.std.proofs.Common.{◌≡◌, ◌≤◌, ◌<◌, ◌+◌, ◌^◌, ℕ, Bool, true, false, List, [], ◌∷◌, ◌++◌}
+use Rattle.std.proofs.Common.{◌≡◌, ◌<◌, ◌^◌, ℕ, true, false, List, [], ◌∷◌, ◌++◌}
 use Rattle.std.proofs.Common.{refl, sym, ◌∙◌, ap, subst, Option, Some, None, append_assoc, arith}
-use Rattle.std.proofs.Common.{length, inl, inr}
+use Rattle.std.proofs.Common.{length, inl}
 use Rattle.ssh_channels.specs.declared.params.ChannelParams.{ChannelParams}
 use Rattle.ssh_channels.specs.declared.chunk.Chunk.{Chunk}
-use Rattle.ssh_channels.specs.Entry.{joined}
 use Rattle.ssh_channels.specs.Layout.{chunk}
 use Rattle.ssh_channels.specs.Window as window
 use Rattle.ssh_ends.specs.End.{kind_of}
 use Rattle.ssh_ends.specs.Saying.{Saying, Open, Confirm, Grant, Data, Eof, Close, Message, letter}
 use Rattle.ssh_ends.specs.Saying.{is_open}
 use Rattle.ssh_ends.specs.Change.{sending, ending, closing, aiming}
-use Rattle.ssh_ends.specs.Pair.{Party, Pair, turned, takes_said, takes_of, takes}
-use Rattle.ssh_ends.specs.Strand.{Strand, direction, said_on, data_in}
-use Rattle.ssh_ends.specs.Sound.{Hears, Half, IsFresh, Stands, AreRouted, Beside, IsSound}
+use Rattle.ssh_ends.specs.Pair.{Party, Pair, turned, takes_said, takes_of}
+use Rattle.ssh_ends.specs.Strand.{Strand, said_on, data_in}
+use Rattle.ssh_ends.specs.Sound.{Hears, Half, Beside, IsSound}
 use Rattle.ssh_ends.specs.Run.{IsRanged, AreRanged, acts, seen_by, actor, happens, run_on, after}
 use Rattle.ssh_ends.specs.Run.{new_party, new_pair, IsWhole, Delivers, Holds, HoldsOfAll}
 use Rattle.ssh_ends.specs.declared.event.EndEvent.{EndEvent}
@@ -24,7 +23,7 @@ use Rattle.ssh_ends.proofs.Strands.{way, said_confirmed}
 use Rattle.ssh_ends.proofs.Turns.{sending_own, ending_own, closing_own, aiming_own}
 use Rattle.ssh_ends.proofs.Hearings.{data_fits, fits_at}
 use Rattle.ssh_ends.proofs.Sides.{same_way, said_next}
-use Rattle.ssh_ends.proofs.Events.{own_sound, heard_sound, goes_to, no_line}
+use Rattle.ssh_ends.proofs.Events.{own_sound, heard_sound, goes_to}
 use Rattle.ssh_ends.proofs.Openings.{open_sound, welcome_sound}
 
 -- ---- what holds at each moment is kept

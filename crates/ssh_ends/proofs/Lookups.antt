@@ -8,9 +8,8 @@ use Rattle.std.specs.BTreeMap.{is_at, insert_entry}
 use Rattle.std.specs.Map.{lookup, set_value, remove_entry}
 use Rattle.ssh_channels.specs.declared.params.ChannelParams.{ChannelParams}
 use Rattle.ssh_channels.specs.Table.{Table, line_at, put}
-use Rattle.ssh_ends.specs.Pair.{at}
 use Rattle.ssh_ends.specs.Ends.{Rises}
-use Rattle.ssh_ends.proofs.Sides.{same_number, one_number, apart, not_same, at_here, at_other}
+use Rattle.ssh_ends.proofs.Sides.{same_number, one_number, apart, not_same}
 
 abbrev Lines : Type 0
 Lines = List (ℕ × ChannelParams)

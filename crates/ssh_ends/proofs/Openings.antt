@@ -1,17 +1,17 @@
 -- Opening a channel, and accepting one, keeps two sides sound.
-use Rattle.std.proofs.Common.{◌≡◌, ◌≤◌, ◌<◌, ◌+◌, ◌^◌, ◌==◌, ℕ, min, Bool, true, false, cond, List}
+use Rattle.std.proofs.Common.{◌≡◌, ◌<◌, ◌+◌, ◌^◌, ℕ, min, Bool, true, false, List}
 use Rattle.std.proofs.Common.{[], ◌∷◌, ◌++◌, refl, sym, ◌∙◌, ap, subst, Option, Some, None}
-use Rattle.std.proofs.Common.{◌⊎◌, inl, inr, arith, ◌-◌, length}
+use Rattle.std.proofs.Common.{inl, inr, arith, ◌-◌, length}
 use Rattle.ssh_channels.specs.declared.params.ChannelParams.{ChannelParams}
 use Rattle.ssh_channels.specs.Entry.{joined}
 use Rattle.ssh_channels.specs.Line.{opening, confirmed_by}
-use Rattle.ssh_ends.specs.Saying.{Saying, Open, Confirm, Message, letter, is_open}
-use Rattle.ssh_ends.specs.Pair.{Party, Pair, at, begins, left, partnered, opens, welcomes}
-use Rattle.ssh_ends.specs.Strand.{AreCoded, Strand, direction, said_on, data_in, granted_in}
-use Rattle.ssh_ends.specs.Sound.{AreSaid, IsGreeting, HearsOf, Hears, Half, IsFresh, IsAsked}
+use Rattle.ssh_ends.specs.Saying.{Saying, Open, Confirm, Message, letter}
+use Rattle.ssh_ends.specs.Pair.{Party, Pair, begins, left, partnered, opens, welcomes}
+use Rattle.ssh_ends.specs.Strand.{AreCoded, Strand, said_on, data_in, granted_in}
+use Rattle.ssh_ends.specs.Sound.{AreSaid, HearsOf, Hears, Half, IsFresh, IsAsked}
 use Rattle.ssh_ends.specs.Sound.{Stands, AreRouted, Beside, IsSound}
 use Rattle.ssh_ends.proofs.Strands.{way}
-use Rattle.ssh_ends.proofs.Sides.{Elsewhere, same_way, at_here, at_other, one_value, no_value}
+use Rattle.ssh_ends.proofs.Sides.{Elsewhere, same_way, at_here, at_other, no_value}
 use Rattle.ssh_ends.proofs.Sides.{said_next, said_past, more_here, more_past, beside_step}
 use Rattle.ssh_ends.proofs.Sides.{lone_near, lone_far, routed_both, routed_more}
 use Rattle.ssh_ends.proofs.Events.{no_line}

@@ -1,17 +1,17 @@
 -- Two sides, of which an event changes what is said on one channel.
-use Rattle.std.proofs.Common.{◌≡◌, ◌≤◌, ◌<◌, ◌+◌, ◌==◌, ℕ, Bool, true, false, cond, List, [], ◌∷◌}
-use Rattle.std.proofs.Common.{◌++◌, ◌||◌, map, refl, sym, ◌∙◌, ap, subst, Option, Some, None}
+use Rattle.std.proofs.Common.{◌≡◌, ◌≤◌, ◌+◌, ◌==◌, ℕ, Bool, true, false, cond, List, [], ◌∷◌}
+use Rattle.std.proofs.Common.{◌++◌, ◌||◌, refl, sym, ◌∙◌, ap, subst, Option, Some, None}
 use Rattle.std.proofs.Common.{◌⊎◌, inl, inr, arith, rules}
 use Rattle.std.proofs.lemmas.List.{append-nil}
 use Rattle.std.specs.List.{list_any}
 use Rattle.ssh_channels.specs.declared.params.ChannelParams.{ChannelParams}
 use Rattle.ssh_channels.specs.declared.chunk.DataKind.{DataKind}
-use Rattle.ssh_ends.specs.Saying.{Saying, Message, letter, letters, is_open, is_close}
+use Rattle.ssh_ends.specs.Saying.{Saying, Message, letter, letters, is_close}
 use Rattle.ssh_ends.specs.Change.{Change}
 use Rattle.ssh_ends.specs.Pair.{Party, at, changed, left}
-use Rattle.ssh_ends.specs.Strand.{AreCoded, Direction, Strand, direction, said_on}
-use Rattle.ssh_ends.specs.Sound.{AreSaid, Hears, Half, IsFresh, IsAsked, Stands, AreRouted, Beside}
-use Rattle.ssh_ends.proofs.Strands.{way, Turn, hears_more}
+use Rattle.ssh_ends.specs.Strand.{Strand, said_on}
+use Rattle.ssh_ends.specs.Sound.{Hears, Half, IsFresh, IsAsked, Stands, AreRouted, Beside}
+use Rattle.ssh_ends.proofs.Strands.{way}
 
 -- ---- numbers
 

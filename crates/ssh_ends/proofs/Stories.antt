@@ -1,6 +1,6 @@
 -- A list of events of two ends, from its beginning.
-use Rattle.std.proofs.Common.{◌≡◌, ◌≤◌, ◌<◌, ◌+◌, ◌^◌, ◌==◌, ◌&&◌, ℕ, Bool, true, false, cond, List}
-use Rattle.std.proofs.Common.{[], ◌∷◌, ◌++◌, length, refl, sym, ◌∙◌, ap, subst, Option, Some, None}
+use Rattle.std.proofs.Common.{◌≡◌, ◌==◌, ◌&&◌, ℕ, Bool, true, false, cond, List}
+use Rattle.std.proofs.Common.{[], ◌∷◌, ◌++◌, refl, sym, ◌∙◌, ap, subst, Option, Some, None}
 use Rattle.std.proofs.Common.{append_assoc, arith}
 use Rattle.std.proofs.lemmas.List.{append-nil}
 use Rattle.ssh_channels.specs.declared.params.ChannelParams.{ChannelParams}
@@ -16,16 +16,15 @@ use Rattle.ssh_ends.specs.End.{kind_of, unless_dropped}
 use Rattle.ssh_ends.specs.Saying.{Saying, Open, Confirm, Grant, Data, Eof, Close, Message, code_of}
 use Rattle.ssh_ends.specs.Change.{Change, unchanged, sending, ending, closing, aiming, hearing}
 use Rattle.ssh_ends.specs.Change.{hearing_data, coming}
-use Rattle.ssh_ends.specs.Pair.{Party, Pair, turned, at, changed, changed_at, on_channel, takes_said}
-use Rattle.ssh_ends.specs.Pair.{takes_of, gives_at, gives_said, gives_of, gives}
+use Rattle.ssh_ends.specs.Pair.{Party, Pair, turned, changed_at, on_channel, takes_said}
+use Rattle.ssh_ends.specs.Pair.{takes_of, gives_at, gives_said, gives_of}
 use Rattle.ssh_ends.specs.Run.{actor, acts, seen_by, happens, run_on, after, delivers, gives_now}
 use Rattle.ssh_ends.specs.Run.{new_pair, FewDraws, Holds}
-use Rattle.ssh_ends.specs.Ends.{Posts, StandsAt, Happens, FailsFor}
+use Rattle.ssh_ends.specs.Ends.{Posts, StandsAt, FailsFor}
 use Rattle.ssh_ends.specs.Story.{told_by, told_on, told, is_side, data_of, bytes_at, party}
 use Rattle.ssh_ends.specs.Story.{Ran, RunsOut, Plays}
 use Rattle.ssh_ends.specs.declared.end.Delivered.{Delivered}
 use Rattle.ssh_ends.specs.declared.error.EndError.{EndError}
-use Rattle.ssh_ends.specs.declared.error.EndError.TheVariants as error
 use Rattle.ssh_ends.specs.declared.event.EndEvent.{EndEvent}
 use Rattle.ssh_ends.specs.declared.event.EndEvent.TheVariants as event
 use Rattle.ssh_ends.specs.declared.event.Side.{Side}
@@ -33,7 +32,7 @@ use Rattle.ssh_ends.specs.declared.event.Side.TheVariants.{A, B}
 use Rattle.ssh_ends.proofs.Laws.{sound_holds}
 use Rattle.ssh_ends.proofs.Sides.{one_number}
 use Rattle.ssh_ends.proofs.Turning.{acts_draws}
-use Rattle.ssh_ends.proofs.Happening.{run_more, sound_after}
+use Rattle.ssh_ends.proofs.Happening.{sound_after}
 
 -- ---- what is delivered is in the record of its side
 

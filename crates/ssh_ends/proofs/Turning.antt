@@ -1,5 +1,5 @@
 -- One of two ends turns to an event, as its side does.
-use Rattle.std.proofs.Common.{◌≡◌, ◌≤◌, ◌<◌, ◌+◌, ◌^◌, ◌⊎◌, ℕ, Bool, true, false, List, [], ◌∷◌}
+use Rattle.std.proofs.Common.{◌≡◌, ◌≤◌, ◌<◌, ◌+◌, ◌^◌, ℕ, true, false, List, [], ◌∷◌}
 use Rattle.std.proofs.Common.{◌++◌, map, length, refl, sym, ◌∙◌, ap, subst, Option, Some, None}
 use Rattle.std.proofs.Common.{inl, inr, arith}
 use Rattle.std.proofs.lemmas.List.{append-nil}
@@ -8,20 +8,19 @@ use Rattle.ssh_channels.specs.declared.params.ChannelParams.{ChannelParams}
 use Rattle.ssh_channels.specs.declared.chunk.Chunk.{Chunk}
 use Rattle.ssh_channels.specs.Layout.{chunk}
 use Rattle.ssh_channels.specs.Line as line
-use Rattle.ssh_channels.specs.Table.{Table, line_at, is_one, has}
+use Rattle.ssh_channels.specs.Table.{Table, line_at, is_one}
 use Rattle.ssh_channels.specs.Numbers as numbers
 use Rattle.ssh_channels.specs.Calls as calls
-use Rattle.ssh_ends.specs.Incoming.{IsSilent, Says}
 use Rattle.ssh_ends.specs.End.{EndTable, with_table, kind_of, Takes, TakesNot, taking, passing}
 use Rattle.ssh_ends.specs.End.{unless_dropped, HasNoNumber, IsUncalledFor, accepts_under}
 use Rattle.ssh_ends.specs.End.{opens as opens_own}
 use Rattle.ssh_ends.specs.Saying.{Saying, Open, Confirm, Grant, Data, Eof, Close, Message, letter}
-use Rattle.ssh_ends.specs.Saying.{heard_in, frame_of, frame_saying, code_of, is_open}
-use Rattle.ssh_ends.specs.Pair.{Party, Pair, begins, left, partnered, takes_said, takes_of, takes}
-use Rattle.ssh_ends.specs.Pair.{gives_at, gives_said, gives_of, gives, changed_at, on_channel}
+use Rattle.ssh_ends.specs.Saying.{heard_in, frame_of, frame_saying, code_of}
+use Rattle.ssh_ends.specs.Pair.{Party, Pair, begins, left, partnered, takes_said, takes_of}
+use Rattle.ssh_ends.specs.Pair.{gives_at, gives_said, gives_of, changed_at, on_channel}
 use Rattle.ssh_ends.specs.Change.{Change, sending, ending, closing, aiming, hearing}
 use Rattle.ssh_ends.specs.Strand.{said_on}
-use Rattle.ssh_ends.specs.Sound.{Beside, IsSound}
+use Rattle.ssh_ends.specs.Sound.{Beside}
 use Rattle.ssh_ends.specs.Run.{acts, gives_now}
 use Rattle.ssh_ends.specs.Ends.{Post, Keeps, IsPost, handed_on, Accepted, accepting, opened_as}
 use Rattle.ssh_ends.specs.Ends.{TookOf, TakesNone, Turned, Stops}
@@ -30,9 +29,7 @@ use Rattle.ssh_ends.specs.declared.error.EndError.{EndError}
 use Rattle.ssh_ends.specs.declared.error.EndError.TheVariants as error
 use Rattle.ssh_ends.specs.declared.event.EndEvent.{EndEvent}
 use Rattle.ssh_ends.specs.declared.event.EndEvent.TheVariants as event
-use Rattle.ssh_ends.specs.declared.incoming.Incoming.{Incoming}
 use Rattle.ssh_ends.proofs.Joining.{Waits, waits_of, first_heard, once}
-use Rattle.ssh_ends.proofs.Sides.{said_next}
 use Rattle.ssh_ends.proofs.Keeping.{keeps_same, keeps_send, keeps_eof, keeps_close, keeps_target}
 use Rattle.ssh_ends.proofs.Keeping.{keeps_grant, keeps_peer_close, keeps_confirm, keeps_data}
 use Rattle.ssh_ends.proofs.Keeping.{next_is, keeps_begun, keeps_welcome}

@@ -1,5 +1,5 @@
 -- What an event makes of one channel of a side (RFC 4254 section 5).
-use Rattle.std.specs.Prelude.{ℕ, ◌==◌, ◌&&◌, Bool, true, false, not, cond, List, [], ◌∷◌, ◌++◌, length}
+use Rattle.std.specs.Prelude.{ℕ, Bool, false, not, cond, List, [], ◌∷◌, ◌++◌, length}
 use Rattle.std.specs.Prelude.{map, Option, Some, None}
 use Rattle.ssh_channels.specs.declared.params.ChannelParams.{ChannelParams}
 use Rattle.ssh_channels.specs.declared.chunk.Chunk.{Chunk}
@@ -9,7 +9,7 @@ use Rattle.ssh_channels.specs.declared.adjusted.Adjusted.TheVariants.{Dropped, K
 use Rattle.ssh_channels.specs.Cut.{piece_limit, cut}
 use Rattle.ssh_channels.specs.Entry.{tagged}
 use Rattle.ssh_channels.specs.Line as line
-use Rattle.ssh_channels.specs.Window.{fits, adjusting, adjusted, aimed}
+use Rattle.ssh_channels.specs.Window.{adjusting, adjusted, aimed}
 use Rattle.ssh_ends.specs.Saying.{Saying, Open, Confirm, Grant, Data, Eof, Close}
 
 -- the channel after it, or none where it is gone; what the side says then; and the bytes of data,

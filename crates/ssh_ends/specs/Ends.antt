@@ -1,6 +1,6 @@
 -- Two ends of a connection in memory, the frames that are under way between them, and how they keep
 -- what the events make of two sides.
-use Rattle.std.specs.Prelude.{◌≡◌, ◌≤◌, ◌<◌, ◌+◌, ◌^◌, ◌⊎◌, ℕ, false, List, [], ◌∷◌, ◌++◌, map}
+use Rattle.std.specs.Prelude.{◌≡◌, ◌≤◌, ◌<◌, ◌+◌, ◌^◌, ℕ, false, List, [], ◌∷◌, ◌++◌, map}
 use Rattle.std.specs.Prelude.{Option, Some, None, Bool, length, ◌==◌, ◌&&◌}
 use Rattle.ssh_link.specs.Frames.{Frame}
 use Rattle.ssh_channels.specs.declared.params.ChannelParams.{ChannelParams}
@@ -10,14 +10,13 @@ use Rattle.ssh_channels.specs.Numbers.{empty, next_number}
 use Rattle.ssh_channels.specs.Calls as calls
 use Rattle.ssh_ends.specs.End.{EndTable, with_table, kind_of, opens, Takes, TakesNot}
 use Rattle.ssh_ends.specs.Saying.{frame_of}
-use Rattle.ssh_ends.specs.Pair.{Party, Pair}
-use Rattle.ssh_ends.specs.Run.{AreRanged, FewDraws, Holds, actor, after, delivers}
+use Rattle.ssh_ends.specs.Pair.{Party}
+use Rattle.ssh_ends.specs.Run.{AreRanged, FewDraws, Holds, after, delivers}
 use Rattle.ssh_ends.specs.declared.end.Delivered.{Delivered}
 use Rattle.ssh_ends.specs.declared.error.EndError.{EndError}
 use Rattle.ssh_ends.specs.declared.error.EndError.TheVariants as error
 use Rattle.ssh_ends.specs.declared.event.EndEvent.{EndEvent}
 use Rattle.ssh_ends.specs.declared.event.EndEvent.TheVariants as event
-use Rattle.ssh_ends.specs.declared.event.Side.{Side}
 
 -- an end, and the frames that it handed on and the other end has not taken
 pub record Post : Type 0 where

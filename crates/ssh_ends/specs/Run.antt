@@ -1,5 +1,5 @@
 -- The events of two ends, and what holds after each list of them.
-use Rattle.std.specs.Prelude.{◌≡◌, ◌<◌, ◌+◌, ◌^◌, ℕ, Bool, true, false, List, [], ◌∷◌, ◌++◌, length}
+use Rattle.std.specs.Prelude.{◌≡◌, ◌<◌, ◌+◌, ◌^◌, ℕ, true, false, List, [], ◌∷◌, ◌++◌, length}
 use Rattle.std.specs.Prelude.{Option, Some, None}
 use Rattle.ssh_channels.specs.declared.params.ChannelParams.{ChannelParams}
 use Rattle.ssh_channels.specs.declared.chunk.Chunk.{Chunk}
@@ -8,7 +8,7 @@ use Rattle.ssh_channels.specs.Entry.{joined}
 use Rattle.ssh_channels.specs.Layout.{chunk}
 use Rattle.ssh_channels.specs.Window as window
 use Rattle.ssh_ends.specs.End.{kind_of}
-use Rattle.ssh_ends.specs.Saying.{Saying, Data, Message}
+use Rattle.ssh_ends.specs.Saying.{Data, Message}
 use Rattle.ssh_ends.specs.Change.{Change, sending, ending, closing, aiming}
 use Rattle.ssh_ends.specs.Pair.{Party, Pair, turned, on_channel, opens, takes, gives}
 use Rattle.ssh_ends.specs.Strand.{IsCoded, data_in, granted_in, said_on}

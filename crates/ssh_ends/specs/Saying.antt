@@ -1,5 +1,5 @@
 -- What the sides of a connection say to one another on their channels (RFC 4254 section 5).
-use Rattle.std.specs.Prelude.{ℕ, ◌<◌, ◌^◌, Bool, true, false, List, [], ◌∷◌, map, Option, Some, None}
+use Rattle.std.specs.Prelude.{ℕ, Bool, true, false, List, map, Option, Some, None}
 use Rattle.ssh_link.specs.Frames.{Frame}
 use Rattle.ssh_channels.specs.declared.chunk.Chunk.{Chunk}
 use Rattle.ssh_channels.specs.declared.chunk.DataKind.{DataKind}

@@ -2,7 +2,7 @@
 use Rattle.std.specs.Prelude.{◌≡◌, ◌≤◌, ◌<◌, ◌⊎◌, ◌^◌, ℕ, Bool, true, false, List, [], ◌∷◌}
 use Rattle.std.specs.Prelude.{Option, Some, None}
 use Rattle.ssh_channels.specs.declared.params.ChannelParams.{ChannelParams}
-use Rattle.ssh_ends.specs.Saying.{Saying, Open, Confirm, Grant, Data, Eof, Close, Message, is_open}
+use Rattle.ssh_ends.specs.Saying.{Saying, Open, Confirm, Data, Message, is_open}
 use Rattle.ssh_ends.specs.Pair.{Party, Pair}
 use Rattle.ssh_ends.specs.Strand.{IsCoded, Strand, direction, said_on}
 

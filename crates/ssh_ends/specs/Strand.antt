@@ -1,6 +1,6 @@
 -- One direction of a channel: what lies between the data that one side accepted and those that the
 -- other delivered (RFC 4254 section 5.2).
-use Rattle.std.specs.Prelude.{◌≡◌, ◌<◌, ◌+◌, ◌^◌, ℕ, Bool, true, false, List, [], ◌∷◌, ◌++◌, length}
+use Rattle.std.specs.Prelude.{◌≡◌, ◌<◌, ◌+◌, ◌^◌, ℕ, List, [], ◌∷◌, ◌++◌, length}
 use Rattle.std.specs.Prelude.{Option, Some, None, ◌==◌, cond}
 use Rattle.std.specs.List.{flat_map}
 use Rattle.ssh_channels.specs.declared.params.ChannelParams.{ChannelParams}
@@ -8,7 +8,7 @@ use Rattle.ssh_channels.specs.declared.chunk.Chunk.{Chunk}
 use Rattle.ssh_channels.specs.declared.chunk.DataKind.{DataKind}
 use Rattle.ssh_channels.specs.declared.chunk.DataKind.TheVariants.{Plain, Extended}
 use Rattle.ssh_channels.specs.Entry.{tagged, joined}
-use Rattle.ssh_ends.specs.Saying.{Saying, Open, Confirm, Grant, Data, Message}
+use Rattle.ssh_ends.specs.Saying.{Saying, Confirm, Grant, Data, Message}
 use Rattle.ssh_ends.specs.Pair.{Party}
 
 -- what a side says on its channel n, of messages that are under way

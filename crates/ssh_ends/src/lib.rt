@@ -1,8 +1,11 @@
 //! Two ends of a connection above the channels alone (RFC 4254 section 5), without authentication
 //! and without exchanges of keys.
 //!
-//! What stands so far is one end (`End`): a side that opens channels, accepts each channel that the
-//! other side opens, and takes and sends data on them, over the contract of the table of channels.
+//! One end (`End`) opens channels, accepts each channel that the other side opens, and takes and
+//! sends data on them, over the contract of the table of channels. Of two ends (`Ends`), each of
+//! which takes what the other writes in order, what one delivers on a channel is the first part of
+//! what the other accepted on it, and while neither wrote a CLOSE for it nothing is lost: that is
+//! the contract of `Ends::event` and of `run_ends`.
 #![tactic(auto)]
 
 mod end;

@@ -1,4 +1,4 @@
-use Rattle.std.proofs.Common.{◌≡◌, ◌∙◌, sym, subst, IfOk, IfErr}
+use Rattle.std.proofs.Common.{◌∙◌, sym, subst, IfOk, IfErr}
 use Rattle.ssh_ends.specs.Ends.{Posts, Happens, FailsFor}
 use Rattle.ssh_ends.proofs.Happening.{a_happens, b_happens, a_fails, b_fails}
 use Rattle.ssh_ends.proofs.ends.Ends.event.Goals as goal
