@@ -1,12 +1,16 @@
 //! A program to be timed: `table <workload> <channels> <count>` makes so many calls on a table of
 //! so many channels, `session <workload> <channels> <count>` gives so many inputs to a session with
-//! so many, and `files <workload> 1 <count>` makes so many requests of a file server. It prints what was done and no time. `bench/run` times it.
+//! so many, and `files <workload> 1 <count>` makes so many requests of a file server. It prints what was
+//! done and no time. `bench/run` times it. `half` writes through the half of a channel, for
+//! `bench/refuse-memory`.
 #![tactic(auto)]
 
 mod files;
+mod half;
 mod served;
 
 use crate::files::{TRANSFERS, Transfer, transfer_named, transfers_done};
+use crate::half::written_both_ways;
 use crate::served::{Serving, serve, serving_named};
 use bytes::Bytes;
 use ssh_channels::{Adjusted, ChannelParams, Encrypted, TableError};
@@ -14,6 +18,7 @@ use ssh_wire::ChannelId;
 use std::alloc::Global;
 use std::env;
 use std::process::ExitCode;
+use std::sync::Wait;
 
 /// The status where the words are not a workload with its two numbers.
 const USAGE: u8 = 2;
@@ -243,15 +248,35 @@ fn work_named(on: &str, name: &str) -> Option<Work> {
     }
 }
 
-/// The workload and its two numbers.
-fn asked(words: &[String]) -> Option<(Work, u32, u32)> {
+/// What the words ask for.
+#[derive(Clone, Copy)]
+enum Task {
+    /// To write through the half of a channel.
+    Half,
+    /// This work, so many times on so many channels.
+    Timed(Work, u32, u32),
+}
+
+fn asked(words: &[String]) -> Option<Task> {
     match words {
-        [_, on, name, channels, count] => Some((
+        [_, half] if half.as_str() == "half" => Some(Task::Half),
+        [_, on, name, channels, count] => Some(Task::Timed(
             work_named(on.as_str(), name.as_str())?,
             channels.as_str().parse().ok()?,
             count.as_str().parse().ok()?,
         )),
         _ => None,
+    }
+}
+
+/// What is printed; none where memory was wanting, or a call was refused.
+fn report<R: Wait>(rt: &R, alloc: Global, task: Task) -> Option<String> {
+    match task {
+        Task::Half => written_both_ways(rt, alloc).ok(),
+        Task::Timed(work, channels, count) => {
+            let done = done(alloc, work, channels, count)?;
+            format!(in alloc; "{done} of {count} calls on {channels} channels\n").ok()
+        }
     }
 }
 
@@ -265,16 +290,17 @@ fn main(rt: HostRuntime) -> ExitCode {
             }
         }
     }
-    let Some((work, channels, count)) = asked(words.as_slice()) else {
+    let Some(task) = asked(words.as_slice()) else {
         let _ = eprintln!(rt; "usage: ssh_bench_main table {WORKLOADS} <channels> <count>");
         let _ = eprintln!(rt; "   or: ssh_bench_main session {SERVINGS} <channels> <count>");
         let _ = eprintln!(rt; "   or: ssh_bench_main files {TRANSFERS} 1 <count>");
+        let _ = eprintln!(rt; "   or: ssh_bench_main half");
         return ExitCode::from(USAGE);
     };
-    let Some(done) = done(alloc, work, channels, count) else {
+    let Some(report) = report(&rt, alloc, task) else {
         return ExitCode::from(NO_MEMORY);
     };
-    match println!(rt; "{done} of {count} calls on {channels} channels") {
+    match print!(rt; "{report}") {
         Ok(()) => ExitCode::SUCCESS,
         Err(_) => ExitCode::from(WRITE_FAULT),
     }

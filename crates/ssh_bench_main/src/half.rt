@@ -1,9 +1,7 @@
-//! A program that writes ten bytes through the half of a channel that writes, once as shared bytes
-//! and once from a source. For each it prints the bytes of the messages that then come out of the
-//! hub, what is left of the peer's window, and how the call went. `bench/refuse-memory` runs it with
-//! one allocation after another refused.
-#![tactic(auto)]
-
+// Ten bytes through the half of a channel that writes, once as shared bytes and once from a source. For
+// each it says the bytes of the messages that then come out of the hub, what is left of the peer's
+// window, and how the call went. `bench/refuse-memory` runs it with one allocation after another
+// refused.
 ghost use Rattle.std.specs.Prelude.{IfOk};
 ghost use Rattle.std.specs.Arc.{arc_value};
 ghost use Rattle.ssh_hub.specs.Words.{IsSeatOf};
@@ -14,14 +12,7 @@ use ssh_hub::{Config2, HandleError, HubLock, Look, Seat, Taken};
 use ssh_link::{Calls, Command, MemorySource, Refusal};
 use ssh_wire::ChannelId;
 use std::alloc::{AllocError, Global};
-use std::process::ExitCode;
 use std::sync::{Arc, Wait};
-
-/// The status where standard output failed, or the hub answered something else than it should.
-const FAILED: u8 = 1;
-
-/// The status where there was no memory for the hub, its channels or the lines.
-const NO_MEMORY: u8 = 5;
 
 /// The peer's window of each channel, in bytes (RFC 4254 section 5.2).
 const WINDOW: u32 = 1024;
@@ -169,21 +160,10 @@ fn line<R: Wait>(
     Ok(format!(in alloc; "{name}{pieces} left {left} {ended}\n")?)
 }
 
-/// Both lines.
-fn lines<R: Wait>(rt: &R, alloc: Global) -> Result<String, HandleError> {
+/// Both lines; `NoMemory` where there is none for the hub, its channels or the lines.
+pub(crate) fn written_both_ways<R: Wait>(rt: &R, alloc: Global) -> Result<String, HandleError> {
     let (lock, mut seat) = hub(alloc)?;
     let mut lines = line(rt, alloc, &lock, &mut seat, Way::Bytes)?;
     lines.push_str(line(rt, alloc, &lock, &mut seat, Way::Source)?.as_str())?;
     Ok(lines)
-}
-
-fn main(rt: HostRuntime) -> ExitCode {
-    match lines(&rt, rt.alloc()) {
-        Ok(lines) => match print!(rt; "{lines}") {
-            Ok(()) => ExitCode::SUCCESS,
-            Err(_) => ExitCode::from(FAILED),
-        },
-        Err(HandleError::NoMemory) => ExitCode::from(NO_MEMORY),
-        Err(_) => ExitCode::from(FAILED),
-    }
 }

@@ -1,5 +1,5 @@
 use Rattle.ssh_hub.specs.Words.{IsSeatOf}
-use Rattle.ssh_half_main.proofs.pieces.Given as goal
+use Rattle.ssh_bench_main.proofs.half.pieces.Given as goal
 
 abbrev pub invariant-loop : goal.invariant-loop
 invariant-loop g l = IsSeatOf l.lock l.seat
