@@ -118,6 +118,11 @@ fn text(alloc: Global, text: &str) -> Result<Text, HandleError> {
     Text::new(alloc, text).or(Err(HandleError::NoMemory))
 }
 
+fn texts(alloc: Global, first: &str, second: &str) -> Result<(Text, Text), HandleError> {
+    let first = text(alloc, first)?;
+    Ok((first, text(alloc, second)?))
+}
+
 fn put(answer: Result<u64, PutError>) -> Result<u64, HandleError> {
     answer.map_err(|e| e.cause)
 }
@@ -138,13 +143,11 @@ fn by_handle<R: Wait>(
         ByHandle::FlowControl => handle.xon_xoff_request(rt, A, true),
         ByHandle::Status => handle.exit_status_request(rt, A, 0),
         ByHandle::Signalled => {
-            let message = text(alloc, "out of memory")?;
-            let language = text(alloc, "en")?;
+            let (message, language) = texts(alloc, "out of memory", "en")?;
             handle.exit_signal_request(rt, A, Sig::KILL, true, message, language)
         }
         ByHandle::Disconnect => {
-            let description = text(alloc, "bye")?;
-            let language = text(alloc, "")?;
+            let (description, language) = texts(alloc, "bye", "")?;
             handle.disconnect(rt, Disconnect::ByApplication, description, language)
         }
         ByHandle::Answer => handle.answer_open(rt, ChannelOpenHandle::new(B).accept()),
@@ -175,13 +178,11 @@ fn by_channel<R: Wait>(
         ByChannel::Signal => channel.signal(rt, Sig::INT),
         ByChannel::Subsystem => channel.request_subsystem(rt, true, text(alloc, "sftp")?),
         ByChannel::Display => {
-            let protocol = text(alloc, "MIT-MAGIC-COOKIE-1")?;
-            let cookie = text(alloc, "00")?;
+            let (protocol, cookie) = texts(alloc, "MIT-MAGIC-COOKIE-1", "00")?;
             channel.request_x11(rt, true, false, protocol, cookie, 0)
         }
         ByChannel::Variable => {
-            let variable = text(alloc, "LANG")?;
-            let value = text(alloc, "C")?;
+            let (variable, value) = texts(alloc, "LANG", "C")?;
             channel.set_env(rt, false, variable, value)
         }
         ByChannel::Size => channel.window_change(rt, 80, 24, 640, 480),

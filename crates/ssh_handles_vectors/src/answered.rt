@@ -138,16 +138,20 @@ fn open<R: Wait>(
     handle: &mut Handle,
     kind: Kind,
 ) -> Result<Channel, HandleError> {
-    let host = localhost(alloc)?;
-    let from = localhost(alloc)?;
     match kind {
         Kind::Session => handle.channel_open_session(rt),
         Kind::Agent => handle.channel_open_agent(rt),
-        Kind::Connection => handle.channel_open_direct_tcpip(rt, host, 22, from, 4022),
-        Kind::Forwarded => handle.channel_open_forwarded_tcpip(rt, host, 22, from, 4022),
-        Kind::Socket => handle.channel_open_direct_streamlocal(rt, host),
-        Kind::ForwardedSocket => handle.channel_open_forwarded_streamlocal(rt, host),
-        Kind::Display => handle.channel_open_x11(rt, from, 4022),
+        Kind::Connection => {
+            let (host, from) = localhosts(alloc)?;
+            handle.channel_open_direct_tcpip(rt, host, 22, from, 4022)
+        }
+        Kind::Forwarded => {
+            let (host, from) = localhosts(alloc)?;
+            handle.channel_open_forwarded_tcpip(rt, host, 22, from, 4022)
+        }
+        Kind::Socket => handle.channel_open_direct_streamlocal(rt, localhost(alloc)?),
+        Kind::ForwardedSocket => handle.channel_open_forwarded_streamlocal(rt, localhost(alloc)?),
+        Kind::Display => handle.channel_open_x11(rt, localhost(alloc)?, 4022),
     }
 }
 
@@ -186,6 +190,11 @@ fn localhost(alloc: Global) -> Result<Text, HandleError> {
         Ok(address) => Ok(address),
         Err(_) => Err(HandleError::NoMemory),
     }
+}
+
+fn localhosts(alloc: Global) -> Result<(Text, Text), HandleError> {
+    let first = localhost(alloc)?;
+    Ok((first, localhost(alloc)?))
 }
 
 fn forwards<R: Wait>(rt: &R, mut handle: Handle, address: Text) -> Result<u32, HandleError> {
