@@ -21,7 +21,7 @@ use Rattle.ssh_scene.specs.Scene.{Taking, GivesBy}
 number_once : (digits : List ℕ) (m n : ℕ) → IsNumber digits m → IsNumber digits n → m ≡ n
 number_once digits m n h k = decimal_injective m n h.0 k.0 (sym h.1 ∙ k.1)
 
-small_once : (digits : List ℕ) (m n : ℕ) → IsSmall digits m → IsSmall digits n → m ≡ n
+pub small_once : (digits : List ℕ) (m n : ℕ) → IsSmall digits m → IsSmall digits n → m ≡ n
 small_once digits m n h k = decimal_injective m n (omega (arith, h.0)) (omega (arith, k.0))
     (sym h.1 ∙ k.1)
 

@@ -13,7 +13,7 @@ use ssh_wire::{ChannelId, ChannelOpenFailure, Disconnect, Text};
 use std::alloc::{AllocError, Global};
 
 /// The number that the digits write, below 2^32.
-pub(crate) fn small_in(alloc: Global, digits: &str) -> Result<Option<u32>, AllocError>
+pub fn small_in(alloc: Global, digits: &str) -> Result<Option<u32>, AllocError>
     ensures { IfOk result (IsSmallIn digits.now) }
 {
     let Some(number) = number_in(alloc, digits)? else {
@@ -26,7 +26,7 @@ pub(crate) fn small_in(alloc: Global, digits: &str) -> Result<Option<u32>, Alloc
 }
 
 /// The channel whose number the digits write.
-fn channel_in(alloc: Global, digits: &str) -> Result<Option<ChannelId>, AllocError>
+pub fn channel_in(alloc: Global, digits: &str) -> Result<Option<ChannelId>, AllocError>
     ensures { IfOk result (IsChannelIn digits.now) }
 {
     Ok(small_in(alloc, digits)?.map(ChannelId))

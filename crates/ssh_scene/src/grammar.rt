@@ -36,7 +36,7 @@ pub fn number_in(alloc: Global, digits: &str) -> Result<Option<u64>, AllocError>
 }
 
 /// The bytes that the digits write in hex, with `-` for none.
-pub(crate) fn bytes_in(alloc: Global, digits: &str) -> Result<Option<Bytes>, AllocError>
+pub fn bytes_in(alloc: Global, digits: &str) -> Result<Option<Bytes>, AllocError>
     ensures { IfOk result (IsHexIn digits.now) }
 {
     if digits.is_empty() {

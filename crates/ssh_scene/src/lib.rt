@@ -18,9 +18,10 @@ pub use answers::{
     Answers, DataVerdict, ForwardVerdict, InteractiveVerdict, OpenVerdict, RequestVerdict,
     Standing, Verdict,
 };
+pub use command_lines::{channel_in, small_in};
 pub use faults::{BadLine, LineFault, bad_line};
 pub use generated::generated_script;
-pub use grammar::number_in;
+pub use grammar::{bytes_in, number_in};
 pub use pieces::read_pieces;
-pub use scene::read_script;
+pub use scene::{first_line, read_script};
 pub use script::{Script, Stage};

@@ -206,7 +206,7 @@ impl Script {
 }
 
 /// The first line, without its newline, and the bytes after it.
-pub(crate) fn first_line(text: &[u8]) -> Option<(&[u8], &[u8])>
+pub fn first_line(text: &[u8]) -> Option<(&[u8], &[u8])>
     ensures cut { MatchOption result (text.now ≡ []) (λ pair. lines_of text.now ≡ pair.0.now
         ∷ lines_of pair.1.now) }
     ensures less { IfSome result (λ pair. length pair.1.now < length text.now) }
