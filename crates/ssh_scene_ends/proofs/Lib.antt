@@ -1,0 +1,2 @@
+pub mod EventsOnce
+pub mod Counting
