@@ -2,7 +2,7 @@
 use Rattle.std.proofs.Common.{◌≡◌, ◌<◌, ◌≤◌, ◌+◌, ◌^◌, ℕ, List, [], ◌∷◌, ◌++◌, length, arith}
 use Rattle.std.proofs.Common.{Bool, true, false, Option, Some, None, Result, Ok, Err}
 use Rattle.std.proofs.Common.{refl, ap, sym, ◌∙◌, subst, cond, ◌==◌}
-use Rattle.std.specs.Prelude.{MatchOption, if◌then◌else◌}
+use Rattle.std.specs.Prelude.{MatchOption, if◌then◌else◌, codes, flat_map}
 use Rattle.std.proofs.lemmas.List.{length-append}
 use Rattle.ssh_channels.specs.Layout.{chunk}
 use Rattle.ssh_channels.specs.declared.params.ChannelParams.{ChannelParams}
@@ -11,6 +11,8 @@ use Rattle.ssh_ends.specs.End.{kind_of}
 use Rattle.ssh_ends.specs.Pair.{Party, Pair, turned, changed_at, on_channel, takes_said, takes_of}
 use Rattle.ssh_ends.specs.Run.{actor, acts, seen_by, happens, run_on, after, new_pair, FewDraws}
 use Rattle.ssh_ends.specs.Saying.{Saying, Open, Confirm, Grant, Data, Eof, Close, Message}
+use Rattle.ssh_ends.specs.Story.{Ran}
+use Rattle.ssh_ends.specs.declared.end.Delivered.{Delivered}
 use Rattle.ssh_ends.specs.declared.event.EndEvent.{EndEvent}
 use Rattle.ssh_ends.specs.declared.event.EndEvent.TheVariants as event
 use Rattle.ssh_ends.specs.declared.event.Side.{Side}
@@ -19,6 +21,7 @@ use Rattle.ssh_scene.specs.Scene.{lines_of, onto_first}
 use Rattle.ssh_scene_ends.specs.declared.events.EventLine.{EventLine}
 use Rattle.ssh_scene_ends.specs.declared.events.EventLine.TheVariants as line
 use Rattle.ssh_scene_ends.specs.EventLines.{with_event, BringsFrom, BringsEvents}
+use Rattle.ssh_scene_ends.specs.Telling.{delivery_line, told_text}
 
 -- ---- lines and bytes
 
@@ -52,9 +55,6 @@ event_more events next (Some (line.Event e)) is =
     let long = sym (length-append events (e ∷ [])) ∙ ap length same in
     omega (arith, long)
 
-brought_few : (done : ℕ) (events : List EndEvent) (lines : List (List ℕ)) (all : List EndEvent)
-    → BringsFrom done events lines (Ok all) → length all ≤ length events + length lines
-
 next_few : (done : ℕ) (events : List EndEvent) (said : Option EventLine)
     (next : Option (List EndEvent)) (lines : List (List ℕ)) (all : List EndEvent)
     → with_event events said ≡ next
@@ -67,6 +67,9 @@ next_few done events said (Some now) lines all is later h =
     let first = event_more events now said is in
     let rest = later now h in
     omega (arith, first, rest)
+
+brought_few : (done : ℕ) (events : List EndEvent) (lines : List (List ℕ)) (all : List EndEvent)
+    → BringsFrom done events lines (Ok all) → length all ≤ length events + length lines
 brought_few done events [] all h =
     let same : all ≡ events = cc in
     let long = ap length same in
@@ -114,13 +117,18 @@ module _ (window packet : ℕ) (w : Pair) where
   takes_one own peer (Open theirs limit) rest =
       let drawn : (takes_said window packet own peer (Open theirs limit) rest w).near.last
       ≡ w.near.last + 1 = refl in
-      record { near = omega (arith, drawn); far = unchanged_far w _ refl }
-  takes_one own peer (Confirm v l) rest = changes_one peer (hearing own (Confirm v l)) _ refl refl
+      record { near = omega (arith, drawn); far = (let same : (takes_said window packet own peer (Open theirs limit) rest w).far.last ≡ w.far.last = refl in omega (arith, same)) }
+  takes_one own peer (Confirm v l) rest = changes_one peer (hearing own (Confirm v l))
+      (takes_said window packet own peer (Confirm v l) rest w) refl refl
   takes_one own peer (Grant amount) rest =
-      changes_one peer (hearing own (Grant amount)) _ refl refl
-  takes_one own peer (Data piece) rest = changes_one peer (hearing own (Data piece)) _ refl refl
-  takes_one own peer Eof rest = changes_one peer (hearing own Eof) _ refl refl
-  takes_one own peer Close rest = changes_one peer (hearing own Close) _ refl refl
+      changes_one peer (hearing own (Grant amount))
+      (takes_said window packet own peer (Grant amount) rest w) refl refl
+  takes_one own peer (Data piece) rest = changes_one peer (hearing own (Data piece))
+      (takes_said window packet own peer (Data piece) rest w) refl refl
+  takes_one own peer Eof rest = changes_one peer (hearing own Eof)
+      (takes_said window packet own peer Eof rest w) refl refl
+  takes_one own peer Close rest = changes_one peer (hearing own Close)
+      (takes_said window packet own peer Close rest w) refl refl
 
   moves_one : (flight : List Message) → DrawsOne w (takes_of window packet flight w)
   moves_one [] = record { near = omega arith; far = omega arith }
@@ -129,12 +137,16 @@ module _ (window packet : ℕ) (w : Pair) where
   acts_one : (e : EndEvent) → DrawsOne w (acts window packet e w)
   acts_one (event.Open side) =
       let drawn : (acts window packet (event.Open side) w).near.last ≡ w.near.last + 1 = refl in
-      record { near = omega (arith, drawn); far = unchanged_far w _ refl }
+      record { near = omega (arith, drawn); far = (let same : (acts window packet (event.Open side) w).far.last ≡ w.far.last = refl in omega (arith, same)) }
   acts_one (event.Data side channel ext bytes) =
-      changes_one channel.0 (sending (chunk (kind_of ext) bytes)) _ refl refl
-  acts_one (event.Eof side channel) = changes_one channel.0 ending _ refl refl
-  acts_one (event.Close side channel) = changes_one channel.0 closing _ refl refl
-  acts_one (event.Target side channel target) = changes_one channel.0 (aiming target) _ refl refl
+      changes_one channel.0 (sending (chunk (kind_of ext) bytes))
+      (acts window packet (event.Data side channel ext bytes) w) refl refl
+  acts_one (event.Eof side channel) = changes_one channel.0 ending
+      (acts window packet (event.Eof side channel) w) refl refl
+  acts_one (event.Close side channel) = changes_one channel.0 closing
+      (acts window packet (event.Close side channel) w) refl refl
+  acts_one (event.Target side channel target) = changes_one channel.0 (aiming target)
+      (acts window packet (event.Target side channel target) w) refl refl
   acts_one (event.Move side) = moves_one w.far.flight
 
 seen_one : (side : Side) (window packet : ℕ) (e : EndEvent) (w : Pair)
@@ -165,3 +177,13 @@ pub few_draws : (window packet : ℕ) (events : List EndEvent) → length events
 few_draws window packet events few =
     let drawn = draws_few window packet events new_pair in
     record { near = omega (arith, drawn.near, few); far = omega (arith, drawn.far, few) }
+
+-- what is written of the deliveries is what is owed of the events
+pub told_whole : (window packet : ℕ) (events : List EndEvent) (all seen : List (Side × Delivered))
+    (old now new : List ℕ) → length events + 1 < 2 ^ 32 → Ran window packet events all → old ≡ []
+    → seen ≡ all → now ≡ old ++ flat_map delivery_line seen → new ≡ now ++ codes "ok\n"
+    → new ≡ told_text window packet events
+told_whole window packet events all seen old now new few ran none same lines last =
+    let is = same ∙ (ran (few_draws window packet events few)).0 in
+    last ∙ ap (λ z. z ++ codes "ok\n")
+    (lines ∙ ap (λ z. z ++ flat_map delivery_line seen) none ∙ ap (flat_map delivery_line) is)
