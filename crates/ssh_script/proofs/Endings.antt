@@ -19,7 +19,9 @@ use Rattle.ssh_script.specs.declared.task.Task.TheVariants as task
 use Rattle.ssh_script.specs.Transcript.{status_of, Shows, longest, Scripted, Transcript, Owed}
 use Rattle.ssh_script.specs.Transcript.{run_words, sftp_words, IsTask, Does, Ends, Shown}
 use Rattle.ssh_script.specs.Transcript.{Unwritten, ShowsBy, ShowsFiles, ScriptedBy, FilesScripted}
-use Rattle.ssh_script.specs.Transcript.{IsRun, line_by_line}
+use Rattle.ssh_script.specs.Transcript.{IsRun, line_by_line, IsTold, ShowsEnds, EndsScripted}
+use Rattle.ssh_ends.specs.declared.event.EndEvent.{EndEvent}
+use Rattle.ssh_scene_ends.specs.EventLines.{BringsEvents}
 use Rattle.ssh_script.specs.Files.{IsServed, Written, at_end, unless_refused, served_on}
 
 -- words that do not ask for a run owe the same whatever is left
@@ -96,6 +98,10 @@ written_small : (pieces : List (List ℕ)) (status : ℕ) (text : List ℕ) → 
 written_small pieces status text h =
     subst (λ (n : ℕ). n < 3) (sym (ap (λ (w : Written). w.0) h)) (served_small [] pieces)
 
+told_small : (window packet : ℕ) (events : List EndEvent) (status : ℕ) (text : List ℕ)
+    → IsTold window packet events status text → status < 3
+told_small window packet events status text h = omega (arith, h.0)
+
 does_small : (asked : Task) (bytes : List ℕ) (status : ℕ) (text : List ℕ)
     → Does asked bytes status text → status < 3
 does_small task.Run bytes status text h =
@@ -104,6 +110,8 @@ does_small task.Run bytes status text h =
 does_small task.ServeFiles bytes status text h =
     scripted_small BringsPieces IsServed written_small bytes status text h
 does_small (task.Generate channels) bytes status text h = status_small h.result status h.status_is
+does_small (task.JoinEnds window packet) bytes status text h =
+    scripted_small BringsEvents (IsTold window packet) (told_small window packet) bytes status text h
 does_small task.ShowUsage bytes status text h = omega (arith, h.0)
 does_small task.ShowVersion bytes status text h = omega (arith, h.0)
 does_small task.Refuse bytes status text h = omega (arith, h.0)
@@ -177,3 +185,11 @@ pub owed_served : (words : List (List ℕ)) (left : Option (List ℕ)) (front : 
 owed_served words left front status text w f h =
     read_owed BringsPieces ShowsFiles task.ServeFiles words w (λ bytes status text h. h) left front
     status text f h
+
+pub owed_told : (window packet : ℕ) (words : List (List ℕ)) (left : Option (List ℕ))
+    (front : List ℕ) (status : ℕ) (text : List ℕ) → IsTask (task.JoinEnds window packet) words
+    → IsFront (longest + 1) left front → EndsScripted window packet front status text
+    → Owed words left status text
+owed_told window packet words left front status text w f h =
+    read_owed BringsEvents (ShowsEnds window packet) (task.JoinEnds window packet) words w
+    (λ bytes status text h. h) left front status text f h

@@ -22,7 +22,11 @@ use Rattle.ssh_script.specs.Transcript.{status_of, Shows, Scripted, Transcript, 
 use Rattle.ssh_script.specs.Transcript.{ShowsBy, ShowsFiles, ScriptedBy, FilesScripted, IsRun}
 use Rattle.ssh_script.specs.Transcript.{IsBadBy, IsBadStream, IsMisused, sftp_words, AskForScript}
 use Rattle.ssh_script.specs.Transcript.{IsTask, Does, IsSize, generate_words, in_numbers}
-use Rattle.ssh_script.specs.Transcript.{line_by_line}
+use Rattle.ssh_script.specs.Transcript.{line_by_line, IsTold, ShowsEnds, EndsScripted, IsBadTale}
+use Rattle.ssh_script.specs.Transcript.{AreWide, ends_words}
+use Rattle.ssh_ends.specs.declared.event.EndEvent.{EndEvent}
+use Rattle.ssh_scene_ends.specs.EventLines.{BringsEvents}
+use Rattle.ssh_scene_ends.proofs.EventsOnce.{events_once}
 use Rattle.ssh_script.specs.Transcript.{IsUnknown, run_words, help_words, version_words}
 use Rattle.ssh_scene.proofs.LinesOnce.{gives_once}
 use Rattle.ssh_script.proofs.RunsOnce.{run_once}
@@ -73,6 +77,18 @@ files_once = scripted_by_once BringsPieces ShowsFiles
     (λ lines r s h k. gives_once with_stream_line 0 [] lines r s h k)
     (λ read m n s t h k. shows_by_once IsServed written_once read m n s t h k)
 
+-- and what two ends deliver once
+tale_once : (window packet : ℕ) (events : List EndEvent) (m n : ℕ) (s t : List ℕ)
+    → IsTold window packet events m s → IsTold window packet events n t → (m ≡ n) × (s ≡ t)
+tale_once window packet events m n s t h k = (h.0 ∙ sym k.0, h.1 ∙ sym k.1)
+
+ends_once : (window packet : ℕ) (bytes : List ℕ) (m n : ℕ) (s t : List ℕ)
+    → EndsScripted window packet bytes m s → EndsScripted window packet bytes n t
+    → (m ≡ n) × (s ≡ t)
+ends_once window packet = scripted_by_once BringsEvents (ShowsEnds window packet) events_once
+    (λ read m n s t h k. shows_by_once (IsTold window packet) (tale_once window packet) read m n s t
+    h k)
+
 -- words ask for one thing
 first_length : List (List ℕ) → ℕ
 first_length [] = 0
@@ -110,6 +126,25 @@ generate_once m n h k e =
     let digits : decimal m ≡ decimal n = cc in
     decimal_injective m n (omega (arith, h.1)) (omega (arith, k.1)) digits
 
+-- two ends are asked for by three words
+not_ends : (word : List ℕ) (window packet : ℕ) → word ∷ [] ≡ ends_words window packet → ⊥
+not_ends word window packet e = cc
+
+generate_not_ends : (channels window packet : ℕ)
+    → generate_words channels ≡ ends_words window packet → ⊥
+generate_not_ends channels window packet e = cc
+
+sizes_once : (v p w q : ℕ) → AreWide v p → AreWide w q → ends_words v p ≡ ends_words w q
+    → task.JoinEnds v p ≡ task.JoinEnds w q
+sizes_once v p w q h k e =
+    let windows : decimal v ≡ decimal w = cc in
+    let packets : decimal p ≡ decimal q = cc in
+    let window : v ≡ w =
+    decimal_injective v w (omega (arith, h.0)) (omega (arith, k.0)) windows in
+    let packet : p ≡ q =
+    decimal_injective p q (omega (arith, h.2)) (omega (arith, k.2)) packets in
+    ap (λ one. task.JoinEnds one p) window ∙ ap (task.JoinEnds w) packet
+
 asked_once : (words : List (List ℕ)) (one other : Task) → IsTask one words → IsTask other words
     → one ≡ other
 asked_once words task.Run task.Run h k = refl
@@ -130,6 +165,30 @@ asked_once words (task.Generate m) task.ServeFiles h k =
 asked_once words task.ShowUsage task.ServeFiles h k = absurd (sftp_not_help (sym k ∙ h))
 asked_once words task.ShowVersion task.ServeFiles h k = absurd (sftp_not_version (sym k ∙ h))
 asked_once words task.Refuse task.ServeFiles h k = absurd (h.4 k)
+asked_once words task.Run (task.JoinEnds w q) h k =
+    absurd (not_ends (codes "run") w q (sym h ∙ k.1))
+asked_once words task.ServeFiles (task.JoinEnds w q) h k =
+    absurd (not_ends (codes "sftp") w q (sym h ∙ k.1))
+asked_once words (task.Generate m) (task.JoinEnds w q) h k =
+    absurd (generate_not_ends m w q (sym h.1 ∙ k.1))
+asked_once words task.ShowUsage (task.JoinEnds w q) h k =
+    absurd (not_ends (codes "--help") w q (sym h ∙ k.1))
+asked_once words task.ShowVersion (task.JoinEnds w q) h k =
+    absurd (not_ends (codes "--version") w q (sym h ∙ k.1))
+asked_once words task.Refuse (task.JoinEnds w q) h k = absurd (h.5 w q k.0 k.1)
+asked_once words (task.JoinEnds w q) task.Run h k =
+    absurd (not_ends (codes "run") w q (sym k ∙ h.1))
+asked_once words (task.JoinEnds w q) task.ServeFiles h k =
+    absurd (not_ends (codes "sftp") w q (sym k ∙ h.1))
+asked_once words (task.JoinEnds w q) (task.Generate m) h k =
+    absurd (generate_not_ends m w q (sym k.1 ∙ h.1))
+asked_once words (task.JoinEnds w q) (task.JoinEnds v p) h k =
+    sizes_once w q v p h.0 k.0 (sym h.1 ∙ k.1)
+asked_once words (task.JoinEnds w q) task.ShowUsage h k =
+    absurd (not_ends (codes "--help") w q (sym k ∙ h.1))
+asked_once words (task.JoinEnds w q) task.ShowVersion h k =
+    absurd (not_ends (codes "--version") w q (sym k ∙ h.1))
+asked_once words (task.JoinEnds w q) task.Refuse h k = absurd (k.5 w q h.0 h.1)
 asked_once words (task.Generate m) task.Run h k =
     absurd (not_generate (codes "run") m (sym k ∙ h.1))
 asked_once words (task.Generate m) (task.Generate n) h k =
@@ -162,6 +221,7 @@ abbrev pub reads : Task → Bool
 reads task.Run = true
 reads task.ServeFiles = true
 reads (task.Generate channels) = false
+reads (task.JoinEnds window packet) = true
 reads task.ShowUsage = false
 reads task.ShowVersion = false
 reads task.Refuse = false
@@ -169,7 +229,9 @@ reads task.Refuse = false
 same_words : (asked : Task) (words : List (List ℕ)) → IsTask asked words → AskForScript words
     → reads asked ≡ true
 same_words asked words w (inl k) = ap reads (asked_once words asked task.Run w k)
-same_words asked words w (inr k) = ap reads (asked_once words asked task.ServeFiles w k)
+same_words asked words w (inr (inl k)) = ap reads (asked_once words asked task.ServeFiles w k)
+same_words asked words w (inr (inr k)) =
+    ap reads (asked_once words asked (task.JoinEnds k.0 k.1) w (k.2, k.3))
 
 -- what is done without a script is not asked for by words that ask for one
 pub ask_for_none : (asked : Task) (words : List (List ℕ)) → IsTask asked words → reads asked ≡ false
@@ -182,6 +244,8 @@ does_once task.Run script m n s t h k = scripted_once script m n s t h k
 does_once task.ServeFiles script m n s t h k = files_once script m n s t h k
 does_once (task.Generate channels) script m n s t h k =
     run_once in_numbers (generated channels) m n s t h k
+does_once (task.JoinEnds window packet) script m n s t h k =
+    ends_once window packet script m n s t h k
 does_once task.ShowUsage script m n s t h k = (h.0 ∙ sym k.0, h.1 ∙ sym k.1)
 does_once task.ShowVersion script m n s t h k = (h.0 ∙ sym k.0, h.1 ∙ sym k.1)
 does_once task.Refuse script m n s t h k = (h.0 ∙ sym k.0, h.1 ∙ sym k.1)
@@ -283,26 +347,47 @@ bad_stream : (script : List ℕ) (m : ℕ) (text : List ℕ) → FilesScripted s
 bad_stream = bad_is_two BringsPieces
     (λ lines r s h k. gives_once with_stream_line 0 [] lines r s h k) IsServed never_served
 
+never_told : (window packet : ℕ) (events : List EndEvent) (text : List ℕ)
+    → IsTold window packet events 2 text → ⊥
+never_told window packet events text h = omega (arith, h.0)
+
+tale_bad : (window packet : ℕ) (script : List ℕ) (m : ℕ) (text : List ℕ)
+    → EndsScripted window packet script m text → m ≡ 2 → IsBadTale script
+tale_bad window packet =
+    two_is_bad BringsEvents events_once (IsTold window packet) (never_told window packet)
+
+bad_tale : (window packet : ℕ) (script : List ℕ) (m : ℕ) (text : List ℕ)
+    → EndsScripted window packet script m text → IsBadTale script → m ≡ 2
+bad_tale window packet =
+    bad_is_two BringsEvents events_once (IsTold window packet) (never_told window packet)
+
 two_wrong : (asked : Task) (words : List (List ℕ)) (script : List ℕ) (m : ℕ) (text : List ℕ)
     → IsTask asked words → Does asked script m text → m ≡ 2
     → IsUnknown words ⊎ IsMisused words script
 two_wrong task.Run words script m text w h e = inr (inl (w, script_bad script m text h e))
-two_wrong task.ServeFiles words script m text w h e = inr (inr (w, stream_bad script m text h e))
+two_wrong task.ServeFiles words script m text w h e =
+    inr (inr (inl (w, stream_bad script m text h e)))
+two_wrong (task.JoinEnds window packet) words script m text w h e =
+    inr (inr (inr ((window, packet, w.0, w.1), tale_bad window packet script m text h e)))
 two_wrong (task.Generate channels) words script m text w h e =
     absurd (run_not_two h.result (h.status_is ∙ ap Some e))
 two_wrong task.ShowUsage words script m text w h e = absurd (omega (arith, h.0))
 two_wrong task.ShowVersion words script m text w h e = absurd (omega (arith, h.0))
 two_wrong task.Refuse words script m text w h e = inl w
 
--- words that are misused ask for a run or for a file server
+-- words that are misused ask for a run, for a file server or for two ends
 misused_two : (asked : Task) (words : List (List ℕ)) (script : List ℕ) (m : ℕ) (text : List ℕ)
     → IsTask asked words → Does asked script m text → IsMisused words script → m ≡ 2
 misused_two asked words script m text w h (inl k) =
     let is : asked ≡ task.Run = asked_once words asked task.Run w k.0 in
     bad_script script m text (subst (λ one. Does one script m text) is h) k.1
-misused_two asked words script m text w h (inr k) =
+misused_two asked words script m text w h (inr (inl k)) =
     let is : asked ≡ task.ServeFiles = asked_once words asked task.ServeFiles w k.0 in
     bad_stream script m text (subst (λ one. Does one script m text) is h) k.1
+misused_two asked words script m text w h (inr (inr ((window, packet, wide, same), k))) =
+    let is : asked ≡ task.JoinEnds window packet =
+    asked_once words asked (task.JoinEnds window packet) w (wide, same) in
+    bad_tale window packet script m text (subst (λ one. Does one script m text) is h) k
 
 wrong_two : (asked : Task) (words : List (List ℕ)) (script : List ℕ) (m : ℕ) (text : List ℕ)
     → IsTask asked words → Does asked script m text
@@ -312,8 +397,8 @@ wrong_two asked words script m text w h (inl k) =
     (subst (λ one. Does one script m text) is h).0
 wrong_two asked words script m text w h (inr k) = misused_two asked words script m text w h k
 
--- status 2 comes exactly with words that ask for nothing, and with a run or a file server and a
--- script that is too long or has a bad line
+-- status 2 comes exactly with words that ask for nothing, and with a run, a file server or two ends
+-- and a script that is too long or has a bad line
 pub two_exactly : (words : List (List ℕ)) (script : List ℕ) (m : ℕ) (text : List ℕ)
     → Transcript words script m text →
     (m ≡ 2) ↔ (IsUnknown words ⊎ IsMisused words script)

@@ -1,5 +1,5 @@
 -- What the program owes: its status, and the text that it writes.
-use Rattle.std.specs.Prelude.{◌≡◌, ◌≢◌, ◌<◌, ◌≤◌, ◌⊎◌, ℕ, List, [], ◌∷◌, ◌++◌, codes, flat_map}
+use Rattle.std.specs.Prelude.{◌≡◌, ◌≢◌, ◌<◌, ◌≤◌, ◌^◌, ◌⊎◌, ℕ, List, [], ◌∷◌, ◌++◌, codes, flat_map}
 use Rattle.std.specs.Prelude.{length, true, false, Option, Some}
 use Rattle.std.specs.Prelude.{None, option_to_list, Result, Ok, Err}
 use Rattle.std.specs.Fmt.{decimal}
@@ -27,6 +27,9 @@ use Rattle.ssh_transcript.specs.Summary.{summary}
 use Rattle.ssh_scene.specs.Generated.{generated}
 use Rattle.ssh_scene.specs.Pieces.{BringsPieces}
 use Rattle.ssh_script.specs.Files.{IsServed}
+use Rattle.ssh_ends.specs.declared.event.EndEvent.{EndEvent}
+use Rattle.ssh_scene_ends.specs.EventLines.{BringsEvents}
+use Rattle.ssh_scene_ends.specs.Telling.{told_text}
 use Rattle.ssh_auth.specs.declared.call.Call.{Call}
 use Rattle.ssh_link.specs.declared.link.TraceEntry.{TraceEntry}
 
@@ -94,6 +97,13 @@ Shows read status text = ShowsBy (IsRun line_by_line) read status text
 abbrev pub ShowsFiles : Result (List (List ℕ)) ℕ → ℕ → List ℕ → Type 0
 ShowsFiles read status text = ShowsBy IsServed read status text
 
+-- likewise where its lines bring two ends these events
+abbrev pub IsTold : (window packet : ℕ) → List EndEvent → ℕ → List ℕ → Type 0
+IsTold window packet events status text = (status ≡ 0) × (text ≡ told_text window packet events)
+
+abbrev pub ShowsEnds : (window packet : ℕ) → Result (List EndEvent) ℕ → ℕ → List ℕ → Type 0
+ShowsEnds window packet read status text = ShowsBy (IsTold window packet) read status text
+
 -- the longest script
 abbrev pub longest : ℕ
 longest = 16777216
@@ -119,6 +129,11 @@ Scripted bytes status text = ScriptedBy (Gives 0 opening_scene) Shows bytes stat
 abbrev pub FilesScripted : List ℕ → ℕ → List ℕ → Type 0
 FilesScripted bytes status text = ScriptedBy BringsPieces ShowsFiles bytes status text
 
+-- the same where it tells of two ends
+abbrev pub EndsScripted : (window packet : ℕ) → List ℕ → ℕ → List ℕ → Type 0
+EndsScripted window packet bytes status text =
+    ScriptedBy BringsEvents (ShowsEnds window packet) bytes status text
+
 -- the words that ask for a run, for a file server, for the usage line, and for the version
 abbrev pub run_words : List (List ℕ)
 run_words = codes "run" ∷ []
@@ -140,23 +155,33 @@ generate_words channels = codes "generate" ∷ decimal channels ∷ []
 abbrev pub IsSize : ℕ → Type 0
 IsSize channels = (0 < channels) × (channels ≤ 1000)
 
+-- the words that ask for two ends, which give this window and take this packet size
+abbrev pub ends_words : (window packet : ℕ) → List (List ℕ)
+ends_words window packet = codes "ends" ∷ decimal window ∷ decimal packet ∷ []
+
+abbrev pub AreWide : (window packet : ℕ) → Type 0
+AreWide window packet = (window < 2 ^ 32) × (0 < packet) × (packet < 2 ^ 32)
+
 -- words that ask for nothing
 abbrev pub IsUnknown : List (List ℕ) → Type 0
 IsUnknown words = (words ≢ run_words) × (words ≢ help_words) × (words ≢ version_words)
     × ((channels : ℕ) → IsSize channels → words ≢ generate_words channels)
     × (words ≢ sftp_words)
+    × ((window packet : ℕ) → AreWide window packet → words ≢ ends_words window packet)
 
 -- these words ask for this
 abbrev pub IsTask : Task → List (List ℕ) → Type 0
 IsTask task.Run words = words ≡ run_words
 IsTask task.ServeFiles words = words ≡ sftp_words
 IsTask (task.Generate channels) words = IsSize channels × (words ≡ generate_words channels)
+IsTask (task.JoinEnds window packet) words =
+    AreWide window packet × (words ≡ ends_words window packet)
 IsTask task.ShowUsage words = words ≡ help_words
 IsTask task.ShowVersion words = words ≡ version_words
 IsTask task.Refuse words = IsUnknown words
 
 abbrev pub usage : List ℕ
-usage = codes "usage: ssh_script run | generate <n> | threads <n> | sftp\n"
+usage = codes "usage: ssh_script run | generate <n> | threads <n> | sftp | ends <window> <packet>\n"
 
 abbrev pub version : List ℕ
 version = codes "ssh_script 0.1.0\n"
@@ -167,6 +192,8 @@ Does task.Run bytes status text = Scripted bytes status text
 Does task.ServeFiles bytes status text = FilesScripted bytes status text
 Does (task.Generate channels) bytes status text =
     IsRun in_numbers (generated channels) status text
+Does (task.JoinEnds window packet) bytes status text =
+    EndsScripted window packet bytes status text
 Does task.ShowUsage bytes status text = (status ≡ 0) × (text ≡ usage)
 Does task.ShowVersion bytes status text = (status ≡ 0) × (text ≡ version)
 Does task.Refuse bytes status text = (status ≡ 2) × (text ≡ usage)
@@ -181,17 +208,25 @@ abbrev pub IsBadBy : {A : Type 0} → (List (List ℕ) → Result A ℕ → Type
 IsBadBy gives bytes = IsTooLong bytes
     ⊎ ((number : ℕ) × gives (lines_of bytes) (Err number))
 
--- a script that is not run, and one that no file server is given
+-- a script that is not run, one that no file server is given, and one that tells of no two ends
 abbrev pub IsBadScript : List ℕ → Type 0
 IsBadScript bytes = IsBadBy (Gives 0 opening_scene) bytes
 
 abbrev pub IsBadStream : List ℕ → Type 0
 IsBadStream bytes = IsBadBy BringsPieces bytes
 
+abbrev pub IsBadTale : List ℕ → Type 0
+IsBadTale bytes = IsBadBy BringsEvents bytes
+
+-- words that ask for two ends
+abbrev pub AskForEnds : List (List ℕ) → Type 0
+AskForEnds words = (window packet : ℕ) × AreWide window packet × (words ≡ ends_words window packet)
+
 -- words that ask for something, and a script that does not give it
 abbrev pub IsMisused : List (List ℕ) → List ℕ → Type 0
 IsMisused words bytes = ((words ≡ run_words) × IsBadScript bytes)
     ⊎ ((words ≡ sftp_words) × IsBadStream bytes)
+    ⊎ (AskForEnds words × IsBadTale bytes)
 
 -- the same of the bytes that are left in a source, where it tells them
 abbrev pub Owed : List (List ℕ) → Option (List ℕ) → ℕ → List ℕ → Type 0
@@ -200,11 +235,11 @@ Owed words left status text = (bytes : List ℕ) × IsAll left bytes × Transcri
 
 -- words that ask for what a script says
 abbrev pub AskForScript : List (List ℕ) → Type 0
-AskForScript words = (words ≡ run_words) ⊎ (words ≡ sftp_words)
+AskForScript words = (words ≡ run_words) ⊎ (words ≡ sftp_words) ⊎ AskForEnds words
 
 -- and words that do not
 abbrev pub NoScript : List (List ℕ) → Type 0
-NoScript words = (words ≢ run_words) × (words ≢ sftp_words)
+NoScript words = (words ≢ run_words) × (words ≢ sftp_words) × (AskForEnds words → ⊥)
 
 -- a script was asked for, and its source failed
 abbrev pub IsUnread : List (List ℕ) → ℕ → ℕ → Type 0

@@ -7,7 +7,7 @@ ghost use Rattle.ssh_link.specs.Faults.{RoseOrFull};
 ghost use Rattle.ssh_scene.specs.Scene.{scene_of};
 ghost use Rattle.ssh_script.specs.Transfer.{IsReadTo, IsReadWithin};
 ghost use Rattle.ssh_script.specs.Transcript.{status_of, IsRun, Scripted, FilesScripted, IsUnknown};
-ghost use Rattle.ssh_script.specs.Transcript.{IsMisused, AskForScript, NoScript};
+ghost use Rattle.ssh_script.specs.Transcript.{IsMisused, AskForScript, NoScript, EndsScripted};
 ghost use Rattle.ssh_script.specs.Files.{IsServed};
 ghost use Rattle.ssh_script.specs.Transcript.{Transcript, Owed, IsUnread, IsCutShort, Ends};
 ghost use Rattle.ssh_script.specs.Transcript.{longest, in_numbers};
@@ -23,6 +23,7 @@ use ssh_handler::RecordError;
 use ssh_link::{PlainKexError, Sink, Source, TraceEntry};
 use ssh_players::{ScriptError, ScriptHandler, ScriptKex, ScriptLink};
 use ssh_scene::{Script, generated_script, read_pieces, read_script};
+use ssh_scene_ends::{read_events, tell_events};
 use ssh_session::{RunError, run_stream};
 use ssh_transcript::{print_number, print_run, print_summary};
 use std::alloc::{AllocError, Global};
@@ -46,7 +47,8 @@ pub const LONGEST: usize = 16_777_216;
 /// How much of a source is read at most: one byte more shows that a script is too long.
 const READ_AT_MOST: usize = LONGEST + 1;
 
-const USAGE: &str = "usage: ssh_script run | generate <n> | threads <n> | sftp\n";
+const USAGE: &str =
+    "usage: ssh_script run | generate <n> | threads <n> | sftp | ends <window> <packet>\n";
 
 const VERSION: &str = "ssh_script 0.1.0\n";
 
@@ -228,6 +230,34 @@ fn show_pieces(alloc: Global, bytes: &[u8]) -> Result<Report, AllocError>
     }
 }
 
+/// What two ends come to of which a script of these bytes tells.
+fn show_ends(alloc: Global, window: u32, packet: u32, bytes: &[u8]) -> Result<Report, AllocError>
+    requires { 0 < packet }
+    ensures { IfOk result (λ report. EndsScripted window packet bytes.now report.status
+        (string_bytes report.text)) }
+{
+    if bytes.len() > LONGEST {
+        return one_line(alloc, REFUSED, "script too long\n");
+    }
+    show_events(alloc, window, packet, bytes)
+}
+
+/// What two ends come to of which a script tells that is not too long.
+fn show_events(alloc: Global, window: u32, packet: u32, bytes: &[u8]) -> Result<Report, AllocError>
+    requires some { 0 < packet }
+    requires short { length bytes.now ≤ longest }
+    ensures { IfOk result (λ report. EndsScripted window packet bytes.now report.status
+        (string_bytes report.text)) }
+{
+    match read_events(alloc, bytes)? {
+        Ok(events) => Ok(Report {
+            status: DONE,
+            text: tell_events(alloc, window, packet, events)?,
+        }),
+        Err(number) => bad_line(alloc, number),
+    }
+}
+
 /// What a session of so many channels comes to.
 fn generate(alloc: Global, channels: u32) -> Result<Report, AllocError>
     requires { channels ≤ 1000 }
@@ -261,6 +291,10 @@ fn transcript<S: Source>(alloc: Global, words: &[&str], source: &mut S) -> Resul
             let bytes = read_front(alloc, source, READ_AT_MOST)?;
             Ok(show_files(alloc, &bytes)?)
         }
+        Task::JoinEnds(window, packet) => {
+            let bytes = read_front(alloc, source, READ_AT_MOST)?;
+            Ok(show_ends(alloc, window, packet, &bytes)?)
+        }
         Task::Generate(channels) => Ok(generate(alloc, channels)?),
         Task::ShowUsage => Ok(one_line(alloc, DONE, USAGE)?),
         Task::ShowVersion => Ok(one_line(alloc, DONE, VERSION)?),
@@ -272,7 +306,7 @@ fn transcript<S: Source>(alloc: Global, words: &[&str], source: &mut S) -> Resul
 /// the program: 0 where the run was Ok, and for `--help` and `--version`; 1 where the run ended
 /// or the stream of a client of files ended by an error; 2 for other words, a bad line, or more than
 /// 16777216 bytes; 3 where the source failed, 4 where the sink failed, 5 where there was no memory.
-/// The source is read for the words `run` and `sftp` alone: to its end, or to byte 16777217.
+/// The source is read for the words `run`, `sftp` and `ends` alone: to its end, or to byte 16777217.
 pub fn run_script<S: Source, W: Sink>(
     alloc: Global,
     words: &[&str],
@@ -303,7 +337,7 @@ pub fn run_script<S: Source, W: Sink>(
 }
 
 /// Words and a script owe one status and one text, and the status is 2 exactly with words that
-/// ask for nothing, and with `run` or `sftp` and a script that is too long or has a bad line.
+/// ask for nothing, and with `run`, `sftp` or `ends` and a script that is too long or has a bad line.
 pub fn one_transcript()
     ensures once { (words : List (List ℕ)) (script : List ℕ) (m n : ℕ) (s t : List ℕ)
         → Transcript words script m s → Transcript words script n t → (m ≡ n) × (s ≡ t) }

@@ -3,7 +3,7 @@ ghost use Rattle.std.specs.Prelude.{◌≡◌, ◌≢◌, ℕ, [], ◌∷◌, ma
 ghost use Rattle.std.specs.Fmt.{decimal};
 ghost use Rattle.ssh_script.specs.Transcript.{IsSize, IsTask};
 
-use ssh_scene::number_in;
+use ssh_scene::{number_in, small_in};
 use std::alloc::{AllocError, Global};
 
 /// The most channels of a session that the program makes up.
@@ -18,6 +18,8 @@ pub(crate) enum Task {
     ServeFiles,
     /// It runs a session of so many channels, which it makes up.
     Generate(u32),
+    /// It joins two ends, each of which gives this window and takes this packet size.
+    JoinEnds(u32, u32),
     /// It writes the usage line.
     ShowUsage,
     /// It writes its name and its version.
@@ -67,6 +69,25 @@ fn sized_task(alloc: Global, word: &str, digits: &str) -> Result<Task, AllocErro
     }
 }
 
+/// What a word asks for with these digits behind it, of a window and of a packet size.
+fn joined_task(alloc: Global, word: &str, window: &str, packet: &str) -> Result<Task, AllocError>
+    ensures { IfOk result (λ task. IsTask task (word.now ∷ window.now ∷ packet.now ∷ [])) }
+{
+    if word != "ends" {
+        return Ok(Task::Refuse);
+    }
+    let Some(window_size) = small_in(alloc, window)? else {
+        return Ok(Task::Refuse);
+    };
+    let Some(packet_size) = small_in(alloc, packet)? else {
+        return Ok(Task::Refuse);
+    };
+    if packet_size == 0 {
+        return Ok(Task::Refuse);
+    }
+    Ok(Task::JoinEnds(window_size, packet_size))
+}
+
 /// What these words ask for.
 pub(crate) fn task_of(alloc: Global, words: &[&str]) -> Result<Task, AllocError>
     ensures { IfOk result (λ task. IsTask task (map (λ word. word.now) words.now)) }
@@ -74,6 +95,7 @@ pub(crate) fn task_of(alloc: Global, words: &[&str]) -> Result<Task, AllocError>
     match words {
         [word] => Ok(lone_task(word)),
         [word, digits] => sized_task(alloc, word, digits),
+        [word, window, packet] => joined_task(alloc, word, window, packet),
         _ => Ok(Task::Refuse),
     }
 }

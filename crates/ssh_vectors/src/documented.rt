@@ -388,10 +388,11 @@ fn the_examples_of_the_page_print_what_it_says(rt: HostRuntime) {
     }
 }
 
-const USAGE: &[u8] = b"usage: ssh_script run | generate <n> | threads <n> | sftp\n";
+const USAGE: &[u8] =
+    b"usage: ssh_script run | generate <n> | threads <n> | sftp | ends <window> <packet>\n";
 
 // Words, the status, and what is written for them.
-static WORDS: [(&[&str], u8, &[u8]); 16] = [
+static WORDS: [(&[&str], u8, &[u8]); 20] = [
     (&["--help"], 0, USAGE),
     (&["--version"], 0, b"ssh_script 0.1.0\n"),
     // A word more, other letters, and no word ask for nothing.
@@ -414,6 +415,11 @@ static WORDS: [(&[&str], u8, &[u8]); 16] = [
     (&["generate", "1001"], 2, USAGE),
     (&["generate"], 2, USAGE),
     (&["generate", "3", "3"], 2, USAGE),
+    // Two ends have a window and a packet size of four bytes, and the packet size is not 0.
+    (&["ends", "3"], 2, USAGE),
+    (&["ends", "3", "0"], 2, USAGE),
+    (&["ends", "4294967296", "100"], 2, USAGE),
+    (&["ends", "3", "0100"], 2, USAGE),
 ];
 
 // Whether a run with these words comes to this. The first read fails: the source is not read.
@@ -428,7 +434,7 @@ fn are_answered(alloc: Global, words: &[&str], status: u8, written: &[u8]) -> bo
 }
 
 #[test]
-fn words_other_than_run_and_sftp_read_no_script(rt: HostRuntime) {
+fn words_that_ask_for_no_script_read_none(rt: HostRuntime) {
     for (words, status, line) in &WORDS {
         assert!(rt; are_answered(rt.alloc(), *words, *status, *line));
     }

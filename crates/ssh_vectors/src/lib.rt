@@ -9,6 +9,8 @@ mod bad_lines;
 #[cfg(test)]
 mod documented;
 #[cfg(test)]
+mod ends;
+#[cfg(test)]
 mod exchanges;
 #[cfg(test)]
 mod failing;

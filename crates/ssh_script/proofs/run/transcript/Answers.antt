@@ -1,6 +1,6 @@
 use Rattle.std.proofs.Common.{rules, map, refl}
 use Rattle.ssh_script.specs.declared.task.Task.TheVariants as task
-use Rattle.ssh_script.proofs.Endings.{owed_read, owed_served, owed_alone}
+use Rattle.ssh_script.proofs.Endings.{owed_read, owed_served, owed_told, owed_alone}
 use Rattle.ssh_script.proofs.TranscriptsOnce.{ask_for_none}
 use Rattle.ssh_script.proofs.run.transcript.Goals as goal
 
@@ -16,6 +16,14 @@ returns-in_ok-show_files-in-ServeFiles-clause-owed g c =
     owed_served _ _ c.in_ok-bytes-in-ServeFiles.bytes.items _ _ (search rules)
     c.in_ok-bytes-in-ServeFiles.ensures.front
     (rw c.deref.ensures.value at c.in_ok-show_files-in-ServeFiles.ensures)
+
+pub returns-in_ok-show_ends-in-JoinEnds-clause-owed :
+    goal.returns-in_ok-show_ends-in-JoinEnds-clause-owed
+returns-in_ok-show_ends-in-JoinEnds-clause-owed g c =
+    owed_told c.in-JoinEnds.window c.in-JoinEnds.packet _ _
+    c.in_ok-bytes-in-JoinEnds.bytes.items _ _ (search rules)
+    c.in_ok-bytes-in-JoinEnds.ensures.front
+    (rw c.deref-2.ensures.value at c.in_ok-show_ends-in-JoinEnds.ensures)
 
 pub returns-in_ok-generate-in-Generate-clause-owed :
     goal.returns-in_ok-generate-in-Generate-clause-owed
