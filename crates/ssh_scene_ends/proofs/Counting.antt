@@ -1,7 +1,7 @@
 -- A script has fewer events than bytes, and its events draw few numbers of channels.
 use Rattle.std.proofs.Common.{◌≡◌, ◌<◌, ◌≤◌, ◌+◌, ◌^◌, ℕ, List, [], ◌∷◌, ◌++◌, length, arith}
-use Rattle.std.proofs.Common.{Bool, true, false, Option, Some, None, Result, Ok, Err}
-use Rattle.std.proofs.Common.{refl, ap, sym, ◌∙◌, subst, cond, ◌==◌}
+use Rattle.std.proofs.Common.{Bool, true, false, Option, Some, None, Ok, Err}
+use Rattle.std.proofs.Common.{refl, ap, sym, ◌∙◌, subst, ◌==◌}
 use Rattle.std.specs.Prelude.{MatchOption, if◌then◌else◌, codes, flat_map}
 use Rattle.std.proofs.lemmas.List.{length-append}
 use Rattle.ssh_channels.specs.Layout.{chunk}
@@ -115,9 +115,10 @@ module _ (window packet : ℕ) (w : Pair) where
   takes_one : (own peer : ℕ) (said : Saying) (rest : List Message)
       → DrawsOne w (takes_said window packet own peer said rest w)
   takes_one own peer (Open theirs limit) rest =
-      let drawn : (takes_said window packet own peer (Open theirs limit) rest w).near.last
-      ≡ w.near.last + 1 = refl in
-      record { near = omega (arith, drawn); far = (let same : (takes_said window packet own peer (Open theirs limit) rest w).far.last ≡ w.far.last = refl in omega (arith, same)) }
+      let w' = takes_said window packet own peer (Open theirs limit) rest w in
+      let drawn : w'.near.last ≡ w.near.last + 1 = refl in
+      let same : w'.far.last ≡ w.far.last = refl in
+      record { near = omega (arith, drawn); far = omega (arith, same) }
   takes_one own peer (Confirm v l) rest = changes_one peer (hearing own (Confirm v l))
       (takes_said window packet own peer (Confirm v l) rest w) refl refl
   takes_one own peer (Grant amount) rest =
@@ -136,8 +137,10 @@ module _ (window packet : ℕ) (w : Pair) where
 
   acts_one : (e : EndEvent) → DrawsOne w (acts window packet e w)
   acts_one (event.Open side) =
-      let drawn : (acts window packet (event.Open side) w).near.last ≡ w.near.last + 1 = refl in
-      record { near = omega (arith, drawn); far = (let same : (acts window packet (event.Open side) w).far.last ≡ w.far.last = refl in omega (arith, same)) }
+      let w' = acts window packet (event.Open side) w in
+      let drawn : w'.near.last ≡ w.near.last + 1 = refl in
+      let same : w'.far.last ≡ w.far.last = refl in
+      record { near = omega (arith, drawn); far = omega (arith, same) }
   acts_one (event.Data side channel ext bytes) =
       changes_one channel.0 (sending (chunk (kind_of ext) bytes))
       (acts window packet (event.Data side channel ext bytes) w) refl refl

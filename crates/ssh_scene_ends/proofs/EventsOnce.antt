@@ -1,6 +1,6 @@
 -- The lines of a script bring one list of events, or have one first bad line.
 use Rattle.std.proofs.Common.{◌≡◌, ◌+◌, ℕ, List, [], ◌∷◌, Bool, true, false, Option, Some}
-use Rattle.std.proofs.Common.{None, Result, Ok, Err, sym, ◌∙◌, ap, subst, inl, inr, refl}
+use Rattle.std.proofs.Common.{None, Result, Err, sym, ◌∙◌, ap, subst, inl, inr, refl}
 use Rattle.std.specs.Prelude.{MatchOption}
 use Rattle.ssh_ends.specs.declared.event.EndEvent.{EndEvent}
 use Rattle.ssh_scene.specs.Grammar.{cut, is_passed}
@@ -8,7 +8,7 @@ use Rattle.ssh_scene.proofs.LinesOnce.{hex_once, small_once}
 use Rattle.ssh_scene_ends.specs.declared.events.EventLine.{EventLine}
 use Rattle.ssh_scene_ends.specs.EventLines.{EventForm, No_event, Just, By_small, By_bytes}
 use Rattle.ssh_scene_ends.specs.EventLines.{FitsEvent, words_event, as_line, ReadsEventWords}
-use Rattle.ssh_scene_ends.specs.EventLines.{ReadsEvent, with_event, BringsFrom, BringsEvents}
+use Rattle.ssh_scene_ends.specs.EventLines.{with_event, BringsFrom, BringsEvents}
 
 event_once : (form : EventForm) (a b : Option EndEvent) → FitsEvent form a → FitsEvent form b
     → a ≡ b

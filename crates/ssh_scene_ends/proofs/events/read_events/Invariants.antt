@@ -1,4 +1,4 @@
-use Rattle.std.proofs.Common.{length, ◌+◌, ◌≤◌, Result, ℕ, List, []}
+use Rattle.std.proofs.Common.{length, ◌+◌, ◌≤◌, Result, ℕ, List}
 use Rattle.ssh_ends.specs.declared.event.EndEvent.{EndEvent}
 use Rattle.ssh_scene.specs.Scene.{lines_of}
 use Rattle.ssh_scene_ends.specs.EventLines.{BringsFrom, BringsEvents}
