@@ -243,6 +243,7 @@ fn show_ends(alloc: Global, window: u32, packet: u32, bytes: &[u8]) -> Result<Re
 }
 
 /// What two ends come to of which a script tells that is not too long.
+#[tactic(auto, using(crate::proofs::Sizes::few_told))]
 fn show_events(alloc: Global, window: u32, packet: u32, bytes: &[u8]) -> Result<Report, AllocError>
     requires some { 0 < packet }
     requires short { length bytes.now ≤ longest }

@@ -70,6 +70,7 @@ fn sized_task(alloc: Global, word: &str, digits: &str) -> Result<Task, AllocErro
 }
 
 /// What a word asks for with these digits behind it, of a window and of a packet size.
+#[tactic(auto, using(crate::proofs::Sizes::no_window, crate::proofs::Sizes::no_packet, crate::proofs::Sizes::packet_of_none))]
 fn joined_task(alloc: Global, word: &str, window: &str, packet: &str) -> Result<Task, AllocError>
     ensures { IfOk result (λ task. IsTask task (word.now ∷ window.now ∷ packet.now ∷ [])) }
 {
