@@ -1,4 +1,4 @@
-use Rattle.std.proofs.Common.{rules, refl, inr}
+use Rattle.std.proofs.Common.{rules, refl, inl, inr}
 use Rattle.std.specs.String.{string_bytes}
 use Rattle.ssh_script.specs.Transcript.{Unread, Unwritten, read_fault}
 use Rattle.ssh_script.proofs.Endings.{shown, unwritten}
@@ -23,3 +23,6 @@ returns-in-Ok-write_all-2-clause-ends g c = Unread refl (search rules)
 pub returns-clause-ends : goal.returns-clause-ends
 returns-clause-ends g c = Unwritten refl c.in-Err-write_all.ensures.cause read_fault
     (inr (search rules, refl)) c.in-Err-write_all.ensures.part
+
+pub returns-in-Ok-clause-whole : goal.returns-in-Ok-clause-whole
+returns-in-Ok-clause-whole g c = λ asks. inl (c.in-Ok.ensures.whole asks)

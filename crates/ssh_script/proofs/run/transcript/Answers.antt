@@ -23,7 +23,7 @@ returns-in_ok-show_ends-in-JoinEnds-clause-owed g c =
     owed_told c.in-JoinEnds.window c.in-JoinEnds.packet _ _
     c.in_ok-bytes-in-JoinEnds.bytes.items _ _ (search rules)
     c.in_ok-bytes-in-JoinEnds.ensures.front
-    (rw c.deref-2.ensures.value at c.in_ok-show_ends-in-JoinEnds.ensures)
+    (rw c.deref-in-JoinEnds.ensures.value at c.in_ok-show_ends-in-JoinEnds.ensures)
 
 pub returns-in_ok-generate-in-Generate-clause-owed :
     goal.returns-in_ok-generate-in-Generate-clause-owed
