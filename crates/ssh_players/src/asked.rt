@@ -13,12 +13,12 @@ ghost use Rattle.ssh_players.specs.Played.{recorded};
 ghost use Rattle.ssh_players.specs.Telling.{told_by};
 
 use crate::interactive::interactive_answer_of;
-use crate::made;
 use crate::script_handler::{ScriptError, ScriptHandler, open_answer_of, places_after, verdict_of};
 use bytes::Bytes;
 use ssh_auth::{Admission, Auth, Happening, Judged, Lent, OpenType, Question};
 use ssh_handler::{Commands, RecordError};
 use ssh_link::{ChannelOpenHandle, OpenAnswer};
+use ssh_questions::made;
 use ssh_scene::{DataVerdict, ForwardVerdict, RequestVerdict};
 use ssh_wire::{ChannelId, WireError};
 use std::alloc::Global;

@@ -1,12 +1,12 @@
 // The callbacks of a script's handler while a user is authenticated.
 use crate::asked::{keep, or_lost};
-use crate::made;
 use crate::script_handler::{ScriptError, ScriptHandler, banner_of, copied};
 use ssh_auth::{
     Auth, AuthHandler, PublicKeyOffer, Question, Response, Unwritten, VerifiedPublicKey,
 };
 use ssh_handler::RecordError;
 use ssh_keys::Certificate;
+use ssh_questions::made;
 use ssh_wire::Text;
 
 impl AuthHandler for ScriptHandler {

@@ -1,10 +1,10 @@
 // The callbacks of a script's handler once a user is authenticated.
 use crate::asked::{is_granted, is_success, keep, port_of};
-use crate::made;
 use crate::script_handler::{ScriptError, ScriptHandler};
 use ssh_auth::{Happening, Judged, Lent, OpenType, Question};
 use ssh_handler::{Commands, Handler, RecordError};
 use ssh_link::{ChannelOpenHandle, CommandOutcome};
+use ssh_questions::made;
 use ssh_wire::{ChannelId, Pty, Sig, Text};
 
 /// What a callback answers that answers nothing but an error.

@@ -9,7 +9,6 @@ mod asked;
 mod authentication;
 mod callbacks;
 mod interactive;
-mod made;
 mod queue;
 mod script_handler;
 mod script_kex;

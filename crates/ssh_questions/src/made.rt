@@ -15,7 +15,7 @@ use ssh_wire::{Modes, Pty, Text, WireError};
 use std::alloc::Global;
 
 /// A request of method none.
-pub(crate) fn none(alloc: Global, user: &str) -> Result<Admission, WireError>
+pub fn none(alloc: Global, user: &str) -> Result<Admission, WireError>
     ensures { IfOk result (λ made. made ≡ by.None user.now) }
 {
     Ok(Admission::None {
@@ -24,7 +24,7 @@ pub(crate) fn none(alloc: Global, user: &str) -> Result<Admission, WireError>
 }
 
 /// A request of method password.
-pub(crate) fn password(alloc: Global, user: &str, password: &str) -> Result<Admission, WireError>
+pub fn password(alloc: Global, user: &str, password: &str) -> Result<Admission, WireError>
     ensures { IfOk result (λ made. made ≡ by.Password user.now password.now) }
 {
     Ok(Admission::Password {
@@ -34,11 +34,7 @@ pub(crate) fn password(alloc: Global, user: &str, password: &str) -> Result<Admi
 }
 
 /// The offer of a key.
-pub(crate) fn offered(
-    alloc: Global,
-    user: &str,
-    offer: PublicKeyOffer<'_>,
-) -> Result<Admission, WireError>
+pub fn offered(alloc: Global, user: &str, offer: PublicKeyOffer<'_>) -> Result<Admission, WireError>
     ensures { IfOk result (λ made. made ≡ by.PublickeyOffered user.now offer.entry.public_key.now
         offer.entry.algorithm) }
 {
@@ -50,7 +46,7 @@ pub(crate) fn offered(
 }
 
 /// A request that a key has signed.
-pub(crate) fn publickey(
+pub fn publickey(
     alloc: Global,
     user: &str,
     key: VerifiedPublicKey<'_>,
@@ -66,7 +62,7 @@ pub(crate) fn publickey(
 }
 
 /// A request that the key of a certificate has signed.
-pub(crate) fn certificate(
+pub fn certificate(
     alloc: Global,
     user: &str,
     certificate: &Certificate,
@@ -80,7 +76,7 @@ pub(crate) fn certificate(
 }
 
 /// A request by prompts, or a response to them.
-pub(crate) fn interactive(
+pub fn interactive(
     alloc: Global,
     user: &str,
     submethods: &str,
@@ -97,7 +93,7 @@ pub(crate) fn interactive(
 }
 
 /// A connection to the peer's X server.
-pub(crate) fn x11_type(
+pub fn x11_type(
     alloc: Global,
     originator_address: &str,
     originator_port: u32,
@@ -111,7 +107,7 @@ pub(crate) fn x11_type(
 }
 
 /// A connection to a host.
-pub(crate) fn direct_tcpip(
+pub fn direct_tcpip(
     alloc: Global,
     host_to_connect: &str,
     port_to_connect: u32,
@@ -130,7 +126,7 @@ pub(crate) fn direct_tcpip(
 }
 
 /// A connection that came to a forwarded port.
-pub(crate) fn forwarded_tcpip(
+pub fn forwarded_tcpip(
     alloc: Global,
     host_to_connect: &str,
     port_to_connect: u32,
@@ -149,7 +145,7 @@ pub(crate) fn forwarded_tcpip(
 }
 
 /// A connection to a socket.
-pub(crate) fn direct_streamlocal(alloc: Global, socket_path: &str) -> Result<OpenType, WireError>
+pub fn direct_streamlocal(alloc: Global, socket_path: &str) -> Result<OpenType, WireError>
     ensures { IfOk result (λ made. made ≡ type.DirectStreamlocal socket_path.now) }
 {
     Ok(OpenType::DirectStreamlocal {
@@ -158,7 +154,7 @@ pub(crate) fn direct_streamlocal(alloc: Global, socket_path: &str) -> Result<Ope
 }
 
 /// Data of the peer.
-pub(crate) fn data(alloc: Global, bytes: &[u8]) -> Result<Happening, WireError>
+pub fn data(alloc: Global, bytes: &[u8]) -> Result<Happening, WireError>
     ensures { IfOk result (λ made. made ≡ what.Data bytes.now) }
 {
     Ok(Happening::Data {
@@ -167,7 +163,7 @@ pub(crate) fn data(alloc: Global, bytes: &[u8]) -> Result<Happening, WireError>
 }
 
 /// Data of another type.
-pub(crate) fn extended_data(alloc: Global, code: u32, bytes: &[u8]) -> Result<Happening, WireError>
+pub fn extended_data(alloc: Global, code: u32, bytes: &[u8]) -> Result<Happening, WireError>
     ensures { IfOk result (λ made. made ≡ what.ExtendedData code bytes.now) }
 {
     Ok(Happening::ExtendedData {
@@ -188,7 +184,7 @@ fn copied_modes(alloc: Global, modes: &[(Pty, u32)]) -> Result<Modes, WireError>
 }
 
 /// The request of a terminal.
-pub(crate) fn pty(
+pub fn pty(
     alloc: Global,
     term: &str,
     col_width: u32,
@@ -211,7 +207,7 @@ pub(crate) fn pty(
 }
 
 /// The request that X11 is forwarded.
-pub(crate) fn x11(
+pub fn x11(
     alloc: Global,
     single_connection: bool,
     x11_auth_protocol: &str,
@@ -230,11 +226,7 @@ pub(crate) fn x11(
 }
 
 /// A variable of the environment.
-pub(crate) fn env(
-    alloc: Global,
-    variable_name: &str,
-    variable_value: &str,
-) -> Result<Happening, WireError>
+pub fn env(alloc: Global, variable_name: &str, variable_value: &str) -> Result<Happening, WireError>
     ensures { IfOk result (λ made. made ≡ what.EnvRequest variable_name.now variable_value.now) }
 {
     Ok(Happening::EnvRequest {
@@ -244,7 +236,7 @@ pub(crate) fn env(
 }
 
 /// A program that is to be run.
-pub(crate) fn exec(alloc: Global, bytes: &[u8]) -> Result<Happening, WireError>
+pub fn exec(alloc: Global, bytes: &[u8]) -> Result<Happening, WireError>
     ensures { IfOk result (λ made. made ≡ what.ExecRequest bytes.now) }
 {
     Ok(Happening::ExecRequest {
@@ -253,7 +245,7 @@ pub(crate) fn exec(alloc: Global, bytes: &[u8]) -> Result<Happening, WireError>
 }
 
 /// The request of a subsystem.
-pub(crate) fn subsystem(alloc: Global, name: &str) -> Result<Happening, WireError>
+pub fn subsystem(alloc: Global, name: &str) -> Result<Happening, WireError>
     ensures { IfOk result (λ made. made ≡ what.SubsystemRequest name.now) }
 {
     Ok(Happening::SubsystemRequest {
@@ -262,7 +254,7 @@ pub(crate) fn subsystem(alloc: Global, name: &str) -> Result<Happening, WireErro
 }
 
 /// That connections to an address are forwarded no longer.
-pub(crate) fn cancel_tcpip(alloc: Global, address: &str, port: u32) -> Result<Judged, WireError>
+pub fn cancel_tcpip(alloc: Global, address: &str, port: u32) -> Result<Judged, WireError>
     ensures { IfOk result (λ made. made ≡ whether.CancelTcpipForward address.now port) }
 {
     Ok(Judged::CancelTcpipForward {
@@ -272,7 +264,7 @@ pub(crate) fn cancel_tcpip(alloc: Global, address: &str, port: u32) -> Result<Ju
 }
 
 /// That connections to a socket are forwarded.
-pub(crate) fn streamlocal(alloc: Global, socket_path: &str) -> Result<Judged, WireError>
+pub fn streamlocal(alloc: Global, socket_path: &str) -> Result<Judged, WireError>
     ensures { IfOk result (λ made. made ≡ whether.StreamlocalForward socket_path.now) }
 {
     Ok(Judged::StreamlocalForward {
@@ -281,7 +273,7 @@ pub(crate) fn streamlocal(alloc: Global, socket_path: &str) -> Result<Judged, Wi
 }
 
 /// That they are forwarded no longer.
-pub(crate) fn cancel_streamlocal(alloc: Global, socket_path: &str) -> Result<Judged, WireError>
+pub fn cancel_streamlocal(alloc: Global, socket_path: &str) -> Result<Judged, WireError>
     ensures { IfOk result (λ made. made ≡ whether.CancelStreamlocalForward socket_path.now) }
 {
     Ok(Judged::CancelStreamlocalForward {

@@ -1,5 +1,5 @@
 use Rattle.std.proofs.Common.{◌≡◌, take}
-use Rattle.ssh_players.proofs.made.copied_modes.Given as goal
+use Rattle.ssh_questions.proofs.made.copied_modes.Given as goal
 
 -- the modes so far are copied
 abbrev pub invariant-loop-mode : goal.invariant-loop-mode
