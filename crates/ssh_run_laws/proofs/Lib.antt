@@ -1,0 +1,15 @@
+pub mod Changing
+pub mod Openings
+pub mod Leading
+pub mod Commanding
+pub mod Chains
+pub mod Recorded
+pub mod Calms
+pub mod CalmRows
+pub mod RowDeeds
+pub mod RunDeeds
+pub mod Holding
+pub mod Accepted
+pub mod Standing
+pub mod Untaken
+pub mod Traces

@@ -1,0 +1,6 @@
+pub mod Deeds
+pub mod Channels
+pub mod Accepted
+pub mod Standing
+pub mod Traces
+pub mod Laws
