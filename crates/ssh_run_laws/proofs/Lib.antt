@@ -13,3 +13,7 @@ pub mod Accepted
 pub mod Standing
 pub mod Untaken
 pub mod Traces
+pub mod UserKept
+pub mod Verdicts
+pub mod Unasked
+pub mod Users

@@ -3,4 +3,5 @@ pub mod Channels
 pub mod Accepted
 pub mod Standing
 pub mod Traces
+pub mod Users
 pub mod Laws

@@ -3,6 +3,7 @@ ghost use Rattle.ssh_run_laws.specs.Laws.{ChannelsAccept, NextAccepts};
 ghost use Rattle.ssh_run_laws.specs.Standing.{AnsweredOpensStand, ChannelsStand, OpensStillWait};
 ghost use Rattle.ssh_run_laws.specs.Standing.{OpensWait};
 ghost use Rattle.ssh_run_laws.specs.Traces.{TracesTell};
+ghost use Rattle.ssh_run_laws.specs.Users.{UsersStay};
 
 use ssh_keys::Verifier;
 
@@ -42,4 +43,11 @@ pub fn answered_opens_stand<V: Verifier, E, F>(verifier: &V)
 /// which the last ones are those since the channel was opened (RFC 4254 section 5.2).
 pub fn traces_tell<V: Verifier, E, F>(verifier: &V)
     ensures { TracesTell E F (V.accepts verifier.now) }
+{}
+
+/// A law, without code. The user who was let in is the one of the first call of the handler that
+/// accepted one, and stays so: requests of authentication after that are ignored (RFC 4252 section
+/// 5.1). Nobody was let in where no call did it.
+pub fn users_stay<V: Verifier, E, F>(verifier: &V)
+    ensures { UsersStay E F (V.accepts verifier.now) }
 {}
