@@ -25,24 +25,43 @@ use Rattle.ssh_run_laws.proofs.Chains.{Chain, chain_bytes}
 use Rattle.ssh_run_laws.proofs.Holding.{moment_holds}
 use Rattle.ssh_run_laws.proofs.RunDeeds.{run_chain, turn_comes}
 
+holds_so : (n : ℕ) (l : Lines) (bytes : List (DataKind × ℕ)) (told : List TraceEntry)
+    → bytes_on n l ≡ bytes → Ledgered l told → (seen later : List TraceEntry)
+    → told ≡ seen ++ later → IsUnopened n (outgoing later l) → HoldFirst n bytes (since n seen)
+holds_so n l bytes told is ledger seen later at quiet =
+    subst (λ b. HoldFirst n b (since n seen)) is
+    (moment_holds n l seen later quiet (subst (Ledgered l) at ledger))
+
+run_bytes : {E F : Type 0} (accepts : Acceptance) (settings : Settings) (turns : List (Turn E F))
+    (world : World) → Run accepts (opening_world settings) turns world → (n : ℕ)
+    → bytes_on n world.channels.lines ≡ accepted_on n (flat_map deeds turns)
+run_bytes accepts settings turns world run n =
+    let w = opening_world settings in
+    chain_bytes n w (flat_map deeds turns) world
+    (run_chain n accepts [] w turns world run (nothing_kept settings))
+
+pub run_holds : {E F : Type 0} (accepts : Acceptance) (settings : Settings)
+    (turns : List (Turn E F)) (world : World) → Run accepts (opening_world settings) turns world
+    → (n : ℕ) (seen rest : List TraceEntry) → flat_map entries turns ≡ seen ++ rest
+    → IsUnopened n (outgoing rest world.channels.lines)
+    → HoldFirst n (accepted_on n (flat_map deeds turns)) (since n seen)
+run_holds accepts settings turns world run n seen rest is quiet =
+    let kept = run_kept accepts [] (opening_world settings) turns world run
+    (nothing_kept settings) in
+    holds_so n world.channels.lines (accepted_on n (flat_map deeds turns))
+    (flat_map entries turns) (run_bytes accepts settings turns world run n) kept.ledger seen rest is
+    quiet
+
 run_accepted : {E F : Type 0} (accepts : Acceptance) (settings : Settings)
     (turns : List (Turn E F)) (world : World) → Run accepts (opening_world settings) turns world
     → IsAccepted accepts settings turns
-run_accepted accepts settings turns world run =
-    let w = opening_world settings in
-    let kept = run_kept accepts [] w turns world run (nothing_kept settings) in
-    record {
-      world = world;
-      run = run;
-      bytes = λ n. chain_bytes n w (flat_map deeds turns) world
-          (run_chain n accepts [] w turns world run (nothing_kept settings));
-      sent = λ n seen rest is quiet.
-          subst (λ b. HoldFirst n b (since n seen))
-          (chain_bytes n w (flat_map deeds turns) world
-          (run_chain n accepts [] w turns world run (nothing_kept settings)))
-          (moment_holds n world.channels.lines seen rest quiet
-          (subst (Ledgered world.channels.lines) is kept.ledger));
-    }
+run_accepted accepts settings turns world run = record {
+  world = world;
+  run = run;
+  bytes = λ n. run_bytes accepts settings turns world run n;
+  sent = λ n seen rest is quiet.
+      run_holds accepts settings turns world run n seen rest is quiet;
+}
 
 pub accepted : {E F : Type 0} (accepts : Acceptance) (settings : Settings)
     (turns : List (Turn E F)) (world : World) → Run accepts (opening_world settings) turns world
@@ -65,13 +84,6 @@ chain_by : (n : ℕ) (w : World) (ds : List Deed) (flow : Flow) (world : World)
     → ComesBy n w ds (comes flow world) → Chain n w ds world
 chain_by n w ds Continue world c = c
 chain_by n w ds Ended world c = c
-
-holds_so : (n : ℕ) (l : Lines) (bytes : List (DataKind × ℕ)) (told : List TraceEntry)
-    → bytes_on n l ≡ bytes → Ledgered l told → (seen later : List TraceEntry)
-    → told ≡ seen ++ later → IsUnopened n (outgoing later l) → HoldFirst n bytes (since n seen)
-holds_so n l bytes told is ledger seen later at quiet =
-    subst (λ b. HoldFirst n b (since n seen)) is
-    (moment_holds n l seen later quiet (subst (Ledgered l) at ledger))
 
 before_or_ends : {E F : Type 0} (accepts : Acceptance) (w : World) (turns : List (Turn E F))
     (turn : Turn E F) (plan : Plan Outcome) (past : List (Event E F))
@@ -97,8 +109,7 @@ next_accepted {E} {F} accepts settings turns w run turn =
     let start = opening_world settings in
     let kept = run_kept accepts [] start turns w run (nothing_kept settings) in
     let bytes : (n : ℕ) → bytes_on n w.channels.lines ≡ accepted_on n (flat_map deeds turns) =
-    λ n. chain_bytes n start (flat_map deeds turns) w
-    (run_chain n accepts [] start turns w run (nothing_kept settings)) in
+    λ n. run_bytes accepts settings turns w run n in
     let next = next_ledgered accepts w turns turn kept in
     record {
       underway = λ plan past rest o is b. before_or_ends accepts w turns turn plan past bytes

@@ -24,12 +24,16 @@ use Rattle.ssh_rules.specs.Outcome.{Goes}
 use Rattle.ssh_rules.specs.Run.{Run, Turn, calls_of, entries}
 use Rattle.ssh_rules.specs.Valid.{recorded_so}
 use Rattle.ssh_rules.specs.World.{World, opening_world}
-use Rattle.ssh_run_laws.specs.Channels.{accepted_from, after_answer, after_deed, sends_by}
+use Rattle.ssh_run_laws.specs.Channels.{accepted_from, accepted_on, after_answer, after_deed}
+use Rattle.ssh_run_laws.specs.Channels.{sends_by}
 use Rattle.ssh_run_laws.specs.Deeds.{Asked, Closed_by_peer, Commanded, Deed, asked_by, deeds}
 use Rattle.ssh_run_laws.specs.Deeds.{deeds_from, deeds_in, deeds_told, done_at, given_by}
+use Rattle.ssh_run_laws.specs.Deeds.{given_then}
 use Rattle.ssh_run_laws.specs.Deeds.{outcome_at, told_by}
-use Rattle.ssh_run_laws.specs.Traces.{TracesTell, data_accepted, data_by, data_in, data_told}
+use Rattle.ssh_run_laws.specs.Traces.{TracesHold, TracesTell, data_accepted, data_by, data_in}
+use Rattle.ssh_run_laws.specs.Traces.{data_told}
 use Rattle.ssh_run_laws.specs.Traces.{records_data}
+use Rattle.ssh_run_laws.proofs.Accepted.{run_holds}
 use Rattle.ssh_run_laws.proofs.Untaken.{AllUntaken, owed_untaken}
 
 neither : (a b : Bool) → (a || b) ≡ false → (a ≡ false) × (b ≡ false)
@@ -204,4 +208,31 @@ traces_tell E F accepts settings turns world run n none =
     let last = deeds_last n [] (flat_map deeds turns) in (
       last.0,
       sym (run_told n accepts (opening_world settings) turns world run none) ∙ last.1,
+    )
+
+-- what follows a trace adds to what it tells
+told_more : (given : Option Command) (xs ys : List TraceEntry) → (more : List Deed)
+    × (deeds_told given (xs ++ ys) ≡ deeds_told given xs ++ more)
+told_more given [] ys = (deeds_told given ys, refl)
+told_more given (x ∷ xs) ys =
+    let later = told_more (given_then given x) xs ys in (
+      later.0,
+      ap (λ l. told_by given x ++ l) later.1
+          ∙ sym (append_assoc (told_by given x) (deeds_told (given_then given x) xs) later.0),
+    )
+
+pub traces_hold : (E F : Type 0) (accepts : Acceptance) → TracesHold E F accepts
+traces_hold E F accepts settings turns world run n none seen rest more is quiet =
+    let trace = flat_map entries turns in
+    let told = traces_tell E F accepts settings turns world run n none in
+    let longer = told_more None trace more in
+    let bytes = accepted_on n (flat_map deeds turns) in
+    let later = flat_map (data_by n) longer.0 in (
+      told.0,
+      bytes,
+      later,
+      ap (flat_map (data_by n)) longer.1
+          ∙ flat_map-append (data_by n) (deeds_told None trace) longer.0
+          ∙ ap (λ l. l ++ later) told.1 ∙ append_assoc told.0 bytes later,
+      run_holds accepts settings turns world run n seen rest is quiet,
     )

@@ -61,7 +61,7 @@ use Rattle.ssh_rules.proofs.Apart.{apart_comes, refused_comes, tick_comes}
 use Rattle.ssh_rules.proofs.Passing.{payload_so}
 use Rattle.ssh_rules.proofs.Settled.{Any_command, Anything, any_built}
 use Rattle.ssh_rules.proofs.Settling.{parts_of}
-use Rattle.ssh_run_laws.specs.Users.{UsersStay, first_of, first_user, user_so}
+use Rattle.ssh_run_laws.specs.Users.{UserStays, UserIsFirst, first_of, first_user, user_so}
 use Rattle.ssh_run_laws.proofs.UserKept.{IsOther, done_kept, opens_or_not_kept, owed_kept, settles_kept}
 use Rattle.ssh_run_laws.proofs.Verdicts.{IsOfUser, LetsIn, response_lets, user_answered, verdict_lets}
 use Rattle.ssh_run_laws.proofs.Unasked.{AsksElse, acts_else, calls_both, finish_else, first_both}
@@ -445,6 +445,11 @@ run_who accepts w (turn ∷ turns) world run =
     ∙ first_both (who w.user) (first_user (calls_of turn)) (first_user (flat_map calls_of turns))
     ∙ ap (first_of (who w.user)) (sym (users_both (calls_of turn) (flat_map calls_of turns)))
 
-pub users_stay : (E F : Type 0) (accepts : Acceptance) → UsersStay E F accepts
+pub users_stay : (E F : Type 0) (accepts : Acceptance) → UserIsFirst E F accepts
 users_stay E F accepts settings turns world run =
     run_who accepts (opening_world settings) turns world run
+
+pub user_stays : (E F : Type 0) (accepts : Acceptance) → UserStays E F accepts
+user_stays E F accepts w world turns user run is =
+    run_who accepts w turns world run
+    ∙ ap (λ o. first_of o (first_user (flat_map calls_of turns))) is

@@ -13,9 +13,12 @@ use Rattle.ssh_channels.specs.declared.chunk.DataKind.{DataKind}
 use Rattle.ssh_channels.specs.declared.chunk.DataKind.TheVariants.{Plain, Extended}
 use Rattle.ssh_channels.specs.Entry.{tagged}
 use Rattle.ssh_channels.specs.Layout.{chunk}
+use Rattle.ssh_channels.specs.Sent.{IsUnopened, since}
+use Rattle.ssh_rules.specs.Ledger.{outgoing}
 use Rattle.ssh_rules.specs.Run.{Turn, Run, calls_of, entries}
 use Rattle.ssh_rules.specs.Valid.{recorded_so}
 use Rattle.ssh_rules.specs.World.{Settings, World, opening_world}
+use Rattle.ssh_run_laws.specs.Accepted.{HoldFirst}
 use Rattle.ssh_run_laws.specs.Channels.{accepted_on, sends_by}
 use Rattle.ssh_run_laws.specs.Deeds.{Asked, Closed_by_peer, Commanded, Deed, deeds, deeds_told}
 
@@ -55,3 +58,15 @@ TracesTell E F accepts = (settings : Settings) (turns : List (Turn E F)) (world 
     → (earlier : List (DataKind × ℕ))
     × (data_told number (flat_map entries turns)
     ≡ earlier ++ accepted_on number (flat_map deeds turns))
+
+-- .. and at each moment since it was opened the data frames on its number hold the first of them:
+-- of a part of what the trace, with whatever follows, answers by `Accepted`
+abbrev pub TracesHold : (E F : Type 0) → Acceptance → Type 0
+TracesHold E F accepts = (settings : Settings) (turns : List (Turn E F)) (world : World)
+    → Run accepts (opening_world settings) turns world → (number : ℕ)
+    → list_any (records_data number) (flat_map calls_of turns) ≡ false
+    → (seen rest more : List TraceEntry) → flat_map entries turns ≡ seen ++ rest
+    → IsUnopened number (outgoing rest world.channels.lines)
+    → (earlier bytes later : List (DataKind × ℕ))
+    × (data_told number (flat_map entries turns ++ more) ≡ earlier ++ (bytes ++ later))
+    × HoldFirst number bytes (since number seen)

@@ -35,7 +35,12 @@ first_user (call ∷ calls) = first_of (user_so (was call)) (first_user calls)
 
 -- after each input of a run the user who was let in is that one, and nobody was let in where no call
 -- did it
-abbrev pub UsersStay : (E F : Type 0) → Acceptance → Type 0
-UsersStay E F accepts = (settings : Settings) (turns : List (Turn E F)) (world : World)
+abbrev pub UserIsFirst : (E F : Type 0) → Acceptance → Type 0
+UserIsFirst E F accepts = (settings : Settings) (turns : List (Turn E F)) (world : World)
     → Run accepts (opening_world settings) turns world
     → who world.user ≡ first_user (flat_map calls_of turns)
+
+-- .. and whoever was let in stays so through more inputs, whatever calls accept
+abbrev pub UserStays : (E F : Type 0) → Acceptance → Type 0
+UserStays E F accepts = (w world : World) (turns : List (Turn E F)) (user : List ℕ)
+    → Run accepts w turns world → who w.user ≡ Some user → who world.user ≡ Some user

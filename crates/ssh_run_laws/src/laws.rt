@@ -2,8 +2,8 @@
 ghost use Rattle.ssh_run_laws.specs.Laws.{ChannelsAccept, NextAccepts};
 ghost use Rattle.ssh_run_laws.specs.Standing.{AnsweredOpensStand, ChannelsStand, OpensStillWait};
 ghost use Rattle.ssh_run_laws.specs.Standing.{OpensWait};
-ghost use Rattle.ssh_run_laws.specs.Traces.{TracesTell};
-ghost use Rattle.ssh_run_laws.specs.Users.{UsersStay};
+ghost use Rattle.ssh_run_laws.specs.Traces.{TracesHold, TracesTell};
+ghost use Rattle.ssh_run_laws.specs.Users.{UserStays, UserIsFirst};
 
 use ssh_keys::Verifier;
 
@@ -40,14 +40,18 @@ pub fn answered_opens_stand<V: Verifier, E, F>(verifier: &V)
 
 /// A law, without code. Where no callback recorded data for a number, the trace alone tells what the
 /// channel of that number accepted: the data of the commands there that it answers by `Accepted`, of
-/// which the last ones are those since the channel was opened (RFC 4254 section 5.2).
+/// which the last ones are those since the channel was opened; and at each moment since then the data
+/// frames on the number hold the first of these, whatever follows in the trace (RFC 4254 section
+/// 5.2).
 pub fn traces_tell<V: Verifier, E, F>(verifier: &V)
-    ensures { TracesTell E F (V.accepts verifier.now) }
+    ensures accepted { TracesTell E F (V.accepts verifier.now) }
+    ensures sent { TracesHold E F (V.accepts verifier.now) }
 {}
 
 /// A law, without code. The user who was let in is the one of the first call of the handler that
 /// accepted one, and stays so: requests of authentication after that are ignored (RFC 4252 section
 /// 5.1). Nobody was let in where no call did it.
 pub fn users_stay<V: Verifier, E, F>(verifier: &V)
-    ensures { UsersStay E F (V.accepts verifier.now) }
+    ensures first { UserIsFirst E F (V.accepts verifier.now) }
+    ensures stays { UserStays E F (V.accepts verifier.now) }
 {}
