@@ -1,6 +1,6 @@
 -- Acts that leave the channel of a number and the open that waits there as they are, but for what
 -- callbacks recorded: what they lead to is what was done.
-use Rattle.std.proofs.Common.{◌≡◌, ◌+◌, ◌∙◌, ℕ, List, [], ◌∷◌, ◌++◌, map, Bool, true, false, cond}
+use Rattle.std.proofs.Common.{◌≡◌, ◌∙◌, ℕ, List, [], ◌∷◌, ◌++◌, map, Bool, true, false, cond}
 use Rattle.std.proofs.Common.{Option, None, Ok, refl, sym, ap, subst}
 use Rattle.std.proofs.lemmas.List.{append-nil}
 use Rattle.ssh_link.specs.Frames.{Frame}
