@@ -119,7 +119,7 @@ owes_now notices accepts w input plan none live (later, owes, is) =
     subst (Owes accepts w input) (sym now)
     (subst (λ b. OwesUnlessEnded b accepts w input later) live owes)
 
-steps_now : {E F : Type 0} (notices : List Notice) (accepts : Acceptance) (w : World)
+pub steps_now : {E F : Type 0} (notices : List Notice) (accepts : Acceptance) (w : World)
     (input : Input) (c d : Told E F) (session : Session) (result : Result Flow (RunError E F))
     → notices ≡ [] → IsLive w → Steps (OwesBehind notices accepts w input) c d session result
     → Steps (Owes accepts w input) c d session result
@@ -135,7 +135,7 @@ steps_now notices accepts w input c d session result none live step = record {
 }
 
 -- a session that goes on was given its input
-taken_now : {E F : Type 0} (notices : List Notice) (accepts : Acceptance) (w : World)
+pub taken_now : {E F : Type 0} (notices : List Notice) (accepts : Acceptance) (w : World)
     (input : Input) (c d : Told E F) (session : Session) (flow : Flow)
     → notices ≡ [] → IsLive w → StepsAfter notices accepts w input c d session (Ok flow)
     → Steps (Owes accepts w input) c d session (Ok flow)
@@ -324,7 +324,7 @@ no_question plan outcome question next [] is h =
     let e : Finish outcome ≡ Ask question next = sym is ∙ h in cc
 no_question plan outcome question next (event ∷ events) is h = rw is at h
 
-caused_none : {E F : Type 0} (cause : Cause E F) (plan : Plan Outcome) (outcome : Outcome)
+pub caused_none : {E F : Type 0} (cause : Cause E F) (plan : Plan Outcome) (outcome : Outcome)
     (rose : Type 0) (events : List (Event E F)) → plan ≡ Finish outcome
     → IsCaused cause plan rose events → events ≡ []
 caused_none Wants_memory plan outcome rose events is h = at_end plan h.0 outcome events is h.1
@@ -343,7 +343,7 @@ no_fault plan w fault [] is h = let e : Finish (Goes w) ≡ Finish (Fails fault)
 no_fault plan w fault (event ∷ events) is h = rw is at h
 
 -- memory was wanting, or the link failed, before the next one was looked at
-ends_before : {E F : Type 0} (accepts : Acceptance) (w : World) (plan : Plan Outcome)
+pub ends_before : {E F : Type 0} (accepts : Acceptance) (w : World) (plan : Plan Outcome)
     (rose rose' : Type 0) (events : List (Event E F)) (e : RunError E F) → plan ≡ Finish (Goes w)
     → (rose → rose') → IsCaused (cause_of e) plan rose events
     → EndsSo {E = E} {F = F} accepts w None rose' (Err e)

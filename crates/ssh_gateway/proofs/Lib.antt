@@ -1,0 +1,11 @@
+mod Telling
+mod Heard
+mod Lists
+mod Accepting
+mod Cutting
+mod Bytes
+mod Choices
+mod Serving
+mod Turning
+mod Going
+mod Delivering

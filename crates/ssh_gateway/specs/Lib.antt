@@ -1,0 +1,11 @@
+pub mod Allowed
+pub mod Answering
+pub mod Asked
+pub mod Board
+pub mod Choosing
+pub mod Doing
+pub mod Gateway
+pub mod Memory
+pub mod Raised
+pub mod Serving
+pub mod Turns

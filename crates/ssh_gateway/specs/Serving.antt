@@ -1,0 +1,225 @@
+-- What a turn comes to.
+use Rattle.std.specs.Prelude.{◌≡◌, ◌≢◌, ◌≤◌, ◌⊎◌, ℕ, List, [], ◌++◌, true, not, Option, Some}
+use Rattle.std.specs.Prelude.{Result, Ok, Err, flat_map}
+use Rattle.std.specs.Borrow.{GName}
+use Rattle.ssh_link.specs.Faults.{Rose}
+use Rattle.ssh_link.specs.Told.{Adds, AddsNothing, ToldBy}
+use Rattle.ssh_link.specs.declared.frame.Input.{Input}
+use Rattle.ssh_link.specs.declared.kex.KexCall.{KexCall}
+use Rattle.ssh_link.specs.declared.link.TraceEntry.{TraceEntry}
+use Rattle.ssh_auth.specs.declared.call.Call.{Call}
+use Rattle.ssh_auth.specs.declared.question.Question.{Question}
+use Rattle.ssh_auth.specs.Plan.{Plan, Finish, Event, Follows, calls_in, steps_in, told_in}
+use Rattle.ssh_auth.specs.Publickey.{Acceptance}
+use Rattle.ssh_handler.specs.declared.recorded.RecordError.{RecordError}
+use Rattle.ssh_handler.specs.OwnCalls.{own_calls}
+use Rattle.ssh_rules.specs.declared.error.Flow.{Flow}
+use Rattle.ssh_rules.specs.declared.error.Flow.TheVariants.{Continue, Ended}
+use Rattle.ssh_rules.specs.declared.error.RunError.{RunError}
+use Rattle.ssh_rules.specs.declared.error.RunError.TheVariants as run
+use Rattle.ssh_rules.specs.Cause.{IsCaused, cause_of}
+use Rattle.ssh_rules.specs.Outcome.{Outcome, Goes, Ends}
+use Rattle.ssh_rules.specs.Run.{Turn, Owes, steps_of, wants_commands}
+use Rattle.ssh_rules.specs.Valid.{IsValid}
+use Rattle.ssh_rules.specs.World.{World, in_exchange}
+use Rattle.ssh_session.specs.Serve.{Refines}
+use Rattle.ssh_session.specs.declared.session.Session.{Session}
+use Rattle.ssh_gateway.specs.declared.error.GatewayError.{GatewayError}
+use Rattle.ssh_gateway.specs.declared.error.GatewayError.TheVariants as error
+use Rattle.ssh_gateway.specs.declared.targets.TargetCall.{TargetCall}
+use Rattle.ssh_gateway.specs.Answering.{answered, passed, of_authentication}
+use Rattle.ssh_gateway.specs.Asked.{IsCutOff}
+use Rattle.ssh_gateway.specs.Board.{Board}
+use Rattle.ssh_gateway.specs.Choosing.{Permits, Waits, IsChosen}
+use Rattle.ssh_gateway.specs.Doing.{FailsChoosing}
+use Rattle.ssh_gateway.specs.Raised.{lowered}
+use Rattle.ssh_gateway.specs.Turns.{Round, Begins, Comes, IsRound, board_after, due_after}
+use Rattle.ssh_gateway.specs.Turns.{link_entries, target_calls}
+
+-- what the exchange of keys and the link have told, and how often the link failed
+pub record Beneath (F : Type 0) : Type 0 where
+  pub steps : Option (List (KexCall F))
+  pub trace : Option (List TraceEntry)
+  pub faults : ℕ
+
+abbrev pub beneath : {K L F : Type 0} → (K → Option (List (KexCall F)))
+    → (L → Option (List TraceEntry)) → (L → ℕ) → K → L → Beneath F
+beneath steps trace faults kex link =
+    record { steps = steps kex; trace = trace link; faults = faults link }
+
+-- .. and what the targets have told, and how often they failed
+pub record Outside (F : Type 0) : Type 0 where
+  pub beneath : Beneath F
+  pub targets : Option (List TargetCall)
+  pub target_faults : ℕ
+
+abbrev pub outside : {K L T F : Type 0} → (K → Option (List (KexCall F)))
+    → (L → Option (List TraceEntry)) → (L → ℕ) → (T → Option (List TargetCall)) → (T → ℕ)
+    → K → L → T → Outside F
+outside steps trace faults told target_faults kex link targets = record {
+  beneath = record { steps = steps kex; trace = trace link; faults = faults link };
+  targets = told targets;
+  target_faults = target_faults targets;
+}
+
+-- what the handler of authentication told stands for these calls: in these events it made its own
+-- calls of authentication, and no others
+abbrev pub IsPassed : {E F : Type 0} → List (Call E) → Option (List (Call E))
+    → List (Event (RecordError E) F) → Type 0
+IsPassed {E} before told events = (after : List (Call E)) × (told ≡ Some after)
+    × (passed after ≡ passed before ++ of_authentication (calls_in events))
+
+-- ---- an input
+
+-- an input that was taken in this world, with what happened
+abbrev pub turn_of : {E F : Type 0} → World → Input → List (Event E F) → Turn E F
+turn_of w input events = record {
+  input = input;
+  commands = wants_commands w;
+  replies = not (in_exchange w);
+  events = events;
+}
+
+-- it was finished: the run goes on in a world, or is over
+abbrev pub IsServed : Session → Flow → Outcome → Type 0
+IsServed session Continue (Goes world) = Refines session world
+IsServed session Ended (Ends world) = Unit {0}
+IsServed session _ _ = ⊥
+
+-- what happened is what the input owes; the notebook has what was asked, and it was answered by the
+-- rule
+pub record Serves {E F : Type 0} (accepts : Acceptance) (w : World) (input : Input)
+    (name name' : GName) (calls : List (Call E)) (told : Option (List (Call E)))
+    (asked : Option (List Question)) (before after : Beneath F) (session : Session) (flow : Flow)
+    : Type 0 where
+  pub plan : Plan Outcome
+  pub owes : Owes accepts w input plan
+  pub events : List (Event (RecordError E) F)
+  pub outcome : Outcome
+  pub follows : Follows plan events outcome
+  pub served : IsServed session flow outcome
+  pub stepped : Adds before.steps after.steps (steps_in events)
+  pub told_link : Adds before.trace after.trace (told_in events)
+  pub same : name' ≡ name
+  pub passed : IsPassed calls told events
+  pub questions : List Question
+  pub kept : asked ≡ Some questions
+  pub answered : own_calls (calls_in events) ≡ flat_map answered questions
+  pub later : before.faults ≤ after.faults
+
+-- an input owes its row; or the link failed, and it was not looked at
+abbrev pub OwesOrNothing : Acceptance → World → Input → Plan Outcome → Type 0
+OwesOrNothing accepts w input plan = Owes accepts w input plan ⊎ (plan ≡ Finish (Goes w))
+
+-- it was not finished, by the cause that the error names
+pub record Stops {E F : Type 0} (accepts : Acceptance) (w : World) (input : Input)
+    (before after : Beneath F) (e : GatewayError E F) : Type 0 where
+  pub plan : Plan Outcome
+  pub owes : OwesOrNothing accepts w input plan
+  pub events : List (Event (RecordError E) F)
+  pub why : RunError (RecordError E) F
+  pub is : e ≡ lowered why
+  pub caused : IsCaused (cause_of why) plan (Rose before.faults after.faults) events
+  pub stepped : Adds before.steps after.steps (steps_in events)
+  pub told_link : Adds before.trace after.trace (told_in events)
+  pub later : before.faults ≤ after.faults
+
+-- one of the two, unless memory was wanting
+abbrev pub ServesOrStops : {E F : Type 0} → Acceptance → World → Input → (name name' : GName)
+    → (calls : List (Call E)) → (told : Option (List (Call E)))
+    → (asked : Option (List Question)) → (before after : Beneath F) → Session
+    → Result Flow (GatewayError E F) → Type 0
+ServesOrStops accepts w input name name' calls told asked before after session (Ok flow) =
+    Serves accepts w input name name' calls told asked before after session flow
+ServesOrStops accepts w input name name' calls told asked before after session (Err e) =
+    e ≢ error.NoMemory → Stops accepts w input before after e
+
+-- ---- a turn
+
+-- what was told in a turn
+abbrev pub TellsRound : {E F : Type 0} → (before after : Outside F) → Round E F → Type 0
+TellsRound before after round =
+    Adds before.beneath.steps after.beneath.steps (steps_of round.turn)
+    × Adds before.beneath.trace after.beneath.trace (link_entries round)
+    × Adds before.targets after.targets (target_calls round)
+
+-- the turn was not finished. A target failed where one was to be chosen
+abbrev pub ChoosesNone : {E F : Type 0} → Permits → Board → World → (before after : Outside F)
+    → GatewayError E F → Type 0
+ChoosesNone permits board w before after e = (e ≡ error.TargetFault)
+    × Rose before.target_faults after.target_faults × (after.beneath ≡ before.beneath)
+    × FailsChoosing permits w board before.targets after.targets
+
+-- or the link failed where it was asked
+abbrev pub GivesNone : {E F : Type 0} → Permits → Board → World → (before after : Outside F)
+    → GatewayError E F → Type 0
+GivesNone permits board w before after e = (e ≡ error.Run run.LinkFault)
+    × Rose before.beneath.faults after.beneath.faults
+    × AddsNothing before.beneath.trace after.beneath.trace
+    × (after.beneath.steps ≡ before.beneath.steps)
+    × (calls : List TargetCall) × IsChosen permits w board Waits calls
+    × Adds before.targets after.targets calls
+
+-- or the input was not finished, by the cause that the error names, and nothing was asked of the
+-- targets after it; where the input was valid, the link failed
+pub record ServesNone {E F : Type 0} (accepts : Acceptance) (permits : Permits) (board : Board)
+    (w : World) (before after : Outside F) (e : GatewayError E F) : Type 0 where
+  pub round : Round E F
+  pub begins : Begins permits board w round
+  pub nothing : round.after ≡ []
+  pub plan : Plan Outcome
+  pub owes : OwesOrNothing accepts w round.turn.input plan
+  pub why : RunError (RecordError E) F
+  pub is : e ≡ lowered why
+  pub caused : IsCaused (cause_of why) plan
+      (Rose before.beneath.faults after.beneath.faults) round.turn.events
+  pub fair : IsValid accepts w round.turn → Rose before.beneath.faults after.beneath.faults
+  pub told : TellsRound before after round
+
+-- or it was finished, and a target failed as it was told of it
+pub record TellsNone {E F : Type 0} (accepts : Acceptance) (permits : Permits) (board : Board)
+    (w : World) (before after : Outside F) (e : GatewayError E F) : Type 0 where
+  pub round : Round E F
+  pub begins : Begins permits board w round
+  pub outcome : Outcome
+  pub comes : Comes accepts w round outcome
+  pub is : e ≡ error.TargetFault
+  pub rose : Rose before.target_faults after.target_faults
+  pub cut : IsCutOff (due_after round board) round.after
+  pub stepped : Adds before.beneath.steps after.beneath.steps (steps_of round.turn)
+  pub told_link : Adds before.beneath.trace after.beneath.trace (link_entries round)
+  pub told : ToldBy true before.targets after.targets (target_calls round)
+
+abbrev pub IsBroken : {E F : Type 0} → Acceptance → Permits → Board → World
+    → (before after : Outside F) → GatewayError E F → Type 0
+IsBroken accepts permits board w before after e = ChoosesNone permits board w before after e
+    ⊎ (GivesNone permits board w before after e
+    ⊎ (ServesNone accepts permits board w before after e
+    ⊎ TellsNone accepts permits board w before after e))
+
+-- the turn was finished
+pub record Turned {E F : Type 0} (accepts : Acceptance) (permits : Permits) (board board' : Board)
+    (w : World) (name name' : GName) (calls : List (Call E)) (told : Option (List (Call E)))
+    (asked : Option (List Question)) (before after : Outside F) (session : Session) (flow : Flow)
+    : Type 0 where
+  pub round : Round E F
+  pub outcome : Outcome
+  pub is : IsRound accepts permits board w round outcome
+  pub served : IsServed session flow outcome
+  pub board_is : board' ≡ board_after round board
+  pub tells : TellsRound before after round
+  pub same : name' ≡ name
+  pub passed : IsPassed calls told round.turn.events
+  pub empty : asked ≡ Some []
+  pub later : before.beneath.faults ≤ after.beneath.faults
+  pub target_later : before.target_faults ≤ after.target_faults
+
+abbrev pub TurnsOrBreaks : {E F : Type 0} → Acceptance → Permits → (board board' : Board) → World
+    → (name name' : GName) → (calls : List (Call E)) → (told : Option (List (Call E)))
+    → (asked : Option (List Question)) → (before after : Outside F) → Session
+    → Result Flow (GatewayError E F) → Type 0
+TurnsOrBreaks accepts permits board board' w name name' calls told asked before after session
+    (Ok flow) =
+    Turned accepts permits board board' w name name' calls told asked before after session flow
+TurnsOrBreaks accepts permits board board' w name name' calls told asked before after session
+    (Err e) = e ≢ error.NoMemory → IsBroken accepts permits board w before after e
