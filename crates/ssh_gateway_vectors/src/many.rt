@@ -12,7 +12,9 @@ const OPENS: u8 = 50;
 // The open with this number goes to a port that is not allowed, and the peer closes the channel of
 // that one. The target of the connection with the third number ends.
 const REFUSED: u8 = 3;
+
 const CLOSED: u8 = 10;
+
 const ENDING: u64 = 7;
 
 // Each host gives one byte, the number of its connection, and then nothing. It counts the writes
@@ -151,15 +153,17 @@ fn goes_so(alloc: Global) -> Result<bool, WireError> {
         closed: 0,
     };
     let end = run(alloc, &mut link, &policy, &mut hosts, 1000);
-    Ok(end == End::Over
-        && hosts.written == 49
-        && hosts.closed == 1
-        && count(&link, 0x5b) == 49
-        && count(&link, 0x5c) == 1
-        && count(&link, 0x5e) == 49
-        && count_right(&link) == 49
-        && count(&link, 0x60) == 1
-        && count(&link, 0x61) == 1)
+    Ok(
+        end == End::Over
+            && hosts.written == 49
+            && hosts.closed == 1
+            && count(&link, 0x5b) == 49
+            && count(&link, 0x5c) == 1
+            && count(&link, 0x5e) == 49
+            && count_right(&link) == 49
+            && count(&link, 0x60) == 1
+            && count(&link, 0x61) == 1,
+    )
 }
 
 #[test]

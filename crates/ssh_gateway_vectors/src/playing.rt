@@ -22,6 +22,7 @@ const LOGIN_FRAMES: usize = 2;
 
 /// The host of most tests, "10.0.0.1", and its port.
 pub const HOST: &str = "10.0.0.1";
+
 pub const PORT: u32 = 80;
 
 /// Lets everybody in.

@@ -7,8 +7,11 @@ use std::test::*;
 
 // CHANNEL_OPEN of direct-tcpip by the peer's number 7, with a window of 4096 and packets of 32768
 // bytes, to "10.0.0.1" port 80, from no address; and the same with a window of 3.
-const OPEN: &[u8] = b"\x5a\0\0\0\x0cdirect-tcpip\0\0\0\x07\0\0\x10\0\0\0\x80\0\0\0\0\x0810.0.0.1\0\0\0\x50\0\0\0\0\0\0\0\0";
-const OPEN_SMALL: &[u8] = b"\x5a\0\0\0\x0cdirect-tcpip\0\0\0\x07\0\0\0\x03\0\0\x80\0\0\0\0\x0810.0.0.1\0\0\0\x50\0\0\0\0\0\0\0\0";
+const OPEN: &[u8] =
+    b"\x5a\0\0\0\x0cdirect-tcpip\0\0\0\x07\0\0\x10\0\0\0\x80\0\0\0\0\x0810.0.0.1\0\0\0\x50\0\0\0\0\0\0\0\0";
+
+const OPEN_SMALL: &[u8] =
+    b"\x5a\0\0\0\x0cdirect-tcpip\0\0\0\x07\0\0\0\x03\0\0\x80\0\0\0\0\x0810.0.0.1\0\0\0\x50\0\0\0\0\0\0\0\0";
 
 // CHANNEL_OPEN_CONFIRMATION of this side's number 2.
 const CONFIRMED: &[u8] = b"\x5b\0\0\0\x07\0\0\0\x02\0\x20\0\0\0\0\x80\0";
@@ -16,19 +19,26 @@ const CONFIRMED: &[u8] = b"\x5b\0\0\0\x07\0\0\0\x02\0\x20\0\0\0\0\x80\0";
 // CHANNEL_OPEN_FAILURE, by the policy and for want of a connection.
 const PROHIBITED: &[u8] =
     b"\x5c\0\0\0\x07\0\0\0\x01\0\0\0\x1badministratively prohibited\0\0\0\x02en";
+
 const UNREACHABLE: &[u8] = b"\x5c\0\0\0\x07\0\0\0\x02\0\0\0\x0econnect failed\0\0\0\x02en";
 
 // CHANNEL_DATA "ok", CHANNEL_EOF and CHANNEL_CLOSE to the peer, and CHANNEL_DATA "hi", CHANNEL_EOF
 // and CHANNEL_CLOSE from it.
 const OK: &[u8] = b"\x5e\0\0\0\x07\0\0\0\x02ok";
+
 const EOF: &[u8] = b"\x60\0\0\0\x07";
+
 const CLOSE: &[u8] = b"\x61\0\0\0\x07";
+
 const HI: &[u8] = b"\x5e\0\0\0\x02\0\0\0\x02hi";
+
 const THEIR_EOF: &[u8] = b"\x60\0\0\0\x02";
+
 const THEIR_CLOSE: &[u8] = b"\x61\0\0\0\x02";
 
 // CHANNEL_REQUEST of a shell that wants a reply, and CHANNEL_FAILURE.
 const SHELL: &[u8] = b"\x62\0\0\0\x02\0\0\0\x05shell\x01";
+
 const FAILURE: &[u8] = b"\x64\0\0\0\x07";
 
 // What comes from the peer behind its login, whether the host is allowed, what it gives where it can
@@ -150,10 +160,12 @@ impl Row {
         let mut targets = targets(alloc, self.gives, self.fails)?;
         let end = run(alloc, &mut link, &policy, &mut targets, self.turns);
         let calls: &[TargetCall] = targets.calls();
-        Ok(end == self.end
-            && are_sent(&link, self.frames)
-            && is_written(calls, 1, self.written)
-            && calls.len() == self.calls)
+        Ok(
+            end == self.end
+                && are_sent(&link, self.frames)
+                && is_written(calls, 1, self.written)
+                && calls.len() == self.calls,
+        )
     }
 }
 
