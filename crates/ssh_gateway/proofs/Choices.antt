@@ -254,7 +254,7 @@ commands_end board place at here what chosen earlier later one is long ends at_i
       ap (λ l. with_connections l board) all,
       ap (λ made. made.kind) made
           ∙ ap (λ each. Some (Command (board.last_ticket + 1) (command.Eof each.channel)))
-              (it at at_is),
+          (it at at_is),
       ap (λ made. closed_to made.closes) made,
     )
 

@@ -31,8 +31,8 @@ returns-in-Ok-Some-clause-looked g c = λ w r.
     c.in-Ok-Some.found _ _ _ (split_at all place none (omega arith))
     (length-take-le place all (omega arith)) before.0 before.1
     (subst (λ found. IsTried w (slice_index_or all place none)
-        (g.T.Targets.told c.loop-place.targets) (g.T.Targets.told c.try_one.new.targets) found)
-        c.in-Ok-Some.field-0-is (c.in-Ok-Some.ensures.tried w r))
+    (g.T.Targets.told c.loop-place.targets) (g.T.Targets.told c.try_one.new.targets) found)
+    c.in-Ok-Some.field-0-is (c.in-Ok-Some.ensures.tried w r))
 
 pub returns-in-Err-clause-failed : goal.returns-in-Err-clause-failed
 returns-in-Err-clause-failed g c = λ w r is.
@@ -50,11 +50,11 @@ loop-place-preserved g c = record {
       let place = c.loop-place.place in
       let before = c.loop-place.invariant.idle w r in
       subst (λ l. AreIdle w l × Adds (g.T.Targets.told c.args.targets.now)
-          (g.T.Targets.told c.try_one.new.targets) (silences w l))
+      (g.T.Targets.told c.try_one.new.targets) (silences w l))
       (sym (take-suc all place none (omega arith)) ∙ ap (λ n. take n all) (suc-eq-add-one place))
       (looked_more w (take place all) (slice_index_or all place none) _ _ _ before.0 before.1
       (subst (λ found. IsTried w (slice_index_or all place none)
-          (g.T.Targets.told c.loop-place.targets) (g.T.Targets.told c.try_one.new.targets) found)
-          c.in-Ok-None.field-0-is (c.in-Ok-None.ensures.tried w r)));
+      (g.T.Targets.told c.loop-place.targets) (g.T.Targets.told c.try_one.new.targets) found)
+      c.in-Ok-None.field-0-is (c.in-Ok-None.ensures.tried w r)));
   later = omega (arith, c.loop-place.invariant.later, c.try_one.ensures.later);
 }
