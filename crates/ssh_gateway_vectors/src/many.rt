@@ -1,4 +1,6 @@
 // Fifty opens at once: data flow both ways, one target ends, one peer closes, one open is refused.
+ghost use Rattle.std.specs.Prelude.{◌<◌};
+
 use crate::playing::{End, policy, push_bytes, run, start};
 use bytes::Bytes;
 use ssh_gateway::{Arrived, TargetFault, Targets};
@@ -27,7 +29,9 @@ struct Hosts {
     closed: usize,
 }
 
-fn place_of(id: u64) -> usize {
+fn place_of(id: u64) -> usize
+    ensures { result < 64 }
+{
     (id % 64) as usize
 }
 
