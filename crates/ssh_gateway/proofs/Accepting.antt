@@ -1,15 +1,12 @@
 -- Data on a channel that may send are accepted.
 use Rattle.std.proofs.Common.{◌≡◌, ◌&&◌, ◌||◌, not, ℕ, List, [], Option, Some, None, Bool, true, false, refl}
-use Rattle.std.proofs.Common.{sym, ◌∙◌, ap, subst}
+use Rattle.std.proofs.Common.{◌∙◌, ap}
 use Rattle.ssh_link.specs.declared.command.Command.TheVariants as command
-use Rattle.ssh_channels.specs.declared.chunk.DataKind.TheVariants.{Plain}
 use Rattle.ssh_channels.specs.Does.{is_one}
 use Rattle.ssh_channels.specs.Entry.{Entry, more_may_come}
-use Rattle.ssh_channels.specs.Layout.{chunk}
-use Rattle.ssh_channels.specs.Lines.{find, takes_data}
-use Rattle.ssh_rules.specs.Effect.{no_sending, not_usable, refused_or, refused_for, effect, done_by}
-use Rattle.ssh_rules.specs.Effect.{accepts as does}
-use Rattle.ssh_rules.specs.World.{World, in_exchange, lined}
+use Rattle.ssh_channels.specs.Lines.{find}
+use Rattle.ssh_rules.specs.Effect.{no_sending, not_usable, refused_or, refused_for, done_by}
+use Rattle.ssh_rules.specs.World.{World}
 use Rattle.ssh_gateway.specs.declared.switchboard.Connection.{Connection}
 use Rattle.ssh_gateway.specs.Choosing.{Permits, Source, Decides, Sends, Ends, Closes, Waits}
 use Rattle.ssh_gateway.specs.Choosing.{IsChosen, may_send}

@@ -1,13 +1,13 @@
 -- The bytes of a connection, both ways.
 use Rattle.std.proofs.Common.{◌≡◌, ◌+◌, ℕ, List, [], ◌∷◌, ◌++◌, Option, Some, None, Bool, true, false, refl, Ok}
-use Rattle.std.proofs.Common.{sym, ◌∙◌, ap, subst, cond, ◌==◌, append_assoc}
+use Rattle.std.proofs.Common.{◌∙◌, ap, cond, ◌==◌}
 use Rattle.std.specs.Prelude.{flat_map}
 use Rattle.std.specs.List.{find}
 use Rattle.std.proofs.lemmas.List.{append-nil}
 use Rattle.std.proofs.lemmas.List.Concat.{flat_map-append}
 use Rattle.ssh_auth.specs.declared.question.Happening.{Happening}
 use Rattle.ssh_auth.specs.declared.question.Happening.TheVariants as what
-use Rattle.ssh_auth.specs.declared.question.Lent.TheVariants.{Succeeded, Opens, Happened}
+use Rattle.ssh_auth.specs.declared.question.Lent.TheVariants.{Happened}
 use Rattle.ssh_auth.specs.declared.question.Question.{Question}
 use Rattle.ssh_auth.specs.declared.question.Question.TheVariants.{Lends}
 use Rattle.ssh_auth.specs.Publickey.{Acceptance}
@@ -21,17 +21,17 @@ use Rattle.ssh_gateway.specs.declared.targets.Arrived.TheVariants as arrived
 use Rattle.ssh_gateway.specs.declared.targets.TargetCall.{TargetCall}
 use Rattle.ssh_gateway.specs.declared.targets.TargetCall.TheVariants as call
 use Rattle.ssh_gateway.specs.Asked.{written_by, read_by, written, read}
-use Rattle.ssh_gateway.specs.Board.{Board, is_on, noted, passed_on, passed_to, due_on, all_due}
+use Rattle.ssh_gateway.specs.Board.{Board, is_on, noted, passed_to, due_on, all_due}
 use Rattle.ssh_gateway.specs.Choosing.{Permits, Source, Decides, Sends, Ends, Closes, Waits}
 use Rattle.ssh_gateway.specs.Choosing.{IsChosen, connects, silence, silences, may_send, closed_by}
-use Rattle.ssh_gateway.specs.Gateway.{if_of, came_by, came, incoming, sent_by, outgoing}
+use Rattle.ssh_gateway.specs.Bytes.{if_of, came_by, came, incoming, sent_by, outgoing}
 use Rattle.ssh_gateway.specs.Turns.{Round, Rounds, IsRound, board_within, board_after, target_calls}
 
-written_both : (id : ℕ) (xs ys : List TargetCall) → written id (xs ++ ys)
+pub written_both : (id : ℕ) (xs ys : List TargetCall) → written id (xs ++ ys)
     ≡ written id xs ++ written id ys
 written_both id xs ys = flat_map-append (written_by id) xs ys
 
-read_both : (id : ℕ) (xs ys : List TargetCall) → read id (xs ++ ys) ≡ read id xs ++ read id ys
+pub read_both : (id : ℕ) (xs ys : List TargetCall) → read id (xs ++ ys) ≡ read id xs ++ read id ys
 read_both id xs ys = flat_map-append (read_by id) xs ys
 
 -- ---- behind an input
@@ -74,7 +74,7 @@ due_read id (Lends (Happened channel happening)) board =
 due_read id (Lends lent) board = refl
 due_read id question board = refl
 
-all_written : (id : ℕ) (questions : List Question) (board : Board)
+pub all_written : (id : ℕ) (questions : List Question) (board : Board)
     → written id (all_due questions board) ≡ came id questions board
 all_written id [] board = refl
 all_written id (question ∷ questions) board =
@@ -91,7 +91,7 @@ all_read id (question ∷ questions) board =
     ∙ (ap (λ l. l ++ read id (all_due questions (noted question board))) (due_read id question board)
     ∙ all_read id questions (noted question board))
 
-closed_quiet : (id : ℕ) (source : Source)
+pub closed_quiet : (id : ℕ) (source : Source)
     → (written id (closed_by source) ≡ []) × (read id (closed_by source) ≡ [])
 closed_quiet id (Decides asked verdict) = (refl, refl)
 closed_quiet id (Sends earlier one later bytes) = (refl, refl)
@@ -139,7 +139,7 @@ connects_quiet id number asked Prohibited = (refl, refl)
 connects_quiet id number asked Unreachable = (refl, refl)
 connects_quiet id number asked Granted = (refl, refl)
 
-before_bytes : (id : ℕ) (permits : Permits) (w : World) (board : Board) (source : Source)
+pub before_bytes : (id : ℕ) (permits : Permits) (w : World) (board : Board) (source : Source)
     (calls : List TargetCall) → IsChosen permits w board source calls
     → (written id calls ≡ []) × (read id calls ≡ sent_by id source)
 before_bytes id permits w board (Decides asked verdict) calls chosen =

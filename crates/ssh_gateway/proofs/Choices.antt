@@ -1,7 +1,7 @@
 -- How the input of a turn is chosen.
 use Rattle.std.proofs.Common.{◌≡◌, ◌+◌, ℕ, List, [], ◌∷◌, ◌++◌, Option, Some, None, Ok, Err, Bool}
 use Rattle.std.proofs.Common.{true, false, not, cond, refl, sym, ◌∙◌, ap, subst, length, Result}
-use Rattle.std.specs.Prelude.{IsErrOf, IsTrue, flat_map, drop}
+use Rattle.std.specs.Prelude.{IsErrOf, IsTrue}
 use Rattle.std.specs.List.{slice_index_or, slice_set}
 use Rattle.std.proofs.lemmas.List.{append-nil}
 use Rattle.std.proofs.lemmas.List.Concat.{flat_map-append}
@@ -33,9 +33,9 @@ use Rattle.ssh_gateway.specs.Board.{Board}
 use Rattle.ssh_gateway.specs.Choosing.{Permits, Source, Decides, Sends, Ends, Closes, Waits, IsChosen}
 use Rattle.ssh_gateway.specs.Choosing.{IsIdle, AreIdle, IsGiven, allows, to_decide, heeded, most}
 use Rattle.ssh_gateway.specs.Choosing.{may_send, silence, silences, own_kind, took, decided, settled}
-use Rattle.ssh_gateway.specs.Choosing.{connects, is_prohibited, rejection, closed_by}
+use Rattle.ssh_gateway.specs.Choosing.{connects, is_prohibited, rejection}
 use Rattle.ssh_gateway.specs.Choosing.{with_connections}
-use Rattle.ssh_gateway.specs.Doing.{IsDecided, FailsChoosing, IsFound, finds, IsTried, IsLooked}
+use Rattle.ssh_gateway.specs.Doing.{IsDecided, FailsChoosing, finds, IsTried, IsLooked}
 use Rattle.ssh_gateway.specs.Doing.{FailsLooking, Chooses, Commands, source_of, closed_to, asks_link}
 use Rattle.ssh_gateway.proofs.Cutting.{cut_at, cut_last}
 use Rattle.ssh_gateway.proofs.Lists.{index_here, set_here}

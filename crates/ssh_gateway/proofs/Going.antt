@@ -1,8 +1,8 @@
 -- From turn to turn.
-use Rattle.std.proofs.Common.{◌≡◌, ◌≢◌, ◌≤◌, ◌<◌, ◌+◌, ◌⊎◌, ℕ, List, [], ◌∷◌, ◌++◌, Option, Some, None}
+use Rattle.std.proofs.Common.{◌≡◌, ◌≢◌, ◌≤◌, ◌<◌, ◌+◌, ℕ, List, [], ◌∷◌, ◌++◌, Option, Some}
 use Rattle.std.proofs.Common.{Result, Ok, Err, refl, sym, ◌∙◌, ap, subst, inl, inr, false, length}
-use Rattle.std.proofs.Common.{arith}
-use Rattle.std.specs.Prelude.{flat_map}
+use Rattle.std.proofs.Common.{arith, append_assoc}
+use Rattle.std.specs.Prelude.{flat_map, map}
 use Rattle.std.proofs.lemmas.List.{append-nil, length-append}
 use Rattle.std.proofs.lemmas.List.Concat.{flat_map-append}
 use Rattle.ssh_link.specs.Faults.{Rose}
@@ -17,7 +17,7 @@ use Rattle.ssh_rules.specs.declared.error.Flow.TheVariants.{Continue, Ended}
 use Rattle.ssh_rules.specs.declared.error.RunError.{RunError}
 use Rattle.ssh_rules.specs.declared.error.RunError.TheVariants as run
 use Rattle.ssh_rules.specs.Outcome.{Outcome, Goes, Ends, Fails}
-use Rattle.ssh_rules.specs.Run.{steps_of}
+use Rattle.ssh_rules.specs.Run.{Run, steps_of}
 use Rattle.ssh_rules.specs.Valid.{IsValid}
 use Rattle.ssh_rules.specs.World.{Settings, World, opening_world}
 use Rattle.ssh_rules.proofs.Ended.{run_live}
@@ -27,18 +27,24 @@ use Rattle.ssh_session.specs.Serve.{Refines}
 use Rattle.ssh_session.specs.declared.session.Session.{Session}
 use Rattle.ssh_gateway.specs.declared.error.GatewayError.{GatewayError}
 use Rattle.ssh_gateway.specs.declared.error.GatewayError.TheVariants as error
+use Rattle.ssh_gateway.specs.Admitting.{admissions}
+use Rattle.ssh_gateway.specs.Answering.{of_authentication}
 use Rattle.ssh_gateway.specs.Board.{Board, opening_board}
 use Rattle.ssh_gateway.specs.Choosing.{Permits}
-use Rattle.ssh_gateway.specs.Gateway.{EndsSo, EndIsValid, IsComplete, Gatewayed}
+use Rattle.ssh_gateway.specs.Gateway.{EndsSo, EndIsValid, IsComplete, UnfinishedSo, Gatewayed}
+use Rattle.ssh_gateway.specs.Gateway.{Attended}
 use Rattle.ssh_gateway.specs.Raised.{lowered}
-use Rattle.ssh_gateway.specs.Serving.{Outside, IsServed, IsBroken, ServesNone, Turned}
+use Rattle.ssh_gateway.specs.Serving.{Outside, IsServed, IsBroken, ServesNone, Turned, Breaks}
+use Rattle.ssh_gateway.specs.Serving.{KeepsTelling}
 use Rattle.ssh_gateway.specs.Turns.{Round, Rounds, IsRound, board_after, link_entries, target_calls}
 use Rattle.ssh_gateway.proofs.Bytes.{writes_so, reads_so}
+use Rattle.ssh_gateway.proofs.Unfinished.{once_in, unfinished_so}
 
 -- these turns were finished, and it goes on
 pub record Going {E F : Type 0} (accepts : Acceptance) (permits : Permits) (settings : Settings)
-    (count : ℕ) (board : Board) (name name' : ℕ) (told : Option (List (Call E)))
-    (asked : Option (List Question)) (before now : Outside F) (session : Session) : Type 0 where
+    (count : ℕ) (board : Board) (name name' : ℕ) (first : List (Call E))
+    (told : Option (List (Call E))) (asked : Option (List Question)) (before now : Outside F)
+    (session : Session) : Type 0 where
   pub rounds : List (Round E F)
   pub world : World
   pub run : Rounds accepts permits opening_board (opening_world settings) rounds board world
@@ -54,6 +60,8 @@ pub record Going {E F : Type 0} (accepts : Acceptance) (permits : Permits) (sett
   pub same : name' ≡ name
   pub calls : List (Call E)
   pub told_is : told ≡ Some calls
+  pub admitted : of_authentication calls ≡ of_authentication first
+      ++ flat_map (λ round. admissions round.turn.events) rounds
   pub kept : asked ≡ Some []
   pub later : before.beneath.faults ≤ now.beneath.faults
   pub target_later : before.target_faults ≤ now.target_faults
@@ -63,7 +71,7 @@ pub starts : {E F : Type 0} (accepts : Acceptance) (permits : Permits) (settings
     (asked : Option (List Question)) (before : Outside F) (session : Session)
     → board ≡ opening_board → Refines session (opening_world settings) → untold session ≡ []
     → told ≡ Some calls → asked ≡ Some []
-    → Going accepts permits settings 0 board name name told asked before before session
+    → Going accepts permits settings 0 board name name calls told asked before before session
 starts accepts permits settings board name calls told asked before session opens r t told_is kept =
     record {
       rounds = [];
@@ -80,6 +88,7 @@ starts accepts permits settings board name calls told asked before session opens
       same = refl;
       calls = calls;
       told_is = told_is;
+      admitted = sym (append-nil (of_authentication calls));
       kept = kept;
       later = omega arith;
       target_later = omega arith;
@@ -112,6 +121,23 @@ told_more f xs x a b c h k = subst (Adds a c)
     (sym (flat_map-append f xs (x ∷ []) ∙ ap (λ l. flat_map f xs ++ l) (append-nil (f x))))
     (adds_both a b c (flat_map f xs) (f x) h k)
 
+admitted_more : {E F : Type 0} (first calls after : List (Call E)) (rounds : List (Round E F))
+    (round : Round E F) → of_authentication calls ≡ of_authentication first
+    ++ flat_map (λ one. admissions one.turn.events) rounds
+    → of_authentication after ≡ of_authentication calls ++ admissions round.turn.events
+    → of_authentication after ≡ of_authentication first
+    ++ flat_map (λ one. admissions one.turn.events) (rounds ++ round ∷ [])
+admitted_more {E} {F} first calls after rounds round was more =
+    let before = flat_map (λ (one : Round E F). admissions one.turn.events) rounds in
+    let last = admissions round.turn.events in
+    let all : flat_map (λ (one : Round E F). admissions one.turn.events) (rounds ++ round ∷ [])
+    ≡ before ++ last =
+    flat_map-append (λ (one : Round E F). admissions one.turn.events) rounds (round ∷ [])
+    ∙ ap (λ l. before ++ l) (append-nil last) in
+    more ∙ (ap (λ l. l ++ last) was
+    ∙ (append_assoc (of_authentication first) before last
+    ∙ ap (λ l. of_authentication first ++ l) (sym all)))
+
 -- a turn after which the run goes on, or is over
 went : (session : Session) (outcome : Outcome) → IsServed session Continue outcome
     → (world : World) × (outcome ≡ Goes world) × Refines session world
@@ -126,14 +152,16 @@ is_over session (Goes world) r = absurd r
 is_over session (Fails why) r = absurd r
 
 pub goes_on : {E F : Type 0} (accepts : Acceptance) (permits : Permits) (settings : Settings)
-    (count : ℕ) (board board' : Board) (name mid_name name' : ℕ)
+    (count : ℕ) (board board' : Board) (name mid_name name' : ℕ) (first : List (Call E))
     (told told' : Option (List (Call E))) (asked asked' : Option (List Question))
     (before now after : Outside F) (session session' : Session)
-    (going : Going accepts permits settings count board name mid_name told asked before now session)
+    (going : Going accepts permits settings count board name mid_name first told asked before now
+    session)
     → Turned accepts permits board board' going.world mid_name name' going.calls told' asked' now
     after session' Continue → untold session' ≡ []
-    → Going accepts permits settings (count + 1) board' name name' told' asked' before after session'
-goes_on {E} {F} accepts permits settings count board board' name mid_name name' told told' asked
+    → Going accepts permits settings (count + 1) board' name name' first told' asked' before after
+    session'
+goes_on {E} {F} accepts permits settings count board board' name mid_name name' first told told' asked
     asked' before now after session session' going turned all_told =
     let gone = went session' turned.outcome turned.served in
     let world = gone.0 in
@@ -161,8 +189,10 @@ goes_on {E} {F} accepts permits settings count board board' name mid_name name' 
       set = stays_set accepts settings going.world round.turn.input is.comes.plan round.turn.events
           world is.comes.owes is.comes.follows going.set;
       same = turned.same ∙ going.same;
-      calls = turned.passed.0;
-      told_is = turned.passed.1;
+      calls = turned.admitted.0;
+      told_is = turned.admitted.1;
+      admitted = admitted_more first going.calls turned.admitted.0 going.rounds round going.admitted
+          turned.admitted.2;
       kept = turned.empty;
       later = let x = going.later in let y = turned.later in omega (arith, x, y);
       target_later = let x = going.target_later in let y = turned.target_later in
@@ -220,24 +250,61 @@ completes accepts permits max board w count before between after (Err (error.Run
     valid = broken_complete accepts permits board w before between after (error.Run e) h k s t ends.1
     valid
 
-gatewayed : {E F : Type 0} (accepts : Acceptance) (permits : Permits) (settings : Settings)
-    (count max : ℕ) (board : Board) (name name' : ℕ) (told : Option (List (Call E)))
-    (asked : Option (List Question)) (before now after : Outside F) (session : Session)
+one_run_of : {E F : Type 0} (accepts : Acceptance) (permits : Permits) (board : Board) (w : World)
+    (rounds : List (Round E F)) (board' : Board) (world : World)
+    → Rounds accepts permits board w rounds board' world
+    → Run accepts w (map (λ round. round.turn) rounds) world
+one_run_of accepts permits board w [] board' world h = h.1
+one_run_of accepts permits board w (round ∷ rounds) board' world h =
+    let is = h.1 in (
+      h.0,
+      (is.comes.plan, is.comes.owes, is.comes.follows, is.begins.taken),
+      one_run_of accepts permits (board_after round board) h.0 rounds board' world h.2,
+    )
+
+unfinished_by : {E F : Type 0} (accepts : Acceptance) (permits : Permits) (max : ℕ) (board : Board)
+    (w first : World) (rounds : List (Round E F)) (between after : Outside F)
     (result : Result (Unit {0}) (GatewayError E F))
-    (going : Going accepts permits settings count board name name' told asked before now session)
-    → EndsSo accepts permits max board going.world (length going.rounds) now after result
+    → Rounds accepts permits opening_board first rounds board w
+    → (ends : EndsSo accepts permits max board w (length rounds) between after result)
+    → UnfinishedSo accepts permits max board w rounds between after result ends
+unfinished_by accepts permits max board w first rounds between after (Ok done) run ends = tt
+unfinished_by accepts permits max board w first rounds between after (Err error.NoMemory) run ends = tt
+unfinished_by accepts permits max board w first rounds between after (Err error.TurnLimit) run ends =
+    tt
+unfinished_by accepts permits max board w first rounds between after (Err error.TargetFault) run ends =
+    unfinished_so accepts permits board w first rounds between after error.TargetFault run ends.1
+unfinished_by accepts permits max board w first rounds between after (Err (error.Run e)) run ends =
+    unfinished_so accepts permits board w first rounds between after (error.Run e) run ends.1
+
+gatewayed : {E F : Type 0} (accepts : Acceptance) (permits : Permits) (settings : Settings)
+    (count max : ℕ) (board : Board) (name name' : ℕ) (first : List (Call E))
+    (told : Option (List (Call E))) (asked : Option (List Question))
+    (before now after : Outside F) (session : Session)
+    (result : Result (Unit {0}) (GatewayError E F))
+    (going : Going accepts permits settings count board name name' first told asked before now
+    session)
+    (ends : EndsSo accepts permits max board going.world (length going.rounds) now after result)
     → Gatewayed accepts permits settings max before after result
-gatewayed accepts permits settings count max board name name' told asked before now after session
+gatewayed accepts permits settings count max board name name' first told asked before now after session
     result going ends = record {
       rounds = going.rounds;
       board = board;
       world = going.world;
       run = going.run;
+      one_run = one_run_of accepts permits opening_board (opening_world settings) going.rounds board
+          going.world going.run;
       between = now;
       stepped = going.stepped;
       linked = going.linked;
       asked = going.asked_of;
       ends = ends;
+      once = λ earlier later round is. once_in accepts permits opening_board
+          (opening_world settings) earlier later round board going.world
+          (subst (λ l. Rounds accepts permits opening_board (opening_world settings) l board
+          going.world) is going.run);
+      unfinished = unfinished_by accepts permits max board going.world (opening_world settings)
+          going.rounds now after result going.run ends;
       writes = λ id earlier later is. writes_so id accepts permits opening_board (opening_world settings)
           earlier later board going.world
           (subst (λ l. Rounds accepts permits opening_board (opening_world settings) l board going.world)
@@ -251,21 +318,46 @@ gatewayed accepts permits settings count max board name name' told asked before 
           target_same valid;
     }
 
+-- one more turn, as far as it came
+keeps_more : {E F : Type 0} (accepts : Acceptance) (permits : Permits) (settings : Settings)
+    (count : ℕ) (board : Board) (name mid_name name' : ℕ) (first : List (Call E))
+    (told told' : Option (List (Call E))) (asked : Option (List Question))
+    (before now : Outside F) (session : Session) (made : List (Call E))
+    (going : Going accepts permits settings count board name mid_name first told asked before now
+    session)
+    → KeepsTelling mid_name name' going.calls told' made
+    → KeepsTelling name name' first told'
+    (flat_map (λ round. admissions round.turn.events) going.rounds ++ made)
+keeps_more {E} {F} accepts permits settings count board name mid_name name' first told told' asked before
+    now session made going (same, (after, is, more)) = (
+      same ∙ going.same,
+      (
+        after,
+        is,
+        more ∙ (ap (λ l. l ++ made) going.admitted
+            ∙ append_assoc (of_authentication first)
+            (flat_map (λ (round : Round E F). admissions round.turn.events) going.rounds) made),
+      ),
+    )
+
 pub ended : {E F : Type 0} (accepts : Acceptance) (permits : Permits) (settings : Settings)
-    (count max : ℕ) (board board' : Board) (name mid_name name' : ℕ)
+    (count max : ℕ) (board board' : Board) (name mid_name name' : ℕ) (first : List (Call E))
     (told told' : Option (List (Call E))) (asked asked' : Option (List Question))
     (before now after : Outside F) (session session' : Session)
-    (going : Going accepts permits settings count board name mid_name told asked before now session)
+    (going : Going accepts permits settings count board name mid_name first told asked before now
+    session)
     → count < max
     → Turned accepts permits board board' going.world mid_name name' going.calls told' asked' now
     after session' Ended
-    → Gatewayed {E = E} accepts permits settings max before after (Ok tt)
-ended accepts permits settings count max board board' name mid_name name' told told' asked asked'
-    before now after session session' going few turned =
+    → Attended {E = E} accepts permits settings max (KeepsTelling name name' first told') before
+    after (Ok tt)
+unfolding gatewayed
+ended {E} {F} accepts permits settings count max board board' name mid_name name' first told told' asked
+    asked' before now after session session' going few turned =
     let over = is_over session' turned.outcome turned.served in
     let long = going.long in
-    gatewayed accepts permits settings count max board name mid_name told asked before now after
-    session (Ok tt) going (
+    let ends : EndsSo {E = E} accepts permits max board going.world (length going.rounds) now after
+    (Ok tt) = (
       subst (λ n. n < max) (sym long) few,
       (
         turned.round,
@@ -273,43 +365,100 @@ ended accepts permits settings count max board board' name mid_name name' told t
         subst (IsRound accepts permits board going.world turned.round) over.1 turned.is,
         turned.tells,
       ),
-    )
+    ) in
+    record {
+      whole = gatewayed accepts permits settings count max board name mid_name first told asked before
+          now after session (Ok tt) going ends;
+      admitted = keeps_more accepts permits settings count board name mid_name name' first told told'
+          asked before now session (admissions turned.round.turn.events) going
+          (turned.same, turned.admitted);
+    }
 
-broken_ends : {E F : Type 0} (accepts : Acceptance) (permits : Permits) (max : ℕ) (board : Board)
-    (w : World) (count : ℕ) (between after : Outside F) (e : GatewayError E F)
-    → e ≢ error.TurnLimit → count < max → e ≢ error.NoMemory
-    → IsBroken accepts permits board w between after e
-    → EndsSo accepts permits max board w count between after (Err e)
-broken_ends accepts permits max board w count between after error.NoMemory other few not broken = tt
-broken_ends accepts permits max board w count between after error.TurnLimit other few not broken =
-    absurd (other refl)
-broken_ends accepts permits max board w count between after error.TargetFault other few not broken =
-    (few, broken)
-broken_ends accepts permits max board w count between after (error.Run e) other few not broken =
-    (few, broken)
+-- a turn that was not finished
+unfinished : {E F : Type 0} (accepts : Acceptance) (permits : Permits) (settings : Settings)
+    (count max : ℕ) (board : Board) (name mid_name name' : ℕ) (first : List (Call E))
+    (told told' : Option (List (Call E))) (asked : Option (List Question))
+    (before now after : Outside F) (session : Session)
+    (going : Going accepts permits settings count board name mid_name first told asked before now
+    session) (e : GatewayError E F)
+    → length going.rounds < max → e ≢ error.TurnLimit
+    → Breaks accepts permits board going.world mid_name name' going.calls told' now after e
+    → Attended accepts permits settings max (KeepsTelling name name' first told') before after
+    (Err e)
+unfolding gatewayed
+unfinished accepts permits settings count max board name mid_name name' first told told' asked before
+    now after session going error.NoMemory few other breaks = record {
+      whole = gatewayed accepts permits settings count max board name mid_name first told asked before
+          now after session (Err error.NoMemory) going (inr (few, breaks.short refl));
+      admitted = tt;
+    }
+unfinished accepts permits settings count max board name mid_name name' first told told' asked before
+    now after session going error.TurnLimit few other breaks = absurd (other refl)
+unfinished accepts permits settings count max board name mid_name name' first told told' asked before
+    now after session going error.TargetFault few other breaks =
+    let both = breaks.broken (λ is. cc) in
+    record {
+      whole = gatewayed accepts permits settings count max board name mid_name first told asked before
+          now after session (Err error.TargetFault) going (few, both.0);
+      admitted = keeps_more accepts permits settings count board name mid_name name' first told told'
+          asked before now session _ going both.1;
+    }
+unfinished accepts permits settings count max board name mid_name name' first told told' asked before
+    now after session going (error.Run (run.Handler e)) few other breaks =
+    let both = breaks.broken (λ is. cc) in
+    record {
+      whole = gatewayed accepts permits settings count max board name mid_name first told asked before
+          now after session (Err (error.Run (run.Handler e))) going (few, both.0);
+      admitted = tt;
+    }
+unfinished accepts permits settings count max board name mid_name name' first told told' asked before
+    now after session going (error.Run e) few other breaks =
+    let both = breaks.broken (λ is. cc) in
+    record {
+      whole = gatewayed accepts permits settings count max board name mid_name first told asked before
+          now after session (Err (error.Run e)) going (few, both.0);
+      admitted = keeps_more accepts permits settings count board name mid_name name' first told told'
+          asked before now session _ going both.1;
+    }
 
 pub broken : {E F : Type 0} (accepts : Acceptance) (permits : Permits) (settings : Settings)
-    (count max : ℕ) (board : Board) (name name' : ℕ) (told : Option (List (Call E)))
-    (asked : Option (List Question)) (before now after : Outside F) (session : Session)
-    (e : GatewayError E F)
-    (going : Going accepts permits settings count board name name' told asked before now session)
-    → count < max → e ≢ error.TurnLimit → e ≢ error.NoMemory
-    → IsBroken accepts permits board going.world now after e
-    → Gatewayed accepts permits settings max before after (Err e)
-broken accepts permits settings count max board name name' told asked before now after session e
-    going few other not breaks =
+    (count max : ℕ) (board : Board) (name mid_name name' : ℕ) (first : List (Call E))
+    (told told' : Option (List (Call E))) (asked : Option (List Question))
+    (before now after : Outside F) (session : Session) (e : GatewayError E F)
+    (going : Going accepts permits settings count board name mid_name first told asked before now
+    session)
+    → count < max → e ≢ error.TurnLimit
+    → Breaks accepts permits board going.world mid_name name' going.calls told' now after e
+    → Attended accepts permits settings max (KeepsTelling name name' first told') before after
+    (Err e)
+broken accepts permits settings count max board name mid_name name' first told told' asked before now
+    after session e going few other breaks =
     let long = going.long in
-    gatewayed accepts permits settings count max board name name' told asked before now after session
-    (Err e) going (broken_ends accepts permits max board going.world (length going.rounds) now after e
-    other (subst (λ n. n < max) (sym long) few) not breaks)
+    unfinished accepts permits settings count max board name mid_name name' first told told' asked
+    before now after session going e (subst (λ n. n < max) (sym long) few) other breaks
 
 pub limited : {E F : Type 0} (accepts : Acceptance) (permits : Permits) (settings : Settings)
-    (count max : ℕ) (board : Board) (name name' : ℕ) (told : Option (List (Call E)))
-    (asked : Option (List Question)) (before now : Outside F) (session : Session)
-    (going : Going accepts permits settings count board name name' told asked before now session)
+    (count max : ℕ) (board : Board) (name name' : ℕ) (first : List (Call E))
+    (told : Option (List (Call E))) (asked : Option (List Question)) (before now : Outside F)
+    (session : Session)
+    (going : Going accepts permits settings count board name name' first told asked before now
+    session)
     → count ≡ max
-    → Gatewayed {E = E} accepts permits settings max before now (Err error.TurnLimit)
-limited accepts permits settings count max board name name' told asked before now session going all =
+    → Attended {E = E} accepts permits settings max (KeepsTelling name name' first told) before now
+    (Err error.TurnLimit)
+unfolding gatewayed
+limited accepts permits settings count max board name name' first told asked before now session going
+    all =
     let long = going.long in
-    gatewayed accepts permits settings count max board name name' told asked before now now session
-    (Err error.TurnLimit) going (long ∙ all, refl)
+    record {
+      whole = gatewayed accepts permits settings count max board name name' first told asked before now
+          now session (Err error.TurnLimit) going (long ∙ all, refl);
+      admitted = (
+        going.same,
+        (
+          going.calls,
+          going.told_is,
+          going.admitted ∙ ap (λ l. of_authentication first ++ l) (sym (append-nil _)),
+        ),
+      );
+    }

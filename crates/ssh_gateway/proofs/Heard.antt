@@ -1,19 +1,20 @@
 -- What an input asked, by what the gateway's handler told of it.
-use Rattle.std.proofs.Common.{◌≡◌, ℕ, List, [], ◌∷◌, ◌++◌, Option, Some, None, Result, Ok, Err}
-use Rattle.std.proofs.Common.{Bool, true, false, not, refl, sym, ◌∙◌, ap, subst}
+use Rattle.std.proofs.Common.{◌≡◌, ℕ, List, [], ◌∷◌, ◌++◌, Option, Some, None, Ok, Err}
+use Rattle.std.proofs.Common.{Bool, true, false, not, refl, sym, ◌∙◌, ap}
 use Rattle.std.specs.Prelude.{flat_map}
-use Rattle.std.specs.List.{filter}
 use Rattle.std.proofs.lemmas.List.{append-nil}
+use Rattle.std.proofs.lemmas.List.Concat.{flat_map-append}
 use Rattle.std.proofs.lemmas.List.Elements.{filter-append}
 use Rattle.ssh_link.specs.Told.{Adds}
-use Rattle.ssh_link.specs.declared.outcome.CommandOutcome.TheVariants.{Accepted}
 use Rattle.ssh_auth.specs.declared.call.Call.{Call}
+use Rattle.ssh_auth.specs.declared.call.Call.TheVariants as called
 use Rattle.ssh_auth.specs.declared.question.Question.{Question}
 use Rattle.ssh_auth.specs.declared.question.Question.TheVariants as ask
 use Rattle.ssh_auth.specs.Was.{asked_of, question_of}
 use Rattle.ssh_auth.proofs.Back.{lent_back, judged_back}
 use Rattle.ssh_handler.specs.declared.recorded.RecordError.{RecordError}
 use Rattle.ssh_handler.specs.OwnCalls.{is_own, own_calls}
+use Rattle.ssh_gateway.specs.Admitting.{admission}
 use Rattle.ssh_gateway.specs.Answering.{named, passed, lifted, of_authentication, answered, records}
 use Rattle.ssh_gateway.specs.Answering.{told_of}
 
@@ -98,17 +99,85 @@ answers_none E (question ∷ questions) =
     ((answer_sorted E question).1)
     ∙ answers_none E questions)
 
+-- ---- the calls of authentication, as their own handler answered them
+
+given_back : {E : Type 0} (call : Call E)
+    → flat_map admission (of_authentication (lifted call ∷ [])) ≡ of_authentication (call ∷ [])
+given_back (called.AuthenticationBanner (Ok banner)) = refl
+given_back (called.AuthenticationBanner (Err e)) = refl
+given_back (called.AuthNone user (Ok auth)) = refl
+given_back (called.AuthNone user (Err e)) = refl
+given_back (called.AuthPassword user password (Ok auth)) = refl
+given_back (called.AuthPassword user password (Err e)) = refl
+given_back (called.AuthPublickeyOffered user key algorithm (Ok auth)) = refl
+given_back (called.AuthPublickeyOffered user key algorithm (Err e)) = refl
+given_back (called.AuthPublickey user key algorithm (Ok auth)) = refl
+given_back (called.AuthPublickey user key algorithm (Err e)) = refl
+given_back (called.AuthOpensshCertificate user certificate (Ok auth)) = refl
+given_back (called.AuthOpensshCertificate user certificate (Err e)) = refl
+given_back (called.AuthKeyboardInteractive user submethods response (Ok auth)) = refl
+given_back (called.AuthKeyboardInteractive user submethods response (Err e)) = refl
+given_back call = refl
+
+all_back : {E : Type 0} (calls : List (Call E))
+    → flat_map admission (passed calls) ≡ of_authentication calls
+all_back [] = refl
+all_back (call ∷ calls) =
+    flat_map-append admission (of_authentication (lifted call ∷ [])) (passed calls)
+    ∙ (ap (λ l. l ++ flat_map admission (passed calls)) (given_back call)
+    ∙ (ap (λ l. of_authentication (call ∷ []) ++ l) (all_back calls)
+    ∙ sym (auth_join (call ∷ []) calls)))
+
+-- a call that is a session's own is none of them
+own_none : {E : Type 0} (call : Call (RecordError E)) → own call ≡ true → admission call ≡ []
+own_none (called.AuthenticationBanner answer) is = absurd (cc)
+own_none (called.AuthNone user answer) is = absurd (cc)
+own_none (called.AuthPassword user password answer) is = absurd (cc)
+own_none (called.AuthPublickeyOffered user key algorithm answer) is = absurd (cc)
+own_none (called.AuthPublickey user key algorithm answer) is = absurd (cc)
+own_none (called.AuthOpensshCertificate user certificate answer) is = absurd (cc)
+own_none (called.AuthKeyboardInteractive user submethods response answer) is = absurd (cc)
+own_none call is = refl
+
+one_admitted : {E : Type 0} (b : Bool) (call : Call (RecordError E)) → own call ≡ b
+    → flat_map admission (of_authentication (call ∷ [])) ≡ admission call
+one_admitted true call is =
+    ap (λ l. flat_map admission l) (own_left call is) ∙ sym (own_none call is)
+one_admitted false call is =
+    let kept : of_authentication (call ∷ []) ≡ call ∷ [] = rw is refl in
+    ap (λ l. flat_map admission l) kept ∙ append-nil (admission call)
+
+all_admitted : {E : Type 0} (made : List (Call (RecordError E)))
+    → flat_map admission (of_authentication made) ≡ flat_map admission made
+all_admitted [] = refl
+all_admitted (call ∷ made) =
+    ap (λ l. flat_map admission l) (auth_join (call ∷ []) made)
+    ∙ (flat_map-append admission (of_authentication (call ∷ [])) (of_authentication made)
+    ∙ (ap (λ l. l ++ flat_map admission (of_authentication made))
+    (one_admitted (own call) call refl)
+    ∙ ap (λ l. admission call ++ l) (all_admitted made)))
+
+admitted_so : {E : Type 0} (calls after : List (Call E)) (made : List (Call (RecordError E)))
+    → passed after ≡ passed calls ++ of_authentication made
+    → of_authentication after ≡ of_authentication calls ++ flat_map admission made
+admitted_so calls after made is =
+    sym (all_back after)
+    ∙ (ap (λ l. flat_map admission l) is
+    ∙ (flat_map-append admission (passed calls) (of_authentication made)
+    ∙ (ap (λ l. l ++ flat_map admission (of_authentication made)) (all_back calls)
+    ∙ ap (λ l. of_authentication calls ++ l) (all_admitted made))))
+
 -- ---- an input
 
--- what was told before it and after it says whose calls they are, which of them were passed on, and
--- what else was asked
+-- what was told before it and after it says whose calls they are, which of them are of
+-- authentication, and what else was asked
 pub record Heard {E : Type 0} (name name' : ℕ) (calls : List (Call E))
     (told : Option (List (Call E))) (asked : Option (List Question))
     (made : List (Call (RecordError E))) : Type 0 where
   pub same : name' ≡ name
   pub after : List (Call E)
   pub told_is : told ≡ Some after
-  pub passed_is : passed after ≡ passed calls ++ of_authentication made
+  pub admitted : of_authentication after ≡ of_authentication calls ++ flat_map admission made
   pub questions : List Question
   pub kept : asked ≡ Some questions
   pub answered_is : own_calls made ≡ flat_map answered questions
@@ -158,7 +227,7 @@ heard name name' calls (Some after) (Some questions) made h =
       same = both.0;
       after = after;
       told_is = refl;
-      passed_is = lists.1;
+      admitted = admitted_so calls after made lists.1;
       questions = questions;
       kept = refl;
       answered_is = lists.0;

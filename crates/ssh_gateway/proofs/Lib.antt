@@ -7,5 +7,9 @@ mod Bytes
 mod Choices
 mod Serving
 mod Turning
+mod Ending
+mod EndingOnce
+mod Unfinished
 mod Going
+mod Attending
 mod Delivering

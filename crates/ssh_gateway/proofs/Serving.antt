@@ -1,39 +1,41 @@
 -- One input, by what `Session::step` says of it.
-use Rattle.std.proofs.Common.{◌≡◌, ◌≢◌, ◌≤◌, ◌⊎◌, ℕ, List, [], ◌∷◌, ◌++◌, Option, Some, None, Result}
-use Rattle.std.proofs.Common.{Ok, Err, refl, sym, ◌∙◌, ap, subst, inl, inr, false}
-use Rattle.ssh_link.specs.Faults.{Rose}
+use Rattle.std.proofs.Common.{◌≡◌, ◌≢◌, ℕ, List, [], Option, Some, None}
+use Rattle.std.proofs.Common.{Ok, Err, refl, sym, ◌∙◌, ap, subst, inl, inr, Bool, true, false}
+use Rattle.std.specs.Prelude.{flat_map}
 use Rattle.ssh_link.specs.Told.{Adds, ToldBy}
 use Rattle.ssh_link.specs.declared.frame.Input.{Input}
 use Rattle.ssh_link.specs.declared.notice.Notice.{Notice}
 use Rattle.ssh_auth.specs.declared.call.Call.{Call}
 use Rattle.ssh_auth.specs.declared.question.Question.{Question}
-use Rattle.ssh_auth.specs.Plan.{calls_in}
+use Rattle.ssh_auth.specs.Plan.{Plan, calls_in}
 use Rattle.ssh_auth.specs.Publickey.{Acceptance}
 use Rattle.ssh_handler.specs.declared.recorded.RecordError.{RecordError}
+use Rattle.ssh_handler.specs.declared.recorded.RecordError.TheVariants as record_error
+use Rattle.ssh_handler.specs.OwnCalls.{own_calls}
 use Rattle.ssh_rules.specs.declared.error.Flow.{Flow}
 use Rattle.ssh_rules.specs.declared.error.Flow.TheVariants.{Continue, Ended}
 use Rattle.ssh_rules.specs.declared.error.RunError.{RunError}
+use Rattle.ssh_rules.specs.declared.error.RunError.TheVariants as run
 use Rattle.ssh_rules.specs.Account.{Told}
-use Rattle.ssh_rules.specs.Outcome.{Goes, Ends}
+use Rattle.ssh_rules.specs.Cause.{may_stop}
+use Rattle.ssh_rules.specs.Outcome.{Outcome, Goes, Ends}
 use Rattle.ssh_rules.specs.Run.{Owes}
 use Rattle.ssh_rules.specs.World.{World}
-use Rattle.ssh_session.specs.Between.{StepsAfter}
+use Rattle.ssh_session.specs.Between.{OwesNotices, StepsAfter}
 use Rattle.ssh_session.specs.Steps.{Steps}
 use Rattle.ssh_session.specs.declared.session.Session.{Session}
 use Rattle.ssh_drive.proofs.Serving.{steps_now, taken_now}
 use Rattle.ssh_gateway.specs.declared.error.GatewayError.{GatewayError}
-use Rattle.ssh_gateway.specs.Answering.{told_of}
+use Rattle.ssh_gateway.specs.declared.error.GatewayError.TheVariants as error
+use Rattle.ssh_gateway.specs.Admitting.{admission, admissions}
+use Rattle.ssh_gateway.specs.Answering.{answered, told_of}
 use Rattle.ssh_gateway.specs.Raised.{lowered}
-use Rattle.ssh_gateway.specs.Serving.{Beneath, IsPassed, Serves, Stops, ServesOrStops}
+use Rattle.ssh_gateway.specs.Serving.{Beneath, OwesOrNothing, Serves, Stops, ServesOrStops}
+use Rattle.ssh_gateway.specs.Serving.{KeepsTelling, UnlessRefused}
 use Rattle.ssh_gateway.proofs.Heard.{heard}
 
 abbrev under : {E F : Type 0} → Told E F → Beneath F
 under told = record { steps = told.steps; trace = told.trace; faults = told.faults }
-
-abbrev lowered_flow : {E F : Type 0} → Result Flow (RunError (RecordError E) F)
-    → Result Flow (GatewayError E F)
-lowered_flow (Ok flow) = Ok flow
-lowered_flow (Err why) = Err (lowered why)
 
 serves : {E F : Type 0} (accepts : Acceptance) (w : World) (input : Input) (name name' : ℕ)
     (calls : List (Call E)) (told : Option (List (Call E))) (asked : Option (List Question))
@@ -56,7 +58,7 @@ serves {E} {F} accepts w input name name' calls told asked before after session 
       stepped = step.stepped;
       told_link = step.told;
       same = h.same;
-      passed = (h.after, h.told_is, h.passed_is);
+      admitted = (h.after, h.told_is, h.admitted);
       questions = h.questions;
       kept = h.kept;
       answered = h.answered_is;
@@ -76,57 +78,122 @@ serves {E} {F} accepts w input name name' calls told asked before after session 
       stepped = step.stepped;
       told_link = step.told;
       same = h.same;
-      passed = (h.after, h.told_is, h.passed_is);
+      admitted = (h.after, h.told_is, h.admitted);
       questions = h.questions;
       kept = h.kept;
       answered = h.answered_is;
       later = step.later;
     }
 
-stops : {E F : Type 0} (accepts : Acceptance) (w : World) (input : Input)
-    (before after : Told (RecordError E) F) (session : Session) (why : RunError (RecordError E) F)
-    → w.disconnected ≡ false → StepsAfter [] accepts w input before after session (Err why)
-    → Stops accepts w input (under before) (under after) (lowered why)
-stops accepts w input before after session why live (inl step) =
-    let done = steps_now [] accepts w input before after session (Err why) refl live step in
-    record {
-      plan = done.plan;
-      owes = inl done.owes;
-      events = done.events;
-      why = why;
-      is = refl;
-      caused = done.comes;
-      stepped = done.stepped;
-      told_link = done.told;
-      later = done.later;
-    }
-stops accepts w input before after session why live (inr (e, is, step)) = record {
-  plan = step.plan;
-  owes = inr step.owes;
-  events = step.events;
-  why = why;
-  is = refl;
-  caused = step.comes;
-  stepped = step.stepped;
-  told_link = step.told;
-  later = step.later;
-}
+-- ---- it was not finished
 
-pub serves_or_stops : {E F : Type 0} (accepts : Acceptance) (w : World) (input : Input)
+-- an error that is none of the handler's own leaves what was told exact
+told_unless : {E F : Type 0} (why : RunError (RecordError E) F) (P : Type 0)
+    → (may_stop {T = Flow} (Err why) ≡ false → P) → lowered why ≢ error.NoMemory
+    → UnlessRefused (lowered why) P
+told_unless run.NoMemory P told other = absurd (other refl)
+told_unless (run.Handler (record_error.Inner e)) P told other = tt
+told_unless (run.Handler record_error.NoMemory) P told other = absurd (other refl)
+told_unless (run.Handler record_error.Untold) P told other = absurd (other refl)
+told_unless run.LinkFault P told other = told refl
+told_unless run.InputLimit P told other = told refl
+told_unless (run.Encoding e) P told other = told refl
+told_unless run.Inconsistent P told other = told refl
+told_unless run.Pending P told other = told refl
+told_unless (run.Key e) P told other = told refl
+told_unless run.UnsupportedAuthMethod P told other = told refl
+told_unless (run.Kex e) P told other = told refl
+told_unless run.ChannelsFull P told other = told refl
+told_unless run.KeepaliveTimeout P told other = told refl
+told_unless run.InactivityTimeout P told other = told refl
+
+-- the questions that a notebook has
+abbrev kept_in : Option (List Question) → List Question
+kept_in None = []
+kept_in (Some questions) = questions
+
+keeps_telling : {E : Type 0} (name name' : ℕ) (calls : List (Call E))
+    (told : Option (List (Call E))) (asked : Option (List Question))
+    (made : List (Call (RecordError E))) (before after : Option (List (Call (RecordError E))))
+    (stops : Bool) → stops ≡ false → ToldBy stops before after made
+    → before ≡ told_of name (Some calls) (Some []) → after ≡ told_of name' told asked
+    → KeepsTelling name name' calls told (flat_map admission made)
+    × (own_calls made ≡ flat_map answered (kept_in asked))
+keeps_telling name name' calls told asked made before after true never tells was is = absurd (cc)
+keeps_telling name name' calls told asked made before after false goes tells was is =
+    let h = heard name name' calls told asked made
+    (subst (λ b. Adds b (told_of name' told asked) made) was
+    (subst (λ a. Adds before a made) is tells)) in (
+      (h.same, (h.after, h.told_is, h.admitted)),
+      h.answered_is ∙ ap (λ q. flat_map answered q) (sym (ap kept_in h.kept)),
+    )
+
+stops_by : {E F : Type 0} (accepts : Acceptance) (w : World) (input : Input) (name name' : ℕ)
+    (calls : List (Call E)) (told : Option (List (Call E))) (asked : Option (List Question))
+    (before after : Told (RecordError E) F) (session : Session) (why : RunError (RecordError E) F)
+    (e : GatewayError E F) (IsOwed : Plan Outcome → Type 0)
+    → ((plan : Plan Outcome) → IsOwed plan → OwesOrNothing accepts w input plan)
+    → (e ≢ error.NoMemory → e ≡ lowered why) → Steps IsOwed before after session (Err why)
+    → before.calls ≡ told_of name (Some calls) (Some [])
+    → after.calls ≡ told_of name' told asked
+    → Stops accepts w input name name' calls told (under before) (under after) e
+stops_by accepts w input name name' calls told asked before after session why e IsOwed owed named step
+    was is =
+    record {
+      plan = step.plan;
+      owes = owed step.plan step.owes;
+      events = step.events;
+      why = why;
+      is = named;
+      caused = step.comes;
+      stepped = step.stepped;
+      told_link = step.told;
+      later = step.later;
+      questions = kept_in asked;
+      handler = λ other.
+          let keeps = KeepsTelling name name' calls told (admissions step.events)
+          × (own_calls (calls_in step.events) ≡ flat_map answered (kept_in asked)) in
+          let lower = named other in
+          subst (λ x. UnlessRefused x keeps) (sym lower)
+          (told_unless why keeps
+          (λ goes. keeps_telling name name' calls told asked (calls_in step.events) before.calls
+          after.calls (may_stop {T = Flow} (Err why)) goes step.called was is)
+          (subst (λ x. x ≢ error.NoMemory) lower other));
+    }
+
+pub stops : {E F : Type 0} (accepts : Acceptance) (w : World) (input : Input)
     (name name' : ℕ) (calls : List (Call E)) (told : Option (List (Call E)))
     (asked : Option (List Question)) (notices : List Notice)
     (before after : Told (RecordError E) F) (session : Session)
-    (result : Result Flow (RunError (RecordError E) F)) → notices ≡ [] → w.disconnected ≡ false
-    → StepsAfter notices accepts w input before after session result
+    (why : RunError (RecordError E) F) (e : GatewayError E F)
+    → (e ≢ error.NoMemory → e ≡ lowered why) → notices ≡ [] → w.disconnected ≡ false
+    → StepsAfter notices accepts w input before after session (Err why)
+    → before.calls ≡ told_of name (Some calls) (Some [])
+    → after.calls ≡ told_of name' told asked
+    → Stops accepts w input name name' calls told (under before) (under after) e
+stops {E} {F} accepts w input name name' calls told asked notices before after session why e named none
+    live taken was is = by (subst (λ n. StepsAfter n accepts w input before after session (Err why))
+    none taken)
+  where
+    by : StepsAfter [] accepts w input before after session (Err why)
+        → Stops accepts w input name name' calls told (under before) (under after) e
+    by (inl step) = stops_by accepts w input name name' calls told asked before after session why e
+        (Owes accepts w input) (λ plan owes. inl owes) named
+        (steps_now [] accepts w input before after session (Err why) refl live step) was is
+    by (inr (e2, is2, step)) = stops_by accepts w input name name' calls told asked before after
+        session why e (OwesNotices [] w) (λ plan owes. inr owes) named step was is
+
+pub served_so : {E F : Type 0} (accepts : Acceptance) (w : World) (input : Input)
+    (name name' : ℕ) (calls : List (Call E)) (told : Option (List (Call E)))
+    (asked : Option (List Question)) (notices : List Notice)
+    (before after : Told (RecordError E) F) (session : Session) (flow : Flow)
+    → notices ≡ [] → w.disconnected ≡ false
+    → StepsAfter notices accepts w input before after session (Ok flow)
     → before.calls ≡ told_of name (Some calls) (Some [])
     → after.calls ≡ told_of name' told asked
     → ServesOrStops accepts w input name name' calls told asked (under before) (under after) session
-    (lowered_flow result)
-serves_or_stops accepts w input name name' calls told asked notices before after session (Ok flow)
-    none live taken was is =
+    (Ok flow)
+served_so accepts w input name name' calls told asked notices before after session flow none live taken
+    was is =
     serves accepts w input name name' calls told asked before after session flow
     (taken_now notices accepts w input before after session flow none live taken) was is
-serves_or_stops accepts w input name name' calls told asked notices before after session (Err why)
-    none live taken was is =
-    λ memory. stops accepts w input before after session why live
-    (subst (λ n. StepsAfter n accepts w input before after session (Err why)) none taken)

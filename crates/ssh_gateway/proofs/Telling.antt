@@ -2,10 +2,9 @@
 use Rattle.std.proofs.Common.{◌≡◌, ℕ, List, [], ◌∷◌, ◌++◌, Option, Some, None, Result, Ok, Err}
 use Rattle.std.proofs.Common.{Bool, true, false, not, refl, sym, ◌∙◌, ap, subst, append_assoc}
 use Rattle.std.specs.Prelude.{flat_map, OnOk, OnErr, IfSome, IsErr}
-use Rattle.std.specs.List.{filter}
 use Rattle.std.proofs.lemmas.List.{append-nil}
 use Rattle.std.proofs.lemmas.List.Concat.{flat_map-append}
-use Rattle.ssh_link.specs.Told.{Adds, AddsOne, AddsOrStops, Tells, IsUntold}
+use Rattle.ssh_link.specs.Told.{AddsOne, AddsOrStops, Tells, IsUntold}
 use Rattle.ssh_link.proofs.Tellings.{adds_weak}
 use Rattle.ssh_auth.specs.declared.call.Call.{Call}
 use Rattle.ssh_link.specs.declared.command.Command.{Command}
@@ -14,7 +13,6 @@ use Rattle.ssh_auth.specs.declared.question.Question.{Question}
 use Rattle.ssh_auth.specs.declared.question.Question.TheVariants.{Lends}
 use Rattle.ssh_auth.specs.Calls.{lent_call}
 use Rattle.ssh_handler.specs.declared.recorded.RecordError.{RecordError}
-use Rattle.ssh_handler.specs.declared.recorded.RecordError.TheVariants.{Inner}
 use Rattle.ssh_handler.specs.Recording.{passed_on, told_while}
 use Rattle.ssh_gateway.specs.Answering.{named, passed, lifted, of_authentication, answered, told_of, records}
 

@@ -1,15 +1,16 @@
 -- A turn, from its parts.
 use Rattle.std.proofs.Common.{◌≡◌, ◌≢◌, ◌≤◌, ◌<◌, ◌+◌, ◌⊎◌, ℕ, List, [], ◌∷◌, ◌++◌, Option, Some, None}
-use Rattle.std.proofs.Common.{Result, Ok, Err, refl, sym, ◌∙◌, ap, subst, inl, inr, true, false, not}
+use Rattle.std.proofs.Common.{Err, refl, sym, ◌∙◌, ap, subst, inl, inr, true, false}
 use Rattle.std.proofs.Common.{arith}
-use Rattle.std.specs.Prelude.{IfSome}
+use Rattle.std.specs.Prelude.{flat_map}
 use Rattle.std.proofs.lemmas.List.{append-nil}
 use Rattle.std.proofs.Math.Nat.{eq-or-lt_of_le}
 use Rattle.ssh_link.specs.Faults.{Rose}
-use Rattle.ssh_link.specs.Told.{Adds, AddsNothing, ToldBy}
+use Rattle.ssh_link.specs.Told.{Adds, AddsNothing}
 use Rattle.ssh_link.proofs.Tellings.{adds_both}
 use Rattle.ssh_link.specs.declared.frame.Input.{Input}
-use Rattle.ssh_link.specs.declared.frame.InputKind.{InputKind}
+use Rattle.ssh_link.specs.declared.link.LinkFault.{LinkFault}
+use Rattle.ssh_link.specs.declared.link.LinkFault.TheVariants as link
 use Rattle.ssh_link.specs.declared.link.TraceEntry.{TraceEntry}
 use Rattle.ssh_auth.specs.declared.call.Call.{Call}
 use Rattle.ssh_auth.specs.declared.question.Happening.TheVariants as what
@@ -17,15 +18,16 @@ use Rattle.ssh_auth.specs.declared.question.Lent.TheVariants.{Opens, Happened}
 use Rattle.ssh_auth.specs.declared.question.OpenType.TheVariants as type
 use Rattle.ssh_auth.specs.declared.question.Question.{Question}
 use Rattle.ssh_auth.specs.declared.question.Question.TheVariants.{Lends}
-use Rattle.ssh_auth.specs.Plan.{Plan, Event, told_in}
+use Rattle.ssh_auth.specs.Plan.{Plan, Event, calls_in, told_in}
 use Rattle.ssh_auth.specs.Publickey.{Acceptance}
 use Rattle.ssh_handler.specs.declared.recorded.RecordError.{RecordError}
+use Rattle.ssh_handler.specs.OwnCalls.{own_calls}
 use Rattle.ssh_rules.specs.declared.error.Flow.{Flow}
 use Rattle.ssh_rules.specs.declared.error.RunError.{RunError}
 use Rattle.ssh_rules.specs.declared.error.RunError.TheVariants as run
 use Rattle.ssh_rules.specs.Cause.{IsCaused, cause_of}
-use Rattle.ssh_rules.specs.Outcome.{Outcome, Goes}
-use Rattle.ssh_rules.specs.Run.{Owes, Turn, IsTaken}
+use Rattle.ssh_rules.specs.Outcome.{Outcome}
+use Rattle.ssh_rules.specs.Run.{Turn, IsTaken}
 use Rattle.ssh_rules.specs.Valid.{IsValid, IsComplete}
 use Rattle.ssh_rules.specs.World.{World}
 use Rattle.ssh_rules.proofs.Complete.{complete}
@@ -39,17 +41,19 @@ use Rattle.ssh_gateway.specs.declared.error.GatewayError.TheVariants as error
 use Rattle.ssh_gateway.specs.declared.targets.TargetCall.{TargetCall}
 use Rattle.ssh_gateway.specs.declared.targets.TargetFault.{TargetFault}
 use Rattle.ssh_gateway.specs.declared.targets.TargetFault.TheVariants.{Failed, NoMemory}
+use Rattle.ssh_gateway.specs.Admitting.{admissions}
+use Rattle.ssh_gateway.specs.Answering.{answered, of_authentication}
 use Rattle.ssh_gateway.specs.Asked.{IsCutOff}
 use Rattle.ssh_gateway.specs.Board.{Board, noted, all_noted, all_due}
-use Rattle.ssh_gateway.specs.Choosing.{Permits, Source, Waits, IsChosen, IsGiven, own_kind, settled}
+use Rattle.ssh_gateway.specs.Choosing.{Permits, Source, IsChosen, IsGiven, own_kind, settled}
 use Rattle.ssh_gateway.specs.Choosing.{took, closed_by}
 use Rattle.ssh_gateway.specs.Doing.{Chooses, asks_link, closed_to, FailsChoosing, FailsTelling}
 use Rattle.ssh_gateway.specs.Doing.{IsNextCount}
-use Rattle.ssh_gateway.specs.Raised.{lowered, target_error}
-use Rattle.ssh_gateway.specs.Serving.{Beneath, Outside, Serves, Stops, Turned, TellsRound, IsBroken}
+use Rattle.ssh_gateway.specs.Raised.{lowered, link_error, target_error}
+use Rattle.ssh_gateway.specs.Serving.{Beneath, Outside, Serves, Stops, Turned, TellsRound}
 use Rattle.ssh_gateway.specs.Serving.{OwesOrNothing, turn_of, ServesNone, TellsNone}
-use Rattle.ssh_gateway.specs.Turns.{Round, Begins, Comes, IsRound, board_within, board_after}
-use Rattle.ssh_gateway.specs.Turns.{due_after, link_entries, target_calls}
+use Rattle.ssh_gateway.specs.Serving.{KeepsTelling, UnlessRefused, Breaks, BreaksTelling}
+use Rattle.ssh_gateway.specs.Turns.{Round, Begins}
 use Rattle.ssh_gateway.proofs.Accepting.{takes_data_of}
 use Rattle.ssh_gateway.proofs.Choices.{took_is, waits_only, settled_moment, is_asked}
 
@@ -190,11 +194,19 @@ turned {E} {F} accepts permits board mid board' w input closes name name' calls 
             (subst (Adds told' after.targets) same done.1),
       );
       same = serves.same;
-      passed = serves.passed;
+      admitted = serves.admitted;
       empty = empty;
       later = let x = serves.later in omega (arith, later, x);
       target_later = target_later;
     }
+
+-- ---- the error of a target
+
+-- unless memory was wanting the outside failed
+not_memory : {E F : Type 0} (fault : TargetFault) (e : GatewayError E F)
+    → e ≡ target_error fault → e ≢ error.NoMemory → (fault ≡ Failed) × (e ≡ error.TargetFault)
+not_memory Failed e is other = (refl, is)
+not_memory NoMemory e is other = absurd (other is)
 
 -- ---- a turn that was not finished
 
@@ -232,46 +244,82 @@ fair accepts w turn plan why faults faults' taken (inr none) later other caused 
     (ends_before accepts w plan (Rose faults faults') (Rose faults faults') turn.events why none
     (λ rose. rose) caused)
 
+unless_first : {E F : Type 0} (e : GatewayError E F) (P Q : Type 0) → UnlessRefused e (P × Q)
+    → UnlessRefused e P
+unless_first error.NoMemory P Q h = h.0
+unless_first error.TargetFault P Q h = h.0
+unless_first error.TurnLimit P Q h = h.0
+unless_first (error.Run (run.Handler e)) P Q h = tt
+unless_first (error.Run why) P Q h = h.0
+
+unless_second : {E F : Type 0} (e : GatewayError E F) (P Q : Type 0) → UnlessRefused e (P × Q)
+    → UnlessRefused e Q
+unless_second error.NoMemory P Q h = h.1
+unless_second error.TargetFault P Q h = h.1
+unless_second error.TurnLimit P Q h = h.1
+unless_second (error.Run (run.Handler e)) P Q h = tt
+unless_second (error.Run why) P Q h = h.1
+
 pub stopped : {E F : Type 0} (accepts : Acceptance) (permits : Permits) (board mid : Board)
-    (w : World) (input : Input) (closes : Option ℕ) (before after : Outside F)
+    (w : World) (input : Input) (closes : Option ℕ) (name name' : ℕ) (calls : List (Call E))
+    (told : Option (List (Call E))) (before after : Outside F)
     (trace' : Option (List TraceEntry)) (faults' : ℕ) (told' : Option (List TargetCall))
     (e : GatewayError E F)
     → Given permits board w input closes before.beneath.trace trace' before.targets told' mid
-    → Stops accepts w input (over before trace' faults') after.beneath e → e ≢ error.NoMemory
+    → Stops accepts w input name name' calls told (over before trace' faults') after.beneath e
     → after.targets ≡ told' → before.beneath.faults ≤ faults'
-    → IsBroken accepts permits board w before after e
-stopped {E} {F} accepts permits board mid w input closes before after trace' faults' told' e given
-    stops other same later =
+    → Breaks accepts permits board w name name' calls told before after e
+stopped {E} {F} accepts permits board mid w input closes name name' calls told before after trace'
+    faults' told' e given stops same later =
     let round : Round E F = round_of permits board w input closes before.beneath.trace trace'
-    before.targets told' mid given stops.events [] [] in
+    before.targets told' mid given stops.events stops.questions [] in
     let begins = begins_so permits board w input closes before.beneath.trace trace' before.targets
-    told' mid given stops.events [] [] in
+    told' mid given stops.events stops.questions [] in
     let caused = caused_rose (cause_of stops.why) stops.plan (Rose faults' after.beneath.faults)
     (Rose before.beneath.faults after.beneath.faults) stops.events
     (λ rose. omega (arith, later, rose)) stops.caused in
     let risen = stops.later in
-    inr (inr (inl (record {
-      round = round;
-      begins = begins;
-      nothing = refl;
-      plan = stops.plan;
-      owes = stops.owes;
-      why = stops.why;
-      is = stops.is;
-      caused = caused;
-      fair = fair accepts w round.turn stops.plan stops.why before.beneath.faults
-          after.beneath.faults begins.taken stops.owes (omega (arith, later, risen))
-          (subst (λ x. x ≢ error.NoMemory) stops.is other) caused;
-      told = (
-        stops.stepped,
-        adds_both before.beneath.trace trace' after.beneath.trace (took given.source input)
-            (told_in stops.events) given.linked stops.told_link,
-        subst (Adds before.targets after.targets) (sym (append-nil given.calls))
-            (subst (λ t. Adds before.targets t given.calls) (sym same) given.asked),
-      );
-    })))
+    let keeps = KeepsTelling name name' calls told (admissions stops.events) in
+    let answers = own_calls (calls_in stops.events) ≡ flat_map answered stops.questions in
+    let tells : TellsRound before after round = (
+      stops.stepped,
+      adds_both before.beneath.trace trace' after.beneath.trace (took given.source input)
+          (told_in stops.events) given.linked stops.told_link,
+      subst (Adds before.targets after.targets) (sym (append-nil given.calls))
+          (subst (λ t. Adds before.targets t given.calls) (sym same) given.asked),
+    ) in
+    record {
+      broken = λ other.
+          let none : ServesNone accepts permits board w before after e = record {
+            round = round;
+            begins = begins;
+            nothing = refl;
+            plan = stops.plan;
+            owes = stops.owes;
+            why = stops.why;
+            is = stops.is other;
+            caused = caused;
+            fair = fair accepts w round.turn stops.plan stops.why before.beneath.faults
+                after.beneath.faults begins.taken stops.owes (omega (arith, later, risen))
+                (subst (λ x. x ≢ error.NoMemory) (stops.is other) other) caused;
+            answered = unless_second e keeps answers (stops.handler other);
+            told = tells;
+          } in
+          (inr (inr (inl none)), unless_first e keeps answers (stops.handler other));
+      short = λ is. inr (inr (inl (record {
+        round = round;
+        begins = begins;
+        nothing = refl;
+        plan = stops.plan;
+        owes = stops.owes;
+        why = stops.why;
+        caused = caused;
+        told = tells;
+      })));
+    }
 
-pub untold : {E F : Type 0} (accepts : Acceptance) (permits : Permits) (board mid : Board)
+-- a target failed as it was told of the input
+fails_telling : {E F : Type 0} (accepts : Acceptance) (permits : Permits) (board mid : Board)
     (w : World) (input : Input) (closes : Option ℕ) (name name' : ℕ) (calls : List (Call E))
     (told : Option (List (Call E))) (asked : Option (List Question)) (before after : Outside F)
     (trace' : Option (List TraceEntry)) (faults' : ℕ) (told' : Option (List TargetCall))
@@ -282,15 +330,16 @@ pub untold : {E F : Type 0} (accepts : Acceptance) (permits : Permits) (board mi
     → ((questions : List Question) → asked ≡ Some questions
     → FailsTelling (closed_to closes ++ all_due questions mid) told' after.targets)
     → Rose before.target_faults after.target_faults
-    → IsBroken {E = E} accepts permits board w before after error.TargetFault
-untold {E} {F} accepts permits board mid w input closes name name' calls told asked before after
+    → BreaksTelling {E = E} accepts permits board w name name' calls told before after
+    error.TargetFault
+fails_telling {E} {F} accepts permits board mid w input closes name name' calls told asked before after
     trace' faults' told' session flow given serves fails rose =
     let part = fails serves.questions serves.kept in
     let same = due_so permits board w input closes before.beneath.trace trace' before.targets told'
     mid given serves.questions in
     let round : Round E F = round_of permits board w input closes before.beneath.trace trace'
     before.targets told' mid given serves.events serves.questions part.0 in
-    inr (inr (inr (record {
+    let none : TellsNone {E = E} accepts permits board w before after error.TargetFault = record {
       round = round;
       begins = begins_so permits board w input closes before.beneath.trace trace' before.targets
           told' mid given serves.events serves.questions part.0;
@@ -308,27 +357,103 @@ untold {E} {F} accepts permits board mid w input closes name name' calls told as
       told_link = adds_both before.beneath.trace trace' after.beneath.trace
           (took given.source input) (told_in serves.events) given.linked serves.told_link;
       told = told_then true before.targets told' after.targets given.calls part.0 given.asked part.2;
-    })))
+    } in
+    (inr (inr (inr none)), (serves.same, serves.admitted))
+
+pub untold : {E F : Type 0} (accepts : Acceptance) (permits : Permits) (board mid : Board)
+    (w : World) (input : Input) (closes : Option ℕ) (name name' : ℕ) (calls : List (Call E))
+    (told : Option (List (Call E))) (asked : Option (List Question)) (before after : Outside F)
+    (trace' : Option (List TraceEntry)) (faults' : ℕ) (told' : Option (List TargetCall))
+    (session : Session) (flow : Flow) (fault : TargetFault) (e : GatewayError E F)
+    → e ≡ target_error fault
+    → Given permits board w input closes before.beneath.trace trace' before.targets told' mid
+    → (serves : Serves accepts w input name name' calls told asked (over before trace' faults')
+    after.beneath session flow)
+    → (fault ≡ Failed → (questions : List Question) → asked ≡ Some questions
+    → FailsTelling (closed_to closes ++ all_due questions mid) told' after.targets)
+    → (fault ≡ Failed → Rose before.target_faults after.target_faults)
+    → Breaks accepts permits board w name name' calls told before after e
+untold {E} {F} accepts permits board mid w input closes name name' calls told asked before after trace'
+    faults' told' session flow fault e is given serves fails rose =
+    let round : Round E F = round_of permits board w input closes before.beneath.trace trace'
+    before.targets told' mid given serves.events serves.questions [] in
+    record {
+      broken = λ other.
+          let only = not_memory fault e is other in
+          subst (BreaksTelling accepts permits board w name name' calls told before after)
+          (sym only.1)
+          (fails_telling accepts permits board mid w input closes name name' calls told asked before
+          after trace' faults' told' session flow given serves (fails only.0) (rose only.0));
+      short = λ is_short. inr (inr (inr (record {
+        round = round;
+        begins = begins_so permits board w input closes before.beneath.trace trace' before.targets
+            told' mid given serves.events serves.questions [];
+        outcome = serves.outcome;
+        comes = record {
+          plan = serves.plan;
+          owes = serves.owes;
+          follows = serves.follows;
+          answered = serves.answered;
+        };
+        stepped = serves.stepped;
+        told_link = adds_both before.beneath.trace trace' after.beneath.trace
+            (took given.source input) (told_in serves.events) given.linked serves.told_link;
+      })));
+    }
+
+-- before an input was given, the handler of authentication was not asked
+quiet : {E : Type 0} (name : ℕ) (calls : List (Call E)) (told : Option (List (Call E)))
+    → told ≡ Some calls → KeepsTelling name name calls told []
+quiet name calls told is = (refl, (calls, is, sym (append-nil (of_authentication calls))))
+
+pub not_chosen : {E F : Type 0} (accepts : Acceptance) (permits : Permits) (board : Board)
+    (w : World) (name : ℕ) (calls : List (Call E)) (told : Option (List (Call E)))
+    (before after : Outside F) (fault : TargetFault) (e : GatewayError E F)
+    → told ≡ Some calls → e ≡ target_error fault
+    → (fault ≡ Failed → Rose before.target_faults after.target_faults
+    × FailsChoosing permits w board before.targets after.targets)
+    → after.beneath ≡ before.beneath
+    → Breaks accepts permits board w name name calls told before after e
+not_chosen {E} accepts permits board w name calls told before after fault e tells is fails same = record {
+  broken = λ other.
+      let only = not_memory fault e is other in
+      subst (BreaksTelling accepts permits board w name name calls told before after) (sym only.1) (
+        inl (refl, (fails only.0).0, same, (fails only.0).1),
+        quiet name calls told tells,
+      );
+  short = λ is_short. inl same;
+}
+
+not_link_memory : {E F : Type 0} (fault : LinkFault) (e : GatewayError E F)
+    → e ≡ link_error fault → e ≢ error.NoMemory
+    → (fault ≡ link.Failed) × (e ≡ error.Run run.LinkFault)
+not_link_memory link.Failed e is other = (refl, is)
+not_link_memory link.NoMemory e is other = absurd (other is)
 
 -- the link gave none
 pub not_given : {E F : Type 0} (accepts : Acceptance) (permits : Permits) (board mid : Board)
-    (w : World) (chosen : Chosen) (before after : Outside F)
+    (w : World) (name : ℕ) (calls : List (Call E)) (told : Option (List (Call E)))
+    (chosen : Chosen) (before after : Outside F) (fault : LinkFault) (e : GatewayError E F)
+    → told ≡ Some calls → e ≡ link_error fault
     → Chooses permits w board mid before.targets after.targets chosen → chosen.kind ≡ None
-    → Rose before.beneath.faults after.beneath.faults
+    → (fault ≡ link.Failed → Rose before.beneath.faults after.beneath.faults)
     → AddsNothing before.beneath.trace after.beneath.trace
     → after.beneath.steps ≡ before.beneath.steps
-    → IsBroken {E = E} accepts permits board w before after (error.Run run.LinkFault)
-not_given accepts permits board mid w chosen before after
-    (source, calls, is, adds, (board_is, kind_is, closes_is)) none rose trace steps =
-    inr (inl (
-      refl,
-      rose,
-      trace,
-      steps,
-      calls,
-      waits_only permits w board (board.last_ticket + 1) source calls (sym kind_is ∙ none) is,
-      adds,
-    ))
+    → Breaks accepts permits board w name name calls told before after e
+not_given accepts permits board mid w name calls told chosen before after fault e tells is
+    (source, made, chosen_is, adds, (board_is, kind_is, closes_is)) none rose trace steps =
+    let waits = waits_only permits w board (board.last_ticket + 1) source made (sym kind_is ∙ none)
+    chosen_is in
+    record {
+      broken = λ other.
+          let only = not_link_memory fault e is other in
+          subst (BreaksTelling accepts permits board w name name calls told before after)
+          (sym only.1) (
+            inr (inl (refl, rose only.0, trace, steps, made, waits, adds)),
+            quiet name calls told tells,
+          );
+      short = λ is_short. inr (inl (trace, steps, (made, waits, adds)));
+    }
 
 -- ---- the counts
 
@@ -361,11 +486,3 @@ counted board mid given board' moment questions counts given_is board_is =
           (sym (ap (λ b. b.last_ticket) board_is ∙ (same.1 ∙ ap (λ b. b.last_ticket) given_is)))
           counts.1,
     )
-
--- ---- the error of a target
-
--- unless memory was wanting the outside failed
-pub not_memory : {E F : Type 0} (fault : TargetFault) (e : GatewayError E F)
-    → e ≡ target_error fault → e ≢ error.NoMemory → (fault ≡ Failed) × (e ≡ error.TargetFault)
-not_memory Failed e is other = (refl, is)
-not_memory NoMemory e is other = absurd (other is)

@@ -1,5 +1,5 @@
 -- What a gateway goes by: the opens that nobody has decided, and the connections.
-use Rattle.std.specs.Prelude.{ℕ, ◌+◌, ◌==◌, ◌&&◌, not, cond, Bool, true, false, List, [], ◌∷◌, ◌++◌}
+use Rattle.std.specs.Prelude.{ℕ, ◌==◌, not, Bool, true, List, [], ◌∷◌, ◌++◌}
 use Rattle.std.specs.Prelude.{filter, Option, Some, None, Ok}
 use Rattle.std.specs.List.{find, position, slice_get, slice_set}
 use Rattle.ssh_wire.specs.declared.channel_id.ChannelId.{ChannelId}

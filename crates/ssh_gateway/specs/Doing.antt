@@ -1,7 +1,6 @@
 -- What the parts of a turn do.
-use Rattle.std.specs.Prelude.{◌≡◌, ◌≢◌, ◌≤◌, ◌+◌, ℕ, Bool, true, false, List, [], ◌∷◌, ◌++◌, length}
-use Rattle.std.specs.Prelude.{not, flat_map, Option, Some, None, Result, Ok, Err}
-use Rattle.ssh_link.specs.Faults.{Rose}
+use Rattle.std.specs.Prelude.{◌≡◌, ◌≤◌, ◌+◌, ℕ, true, false, List, [], ◌∷◌, ◌++◌, length}
+use Rattle.std.specs.Prelude.{not, Option, Some, None, Ok, Err}
 use Rattle.ssh_link.specs.Told.{Adds, ToldBy}
 use Rattle.ssh_link.specs.declared.frame.Input.{Input}
 use Rattle.ssh_link.specs.declared.frame.InputKind.{InputKind}

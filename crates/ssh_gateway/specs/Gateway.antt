@@ -1,62 +1,30 @@
 -- What a gateway promises: turns one after another, each by its rule, and how they end.
-use Rattle.std.specs.Prelude.{◌≡◌, ◌<◌, ℕ, ◌==◌, cond, List, [], ◌∷◌, ◌++◌, length}
-use Rattle.std.specs.Prelude.{flat_map, Option, Some, None, Result, Ok, Err}
-use Rattle.std.specs.List.{find}
+use Rattle.std.specs.Prelude.{◌≡◌, ◌<◌, ◌⊎◌, ℕ, List, [], ◌∷◌, ◌++◌, length, map, flat_map, Result}
+use Rattle.std.specs.Prelude.{Ok, Err}
 use Rattle.ssh_link.specs.Told.{Adds}
-use Rattle.ssh_auth.specs.declared.question.Happening.TheVariants as what
-use Rattle.ssh_auth.specs.declared.question.Lent.TheVariants.{Happened}
-use Rattle.ssh_auth.specs.declared.question.Question.{Question}
-use Rattle.ssh_auth.specs.declared.question.Question.TheVariants.{Lends}
+use Rattle.ssh_auth.specs.declared.call.Call.{Call}
 use Rattle.ssh_auth.specs.Publickey.{Acceptance}
 use Rattle.ssh_rules.specs.Outcome.{Ends}
-use Rattle.ssh_rules.specs.Run.{steps_of}
+use Rattle.ssh_rules.specs.Run.{Run, steps_of}
 use Rattle.ssh_rules.specs.Valid.{IsValid}
 use Rattle.ssh_rules.specs.World.{Settings, World, opening_world}
 use Rattle.ssh_gateway.specs.declared.error.GatewayError.{GatewayError}
 use Rattle.ssh_gateway.specs.declared.error.GatewayError.TheVariants as error
-use Rattle.ssh_gateway.specs.declared.switchboard.Connection.{Connection}
+use Rattle.ssh_gateway.specs.Admitting.{admissions}
 use Rattle.ssh_gateway.specs.Asked.{written, read}
-use Rattle.ssh_gateway.specs.Board.{Board, opening_board, is_on, noted}
-use Rattle.ssh_gateway.specs.Choosing.{Permits, Source, Sends}
-use Rattle.ssh_gateway.specs.Serving.{Outside, IsBroken, ServesNone, TellsRound}
-use Rattle.ssh_gateway.specs.Turns.{Round, Rounds, IsRound, board_within, board_after}
-use Rattle.ssh_gateway.specs.Turns.{link_entries, target_calls}
-
--- ---- the bytes of a connection
-
--- these bytes came on the channel of the connection with this number
-abbrev pub if_of : (id : ℕ) → Option Connection → (bytes : List ℕ) → List ℕ
-if_of id None bytes = []
-if_of id (Some one) bytes = cond (one.id == id) bytes []
-
-abbrev pub came_by : (id : ℕ) → Question → Board → List ℕ
-came_by id (Lends (Happened channel (what.Data bytes))) board =
-    if_of id (find (is_on channel) board.connections) bytes
-came_by id _ board = []
-
-abbrev pub came : (id : ℕ) → List Question → Board → List ℕ
-came id [] board = []
-came id (question ∷ questions) board =
-    came_by id question board ++ came id questions (noted question board)
-
--- the data that the peer sent on its channel while it stood, joined in order
-abbrev pub incoming : {E F : Type 0} → (id : ℕ) → Board → List (Round E F) → List ℕ
-incoming id board [] = []
-incoming id board (round ∷ rounds) = came id round.asked (board_within round board)
-    ++ incoming id (board_after round board) rounds
-
--- the data that were accepted on its channel, joined in order
-abbrev pub sent_by : (id : ℕ) → Source → List ℕ
-sent_by id (Sends earlier one later bytes) = cond (one.id == id) bytes []
-sent_by id _ = []
-
-abbrev pub outgoing : {E F : Type 0} → (id : ℕ) → List (Round E F) → List ℕ
-outgoing id rounds = flat_map (λ round. sent_by id round.source) rounds
+use Rattle.ssh_gateway.specs.Board.{Board, opening_board}
+pub use Rattle.ssh_gateway.specs.Bytes.{came, incoming, sent_by, outgoing}
+use Rattle.ssh_gateway.specs.Choosing.{Permits}
+use Rattle.ssh_gateway.specs.Serving.{Outside, IsBroken, ServesNone, TellsRound, UnlessRefused}
+use Rattle.ssh_gateway.specs.Serving.{IsShort, last_events}
+use Rattle.ssh_gateway.specs.Turns.{Round, Rounds, IsRound, link_entries, target_calls}
+use Rattle.ssh_gateway.specs.Unfinished.{AtMostOne, endings_in, IsUnfinished, last_round, last_asked}
 
 -- ---- how it ends
 
 -- with so many turns finished, by this board and in this world: one more turn ended the run, or was
--- not finished; or there are as many as are allowed. Of want of memory nothing is said
+-- not finished; or there are as many as are allowed. Memory may be wanting in a turn, or for the
+-- session itself, and then nothing was begun
 abbrev pub EndsSo : {E F : Type 0} → Acceptance → Permits → (max : ℕ) → Board → World → (count : ℕ)
     → (between after : Outside F) → Result (Unit {0}) (GatewayError E F) → Type 0
 EndsSo {E} {F} accepts permits max board w count between after (Ok done) = (count < max)
@@ -64,7 +32,9 @@ EndsSo {E} {F} accepts permits max board w count between after (Ok done) = (coun
     × IsRound accepts permits board w round (Ends world) × TellsRound between after round)
 EndsSo accepts permits max board w count between after (Err error.TurnLimit) = (count ≡ max)
     × (after ≡ between)
-EndsSo accepts permits max board w count between after (Err error.NoMemory) = Unit {0}
+EndsSo {E} {F} accepts permits max board w count between after (Err error.NoMemory) =
+    ((count ≡ 0) × (after ≡ between))
+    ⊎ ((count < max) × IsShort E accepts permits board w between after)
 EndsSo {E} {F} accepts permits max board w count between after (Err error.TargetFault) =
     (count < max) × IsBroken {E = E} accepts permits board w between after error.TargetFault
 EndsSo accepts permits max board w count between after (Err (error.Run e)) = (count < max)
@@ -78,6 +48,25 @@ EndIsValid accepts permits board w between after (Err (error.Run e)) =
     → IsValid accepts w none.round.turn
 EndIsValid accepts permits board w between after result = Unit {0}
 
+-- where a turn was not finished, what it did, in short
+abbrev pub UnfinishedSo : {E F : Type 0} (accepts : Acceptance) (permits : Permits) (max : ℕ)
+    (board : Board) (w : World) (rounds : List (Round E F)) (between after : Outside F)
+    (result : Result (Unit {0}) (GatewayError E F))
+    → EndsSo accepts permits max board w (length rounds) between after result → Type 0
+UnfinishedSo accepts permits max board w rounds between after (Err error.TargetFault) ends =
+    IsUnfinished permits board w rounds
+    (last_round accepts permits board w between after error.TargetFault ends.1)
+    (last_asked accepts permits board w between after error.TargetFault ends.1)
+    between.targets after.targets
+UnfinishedSo accepts permits max board w rounds between after (Err (error.Run e)) ends =
+    IsUnfinished permits board w rounds
+    (last_round accepts permits board w between after (error.Run e) ends.1)
+    (last_asked accepts permits board w between after (error.Run e) ends.1)
+    between.targets after.targets
+UnfinishedSo accepts permits max board w rounds between after (Err error.NoMemory) ends = Unit {0}
+UnfinishedSo accepts permits max board w rounds between after (Err error.TurnLimit) ends = Unit {0}
+UnfinishedSo accepts permits max board w rounds between after (Ok done) ends = Unit {0}
+
 -- Ok, want of memory, or the limit of turns
 abbrev pub IsComplete : {E F : Type 0} → Result (Unit {0}) (GatewayError E F) → Type 0
 IsComplete (Err error.TargetFault) = ⊥
@@ -89,13 +78,15 @@ IsComplete result = Unit {0}
 pub record Gatewayed {E F : Type 0} (accepts : Acceptance) (permits : Permits) (settings : Settings)
     (max : ℕ) (before after : Outside F) (result : Result (Unit {0}) (GatewayError E F))
     : Type 0 where
-  -- the turns that were finished, each by its rule: which input is chosen, so which open is accepted
-  -- and which host is connected to, when the link is asked, what the input owes by the table of
-  -- replies, and how callbacks answer
+  -- the turns that were finished, each by its rule: an open is connected to exactly where the policy
+  -- allows it to the user who was let in, and accepted exactly where the connect answered true; else
+  -- a connection has something; else the link is asked, and only then (`IsRound`, its `chosen`)
   pub rounds : List (Round E F)
   pub board : Board
   pub world : World
   pub run : Rounds accepts permits opening_board (opening_world settings) rounds board world
+  -- their inputs are one run of the table of replies, in which the callbacks answer by the rule
+  pub one_run : Run accepts (opening_world settings) (map (λ round. round.turn) rounds) world
   -- what was told in them, and nothing else was
   pub between : Outside F
   pub stepped : Adds before.beneath.steps between.beneath.steps
@@ -104,6 +95,12 @@ pub record Gatewayed {E F : Type 0} (accepts : Acceptance) (permits : Permits) (
   pub asked : Adds before.targets between.targets (flat_map target_calls rounds)
   -- and then it ended so
   pub ends : EndsSo accepts permits max board world (length rounds) between after result
+  -- a turn finishes or closes one connection, once, or none
+  pub once : (earlier later : List (Round E F)) (round : Round E F)
+      → rounds ≡ earlier ++ round ∷ later → AtMostOne (endings_in (target_calls round))
+  -- where the last turn was not finished, it made at most one connect, where the policy allows it,
+  -- what it wrote is a front of what came, and what went out is a front of what was read
+  pub unfinished : UnfinishedSo accepts permits max board world rounds between after result ends
   -- after each of them, what was written to a connection is what came for it, and what was read
   -- from it is what went out
   pub writes : (id : ℕ) → (earlier later : List (Round E F)) → rounds ≡ earlier ++ later
@@ -115,3 +112,39 @@ pub record Gatewayed {E F : Type 0} (accepts : Acceptance) (permits : Permits) (
       → after.target_faults ≡ before.target_faults
       → EndIsValid accepts permits board world between after result
       → IsComplete result
+
+-- ---- the whole, with the handler of authentication
+
+-- the calls of authentication in the turn that ended the run or was not finished, as far as it came
+abbrev pub last_admissions : {E F : Type 0} (accepts : Acceptance) (permits : Permits) (max : ℕ)
+    (board : Board) (w : World) (count : ℕ) (between after : Outside F)
+    (result : Result (Unit {0}) (GatewayError E F))
+    → EndsSo accepts permits max board w count between after result → List (Call E)
+last_admissions accepts permits max board w count between after (Ok done) ends =
+    admissions ends.1.0.turn.events
+last_admissions accepts permits max board w count between after (Err error.TurnLimit) ends = []
+last_admissions accepts permits max board w count between after (Err error.NoMemory) ends = []
+last_admissions accepts permits max board w count between after (Err error.TargetFault) ends =
+    admissions (last_events accepts permits board w between after error.TargetFault ends.1)
+last_admissions accepts permits max board w count between after (Err (error.Run e)) ends =
+    admissions (last_events accepts permits board w between after (error.Run e) ends.1)
+
+-- unless that handler answered an error of its own, after which it may tell none, or memory was
+-- wanting
+abbrev pub UnlessLost : {E F : Type 0} → Result (Unit {0}) (GatewayError E F) → Type 0 → Type 0
+UnlessLost (Ok done) P = P
+UnlessLost (Err error.NoMemory) P = Unit {0}
+UnlessLost (Err error.TurnLimit) P = P
+UnlessLost (Err error.TargetFault) P = P
+UnlessLost (Err (error.Run e)) P = UnlessRefused (error.Run e) P
+
+pub record Attended {E F : Type 0} (accepts : Acceptance) (permits : Permits)
+    (settings : Settings) (max : ℕ) (IsTold : List (Call E) → Type 0) (before after : Outside F)
+    (result : Result (Unit {0}) (GatewayError E F)) : Type 0 where
+  pub whole : Gatewayed accepts permits settings max before after result
+  -- the handler of authentication was asked for the calls of authentication in these turns, and of
+  -- the one that was not finished as far as it came, in order, and for nothing else
+  pub admitted : UnlessLost result (IsTold
+      (flat_map (λ round. admissions round.turn.events) whole.rounds
+      ++ last_admissions accepts permits max whole.board whole.world (length whole.rounds)
+      whole.between after result whole.ends))

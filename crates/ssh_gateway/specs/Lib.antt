@@ -1,7 +1,9 @@
+pub mod Admitting
 pub mod Allowed
 pub mod Answering
 pub mod Asked
 pub mod Board
+pub mod Bytes
 pub mod Choosing
 pub mod Doing
 pub mod Gateway
@@ -9,3 +11,4 @@ pub mod Memory
 pub mod Raised
 pub mod Serving
 pub mod Turns
+pub mod Unfinished

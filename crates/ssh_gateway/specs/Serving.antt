@@ -1,6 +1,7 @@
 -- What a turn comes to.
-use Rattle.std.specs.Prelude.{◌≡◌, ◌≢◌, ◌≤◌, ◌⊎◌, ℕ, List, [], ◌++◌, true, not, Option, Some}
+use Rattle.std.specs.Prelude.{◌≡◌, ◌≢◌, ◌≤◌, ◌⊎◌, ℕ, List, [], true, not, Option, Some}
 use Rattle.std.specs.Prelude.{Result, Ok, Err, flat_map}
+use Rattle.std.proofs.Common.{inl, inr}
 use Rattle.std.specs.Borrow.{GName}
 use Rattle.ssh_link.specs.Faults.{Rose}
 use Rattle.ssh_link.specs.Told.{Adds, AddsNothing, ToldBy}
@@ -19,7 +20,7 @@ use Rattle.ssh_rules.specs.declared.error.RunError.{RunError}
 use Rattle.ssh_rules.specs.declared.error.RunError.TheVariants as run
 use Rattle.ssh_rules.specs.Cause.{IsCaused, cause_of}
 use Rattle.ssh_rules.specs.Outcome.{Outcome, Goes, Ends}
-use Rattle.ssh_rules.specs.Run.{Turn, Owes, steps_of, wants_commands}
+use Rattle.ssh_rules.specs.Run.{Turn, Owes, calls_of, steps_of, wants_commands}
 use Rattle.ssh_rules.specs.Valid.{IsValid}
 use Rattle.ssh_rules.specs.World.{World, in_exchange}
 use Rattle.ssh_session.specs.Serve.{Refines}
@@ -27,7 +28,8 @@ use Rattle.ssh_session.specs.declared.session.Session.{Session}
 use Rattle.ssh_gateway.specs.declared.error.GatewayError.{GatewayError}
 use Rattle.ssh_gateway.specs.declared.error.GatewayError.TheVariants as error
 use Rattle.ssh_gateway.specs.declared.targets.TargetCall.{TargetCall}
-use Rattle.ssh_gateway.specs.Answering.{answered, passed, of_authentication}
+use Rattle.ssh_gateway.specs.Admitting.{TellsAdmissions, admissions}
+use Rattle.ssh_gateway.specs.Answering.{answered}
 use Rattle.ssh_gateway.specs.Asked.{IsCutOff}
 use Rattle.ssh_gateway.specs.Board.{Board}
 use Rattle.ssh_gateway.specs.Choosing.{Permits, Waits, IsChosen}
@@ -62,13 +64,6 @@ outside steps trace faults told target_faults kex link targets = record {
   target_faults = target_faults targets;
 }
 
--- what the handler of authentication told stands for these calls: in these events it made its own
--- calls of authentication, and no others
-abbrev pub IsPassed : {E F : Type 0} → List (Call E) → Option (List (Call E))
-    → List (Event (RecordError E) F) → Type 0
-IsPassed {E} before told events = (after : List (Call E)) × (told ≡ Some after)
-    × (passed after ≡ passed before ++ of_authentication (calls_in events))
-
 -- ---- an input
 
 -- an input that was taken in this world, with what happened
@@ -101,7 +96,7 @@ pub record Serves {E F : Type 0} (accepts : Acceptance) (w : World) (input : Inp
   pub stepped : Adds before.steps after.steps (steps_in events)
   pub told_link : Adds before.trace after.trace (told_in events)
   pub same : name' ≡ name
-  pub passed : IsPassed calls told events
+  pub admitted : TellsAdmissions calls told (admissions events)
   pub questions : List Question
   pub kept : asked ≡ Some questions
   pub answered : own_calls (calls_in events) ≡ flat_map answered questions
@@ -111,20 +106,35 @@ pub record Serves {E F : Type 0} (accepts : Acceptance) (w : World) (input : Inp
 abbrev pub OwesOrNothing : Acceptance → World → Input → Plan Outcome → Type 0
 OwesOrNothing accepts w input plan = Owes accepts w input plan ⊎ (plan ≡ Finish (Goes w))
 
--- it was not finished, by the cause that the error names
+-- the handler of authentication is the same one, and tells these calls beside those before; unless it
+-- answered an error of its own, after which it may tell none
+abbrev pub KeepsTelling : {E : Type 0} → (name name' : GName) → (calls : List (Call E))
+    → (told : Option (List (Call E))) → (made : List (Call E)) → Type 0
+KeepsTelling name name' calls told made = (name' ≡ name) × TellsAdmissions calls told made
+
+abbrev pub UnlessRefused : {E F : Type 0} → GatewayError E F → Type 0 → Type 0
+UnlessRefused (error.Run (run.Handler e)) P = Unit {0}
+UnlessRefused _ P = P
+
+-- it was not finished, by a cause, which the error names unless memory was wanting
 pub record Stops {E F : Type 0} (accepts : Acceptance) (w : World) (input : Input)
+    (name name' : GName) (calls : List (Call E)) (told : Option (List (Call E)))
     (before after : Beneath F) (e : GatewayError E F) : Type 0 where
   pub plan : Plan Outcome
   pub owes : OwesOrNothing accepts w input plan
   pub events : List (Event (RecordError E) F)
   pub why : RunError (RecordError E) F
-  pub is : e ≡ lowered why
+  pub is : e ≢ error.NoMemory → e ≡ lowered why
   pub caused : IsCaused (cause_of why) plan (Rose before.faults after.faults) events
   pub stepped : Adds before.steps after.steps (steps_in events)
   pub told_link : Adds before.trace after.trace (told_in events)
   pub later : before.faults ≤ after.faults
+  pub questions : List Question
+  pub handler : e ≢ error.NoMemory
+      → UnlessRefused e (KeepsTelling name name' calls told (admissions events)
+      × (own_calls (calls_in events) ≡ flat_map answered questions))
 
--- one of the two, unless memory was wanting
+-- one of the two
 abbrev pub ServesOrStops : {E F : Type 0} → Acceptance → World → Input → (name name' : GName)
     → (calls : List (Call E)) → (told : Option (List (Call E)))
     → (asked : Option (List Question)) → (before after : Beneath F) → Session
@@ -132,7 +142,7 @@ abbrev pub ServesOrStops : {E F : Type 0} → Acceptance → World → Input →
 ServesOrStops accepts w input name name' calls told asked before after session (Ok flow) =
     Serves accepts w input name name' calls told asked before after session flow
 ServesOrStops accepts w input name name' calls told asked before after session (Err e) =
-    e ≢ error.NoMemory → Stops accepts w input before after e
+    Stops accepts w input name name' calls told before after e
 
 -- ---- a turn
 
@@ -174,6 +184,7 @@ pub record ServesNone {E F : Type 0} (accepts : Acceptance) (permits : Permits) 
   pub caused : IsCaused (cause_of why) plan
       (Rose before.beneath.faults after.beneath.faults) round.turn.events
   pub fair : IsValid accepts w round.turn → Rose before.beneath.faults after.beneath.faults
+  pub answered : UnlessRefused e (own_calls (calls_of round.turn) ≡ flat_map answered round.asked)
   pub told : TellsRound before after round
 
 -- or it was finished, and a target failed as it was told of it
@@ -197,6 +208,53 @@ IsBroken accepts permits board w before after e = ChoosesNone permits board w be
     ⊎ (ServesNone accepts permits board w before after e
     ⊎ TellsNone accepts permits board w before after e))
 
+-- ---- a turn for which memory was wanting
+
+-- as its input was served, by this cause; the targets were asked nothing after it
+pub record ServesShort (E : Type 0) {F : Type 0} (accepts : Acceptance) (permits : Permits)
+    (board : Board) (w : World) (before after : Outside F) : Type 0 where
+  pub round : Round E F
+  pub begins : Begins permits board w round
+  pub nothing : round.after ≡ []
+  pub plan : Plan Outcome
+  pub owes : OwesOrNothing accepts w round.turn.input plan
+  pub why : RunError (RecordError E) F
+  pub caused : IsCaused (cause_of why) plan
+      (Rose before.beneath.faults after.beneath.faults) round.turn.events
+  pub told : TellsRound before after round
+
+-- or as the targets were told of it
+pub record TellsShort (E : Type 0) {F : Type 0} (accepts : Acceptance) (permits : Permits)
+    (board : Board) (w : World) (before after : Outside F) : Type 0 where
+  pub round : Round E F
+  pub begins : Begins permits board w round
+  pub outcome : Outcome
+  pub comes : Comes accepts w round outcome
+  pub stepped : Adds before.beneath.steps after.beneath.steps (steps_of round.turn)
+  pub told_link : Adds before.beneath.trace after.beneath.trace (link_entries round)
+
+-- or before it: as an input was chosen, or as the link was asked for one
+abbrev pub IsShort : (E : Type 0) → {F : Type 0} → Acceptance → Permits → Board → World
+    → (before after : Outside F) → Type 0
+IsShort E accepts permits board w before after = (after.beneath ≡ before.beneath)
+    ⊎ ((AddsNothing before.beneath.trace after.beneath.trace
+    × (after.beneath.steps ≡ before.beneath.steps)
+    × ((calls : List TargetCall) × IsChosen permits w board Waits calls
+    × Adds before.targets after.targets calls))
+    ⊎ (ServesShort E accepts permits board w before after
+    ⊎ TellsShort E accepts permits board w before after))
+
+-- ---- a turn that was finished, or was not
+
+-- what happened in one that was not, where an input was given
+abbrev pub last_events : {E F : Type 0} (accepts : Acceptance) (permits : Permits) (board : Board)
+    (w : World) (before after : Outside F) (e : GatewayError E F)
+    → IsBroken accepts permits board w before after e → List (Event (RecordError E) F)
+last_events accepts permits board w before after e (inl none) = []
+last_events accepts permits board w before after e (inr (inl none)) = []
+last_events accepts permits board w before after e (inr (inr (inl none))) = none.round.turn.events
+last_events accepts permits board w before after e (inr (inr (inr none))) = none.round.turn.events
+
 -- the turn was finished
 pub record Turned {E F : Type 0} (accepts : Acceptance) (permits : Permits) (board board' : Board)
     (w : World) (name name' : GName) (calls : List (Call E)) (told : Option (List (Call E)))
@@ -209,10 +267,26 @@ pub record Turned {E F : Type 0} (accepts : Acceptance) (permits : Permits) (boa
   pub board_is : board' ≡ board_after round board
   pub tells : TellsRound before after round
   pub same : name' ≡ name
-  pub passed : IsPassed calls told round.turn.events
+  pub admitted : TellsAdmissions calls told (admissions round.turn.events)
   pub empty : asked ≡ Some []
   pub later : before.beneath.faults ≤ after.beneath.faults
   pub target_later : before.target_faults ≤ after.target_faults
+
+-- it was not, and this is what the handler of authentication was asked in it
+abbrev pub BreaksTelling : {E F : Type 0} → Acceptance → Permits → Board → World
+    → (name name' : GName) → (calls : List (Call E)) → (told : Option (List (Call E)))
+    → (before after : Outside F) → GatewayError E F → Type 0
+BreaksTelling accepts permits board w name name' calls told before after e =
+    (broken : IsBroken accepts permits board w before after e)
+    × UnlessRefused e (KeepsTelling name name' calls told
+    (admissions (last_events accepts permits board w before after e broken)))
+
+pub record Breaks {E F : Type 0} (accepts : Acceptance) (permits : Permits) (board : Board)
+    (w : World) (name name' : GName) (calls : List (Call E)) (told : Option (List (Call E)))
+    (before after : Outside F) (e : GatewayError E F) : Type 0 where
+  pub broken : e ≢ error.NoMemory
+      → BreaksTelling accepts permits board w name name' calls told before after e
+  pub short : e ≡ error.NoMemory → IsShort E accepts permits board w before after
 
 abbrev pub TurnsOrBreaks : {E F : Type 0} → Acceptance → Permits → (board board' : Board) → World
     → (name name' : GName) → (calls : List (Call E)) → (told : Option (List (Call E)))
@@ -222,4 +296,4 @@ TurnsOrBreaks accepts permits board board' w name name' calls told asked before 
     (Ok flow) =
     Turned accepts permits board board' w name name' calls told asked before after session flow
 TurnsOrBreaks accepts permits board board' w name name' calls told asked before after session
-    (Err e) = e ≢ error.NoMemory → IsBroken accepts permits board w before after e
+    (Err e) = Breaks accepts permits board w name name' calls told before after e

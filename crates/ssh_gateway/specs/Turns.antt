@@ -1,6 +1,5 @@
 -- The turns of a gateway.
-use Rattle.std.specs.Prelude.{◌≡◌, ◌≤◌, ◌+◌, ℕ, Bool, not, List, [], ◌∷◌, ◌++◌, filter, flat_map}
-use Rattle.std.specs.Prelude.{map, Some, None}
+use Rattle.std.specs.Prelude.{◌≡◌, ◌+◌, List, [], ◌∷◌, ◌++◌, flat_map}
 use Rattle.ssh_link.specs.declared.link.TraceEntry.{TraceEntry}
 use Rattle.ssh_auth.specs.declared.question.Question.{Question}
 use Rattle.ssh_auth.specs.Plan.{Plan, Follows, told_in}
@@ -17,7 +16,6 @@ use Rattle.ssh_rules.specs.Run.{Turn, Owes, IsTaken, calls_of}
 use Rattle.ssh_rules.specs.World.{World, in_exchange, lined}
 use Rattle.ssh_gateway.specs.declared.targets.TargetCall.{TargetCall}
 use Rattle.ssh_gateway.specs.Answering.{answered}
-use Rattle.ssh_gateway.specs.Asked.{written, read}
 use Rattle.ssh_gateway.specs.Board.{Board, all_noted, all_due}
 use Rattle.ssh_gateway.specs.Choosing.{Permits, Source, Sends, IsChosen, IsGiven, own_kind, took, settled}
 use Rattle.ssh_gateway.specs.Choosing.{closed_by}
@@ -50,7 +48,10 @@ board_after round board = all_noted round.asked (board_within round board)
 -- it begins so: the source is chosen and its input is given, which is one of a run of the session
 pub record Begins {E F : Type 0} (permits : Permits) (board : Board) (w : World)
     (round : Round E F) : Type 0 where
+  -- the oldest open that is to be decided; else the first connection that has something; else the
+  -- link. The targets were asked this for it, and nothing else
   pub chosen : IsChosen permits w board round.source round.before
+  -- its input has the gateway's next ticket, or is the link's
   pub given : IsGiven (own_kind (board.last_ticket + 1) round.source) board.moment round.turn.input
   pub taken : IsTaken w round.turn
 
@@ -79,6 +80,7 @@ pub record IsRound {E F : Type 0} (accepts : Acceptance) (permits : Permits)
     (board : Board) (w : World) (round : Round E F) (outcome : Outcome) : Type 0 where
   pub begins : Begins permits board w round
   pub comes : Comes accepts w round outcome
+  -- data of the peer are written, its end of file finishes and its close closes
   pub told : round.after ≡ due_after round board
   pub accepted : TakesData w round.source
 

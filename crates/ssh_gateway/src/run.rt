@@ -7,8 +7,9 @@ ghost use Rattle.ssh_session.specs.Between.{untold};
 ghost use Rattle.ssh_session.specs.Serve.{Refines};
 ghost use Rattle.ssh_gateway.specs.Board.{opening_board};
 ghost use Rattle.ssh_gateway.specs.Doing.{IsNextCount};
-ghost use Rattle.ssh_gateway.specs.Gateway.{Gatewayed};
-ghost use Rattle.ssh_gateway.specs.Serving.{ServesOrStops, TurnsOrBreaks, beneath, outside};
+ghost use Rattle.ssh_gateway.specs.Gateway.{Gatewayed, Attended};
+ghost use Rattle.ssh_gateway.specs.Serving.{ServesOrStops, TurnsOrBreaks, KeepsTelling};
+ghost use Rattle.ssh_gateway.specs.Serving.{beneath, outside};
 
 use crate::error::{link_error, lowered, target_error};
 use crate::keeper::{Keeper, Notebook};
@@ -119,11 +120,12 @@ fn turns<A: AuthHandler, V: Verifier, K: Kex, L: Link, P: Policy, T: Targets>(
 ) -> Result<(), GatewayError<A::Error, K::Error>>
     requires board { board.old ≡ opening_board }
     requires told { untold session.old ≡ [] }
-    ensures gateway { (settings : Settings) (calls : List (Call A.Error)) →
+    ensures attended { (settings : Settings) (calls : List (Call A.Error)) →
         Refines session.old (opening_world settings) → settings.repeatable ≡ K.repeats kex.old →
         keeper.old.notebook ≡ Some [] → A.told keeper.old.auth.now ≡ Some calls →
-        result ≢ Err GatewayError.NoMemory →
-        Gatewayed (V.accepts verifier.now) (P.permits policy.now) settings max_turns
+        Attended (V.accepts verifier.now) (P.permits policy.now) settings max_turns
+        (KeepsTelling keeper.old.auth.ghost_name keeper.new.auth.ghost_name calls
+        (A.told keeper.new.auth.now))
         (outside K.steps L.trace L.faults T.told T.faults kex.old link.old targets.old)
         (outside K.steps L.trace L.faults T.told T.faults kex.new link.new targets.new) result }
 {
@@ -163,7 +165,6 @@ pub fn run_gateway<A: AuthHandler, V: Verifier, K: Kex, L: Link, P: Policy, T: T
 ) -> Result<(), GatewayError<A::Error, K::Error>>
     requires { length session_id.now < 2 ^ 32 }
     ensures gateway { (calls : List (Call A.Error)) → A.told auth.old ≡ Some calls →
-        result ≢ Err GatewayError.NoMemory →
         Gatewayed (V.accepts verifier.now) (P.permits policy.now)
         (settings_of config.now session_id.now remote_sshid.now (K.repeats kex.old)) max_turns
         (outside K.steps L.trace L.faults T.told T.faults kex.old link.old targets.old)

@@ -32,7 +32,7 @@ loop-preserved g c =
       going = λ settings calls r repeats kept tells.
           let going = c.loop.invariant.going settings calls r repeats kept tells in
           goes_on (g.V.Verifier.accepts c.args.verifier.now) (g.P.Policy.permits c.args.policy.now)
-          settings c.loop.counter c.loop.board c.turn.new.board _ _ _ _ _ _ _ _ _ _
+          settings c.loop.counter c.loop.board c.turn.new.board _ _ _ calls _ _ _ _ _ _ _
           c.loop.session c.turn.new.session going
           (rw c.in-Ok-Continue.field-0-is at (c.in-Ok-Continue.ensures.turned going.world going.calls
           going.refines c.loop.invariant.told going.live
@@ -42,11 +42,11 @@ loop-preserved g c =
 
 pub returns-in-Ok-Ended : goal.returns-in-Ok-Ended
 returns-in-Ok-Ended g c = record {
-  gateway = λ settings calls r repeats kept tells other.
+  attended = λ settings calls r repeats kept tells.
       let going = c.loop.invariant.going settings calls r repeats kept tells in
       let few : c.loop.counter < c.args.max_turns = omega arith in
       ended (g.V.Verifier.accepts c.args.verifier.now) (g.P.Policy.permits c.args.policy.now)
-      settings c.loop.counter c.args.max_turns c.loop.board c.turn.new.board _ _ _ _ _ _ _ _ _ _
+      settings c.loop.counter c.args.max_turns c.loop.board c.turn.new.board _ _ _ calls _ _ _ _ _ _ _
       c.loop.session c.turn.new.session going few
       (rw c.in-Ok-Ended.field-0-is at (c.in-Ok-Ended.ensures.turned going.world going.calls
       going.refines c.loop.invariant.told going.live
@@ -56,23 +56,22 @@ returns-in-Ok-Ended g c = record {
 
 pub returns-in-Err : goal.returns-in-Err
 returns-in-Err g c = record {
-  gateway = λ settings calls r repeats kept tells other.
+  attended = λ settings calls r repeats kept tells.
       let going = c.loop.invariant.going settings calls r repeats kept tells in
       let few : c.loop.counter < c.args.max_turns = omega arith in
       broken (g.V.Verifier.accepts c.args.verifier.now) (g.P.Policy.permits c.args.policy.now)
-      settings c.loop.counter c.args.max_turns c.loop.board _ _ _ _ _ _ _ c.loop.session
+      settings c.loop.counter c.args.max_turns c.loop.board _ _ _ calls _ _ _ _ _ _ c.loop.session
       c.in-Err.error going few (λ is. c.in-Err.ensures.unlimited (ap Err is))
-      (λ is. other (ap Err is))
       (c.in-Err.ensures.turned going.world going.calls going.refines c.loop.invariant.told going.live
       (ap (λ s. s.repeatable) going.set ∙ (repeats ∙ sym c.loop.invariant.repeats)) going.kept
-      going.told_is (λ is. other (ap Err is)));
+      going.told_is);
 }
 
 pub returns : goal.returns
 returns g c = record {
-  gateway = λ settings calls r repeats kept tells other.
+  attended = λ settings calls r repeats kept tells.
       let all : c.loop.counter ≡ c.args.max_turns = omega arith in
       limited (g.V.Verifier.accepts c.args.verifier.now) (g.P.Policy.permits c.args.policy.now)
-      settings c.loop.counter c.args.max_turns c.loop.board _ _ _ _ _ _ c.loop.session
+      settings c.loop.counter c.args.max_turns c.loop.board _ _ calls _ _ _ _ c.loop.session
       (c.loop.invariant.going settings calls r repeats kept tells) all;
 }

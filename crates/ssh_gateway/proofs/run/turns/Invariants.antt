@@ -18,7 +18,7 @@ invariant-loop g l = record {
       settings.repeatable ≡ g.K.Kex.repeats l.fn.kex → l.fn.keeper.notebook ≡ Some [] →
       g.A.AuthHandler.told l.fn.keeper.auth.now ≡ Some calls →
       Going (g.V.Verifier.accepts l.fn.verifier) (g.P.Policy.permits l.fn.policy) settings
-      l.counter l.board l.fn.keeper.auth.ghost_name l.keeper.auth.ghost_name
+      l.counter l.board l.fn.keeper.auth.ghost_name l.keeper.auth.ghost_name calls
       (g.A.AuthHandler.told l.keeper.auth.now) l.keeper.notebook
       (outside g.K.Kex.steps g.L.Link.trace g.L.Link.faults g.T.Targets.told g.T.Targets.faults
       l.fn.kex l.fn.link l.fn.targets)

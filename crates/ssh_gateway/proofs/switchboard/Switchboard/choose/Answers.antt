@@ -1,4 +1,4 @@
-use Rattle.std.proofs.Common.{sym, ◌∙◌, ap, subst}
+use Rattle.std.proofs.Common.{◌∙◌, ap, subst}
 use Rattle.ssh_gateway.specs.Choosing.{to_decide}
 use Rattle.ssh_gateway.specs.Doing.{FailsChoosing, IsDecided}
 use Rattle.ssh_gateway.proofs.Choices.{chooses_decided}
