@@ -1,7 +1,7 @@
 -- The rows: all but those of the peer's CLOSE and of its opens leave the channel of a number and the
 -- open that waits there as they are, but for what callbacks recorded (RFC 4254 section 5).
 use Rattle.std.proofs.Common.{◌≡◌, ◌==◌, ◌||◌, ◌∙◌, ℕ, List, Bool, true, false, cond}
-use Rattle.std.proofs.Common.{Option, Some, None, refl, ap}
+use Rattle.std.proofs.Common.{Option, Some, None, refl, ap, sym}
 use Rattle.std.specs.Prelude.{length}
 use Rattle.std.specs.Ordering.{nat_cmp}
 use Rattle.std.specs.BTreeMap.{insert_entry}
@@ -236,11 +236,13 @@ module _ (n : ℕ)
         let q = h k in (q.0, inserted_other n number opening w.channels.opens t ∙ q.1)
 
     pub asked_leads : (number : ℕ) (opening : Opening) (w : World)
+        → (Waits n w → (n == number) ≡ false)
         → Leads n (Asked (own number)) w (waits number opening w)
-    asked_leads number opening w = record {
+    asked_leads number opening w apart = record {
       bytes = refl;
       waits = λ before h t. waited_step (n == number) before number opening w refl h t;
       stands = λ free ended s. s;
       still = λ free ended s. refl;
       opened = λ t. absurd (cc);
+      fresh = λ t q. let no : true ≡ false = sym t ∙ apart q in cc;
     }

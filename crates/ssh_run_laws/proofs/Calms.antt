@@ -91,6 +91,7 @@ noted_chain n w (Channel channel msg.Close) =
       stands = λ free ended s. s;
       still = λ free ended s. refl;
       opened = λ t. absurd (cc);
+      fresh = λ t q. cc;
     }) (calm_same n w)
 noted_chain n w (Channel channel _) = calm_same n w
 noted_chain n w _ = calm_same n w

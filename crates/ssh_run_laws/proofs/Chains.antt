@@ -5,7 +5,7 @@ use Rattle.std.proofs.Common.{ap}
 use Rattle.std.specs.List.{list_any}
 use Rattle.ssh_rules.specs.World.{World}
 use Rattle.ssh_run_laws.specs.Deeds.{Deed}
-use Rattle.ssh_run_laws.specs.Channels.{Stands, Waits, accepted_from, after_deed, bytes_on, ends}
+use Rattle.ssh_run_laws.specs.Channels.{Stands, Waits, accepted_from, after_deed, asks, bytes_on, ends}
 use Rattle.ssh_run_laws.specs.Channels.{sends, touches, waits_from, waits_then}
 use Rattle.ssh_run_laws.proofs.Leading.{Calm, Leads, calm_both, calm_same}
 
@@ -53,6 +53,16 @@ module _ (n : ℕ)
     chain_waits w [] v waits c h t = c.waits (h t)
     chain_waits w (deed ∷ deeds) v waits c h t =
         chain_waits c.1 deeds v (waits_then n waits deed) c.4
+        (λ k. c.3.waits waits (λ b. c.2.waits (h b)) k) t
+
+    -- an open that is asked about has another number than one that waits
+    pub chain_new : (w : World) (before : List Deed) (deed : Deed) (after : List Deed) (v : World)
+        (waits : Bool) → Chain n w (before ++ deed ∷ after) v → (waits ≡ true → Waits n w)
+        → asks n deed ≡ true → waits_from n waits before ≡ false
+    chain_new w [] deed after v true c h t = absurd (c.3.fresh t (c.2.waits (h refl)))
+    chain_new w [] deed after v false c h t = refl
+    chain_new w (one ∷ before) deed after v waits c h t =
+        chain_new c.1 before deed after v (waits_then n waits one) c.4
         (λ k. c.3.waits waits (λ b. c.2.waits (h b)) k) t
 
     pub neither : (a b : Bool) → (a || b) ≡ false → (a ≡ false) × (b ≡ false)

@@ -71,6 +71,7 @@ refused_leads n w one why = record {
   stands = λ free ended s. s;
   still = λ free ended s. refl;
   opened = λ t. absurd (cc);
+  fresh = λ t q. cc;
 }
 
 -- a command that changes neither the channel nor the open that waits, where it is accepted
@@ -116,6 +117,7 @@ opened_leads n w one (Some k) open_asked is =
         still = λ none ended s. rw is (new_still (n == k) n e lines (asks room (Some k) lines) refl
             free refl refl refl ended s);
         opened = λ t. absurd (cc);
+        fresh = λ t q. cc;
       },
     )
 
@@ -201,6 +203,7 @@ data_leads n w one channel kind bytes may is none opens apart =
             ∙ ap (λ b. cond b (bytes_on n lines ++ tagged (chunk kind bytes)) (bytes_on n lines))
             (apart free);
         opened = λ t. absurd (let no : true ≡ false = sym t ∙ opens in cc);
+        fresh = λ t q. cc;
       },
     )
 
@@ -280,6 +283,7 @@ confirmed_leads n past w answer opening kept is accepting =
             refl refl ended s);
         opened = λ t. rw free (opened_here (n == number) n e lines.entries refl free refl refl refl
             (subst (λ r. cond (n == number) (is_accepting r) false ≡ true) accepting t));
+        fresh = λ t q. cc;
       },
     )
 
@@ -302,6 +306,7 @@ failed_step n w answer payload reason false is rejects =
         still = λ none ended s. refl;
         opened = λ t. absurd (let no : false ≡ true = sym (cond_same (n == number) false)
             ∙ ap (λ r. cond (n == number) (is_accepting r) false) (sym rejects) ∙ t in cc);
+        fresh = λ t q. cc;
       },
     )
 
@@ -332,6 +337,7 @@ neutral n one bytes answers opens = record {
   bytes = bytes;
   waits = λ waits. ap (λ b. cond b false waits) answers;
   opens = opens;
+  asks = refl;
 }
 
 done_leads : (n : ℕ) (at : Option ChannelRequest) (past : List TraceEntry) (w : World)
@@ -352,6 +358,7 @@ done_leads n at past w (command.Eof channel) kept may =
         stands = λ free ended s. keeps.stands free ended s;
         still = λ free ended s. keeps.bytes;
         opened = λ t. absurd (cc);
+        fresh = λ t q. cc;
       },
     )
 done_leads n at past w (command.Close channel) kept may =
@@ -363,6 +370,7 @@ done_leads n at past w (command.Close channel) kept may =
         stands = λ free ended s. keeps.stands free ended s;
         still = λ free ended s. keeps.bytes;
         opened = λ t. absurd (cc);
+        fresh = λ t q. cc;
       },
     )
 done_leads n at past w (command.ChannelSuccess channel) kept may = (

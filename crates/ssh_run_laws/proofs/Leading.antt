@@ -6,7 +6,7 @@ use Rattle.ssh_channels.specs.declared.chunk.DataKind.{DataKind}
 use Rattle.ssh_channels.specs.Lines.{Lines}
 use Rattle.ssh_rules.specs.World.{Channels, World, lined}
 use Rattle.ssh_run_laws.specs.Deeds.{Deed}
-use Rattle.ssh_run_laws.specs.Channels.{Stands, Waits, after_deed, bytes_on, ends, opens}
+use Rattle.ssh_run_laws.specs.Channels.{Stands, Waits, after_deed, asks, bytes_on, ends, opens}
 use Rattle.ssh_run_laws.specs.Channels.{touches, waits_then}
 use Rattle.ssh_run_laws.proofs.Changing.{Keeps}
 use Rattle.ssh_run_laws.proofs.Openings.{waiting_at}
@@ -28,6 +28,8 @@ pub record Leads (n : ℕ) (deed : Deed) (w v : World) : Type 0 where
   pub still : touches n deed ≡ false → (ended : Bool) → Stands n ended w.channels.lines
       → bytes_on n v.channels.lines ≡ bytes_on n w.channels.lines
   pub opened : opens n deed ≡ true → Stands n false v.channels.lines
+  -- no open waits under the number of one that is asked about
+  pub fresh : asks n deed ≡ true → Waits n w → ⊥
 
 pub calm_same : (n : ℕ) (w : World) → Calm n w w
 calm_same n w = record { bytes = refl; waits = λ h. h; stands = λ ended s. s }
@@ -61,6 +63,7 @@ pub record IsNeutral (n : ℕ) (deed : Deed) : Type 0 where
   pub bytes : (held : List (DataKind × ℕ)) → after_deed n held deed ≡ held
   pub waits : (waits : Bool) → waits_then n waits deed ≡ waits
   pub opens : opens n deed ≡ false
+  pub asks : asks n deed ≡ false
 
 pub calm_leads : (n : ℕ) (deed : Deed) (w v : World) → IsNeutral n deed → Calm n w v
     → Leads n deed w v
@@ -70,4 +73,5 @@ calm_leads n deed w v neutral calm = record {
   stands = λ free ended s. calm.stands ended s;
   still = λ free ended s. calm.bytes;
   opened = λ t. absurd (let no : true ≡ false = sym t ∙ neutral.opens in cc);
+  fresh = λ t q. let no : true ≡ false = sym t ∙ neutral.asks in cc;
 }

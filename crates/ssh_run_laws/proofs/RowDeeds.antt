@@ -1,5 +1,5 @@
 -- What each row leads to is what was done in it (RFC 4254 section 5).
-use Rattle.std.proofs.Common.{◌≡◌, ◌∙◌, ℕ, List, [], ◌∷◌, ◌++◌, Bool, true, false, Option, Some, None}
+use Rattle.std.proofs.Common.{◌≡◌, ◌==◌, ◌∙◌, ℕ, List, [], ◌∷◌, ◌++◌, Bool, true, false, Option, Some, None}
 use Rattle.std.proofs.Common.{Ok, refl, sym, ap, subst}
 use Rattle.std.specs.Prelude.{bytes_eq, codes, if◌then◌else◌}
 use Rattle.ssh_wire.specs.declared.channel_id.ChannelId.{ChannelId}
@@ -44,7 +44,10 @@ use Rattle.ssh_rules.specs.World.{World, waits_for, lined}
 use Rattle.ssh_rules.proofs.Acting.{ActsCome}
 use Rattle.ssh_rules.proofs.Keeping.{ArePlain, Kept, beside_on, plain_kept}
 use Rattle.ssh_rules.proofs.Ledger.{IsFairSaid, law, owed_on}
+use Rattle.ssh_rules.proofs.Pending.{IsReserved, next_apart}
 use Rattle.ssh_rules.proofs.Replying.{EndsSo, IsBeside, verdict_beside, response_beside}
+use Rattle.ssh_rules.proofs.Waiting.{found_waiting}
+use Rattle.ssh_run_laws.specs.Channels.{Waits}
 use Rattle.ssh_run_laws.specs.Deeds.{Asked, Closed_by_peer, Deed, asked_by, deeds_from, deeds_in}
 use Rattle.ssh_run_laws.specs.Deeds.{done_at}
 use Rattle.ssh_run_laws.proofs.Calms.{ComesBy, acts_come_by, called_comes, comes_behind}
@@ -110,11 +113,18 @@ closed_leads n channel w =
       stands = λ free ended s. keeps.stands free ended s;
       still = λ free ended s. keeps.bytes;
       opened = λ t. absurd (cc);
+      fresh = λ t q. cc;
     }
 
 abbrev close_acts : ChannelId → List Act
 close_acts channel =
     Turns (lined (peer_closes channel.0)) ∷ told channel msg.Close what.Close
+
+-- an open that waits has another number than the next one
+next_is_new : (n : ℕ) (past : List TraceEntry) (number : ℕ) (w : World)
+    → next_number w.channels.lines ≡ Some number → Kept past w → Waits n w → (n == number) ≡ false
+next_is_new n past number w is kept (opening, there) = next_apart n number w.channels.lines is
+    (found_waiting 0 n (IsReserved w.channels.lines) w.channels.opens opening kept.waiting there).0.1
 
 module _ {E F : Type 0} (n : ℕ) (past : List TraceEntry)
   where
@@ -155,11 +165,12 @@ module _ {E F : Type 0} (n : ℕ) (past : List TraceEntry)
     -- ---- an open of the peer's
 
     asking_comes : (number : ℕ) (opening : Opening) (type : OpenType) (w : World)
-        (events : List (Event E F)) (outcome : Outcome) → Kept past (waits number opening w)
+        (events : List (Event E F)) (outcome : Outcome) → (Waits n w → (n == number) ≡ false)
+        → Kept past (waits number opening w)
         → Follows (acts (Turns (waits number opening) ∷ Calls None (Opens (own number) type) ∷ [])
         w) events outcome → ComesBy n w (deeds_in None events) outcome
-    asking_comes number opening type w [] outcome kept f = absurd (cc)
-    asking_comes number opening type w (event ∷ events) outcome kept f =
+    asking_comes number opening type w [] outcome apart kept f = absurd (cc)
+    asking_comes number opening type w (event ∷ events) outcome apart kept f =
         let v = waits number opening w in
         let done : done_at None event events
         ≡ Asked (own number) ∷ deeds_from 0 f.0 events =
@@ -167,7 +178,7 @@ module _ {E F : Type 0} (n : ℕ) (past : List TraceEntry)
         ∙ lent_done E F (Opens (own number) type) f.0 events in
         subst (λ l. ComesBy n w (l ++ deeds_in None events) outcome) (sym done)
         (comes_next n (Asked (own number)) w v (deeds_from 0 f.0 events ++ deeds_in None events)
-        outcome (asked_leads n number opening w)
+        outcome (asked_leads n number opening w apart)
         (called_comes n past None f.0 v (λ u. u) events outcome kept (λ u. calm_same n u) f.2))
 
     away_comes : (number : Option ℕ) (payload : List ℕ) (w : World) (events : List (Event E F))
@@ -181,19 +192,20 @@ module _ {E F : Type 0} (n : ℕ) (past : List TraceEntry)
         (λ v. written_calm n v _ refl refl refl, tt) kept come f
 
     open_comes : (number : Option ℕ) (message : OpenChannelMessage) (does : Handling) (w : World)
-        (events : List (Event E F)) (outcome : Outcome) → Kept past w
-        → ActsCome (law past) (open_acts number message does) w
+        (events : List (Event E F)) (outcome : Outcome) → next_number w.channels.lines ≡ number
+        → Kept past w → ActsCome (law past) (open_acts number message does) w
         → Follows (acts (open_acts number message does) w) events outcome
         → ComesBy n w (deeds_in None events) outcome
-    open_comes None message (Asks type) w events outcome kept come f =
+    open_comes None message (Asks type) w events outcome is kept come f =
         acts_come_by n past (open_acts None message (Asks type)) w events outcome tt kept come f
-    open_comes (Some number) message (Asks type) w events outcome kept come f =
-        asking_comes number (opening_by message) type w events outcome come.0 f
-    open_comes number message GivenUp w events outcome kept come f =
+    open_comes (Some number) message (Asks type) w events outcome is kept come f =
+        asking_comes number (opening_by message) type w events outcome
+        (next_is_new n past number w is kept) come.0 f
+    open_comes number message GivenUp w events outcome is kept come f =
         away_comes number (given_up message.recipient_channel) w events outcome kept come f
-    open_comes number message Unsupported w events outcome kept come f =
+    open_comes number message Unsupported w events outcome is kept come f =
         away_comes number (unsupported message.recipient_channel) w events outcome kept come f
-    open_comes number message Unknown w events outcome kept come f =
+    open_comes number message Unknown w events outcome is kept come f =
         away_comes number (unknown message.recipient_channel) w events outcome kept come f
 
     -- ---- authentication
@@ -294,7 +306,7 @@ module _ {E F : Type 0} (n : ℕ) (past : List TraceEntry)
         w.user.requested events outcome (response_beside responded) kept f
     row_comes w moment (Open message) events outcome fair kept f =
         open_comes (next_number w.channels.lines) message
-        (handling w.channels.no_more_sessions message.typ) w events outcome kept
+        (handling w.channels.no_more_sessions message.typ) w events outcome refl kept
         (owed_on past w (Open message) fair kept) f
     row_comes w moment (read.Connection said) events outcome fair kept f =
         spoken_comes w moment said events outcome kept f

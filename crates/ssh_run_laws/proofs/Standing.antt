@@ -30,8 +30,9 @@ use Rattle.ssh_run_laws.specs.Channels.{Stands, answers, bytes_of, is_accepting,
 use Rattle.ssh_run_laws.specs.Channels.{waits_from, waits_then}
 use Rattle.ssh_run_laws.specs.Deeds.{Asked, Closed_by_peer, Commanded, Deed, deeds, deeds_in}
 use Rattle.ssh_run_laws.specs.Deeds.{given_by}
-use Rattle.ssh_run_laws.specs.Standing.{AnsweredOpensStand, ChannelsStand, OpensStillWait, OpensWait}
-use Rattle.ssh_run_laws.proofs.Chains.{Chain, chain_still, chain_waits, neither}
+use Rattle.ssh_run_laws.specs.Standing.{AnsweredOpensStand, ChannelsStand, OpensAreNew}
+use Rattle.ssh_run_laws.specs.Standing.{OpensStillWait, OpensWait}
+use Rattle.ssh_run_laws.proofs.Chains.{Chain, chain_new, chain_still, chain_waits, neither}
 use Rattle.ssh_run_laws.proofs.RunDeeds.{run_chain, turn_parted}
 
 pub channels_stand : (E F : Type 0) (accepts : Acceptance) → ChannelsStand E F accepts
@@ -59,11 +60,23 @@ opens_wait E F accepts settings turns world run n t =
     (run_chain n accepts [] (opening_world settings) turns world run (nothing_kept settings))
     (λ no. absurd (cc)) t
 
+same_number : (n : ℕ) → (n == n) ≡ true
+same_number n = search rules
+
+pub opens_are_new : (E F : Type 0) (accepts : Acceptance) → OpensAreNew E F accepts
+opens_are_new E F accepts settings turns world run before after channel is =
+    let n = channel.0 in
+    let w = opening_world settings in
+    chain_new n w before (Asked channel) after world false
+    (subst (λ l. Chain n w l world) is
+    (run_chain n accepts [] w turns world run (nothing_kept settings)))
+    (λ no. absurd (cc)) (same_number n)
+
 or_true : (b : Bool) → (b || true) ≡ true
 or_true true = refl
 or_true false = refl
 
-still_then : (n : ℕ) (deed : Deed) → answers n deed ≡ false → waits_then n true deed ≡ true
+pub still_then : (n : ℕ) (deed : Deed) → answers n deed ≡ false → waits_then n true deed ≡ true
 still_then n (Commanded one came) h = ap (λ b. cond b false true) h
 still_then n (Asked channel) h = or_true (n == channel.0)
 still_then n (Closed_by_peer channel) h = refl
@@ -112,9 +125,6 @@ opened_chain : (n : ℕ) (w : World) (answer : OpenAnswer) (world : World)
     → Chain n w (Commanded (command.Answer answer) Accepted ∷ []) world
     → Stands n false world.channels.lines
 opened_chain n w answer world is c = c.4.stands false (c.3.opened is)
-
-same_number : (n : ℕ) → (n == n) ≡ true
-same_number n = search rules
 
 pub answered_opens_stand : (E F : Type 0) (accepts : Acceptance) → AnsweredOpensStand E F accepts
 answered_opens_stand E F accepts settings turns w turn world run t ticket answer is accepting waits

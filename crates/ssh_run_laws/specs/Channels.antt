@@ -123,6 +123,12 @@ answers number (Commanded command outcome) = was_accepted (answers_by number) co
 answers number (Asked channel) = false
 answers number (Closed_by_peer channel) = false
 
+-- the handler was asked about an open on it
+abbrev pub asks : (number : ℕ) → Deed → Bool
+asks number (Commanded command outcome) = false
+asks number (Asked channel) = number == channel.0
+asks number (Closed_by_peer channel) = false
+
 -- it waited or did not, and then this was done
 abbrev pub waits_then : (number : ℕ) → (waits : Bool) → Deed → Bool
 waits_then number waits (Commanded command outcome) =

@@ -1,7 +1,8 @@
 -- A channel stands until something ends it (RFC 4254 section 5.3), and an open of the peer's waits
 -- until it is answered (section 5.1).
-use Rattle.std.specs.Prelude.{◌≡◌, ℕ, true, false, List, [], ◌∷◌, flat_map, Some, None}
+use Rattle.std.specs.Prelude.{◌≡◌, ℕ, true, false, List, [], ◌∷◌, ◌++◌, flat_map, Some, None}
 use Rattle.std.specs.List.{list_any}
+use Rattle.ssh_wire.specs.declared.channel_id.ChannelId.{ChannelId}
 use Rattle.ssh_link.specs.declared.command.Command.TheVariants.{Answer}
 use Rattle.ssh_link.specs.declared.frame.InputKind.TheVariants.{OpenReply}
 use Rattle.ssh_link.specs.declared.open_answer.OpenAnswer.{OpenAnswer}
@@ -12,7 +13,7 @@ use Rattle.ssh_channels.specs.Lines.{Lines, find}
 use Rattle.ssh_rules.specs.Run.{Turn, Turns, Run}
 use Rattle.ssh_rules.specs.World.{Settings, World, opening_world}
 use Rattle.ssh_run_laws.specs.Channels.{Stands, Waits, answers, touches, waits_on}
-use Rattle.ssh_run_laws.specs.Deeds.{Commanded, deeds}
+use Rattle.ssh_run_laws.specs.Deeds.{Asked, Commanded, Deed, deeds}
 
 -- the channel of this number is there, as this one was: both sides agreed to it, no CLOSE was
 -- accepted, an EOF was or was not, and it accepted the same bytes
@@ -47,6 +48,13 @@ OpensStillWait E F accepts = (settings : Settings) (before span : List (Turn E F
     (w world : World) → Run accepts (opening_world settings) before w → Run accepts w span world
     → (number : ℕ) → Waits number w → list_any (answers number) (flat_map deeds span) ≡ false
     → Waits number world
+
+-- the number of an open that the handler is asked about is a new one: no open waits under it
+abbrev pub OpensAreNew : (E F : Type 0) → Acceptance → Type 0
+OpensAreNew E F accepts = (settings : Settings) (turns : List (Turn E F)) (world : World)
+    → Run accepts (opening_world settings) turns world → (before after : List Deed)
+    (channel : ChannelId) → flat_map deeds turns ≡ before ++ Asked channel ∷ after
+    → waits_on channel.0 before ≡ false
 
 -- an answer from outside that accepts an open which waits is accepted, and then the channel stands
 abbrev pub AnsweredOpensStand : (E F : Type 0) → Acceptance → Type 0

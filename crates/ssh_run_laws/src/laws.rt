@@ -1,7 +1,7 @@
 // What holds of every run. Each law is a statement of specs/, which its function proves.
 ghost use Rattle.ssh_run_laws.specs.Laws.{ChannelsAccept, NextAccepts};
-ghost use Rattle.ssh_run_laws.specs.Standing.{AnsweredOpensStand, ChannelsStand, OpensStillWait};
-ghost use Rattle.ssh_run_laws.specs.Standing.{OpensWait};
+ghost use Rattle.ssh_run_laws.specs.Standing.{AnsweredOpensStand, ChannelsStand, OpensAreNew};
+ghost use Rattle.ssh_run_laws.specs.Standing.{OpensStillWait, OpensWait};
 ghost use Rattle.ssh_run_laws.specs.Traces.{TracesHold, TracesTell};
 ghost use Rattle.ssh_run_laws.specs.Users.{UserStays, UserIsFirst};
 
@@ -25,10 +25,12 @@ pub fn channels_stand<V: Verifier, E, F>(verifier: &V)
 {}
 
 /// A law, without code. An open of the peer's that the handler was asked about waits until an answer
-/// of it is accepted, from outside or out of a callback (RFC 4254 section 5.1).
+/// of it is accepted, from outside or out of a callback, and meanwhile no other open is asked about
+/// under its number (RFC 4254 section 5.1).
 pub fn opens_wait<V: Verifier, E, F>(verifier: &V)
     ensures asked { OpensWait E F (V.accepts verifier.now) }
     ensures still { OpensStillWait E F (V.accepts verifier.now) }
+    ensures new { OpensAreNew E F (V.accepts verifier.now) }
 {}
 
 /// A law, without code. An answer from outside that accepts an open which waits is accepted, and
