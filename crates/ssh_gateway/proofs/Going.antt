@@ -1,5 +1,5 @@
 -- From turn to turn.
-use Rattle.std.proofs.Common.{◌≡◌, ◌≢◌, ◌≤◌, ◌<◌, ◌+◌, ℕ, List, [], ◌∷◌, ◌++◌, Option, Some}
+use Rattle.std.proofs.Common.{◌≡◌, ◌≢◌, ◌≤◌, ◌<◌, ◌+◌, ℕ, List, [], ◌∷◌, ◌++◌, Option, Some, None}
 use Rattle.std.proofs.Common.{Result, Ok, Err, refl, sym, ◌∙◌, ap, subst, inl, inr, false, length}
 use Rattle.std.proofs.Common.{arith, append_assoc}
 use Rattle.std.specs.Prelude.{flat_map, map}
@@ -35,9 +35,10 @@ use Rattle.ssh_gateway.specs.Gateway.{EndsSo, EndIsValid, IsComplete, Unfinished
 use Rattle.ssh_gateway.specs.Gateway.{Attended}
 use Rattle.ssh_gateway.specs.Raised.{lowered}
 use Rattle.ssh_gateway.specs.Serving.{Outside, IsServed, IsBroken, ServesNone, Turned, Breaks}
-use Rattle.ssh_gateway.specs.Serving.{KeepsTelling}
+use Rattle.ssh_gateway.specs.Serving.{KeepsTelling, UnlessSilenced}
 use Rattle.ssh_gateway.specs.Turns.{Round, Rounds, IsRound, board_after, link_entries, target_calls}
 use Rattle.ssh_gateway.proofs.Bytes.{writes_so, reads_so}
+use Rattle.ssh_gateway.proofs.Laws.{one_run_of, rounds_more, decides_in, comes_to, opens_in}
 use Rattle.ssh_gateway.proofs.Unfinished.{once_in, unfinished_so}
 
 -- these turns were finished, and it goes on
@@ -95,25 +96,6 @@ starts accepts permits settings board name calls told asked before session opens
     }
 
 -- ---- one more
-
-rounds_more : {E F : Type 0} (accepts : Acceptance) (permits : Permits) (board : Board) (w : World)
-    (rounds : List (Round E F)) (mid_board : Board) (mid : World) (round : Round E F)
-    (board' : Board) (world : World) → Rounds accepts permits board w rounds mid_board mid
-    → IsRound accepts permits mid_board mid round (Goes world)
-    → board' ≡ board_after round mid_board
-    → Rounds accepts permits board w (rounds ++ round ∷ []) board' world
-rounds_more accepts permits board w [] mid_board mid round board' world h is board_is = (
-  world,
-  subst (λ v. IsRound accepts permits board v round (Goes world)) h.1
-      (subst (λ b. IsRound accepts permits b mid round (Goes world)) h.0 is),
-  (board_is ∙ ap (board_after round) h.0, refl),
-)
-rounds_more accepts permits board w (first ∷ rounds) mid_board mid round board' world h is board_is = (
-  h.0,
-  h.1,
-  rounds_more accepts permits (board_after first board) h.0 rounds mid_board mid round
-      board' world h.2 is board_is,
-)
 
 told_more : {A B : Type 0} (f : A → List B) (xs : List A) (x : A) (a b c : Option (List B))
     → Adds a b (flat_map f xs) → Adds b c (f x) → Adds a c (flat_map f (xs ++ x ∷ []))
@@ -250,18 +232,6 @@ completes accepts permits max board w count before between after (Err (error.Run
     valid = broken_complete accepts permits board w before between after (error.Run e) h k s t ends.1
     valid
 
-one_run_of : {E F : Type 0} (accepts : Acceptance) (permits : Permits) (board : Board) (w : World)
-    (rounds : List (Round E F)) (board' : Board) (world : World)
-    → Rounds accepts permits board w rounds board' world
-    → Run accepts w (map (λ round. round.turn) rounds) world
-one_run_of accepts permits board w [] board' world h = h.1
-one_run_of accepts permits board w (round ∷ rounds) board' world h =
-    let is = h.1 in (
-      h.0,
-      (is.comes.plan, is.comes.owes, is.comes.follows, is.begins.taken),
-      one_run_of accepts permits (board_after round board) h.0 rounds board' world h.2,
-    )
-
 unfinished_by : {E F : Type 0} (accepts : Acceptance) (permits : Permits) (max : ℕ) (board : Board)
     (w first : World) (rounds : List (Round E F)) (between after : Outside F)
     (result : Result (Unit {0}) (GatewayError E F))
@@ -299,6 +269,15 @@ gatewayed accepts permits settings count max board name name' first told asked b
       linked = going.linked;
       asked = going.asked_of;
       ends = ends;
+      decides = λ earlier later round is. decides_in accepts permits settings earlier later round
+          board going.world (subst (λ l. Rounds accepts permits opening_board
+          (opening_world settings) l board going.world) is going.run);
+      comes_to = λ earlier later is. comes_to accepts permits settings earlier later board
+          going.world (subst (λ l. Rounds accepts permits opening_board (opening_world settings) l
+          board going.world) is going.run);
+      opens = λ earlier later round asked is source. opens_in accepts permits settings earlier later
+          round asked board going.world (subst (λ l. Rounds accepts permits opening_board
+          (opening_world settings) l board going.world) is going.run) source;
       once = λ earlier later round is. once_in accepts permits opening_board
           (opening_world settings) earlier later round board going.world
           (subst (λ l. Rounds accepts permits opening_board (opening_world settings) l board
@@ -349,8 +328,8 @@ pub ended : {E F : Type 0} (accepts : Acceptance) (permits : Permits) (settings 
     → count < max
     → Turned accepts permits board board' going.world mid_name name' going.calls told' asked' now
     after session' Ended
-    → Attended {E = E} accepts permits settings max (KeepsTelling name name' first told') before
-    after (Ok tt)
+    → Attended {E = E} accepts permits settings max (told' ≡ None)
+    (KeepsTelling name name' first told') before after (Ok tt)
 unfolding gatewayed
 ended {E} {F} accepts permits settings count max board board' name mid_name name' first told told' asked
     asked' before now after session session' going few turned =
@@ -372,7 +351,21 @@ ended {E} {F} accepts permits settings count max board board' name mid_name name
       admitted = keeps_more accepts permits settings count board name mid_name name' first told told'
           asked before now session (admissions turned.round.turn.events) going
           (turned.same, turned.admitted);
+      answered = turned.is.comes.answered;
     }
+
+-- of two facts that hold unless a handler tells no longer, what the first one brings, and the other
+silenced_or : {E F : Type 0} (why : RunError E F) (Silent P Q R : Type 0) → (P → R)
+    → UnlessSilenced (error.Run why) Silent (P × Q) → UnlessSilenced (error.Run why) Silent R
+silenced_or (run.Handler e) Silent P Q R f (inl silent) = inl silent
+silenced_or (run.Handler e) Silent P Q R f (inr both) = inr (f both.0)
+silenced_or why Silent P Q R f both = f both.0
+
+silenced_and : {E F : Type 0} (why : RunError E F) (Silent P Q : Type 0)
+    → UnlessSilenced (error.Run why) Silent (P × Q) → UnlessSilenced (error.Run why) Silent Q
+silenced_and (run.Handler e) Silent P Q (inl silent) = inl silent
+silenced_and (run.Handler e) Silent P Q (inr both) = inr both.1
+silenced_and why Silent P Q both = both.1
 
 -- a turn that was not finished
 unfinished : {E F : Type 0} (accepts : Acceptance) (permits : Permits) (settings : Settings)
@@ -383,14 +376,15 @@ unfinished : {E F : Type 0} (accepts : Acceptance) (permits : Permits) (settings
     session) (e : GatewayError E F)
     → length going.rounds < max → e ≢ error.TurnLimit
     → Breaks accepts permits board going.world mid_name name' going.calls told' now after e
-    → Attended accepts permits settings max (KeepsTelling name name' first told') before after
-    (Err e)
+    → Attended accepts permits settings max (told' ≡ None) (KeepsTelling name name' first told')
+    before after (Err e)
 unfolding gatewayed
 unfinished accepts permits settings count max board name mid_name name' first told told' asked before
     now after session going error.NoMemory few other breaks = record {
       whole = gatewayed accepts permits settings count max board name mid_name first told asked before
           now after session (Err error.NoMemory) going (inr (few, breaks.short refl));
       admitted = tt;
+      answered = tt;
     }
 unfinished accepts permits settings count max board name mid_name name' first told told' asked before
     now after session going error.TurnLimit few other breaks = absurd (other refl)
@@ -401,15 +395,8 @@ unfinished accepts permits settings count max board name mid_name name' first to
       whole = gatewayed accepts permits settings count max board name mid_name first told asked before
           now after session (Err error.TargetFault) going (few, both.0);
       admitted = keeps_more accepts permits settings count board name mid_name name' first told told'
-          asked before now session _ going both.1;
-    }
-unfinished accepts permits settings count max board name mid_name name' first told told' asked before
-    now after session going (error.Run (run.Handler e)) few other breaks =
-    let both = breaks.broken (λ is. cc) in
-    record {
-      whole = gatewayed accepts permits settings count max board name mid_name first told asked before
-          now after session (Err (error.Run (run.Handler e))) going (few, both.0);
-      admitted = tt;
+          asked before now session _ going both.1.0;
+      answered = both.1.1;
     }
 unfinished accepts permits settings count max board name mid_name name' first told told' asked before
     now after session going (error.Run e) few other breaks =
@@ -417,8 +404,10 @@ unfinished accepts permits settings count max board name mid_name name' first to
     record {
       whole = gatewayed accepts permits settings count max board name mid_name first told asked before
           now after session (Err (error.Run e)) going (few, both.0);
-      admitted = keeps_more accepts permits settings count board name mid_name name' first told told'
-          asked before now session _ going both.1;
+      admitted = silenced_or e (told' ≡ None) _ _ _
+          (keeps_more accepts permits settings count board name mid_name name' first told told'
+          asked before now session _ going) both.1;
+      answered = silenced_and e (told' ≡ None) _ _ both.1;
     }
 
 pub broken : {E F : Type 0} (accepts : Acceptance) (permits : Permits) (settings : Settings)
@@ -429,8 +418,8 @@ pub broken : {E F : Type 0} (accepts : Acceptance) (permits : Permits) (settings
     session)
     → count < max → e ≢ error.TurnLimit
     → Breaks accepts permits board going.world mid_name name' going.calls told' now after e
-    → Attended accepts permits settings max (KeepsTelling name name' first told') before after
-    (Err e)
+    → Attended accepts permits settings max (told' ≡ None) (KeepsTelling name name' first told')
+    before after (Err e)
 broken accepts permits settings count max board name mid_name name' first told told' asked before now
     after session e going few other breaks =
     let long = going.long in
@@ -444,8 +433,8 @@ pub limited : {E F : Type 0} (accepts : Acceptance) (permits : Permits) (setting
     (going : Going accepts permits settings count board name name' first told asked before now
     session)
     → count ≡ max
-    → Attended {E = E} accepts permits settings max (KeepsTelling name name' first told) before now
-    (Err error.TurnLimit)
+    → Attended {E = E} accepts permits settings max (told ≡ None)
+    (KeepsTelling name name' first told) before now (Err error.TurnLimit)
 unfolding gatewayed
 limited accepts permits settings count max board name name' first told asked before now session going
     all =
@@ -461,4 +450,5 @@ limited accepts permits settings count max board name name' first told asked bef
           going.admitted ∙ ap (λ l. of_authentication first ++ l) (sym (append-nil _)),
         ),
       );
+      answered = refl;
     }

@@ -9,7 +9,11 @@ mod Serving
 mod Turning
 mod Ending
 mod EndingOnce
+mod Connecting
 mod Unfinished
+mod Undecided
+mod Waiting
+mod Laws
 mod Going
 mod Attending
 mod Delivering

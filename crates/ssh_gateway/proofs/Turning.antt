@@ -52,7 +52,7 @@ use Rattle.ssh_gateway.specs.Doing.{IsNextCount}
 use Rattle.ssh_gateway.specs.Raised.{lowered, link_error, target_error}
 use Rattle.ssh_gateway.specs.Serving.{Beneath, Outside, Serves, Stops, Turned, TellsRound}
 use Rattle.ssh_gateway.specs.Serving.{OwesOrNothing, turn_of, ServesNone, TellsNone}
-use Rattle.ssh_gateway.specs.Serving.{KeepsTelling, UnlessRefused, Breaks, BreaksTelling}
+use Rattle.ssh_gateway.specs.Serving.{KeepsTelling, UnlessRefused, UnlessSilenced, Breaks, BreaksTelling}
 use Rattle.ssh_gateway.specs.Turns.{Round, Begins}
 use Rattle.ssh_gateway.proofs.Accepting.{takes_data_of}
 use Rattle.ssh_gateway.proofs.Choices.{took_is, waits_only, settled_moment, is_asked}
@@ -244,21 +244,13 @@ fair accepts w turn plan why faults faults' taken (inr none) later other caused 
     (ends_before accepts w plan (Rose faults faults') (Rose faults faults') turn.events why none
     (λ rose. rose) caused)
 
-unless_first : {E F : Type 0} (e : GatewayError E F) (P Q : Type 0) → UnlessRefused e (P × Q)
-    → UnlessRefused e P
-unless_first error.NoMemory P Q h = h.0
-unless_first error.TargetFault P Q h = h.0
-unless_first error.TurnLimit P Q h = h.0
-unless_first (error.Run (run.Handler e)) P Q h = tt
-unless_first (error.Run why) P Q h = h.0
-
-unless_second : {E F : Type 0} (e : GatewayError E F) (P Q : Type 0) → UnlessRefused e (P × Q)
-    → UnlessRefused e Q
-unless_second error.NoMemory P Q h = h.1
-unless_second error.TargetFault P Q h = h.1
-unless_second error.TurnLimit P Q h = h.1
-unless_second (error.Run (run.Handler e)) P Q h = tt
-unless_second (error.Run why) P Q h = h.1
+unless_refused : {E F : Type 0} (e : GatewayError E F) (Silent P Q : Type 0)
+    → UnlessSilenced e Silent (P × Q) → UnlessRefused e Q
+unless_refused error.NoMemory Silent P Q h = h.1
+unless_refused error.TargetFault Silent P Q h = h.1
+unless_refused error.TurnLimit Silent P Q h = h.1
+unless_refused (error.Run (run.Handler e)) Silent P Q h = tt
+unless_refused (error.Run why) Silent P Q h = h.1
 
 pub stopped : {E F : Type 0} (accepts : Acceptance) (permits : Permits) (board mid : Board)
     (w : World) (input : Input) (closes : Option ℕ) (name name' : ℕ) (calls : List (Call E))
@@ -302,10 +294,10 @@ stopped {E} {F} accepts permits board mid w input closes name name' calls told b
             fair = fair accepts w round.turn stops.plan stops.why before.beneath.faults
                 after.beneath.faults begins.taken stops.owes (omega (arith, later, risen))
                 (subst (λ x. x ≢ error.NoMemory) (stops.is other) other) caused;
-            answered = unless_second e keeps answers (stops.handler other);
+            answered = unless_refused e (told ≡ None) keeps answers (stops.handler other);
             told = tells;
           } in
-          (inr (inr (inl none)), unless_first e keeps answers (stops.handler other));
+          (inr (inr (inl none)), stops.handler other);
       short = λ is. inr (inr (inl (record {
         round = round;
         begins = begins;
@@ -358,7 +350,7 @@ fails_telling {E} {F} accepts permits board mid w input closes name name' calls 
           (took given.source input) (told_in serves.events) given.linked serves.told_link;
       told = told_then true before.targets told' after.targets given.calls part.0 given.asked part.2;
     } in
-    (inr (inr (inr none)), (serves.same, serves.admitted))
+    (inr (inr (inr none)), ((serves.same, serves.admitted), serves.answered))
 
 pub untold : {E F : Type 0} (accepts : Acceptance) (permits : Permits) (board mid : Board)
     (w : World) (input : Input) (closes : Option ℕ) (name name' : ℕ) (calls : List (Call E))
@@ -419,7 +411,7 @@ not_chosen {E} accepts permits board w name calls told before after fault e tell
       let only = not_memory fault e is other in
       subst (BreaksTelling accepts permits board w name name calls told before after) (sym only.1) (
         inl (refl, (fails only.0).0, same, (fails only.0).1),
-        quiet name calls told tells,
+        (quiet name calls told tells, refl),
       );
   short = λ is_short. inl same;
 }
@@ -450,7 +442,7 @@ not_given accepts permits board mid w name calls told chosen before after fault 
           subst (BreaksTelling accepts permits board w name name calls told before after)
           (sym only.1) (
             inr (inl (refl, rose only.0, trace, steps, made, waits, adds)),
-            quiet name calls told tells,
+            (quiet name calls told tells, refl),
           );
       short = λ is_short. inr (inl (trace, steps, (made, waits, adds)));
     }

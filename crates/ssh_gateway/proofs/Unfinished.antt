@@ -41,6 +41,8 @@ use Rattle.ssh_gateway.specs.Unfinished.{endings_in, ConnectsAtMost, was_accepte
 use Rattle.ssh_gateway.specs.Unfinished.{last_sent, AtMostOne, IsUnfinished}
 use Rattle.ssh_gateway.proofs.Bytes.{written_both, read_both, all_written, closed_quiet, before_bytes}
 use Rattle.ssh_gateway.proofs.Bytes.{writes_so, reads_so}
+use Rattle.ssh_gateway.proofs.Connecting.{ReadsNone, HandsOnNone, silences_none, read_last}
+use Rattle.ssh_gateway.proofs.Connecting.{after_none}
 use Rattle.ssh_gateway.proofs.EndingOnce.{one_ending}
 
 -- ---- fronts of lists
@@ -116,32 +118,6 @@ written_less id (call.Close other answer) = ([], refl)
 
 -- ---- the calls that choose an input
 
--- reads alone are none of these
-abbrev ReadsNone : {B : Type 0} → (TargetCall → List B) → Type 0
-ReadsNone f = (id most : ℕ) (answer : Result Arrived TargetFault) → f (call.Read id most answer) ≡ []
-
-silence_none : {B : Type 0} (f : TargetCall → List B) → ReadsNone f → (may : Bool) (id : ℕ)
-    → flat_map f (cond may (call.Read id 32768 (Ok arrived.Nothing) ∷ []) []) ≡ []
-silence_none f none true id =
-    append-nil (f (call.Read id 32768 (Ok arrived.Nothing))) ∙ none id 32768 (Ok arrived.Nothing)
-silence_none f none false id = refl
-
-silences_none : {B : Type 0} (f : TargetCall → List B) → ReadsNone f → (w : World)
-    (connections : List Connection) → flat_map f (silences w connections) ≡ []
-silences_none f none w [] = refl
-silences_none f none w (one ∷ connections) =
-    flat_map-append f (silence w one) (silences w connections)
-    ∙ (ap (λ l. l ++ flat_map f (silences w connections))
-    (silence_none f none (may_send w one) one.id) ∙ silences_none f none w connections)
-
-read_last : {B : Type 0} (f : TargetCall → List B) → ReadsNone f → (w : World)
-    (earlier : List Connection) (id : ℕ) (answer : Result Arrived TargetFault)
-    → flat_map f (silences w earlier ++ call.Read id 32768 answer ∷ []) ≡ []
-read_last f none w earlier id answer =
-    flat_map-append f (silences w earlier) (call.Read id 32768 answer ∷ [])
-    ∙ (ap (λ l. l ++ flat_map f (call.Read id 32768 answer ∷ [])) (silences_none f none w earlier)
-    ∙ (append-nil (f (call.Read id 32768 answer)) ∙ none id 32768 answer))
-
 connects_unread : ReadsNone connect_by
 connects_unread id most answer = refl
 
@@ -197,44 +173,12 @@ chosen_endings permits w board Waits calls chosen =
 
 -- ---- the calls behind an input connect to nothing
 
-passed_connects : (happening : Happening) (one : Option Connection)
-    → connects_in (passed_to happening one) ≡ []
-passed_connects happening None = refl
-passed_connects (what.Data bytes) (Some one) = refl
-passed_connects what.Eof (Some one) = refl
-passed_connects what.Close (Some one) = refl
-passed_connects happening (Some one) = refl
-
-due_connects : (question : Question) (board : Board)
-    → connects_in (due_on question board.connections) ≡ []
-due_connects (Lends (Happened channel happening)) board =
-    passed_connects happening (find (is_on channel) board.connections)
-due_connects (Lends lent) board = refl
-due_connects question board = refl
-
-all_due_connects : (questions : List Question) (board : Board)
-    → connects_in (all_due questions board) ≡ []
-all_due_connects [] board = refl
-all_due_connects (question ∷ questions) board =
-    flat_map-append connect_by (due_on question board.connections)
-    (all_due questions (noted question board))
-    ∙ (ap (λ l. l ++ connects_in (all_due questions (noted question board)))
-    (due_connects question board) ∙ all_due_connects questions (noted question board))
-
-closed_connects : (source : Source) → connects_in (closed_by source) ≡ []
-closed_connects (Decides asked verdict) = refl
-closed_connects (Sends earlier one later bytes) = refl
-closed_connects (Ends earlier one later) = refl
-closed_connects (Closes earlier one later) = refl
-closed_connects Waits = refl
+connects_behind : HandsOnNone connect_by
+connects_behind id = ((λ bytes. refl), refl, refl)
 
 after_connects : {E F : Type 0} (round : Round E F) (board : Board)
     → connects_in (due_after round board) ≡ []
-after_connects round board =
-    flat_map-append connect_by (closed_by round.source)
-    (all_due round.asked (board_within round board))
-    ∙ (ap (λ l. l ++ connects_in (all_due round.asked (board_within round board)))
-    (closed_connects round.source) ∙ all_due_connects round.asked (board_within round board))
+after_connects round board = after_none connect_by connects_behind round board
 
 -- ---- the connects of a turn
 

@@ -1,22 +1,30 @@
 -- What a gateway promises: turns one after another, each by its rule, and how they end.
 use Rattle.std.specs.Prelude.{◌≡◌, ◌<◌, ◌⊎◌, ℕ, List, [], ◌∷◌, ◌++◌, length, map, flat_map, Result}
-use Rattle.std.specs.Prelude.{Ok, Err}
+use Rattle.std.specs.Prelude.{Ok, Err, Option, None}
 use Rattle.ssh_link.specs.Told.{Adds}
 use Rattle.ssh_auth.specs.declared.call.Call.{Call}
+use Rattle.ssh_auth.specs.declared.question.Question.{Question}
+use Rattle.ssh_auth.specs.Plan.{Event, calls_in}
 use Rattle.ssh_auth.specs.Publickey.{Acceptance}
+use Rattle.ssh_handler.specs.declared.recorded.RecordError.{RecordError}
+use Rattle.ssh_handler.specs.OwnCalls.{own_calls}
 use Rattle.ssh_rules.specs.Outcome.{Ends}
 use Rattle.ssh_rules.specs.Run.{Run, steps_of}
 use Rattle.ssh_rules.specs.Valid.{IsValid}
 use Rattle.ssh_rules.specs.World.{Settings, World, opening_world}
+use Rattle.ssh_gateway.specs.declared.deciding.Verdict.TheVariants.{Granted}
 use Rattle.ssh_gateway.specs.declared.error.GatewayError.{GatewayError}
 use Rattle.ssh_gateway.specs.declared.error.GatewayError.TheVariants as error
+use Rattle.ssh_gateway.specs.declared.switchboard.Asking.{Asking}
 use Rattle.ssh_gateway.specs.Admitting.{admissions}
+use Rattle.ssh_gateway.specs.Answering.{answered}
 use Rattle.ssh_gateway.specs.Asked.{written, read}
 use Rattle.ssh_gateway.specs.Board.{Board, opening_board}
 pub use Rattle.ssh_gateway.specs.Bytes.{came, incoming, sent_by, outgoing}
-use Rattle.ssh_gateway.specs.Choosing.{Permits}
-use Rattle.ssh_gateway.specs.Serving.{Outside, IsBroken, ServesNone, TellsRound, UnlessRefused}
-use Rattle.ssh_gateway.specs.Serving.{IsShort, last_events}
+use Rattle.ssh_gateway.specs.Choosing.{Permits, Decides}
+use Rattle.ssh_gateway.specs.Laws.{first_let_in, DecidesBy, ComesTo, IsOpened}
+use Rattle.ssh_gateway.specs.Serving.{Outside, IsBroken, ServesNone, TellsRound, UnlessSilenced}
+use Rattle.ssh_gateway.specs.Serving.{IsShort, last_events, last_questions}
 use Rattle.ssh_gateway.specs.Turns.{Round, Rounds, IsRound, link_entries, target_calls}
 use Rattle.ssh_gateway.specs.Unfinished.{AtMostOne, endings_in, IsUnfinished, last_round, last_asked}
 
@@ -95,6 +103,20 @@ pub record Gatewayed {E F : Type 0} (accepts : Acceptance) (permits : Permits) (
   pub asked : Adds before.targets between.targets (flat_map target_calls rounds)
   -- and then it ended so
   pub ends : EndsSo accepts permits max board world (length rounds) between after result
+  -- each open that a turn decides has one connect, exactly where the policy allows it to the user of
+  -- the first call that let one in, and is accepted exactly where that answered true; no other
+  -- connect is made
+  pub decides : (earlier later : List (Round E F)) (round : Round E F)
+      → rounds ≡ earlier ++ round ∷ later
+      → DecidesBy permits (first_let_in earlier) round.source round
+  -- after each of them, by the laws of every run: who was let in, the opens that wait, and the bytes
+  -- that each channel accepted
+  pub comes_to : (earlier later : List (Round E F)) → rounds ≡ earlier ++ later
+      → ComesTo accepts permits settings earlier
+  -- an open that is granted is accepted, and stands as a channel
+  pub opens : (earlier later : List (Round E F)) (round : Round E F) (asked : Asking)
+      → rounds ≡ earlier ++ round ∷ later → round.source ≡ Decides asked Granted
+      → IsOpened accepts permits settings earlier round asked
   -- a turn finishes or closes one connection, once, or none
   pub once : (earlier later : List (Round E F)) (round : Round E F)
       → rounds ≡ earlier ++ round ∷ later → AtMostOne (endings_in (target_calls round))
@@ -115,36 +137,55 @@ pub record Gatewayed {E F : Type 0} (accepts : Acceptance) (permits : Permits) (
 
 -- ---- the whole, with the handler of authentication
 
--- the calls of authentication in the turn that ended the run or was not finished, as far as it came
-abbrev pub last_admissions : {E F : Type 0} (accepts : Acceptance) (permits : Permits) (max : ℕ)
+-- what happened in the turn that ended the run or was not finished, as far as it came
+abbrev pub end_events : {E F : Type 0} (accepts : Acceptance) (permits : Permits) (max : ℕ)
     (board : Board) (w : World) (count : ℕ) (between after : Outside F)
     (result : Result (Unit {0}) (GatewayError E F))
-    → EndsSo accepts permits max board w count between after result → List (Call E)
-last_admissions accepts permits max board w count between after (Ok done) ends =
-    admissions ends.1.0.turn.events
-last_admissions accepts permits max board w count between after (Err error.TurnLimit) ends = []
-last_admissions accepts permits max board w count between after (Err error.NoMemory) ends = []
-last_admissions accepts permits max board w count between after (Err error.TargetFault) ends =
-    admissions (last_events accepts permits board w between after error.TargetFault ends.1)
-last_admissions accepts permits max board w count between after (Err (error.Run e)) ends =
-    admissions (last_events accepts permits board w between after (error.Run e) ends.1)
+    → EndsSo accepts permits max board w count between after result
+    → List (Event (RecordError E) F)
+end_events accepts permits max board w count between after (Ok done) ends = ends.1.0.turn.events
+end_events accepts permits max board w count between after (Err error.TurnLimit) ends = []
+end_events accepts permits max board w count between after (Err error.NoMemory) ends = []
+end_events accepts permits max board w count between after (Err error.TargetFault) ends =
+    last_events accepts permits board w between after error.TargetFault ends.1
+end_events accepts permits max board w count between after (Err (error.Run e)) ends =
+    last_events accepts permits board w between after (error.Run e) ends.1
 
--- unless that handler answered an error of its own, after which it may tell none, or memory was
--- wanting
-abbrev pub UnlessLost : {E F : Type 0} → Result (Unit {0}) (GatewayError E F) → Type 0 → Type 0
-UnlessLost (Ok done) P = P
-UnlessLost (Err error.NoMemory) P = Unit {0}
-UnlessLost (Err error.TurnLimit) P = P
-UnlessLost (Err error.TargetFault) P = P
-UnlessLost (Err (error.Run e)) P = UnlessRefused (error.Run e) P
+-- what its callbacks asked, but for authentication
+abbrev pub end_questions : {E F : Type 0} (accepts : Acceptance) (permits : Permits) (max : ℕ)
+    (board : Board) (w : World) (count : ℕ) (between after : Outside F)
+    (result : Result (Unit {0}) (GatewayError E F))
+    → EndsSo accepts permits max board w count between after result → List Question
+end_questions accepts permits max board w count between after (Ok done) ends = ends.1.0.asked
+end_questions accepts permits max board w count between after (Err error.TurnLimit) ends = []
+end_questions accepts permits max board w count between after (Err error.NoMemory) ends = []
+end_questions accepts permits max board w count between after (Err error.TargetFault) ends =
+    last_questions accepts permits board w between after error.TargetFault ends.1
+end_questions accepts permits max board w count between after (Err (error.Run e)) ends =
+    last_questions accepts permits board w between after (error.Run e) ends.1
+
+-- unless memory was wanting, or that handler answered an error of its own and tells no longer
+abbrev pub UnlessLost : {E F : Type 0} → Result (Unit {0}) (GatewayError E F) → (Silent : Type 0)
+    → (P : Type 0) → Type 0
+UnlessLost (Err error.NoMemory) Silent P = Unit {0}
+UnlessLost (Err (error.Run e)) Silent P = UnlessSilenced (error.Run e) Silent P
+UnlessLost (Err error.TargetFault) Silent P = P
+UnlessLost (Err error.TurnLimit) Silent P = P
+UnlessLost (Ok done) Silent P = P
 
 pub record Attended {E F : Type 0} (accepts : Acceptance) (permits : Permits)
-    (settings : Settings) (max : ℕ) (IsTold : List (Call E) → Type 0) (before after : Outside F)
-    (result : Result (Unit {0}) (GatewayError E F)) : Type 0 where
+    (settings : Settings) (max : ℕ) (Silent : Type 0) (IsTold : List (Call E) → Type 0)
+    (before after : Outside F) (result : Result (Unit {0}) (GatewayError E F)) : Type 0 where
   pub whole : Gatewayed accepts permits settings max before after result
   -- the handler of authentication was asked for the calls of authentication in these turns, and of
   -- the one that was not finished as far as it came, in order, and for nothing else
-  pub admitted : UnlessLost result (IsTold
+  pub admitted : UnlessLost result Silent (IsTold
       (flat_map (λ round. admissions round.turn.events) whole.rounds
-      ++ last_admissions accepts permits max whole.board whole.world (length whole.rounds)
-      whole.between after result whole.ends))
+      ++ admissions (end_events accepts permits max whole.board whole.world (length whole.rounds)
+      whole.between after result whole.ends)))
+  -- all else that was asked in that last turn was answered by the rule, as in those before it
+  pub answered : UnlessLost result Silent
+      (own_calls (calls_in (end_events accepts permits max whole.board whole.world
+      (length whole.rounds) whole.between after result whole.ends))
+      ≡ flat_map answered (end_questions accepts permits max whole.board whole.world
+      (length whole.rounds) whole.between after result whole.ends))

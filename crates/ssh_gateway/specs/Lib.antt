@@ -6,6 +6,7 @@ pub mod Board
 pub mod Bytes
 pub mod Choosing
 pub mod Doing
+pub mod Laws
 pub mod Gateway
 pub mod Memory
 pub mod Raised

@@ -1,5 +1,5 @@
 -- What a turn comes to.
-use Rattle.std.specs.Prelude.{◌≡◌, ◌≢◌, ◌≤◌, ◌⊎◌, ℕ, List, [], true, not, Option, Some}
+use Rattle.std.specs.Prelude.{◌≡◌, ◌≢◌, ◌≤◌, ◌⊎◌, ℕ, List, [], true, not, Option, Some, None}
 use Rattle.std.specs.Prelude.{Result, Ok, Err, flat_map}
 use Rattle.std.proofs.Common.{inl, inr}
 use Rattle.std.specs.Borrow.{GName}
@@ -106,15 +106,21 @@ pub record Serves {E F : Type 0} (accepts : Acceptance) (w : World) (input : Inp
 abbrev pub OwesOrNothing : Acceptance → World → Input → Plan Outcome → Type 0
 OwesOrNothing accepts w input plan = Owes accepts w input plan ⊎ (plan ≡ Finish (Goes w))
 
--- the handler of authentication is the same one, and tells these calls beside those before; unless it
--- answered an error of its own, after which it may tell none
+-- the handler of authentication is the same one, and tells these calls beside those before
 abbrev pub KeepsTelling : {E : Type 0} → (name name' : GName) → (calls : List (Call E))
     → (told : Option (List (Call E))) → (made : List (Call E)) → Type 0
 KeepsTelling name name' calls told made = (name' ≡ name) × TellsAdmissions calls told made
 
+-- unless it answered an error of its own
 abbrev pub UnlessRefused : {E F : Type 0} → GatewayError E F → Type 0 → Type 0
 UnlessRefused (error.Run (run.Handler e)) P = Unit {0}
 UnlessRefused _ P = P
+
+-- .. and tells no longer
+abbrev pub UnlessSilenced : {E F : Type 0} → GatewayError E F → (Silent : Type 0) → (P : Type 0)
+    → Type 0
+UnlessSilenced (error.Run (run.Handler e)) Silent P = Silent ⊎ P
+UnlessSilenced _ Silent P = P
 
 -- it was not finished, by a cause, which the error names unless memory was wanting
 pub record Stops {E F : Type 0} (accepts : Acceptance) (w : World) (input : Input)
@@ -130,8 +136,8 @@ pub record Stops {E F : Type 0} (accepts : Acceptance) (w : World) (input : Inpu
   pub told_link : Adds before.trace after.trace (told_in events)
   pub later : before.faults ≤ after.faults
   pub questions : List Question
-  pub handler : e ≢ error.NoMemory
-      → UnlessRefused e (KeepsTelling name name' calls told (admissions events)
+  pub handler : e ≢ error.NoMemory → UnlessSilenced e (told ≡ None)
+      (KeepsTelling name name' calls told (admissions events)
       × (own_calls (calls_in events) ≡ flat_map answered questions))
 
 -- one of the two
@@ -255,6 +261,15 @@ last_events accepts permits board w before after e (inr (inl none)) = []
 last_events accepts permits board w before after e (inr (inr (inl none))) = none.round.turn.events
 last_events accepts permits board w before after e (inr (inr (inr none))) = none.round.turn.events
 
+-- what its callbacks asked, but for authentication
+abbrev pub last_questions : {E F : Type 0} (accepts : Acceptance) (permits : Permits)
+    (board : Board) (w : World) (before after : Outside F) (e : GatewayError E F)
+    → IsBroken accepts permits board w before after e → List Question
+last_questions accepts permits board w before after e (inl none) = []
+last_questions accepts permits board w before after e (inr (inl none)) = []
+last_questions accepts permits board w before after e (inr (inr (inl none))) = none.round.asked
+last_questions accepts permits board w before after e (inr (inr (inr none))) = none.round.asked
+
 -- the turn was finished
 pub record Turned {E F : Type 0} (accepts : Acceptance) (permits : Permits) (board board' : Board)
     (w : World) (name name' : GName) (calls : List (Call E)) (told : Option (List (Call E)))
@@ -272,14 +287,17 @@ pub record Turned {E F : Type 0} (accepts : Acceptance) (permits : Permits) (boa
   pub later : before.beneath.faults ≤ after.beneath.faults
   pub target_later : before.target_faults ≤ after.target_faults
 
--- it was not, and this is what the handler of authentication was asked in it
+-- it was not, and this is what the handler of authentication was asked in it; all else that was asked
+-- was answered by the rule
 abbrev pub BreaksTelling : {E F : Type 0} → Acceptance → Permits → Board → World
     → (name name' : GName) → (calls : List (Call E)) → (told : Option (List (Call E)))
     → (before after : Outside F) → GatewayError E F → Type 0
 BreaksTelling accepts permits board w name name' calls told before after e =
     (broken : IsBroken accepts permits board w before after e)
-    × UnlessRefused e (KeepsTelling name name' calls told
-    (admissions (last_events accepts permits board w before after e broken)))
+    × UnlessSilenced e (told ≡ None) (KeepsTelling name name' calls told
+    (admissions (last_events accepts permits board w before after e broken))
+    × (own_calls (calls_in (last_events accepts permits board w before after e broken))
+    ≡ flat_map answered (last_questions accepts permits board w before after e broken)))
 
 pub record Breaks {E F : Type 0} (accepts : Acceptance) (permits : Permits) (board : Board)
     (w : World) (name name' : GName) (calls : List (Call E)) (told : Option (List (Call E)))

@@ -2,7 +2,7 @@
 ghost use Rattle.std.specs.Prelude.{◌≡◌};
 ghost use Rattle.ssh_handler.specs.Recording.{passed_on};
 
-use crate::keeper::Keeper;
+use crate::keeper::{Keeper, Pin};
 use ssh_auth::{Auth, AuthHandler, PublicKeyOffer, Response, Unwritten, VerifiedPublicKey};
 use ssh_handler::RecordError;
 use ssh_keys::Certificate;
@@ -18,14 +18,14 @@ fn passed<T, E>(answer: Result<T, E>) -> Result<T, RecordError<E>>
     }
 }
 
-impl<A: AuthHandler> AuthHandler for Keeper<'_, A> {
+impl<A: AuthHandler, J: Pin> AuthHandler for Keeper<'_, '_, A, J> {
     type Error = RecordError<A::Error>;
 
     ghost use Rattle.ssh_gateway.specs.Answering.{told_of};
 
     // It tells by whom it goes, what that one told, and what else was asked.
     ghost told = { λ keeper. told_of keeper.auth.ghost_name (A.told keeper.auth.now)
-        keeper.notebook };
+        keeper.notebook.now };
 
     fn untold(&mut self, _by: Unwritten) -> Result<(), RecordError<A::Error>> {
         self.notebook.loses()

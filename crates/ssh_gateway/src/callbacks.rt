@@ -1,13 +1,13 @@
 // The callbacks of a gateway's handler once a user is authenticated: an open of a channel to a host
 // is kept, any other is refused, requests fail, and nothing is granted.
-use crate::keeper::Keeper;
+use crate::keeper::{Keeper, Pin};
 use ssh_auth::{AuthHandler, Happening, Judged, Lent, OpenType, Question};
 use ssh_handler::{Commands, Handler, RecordError};
 use ssh_link::{ChannelOpenHandle, CommandOutcome};
 use ssh_questions::made;
 use ssh_wire::{ChannelId, Pty, Sig, Text};
 
-impl<A: AuthHandler> Handler for Keeper<'_, A> {
+impl<A: AuthHandler, J: Pin> Handler for Keeper<'_, '_, A, J> {
     fn auth_succeeded(&mut self, session: &mut Commands<'_>) -> Result<(), RecordError<A::Error>> {
         self.notebook.hears(Lent::Succeeded, session)
     }

@@ -15,7 +15,7 @@ use ssh_handler::{Commands, RecordError};
 use ssh_link::ChannelOpenHandle;
 use ssh_wire::{ChannelId, WireError};
 use std::alloc::Global;
-use std::marker::Model;
+use std::marker::{Brand, Model, PhantomData};
 
 /// What was asked in the input that is served now, but for authentication. A clause sees the
 /// questions in order, and none once one of them found no memory.
@@ -36,12 +36,25 @@ impl Model for Notebook {
     ghost view = { λ notebook. told_while (not notebook.lost) notebook.asked.items };
 }
 
+/// Whom a keeper asks, by which the caller's handler is known again once the session is gone,
+/// whatever it tells then.
+pub(crate) trait Pin {
+    ghost name: { ℕ };
+}
+
+// A call picks its own.
+impl Pin for Brand {
+    ghost name = { 0 };
+}
+
 /// A handler of which another one says who is let in. It keeps what else is asked, and answers
 /// that by a rule (specs/Answering.antt).
 #[derive(Drop)]
-pub(crate) struct Keeper<'a, A> {
+pub(crate) struct Keeper<'a, 'b, A, J: Pin> {
     pub(crate) auth: &'a mut A,
-    pub(crate) notebook: Notebook,
+    pub(crate) notebook: &'b mut Notebook,
+    pub(crate) of: PhantomData<J>,
+    ghost named: { auth.ghost_name ≡ J.name },
 }
 
 // Adds a question. One that finds no memory is dropped here, whatever it is.

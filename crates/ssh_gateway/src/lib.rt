@@ -1,7 +1,7 @@
 //! A gateway for one SSH connection: its peer opens channels to hosts (RFC 4254 section 7.2), a
 //! policy says which user may reach which host, and targets make the connections.
 //!
-//! `run_gateway` drives `Session::step` of `ssh_session`. What it promises is `Gatewayed`, in
+//! `run_gateway` drives `Session::step` of `ssh_session`. What it promises is `Attended`, in
 //! specs/Gateway.antt.
 #![tactic(auto)]
 

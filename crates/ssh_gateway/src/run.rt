@@ -1,18 +1,19 @@
 // The turns of a gateway.
 ghost use Rattle.std.specs.Prelude.{◌≡◌, ◌≢◌, ◌<◌, ◌-◌, ◌^◌, List, []};
-ghost use Rattle.std.specs.Prelude.{Some, Err, OnOk, false, length};
+ghost use Rattle.std.specs.Prelude.{Some, None, Err, OnOk, false, length};
 ghost use Rattle.ssh_auth.specs.declared.call.Call.{Call};
 ghost use Rattle.ssh_rules.specs.World.{World, Settings, settings_of, opening_world};
 ghost use Rattle.ssh_session.specs.Between.{untold};
 ghost use Rattle.ssh_session.specs.Serve.{Refines};
+ghost use Rattle.ssh_gateway.specs.Admitting.{TellsAdmissions};
 ghost use Rattle.ssh_gateway.specs.Board.{opening_board};
 ghost use Rattle.ssh_gateway.specs.Doing.{IsNextCount};
-ghost use Rattle.ssh_gateway.specs.Gateway.{Gatewayed, Attended};
+ghost use Rattle.ssh_gateway.specs.Gateway.{Attended};
 ghost use Rattle.ssh_gateway.specs.Serving.{ServesOrStops, TurnsOrBreaks, KeepsTelling};
 ghost use Rattle.ssh_gateway.specs.Serving.{beneath, outside};
 
 use crate::error::{link_error, lowered, target_error};
-use crate::keeper::{Keeper, Notebook};
+use crate::keeper::{Keeper, Notebook, Pin};
 use crate::switchboard::Switchboard;
 use crate::{GatewayError, Policy, Targets};
 use ssh_auth::AuthHandler;
@@ -21,11 +22,12 @@ use ssh_keys::Verifier;
 use ssh_link::{Input, Kex, Link};
 use ssh_session::{Flow, Session};
 use std::alloc::Global;
+use std::marker::{Brand, PhantomData};
 
 /// One input, with what it asks kept.
-fn serve<A: AuthHandler, V: Verifier, K: Kex, L: Link>(
+fn serve<A: AuthHandler, V: Verifier, K: Kex, L: Link, J: Pin>(
     session: &mut Session,
-    keeper: &mut Keeper<'_, A>,
+    keeper: &mut Keeper<'_, '_, A, J>,
     verifier: &V,
     kex: &mut K,
     link: &mut L,
@@ -33,10 +35,10 @@ fn serve<A: AuthHandler, V: Verifier, K: Kex, L: Link>(
 ) -> Result<Flow, GatewayError<A::Error, K::Error>>
     ensures served { (w : World) (calls : List (Call A.Error)) → Refines session.old w →
         untold session.old ≡ [] → w.disconnected ≡ false →
-        w.settings.repeatable ≡ K.repeats kex.old → keeper.old.notebook ≡ Some [] →
+        w.settings.repeatable ≡ K.repeats kex.old → keeper.old.notebook.now ≡ Some [] →
         A.told keeper.old.auth.now ≡ Some calls →
         ServesOrStops (V.accepts verifier.now) w input keeper.old.auth.ghost_name
-        keeper.new.auth.ghost_name calls (A.told keeper.new.auth.now) keeper.new.notebook
+        keeper.new.auth.ghost_name calls (A.told keeper.new.auth.now) keeper.new.notebook.now
         (beneath K.steps L.trace L.faults kex.old link.old)
         (beneath K.steps L.trace L.faults kex.new link.new) session.new result }
     ensures told { OnOk result (untold session.new ≡ []) }
@@ -57,9 +59,9 @@ fn serve<A: AuthHandler, V: Verifier, K: Kex, L: Link>(
 }
 
 /// One turn: an input is chosen and served, and what came of it goes to the targets.
-fn turn<A: AuthHandler, V: Verifier, K: Kex, L: Link, P: Policy, T: Targets>(
+fn turn<A: AuthHandler, V: Verifier, K: Kex, L: Link, P: Policy, T: Targets, J: Pin>(
     session: &mut Session,
-    keeper: &mut Keeper<'_, A>,
+    keeper: &mut Keeper<'_, '_, A, J>,
     verifier: &V,
     kex: &mut K,
     link: &mut L,
@@ -71,11 +73,11 @@ fn turn<A: AuthHandler, V: Verifier, K: Kex, L: Link, P: Policy, T: Targets>(
     requires ticket { board.old.last_ticket < 2 ^ 64 - 1 }
     ensures turned { (w : World) (calls : List (Call A.Error)) → Refines session.old w →
         untold session.old ≡ [] → w.disconnected ≡ false →
-        w.settings.repeatable ≡ K.repeats kex.old → keeper.old.notebook ≡ Some [] →
+        w.settings.repeatable ≡ K.repeats kex.old → keeper.old.notebook.now ≡ Some [] →
         A.told keeper.old.auth.now ≡ Some calls →
         TurnsOrBreaks (V.accepts verifier.now) (P.permits policy.now) board.old board.new w
         keeper.old.auth.ghost_name keeper.new.auth.ghost_name calls
-        (A.told keeper.new.auth.now) keeper.new.notebook
+        (A.told keeper.new.auth.now) keeper.new.notebook.now
         (outside K.steps L.trace L.faults T.told T.faults kex.old link.old targets.old)
         (outside K.steps L.trace L.faults T.told T.faults kex.new link.new targets.new)
         session.new result }
@@ -107,9 +109,9 @@ fn turn<A: AuthHandler, V: Verifier, K: Kex, L: Link, P: Policy, T: Targets>(
 }
 
 /// The turns of a session before its first input.
-fn turns<A: AuthHandler, V: Verifier, K: Kex, L: Link, P: Policy, T: Targets>(
+fn turns<A: AuthHandler, V: Verifier, K: Kex, L: Link, P: Policy, T: Targets, J: Pin>(
     session: &mut Session,
-    keeper: &mut Keeper<'_, A>,
+    keeper: &mut Keeper<'_, '_, A, J>,
     verifier: &V,
     kex: &mut K,
     link: &mut L,
@@ -122,9 +124,9 @@ fn turns<A: AuthHandler, V: Verifier, K: Kex, L: Link, P: Policy, T: Targets>(
     requires told { untold session.old ≡ [] }
     ensures attended { (settings : Settings) (calls : List (Call A.Error)) →
         Refines session.old (opening_world settings) → settings.repeatable ≡ K.repeats kex.old →
-        keeper.old.notebook ≡ Some [] → A.told keeper.old.auth.now ≡ Some calls →
+        keeper.old.notebook.now ≡ Some [] → A.told keeper.old.auth.now ≡ Some calls →
         Attended (V.accepts verifier.now) (P.permits policy.now) settings max_turns
-        (KeepsTelling keeper.old.auth.ghost_name keeper.new.auth.ghost_name calls
+        (A.told keeper.new.auth.now ≡ None) (KeepsTelling keeper.old.auth.ghost_name keeper.new.auth.ghost_name calls
         (A.told keeper.new.auth.now))
         (outside K.steps L.trace L.faults T.told T.faults kex.old link.old targets.old)
         (outside K.steps L.trace L.faults T.told T.faults kex.new link.new targets.new) result }
@@ -137,6 +139,57 @@ fn turns<A: AuthHandler, V: Verifier, K: Kex, L: Link, P: Policy, T: Targets>(
         }
     }
     Err(GatewayError::TurnLimit)
+}
+
+/// The turns of a session before its first input, in which this handler says who is let in; it is
+/// given back.
+fn turns_with<'a, A: AuthHandler, V: Verifier, K: Kex, L: Link, P: Policy, T: Targets, J: Pin>(
+    session: &mut Session,
+    auth: &'a mut A,
+    notebook: &mut Notebook,
+    verifier: &V,
+    kex: &mut K,
+    link: &mut L,
+    policy: &P,
+    targets: &mut T,
+    board: &mut Switchboard,
+    max_turns: u64,
+    left: &mut Result<(), GatewayError<A::Error, K::Error>>,
+) -> &'a mut A
+    requires name { J.name ≡ auth.ghost_name }
+    requires board { board.old ≡ opening_board }
+    requires told { untold session.old ≡ [] }
+    ensures same { result.ghost_name ≡ auth.entry.ghost_name }
+    ensures attended { (settings : Settings) (calls : List (Call A.Error)) →
+        Refines session.old (opening_world settings) → settings.repeatable ≡ K.repeats kex.old →
+        notebook.old ≡ Some [] → A.told auth.entry.now ≡ Some calls →
+        Attended (V.accepts verifier.now) (P.permits policy.now) settings max_turns
+        (A.told result.now ≡ None) (TellsAdmissions calls (A.told result.now))
+        (outside K.steps L.trace L.faults T.told T.faults kex.old link.old targets.old)
+        (outside K.steps L.trace L.faults T.told T.faults kex.new link.new targets.new) left.new }
+{
+    let mut keeper: Keeper<'a, '_, A, J> = Keeper {
+        auth,
+        notebook,
+        of: PhantomData,
+    };
+    *left = turns(
+        session,
+        &mut keeper,
+        verifier,
+        kex,
+        link,
+        policy,
+        targets,
+        board,
+        max_turns,
+    );
+    let Keeper {
+        auth,
+        notebook: _,
+        of: _,
+    } = keeper;
+    auth
 }
 
 /// Serves one connection to its end, and makes the connections to hosts that its peer opens
@@ -165,8 +218,9 @@ pub fn run_gateway<A: AuthHandler, V: Verifier, K: Kex, L: Link, P: Policy, T: T
 ) -> Result<(), GatewayError<A::Error, K::Error>>
     requires { length session_id.now < 2 ^ 32 }
     ensures gateway { (calls : List (Call A.Error)) → A.told auth.old ≡ Some calls →
-        Gatewayed (V.accepts verifier.now) (P.permits policy.now)
+        Attended (V.accepts verifier.now) (P.permits policy.now)
         (settings_of config.now session_id.now remote_sshid.now (K.repeats kex.old)) max_turns
+        (A.told auth.new ≡ None) (TellsAdmissions calls (A.told auth.new))
         (outside K.steps L.trace L.faults T.told T.faults kex.old link.old targets.old)
         (outside K.steps L.trace L.faults T.told T.faults kex.new link.new targets.new) result }
 {
@@ -174,14 +228,13 @@ pub fn run_gateway<A: AuthHandler, V: Verifier, K: Kex, L: Link, P: Policy, T: T
         Ok(session) => session,
         Err(_) => return Err(GatewayError::NoMemory),
     };
-    let mut keeper = Keeper {
-        auth,
-        notebook: Notebook::new(alloc),
-    };
+    let mut notebook = Notebook::new(alloc);
     let mut board = Switchboard::new(alloc);
-    turns(
+    let mut result = Err(GatewayError::TurnLimit);
+    turns_with::<A, V, K, L, P, T, Brand>(
         &mut session,
-        &mut keeper,
+        auth,
+        &mut notebook,
         verifier,
         kex,
         link,
@@ -189,5 +242,7 @@ pub fn run_gateway<A: AuthHandler, V: Verifier, K: Kex, L: Link, P: Policy, T: T
         targets,
         &mut board,
         max_turns,
-    )
+        &mut result,
+    );
+    result
 }

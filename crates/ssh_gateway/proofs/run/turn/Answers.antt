@@ -17,7 +17,7 @@ returns-in-Ok-deliver-clause-turned g c = λ w calls r silent live repeats kept 
     turned (g.V.Verifier.accepts c.args.verifier.now) (g.P.Policy.permits c.args.policy.now)
     c.args.board.now c.give.new.self c.deliver.new.self w c.in-Ok-give.input c.in-Ok.chosen.closes
     c.args.keeper.now.auth.ghost_name c.serve.new.keeper.auth.ghost_name calls
-    (g.A.AuthHandler.told c.serve.new.keeper.auth.now) c.serve.new.keeper.notebook
+    (g.A.AuthHandler.told c.serve.new.keeper.auth.now) c.serve.new.keeper.notebook.now
     c.clear.new.self before after (g.L.Link.trace c.give.new.link) (g.L.Link.faults c.give.new.link)
     (g.T.Targets.told c.choose.new.targets) c.serve.new.session c.in-Ok-serve.flow live
     (given_so (g.P.Policy.permits c.args.policy.now) c.args.board.now c.choose.new.self
@@ -25,7 +25,7 @@ returns-in-Ok-deliver-clause-turned g c = λ w calls r silent live repeats kept 
     (g.L.Link.trace c.give.new.link) (g.T.Targets.told c.args.targets.now)
     (g.T.Targets.told c.choose.new.targets) (c.in-Ok.ensures.chosen w r)
     c.in-Ok-give.ensures.given c.in-Ok-give.ensures.told c.in-Ok-give.ensures.board) serves
-    (λ questions is. delivered c.serve.new.keeper.notebook c.asked.result.now questions
+    (λ questions is. delivered c.serve.new.keeper.notebook.now c.asked.result.now questions
     c.give.new.self c.deliver.new.self c.in-Ok.chosen.closes
     (g.T.Targets.told c.choose.new.targets) (g.T.Targets.told c.deliver.new.targets) c.asked.ensures
     c.in-Ok-deliver.ensures.noted c.in-Ok-deliver.ensures.told is)
@@ -87,7 +87,7 @@ returns-in-Err-deliver-clause-turned g c = λ w calls r silent live repeats kept
     untold (g.V.Verifier.accepts c.args.verifier.now) (g.P.Policy.permits c.args.policy.now)
     c.args.board.now c.give.new.self w c.in-Ok-give.input c.in-Ok.chosen.closes
     c.args.keeper.now.auth.ghost_name c.serve.new.keeper.auth.ghost_name calls
-    (g.A.AuthHandler.told c.serve.new.keeper.auth.now) c.serve.new.keeper.notebook before after
+    (g.A.AuthHandler.told c.serve.new.keeper.auth.now) c.serve.new.keeper.notebook.now before after
     (g.L.Link.trace c.give.new.link) (g.L.Link.faults c.give.new.link)
     (g.T.Targets.told c.choose.new.targets) c.serve.new.session c.in-Ok-serve.flow
     c.in-Err-deliver.fault _ c.target_error-in-Err-deliver.ensures.is
@@ -97,7 +97,7 @@ returns-in-Err-deliver-clause-turned g c = λ w calls r silent live repeats kept
     (g.T.Targets.told c.choose.new.targets) (c.in-Ok.ensures.chosen w r)
     c.in-Ok-give.ensures.given c.in-Ok-give.ensures.told c.in-Ok-give.ensures.board)
     (c.in-Ok-serve.ensures.served w calls r silent live repeats kept tells)
-    (λ failed questions is. undelivered c.serve.new.keeper.notebook c.asked.result.now questions
+    (λ failed questions is. undelivered c.serve.new.keeper.notebook.now c.asked.result.now questions
     c.give.new.self c.in-Ok.chosen.closes
     (g.T.Targets.told c.choose.new.targets) (g.T.Targets.told c.deliver.new.targets) c.asked.ensures
     (c.in-Err-deliver.ensures.failed (ap Err failed)) is)

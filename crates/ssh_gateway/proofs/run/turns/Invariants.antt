@@ -15,11 +15,11 @@ invariant-loop g l = record {
   ticket : l.board.last_ticket ≤ l.counter;
   going : (settings : Settings) (calls : List (Call g.row.A-Error.Denot)) →
       Refines l.fn.session (opening_world settings) →
-      settings.repeatable ≡ g.K.Kex.repeats l.fn.kex → l.fn.keeper.notebook ≡ Some [] →
+      settings.repeatable ≡ g.K.Kex.repeats l.fn.kex → l.fn.keeper.notebook.now ≡ Some [] →
       g.A.AuthHandler.told l.fn.keeper.auth.now ≡ Some calls →
       Going (g.V.Verifier.accepts l.fn.verifier) (g.P.Policy.permits l.fn.policy) settings
       l.counter l.board l.fn.keeper.auth.ghost_name l.keeper.auth.ghost_name calls
-      (g.A.AuthHandler.told l.keeper.auth.now) l.keeper.notebook
+      (g.A.AuthHandler.told l.keeper.auth.now) l.keeper.notebook.now
       (outside g.K.Kex.steps g.L.Link.trace g.L.Link.faults g.T.Targets.told g.T.Targets.faults
       l.fn.kex l.fn.link l.fn.targets)
       (outside g.K.Kex.steps g.L.Link.trace g.L.Link.faults g.T.Targets.told g.T.Targets.faults

@@ -12,8 +12,8 @@ returns g c =
     let name = c.args.self.now.auth.ghost_name in
     let before = g.A.AuthHandler.told c.args.self.now.auth.now in
     let after = g.A.AuthHandler.told c.auth_none.new.self in
-    subst (λ r. Tells (told_of name before c.args.self.now.notebook)
+    subst (λ r. Tells (told_of name before c.args.self.now.notebook.now)
     (told_of name after c.begins.new.self) r (AuthNone c.args.user.now r)) (sym c.passed.ensures)
-    (tells_passed asked name before after c.args.self.now.notebook c.begins.new.self
+    (tells_passed asked name before after c.args.self.now.notebook.now c.begins.new.self
     (AuthNone c.args.user.now asked) (AuthNone c.args.user.now (passed_on asked))
     c.in_ok-begins.ensures.first c.in_ok-begins.ensures.same c.auth_none.ensures refl)
