@@ -1,13 +1,12 @@
 // The exchange of keys of a script, which is without cryptography.
-ghost use Rattle.std.specs.Prelude.{◌≡◌, [], true, false};
+ghost use Rattle.std.specs.Prelude.{◌≡◌, [], false};
 ghost use Rattle.ssh_players.specs.Exchanged.{IsExchanged, left_after};
 
 use bytes::Bytes;
 use ssh_link::{Kex, KexFault, KexStep, PlainKex, PlainKexError};
 use std::alloc::Global;
 
-/// Exchanges keys as `PlainKex` does, and can begin an exchange by itself. Each answer follows from
-/// the calls before it.
+/// Exchanges keys as `PlainKex` does. Each answer follows from the calls before it.
 #[derive(Drop)]
 pub struct ScriptKex {
     /// What exchanges, and tells its calls.
@@ -17,13 +16,13 @@ pub struct ScriptKex {
 }
 
 impl ScriptKex {
-    /// An exchange that was not called yet.
-    pub fn new(alloc: Global) -> ScriptKex
+    /// An exchange that was not called yet; whether this side can begin one by itself.
+    pub fn new(alloc: Global, repeatable: bool) -> ScriptKex
         ensures calls { result.plain.calls ≡ [] }
-        ensures repeatable { result.plain.repeatable ≡ true }
+        ensures repeatable { result.plain.repeatable ≡ repeatable }
     {
         ScriptKex {
-            plain: PlainKex::new(alloc, true),
+            plain: PlainKex::new(alloc, repeatable),
         }
     }
 }

@@ -104,7 +104,7 @@ first_answered queues one rest (inl h) k =
 first_answered queues one rest (inr h) k = subst (λ l. IsAnswered queues (l ++ rest)) (sym h.0)
     (subst (λ q. IsAnswered q rest) h.1 k)
 
-is_answered : (queues : Queues) (all : List Question) → IsAnswered queues (played queues all)
+pub is_answered : (queues : Queues) (all : List Question) → IsAnswered queues (played queues all)
 is_answered queues [] = tt
 is_answered queues (one ∷ more) = first_answered queues one (played (after queues one) more)
     (heard queues one) (is_answered (after queues one) more)
@@ -139,7 +139,7 @@ told_some : (may_stop : Bool) (old new calls : List (Call Failure)) → ToldBy m
 told_some true old new calls h = h
 told_some false old new calls h = let z : Some new ≡ Some (old ++ calls) = h in cc
 
-told_is : (result : Result (Unit {0}) (RunError Failure PlainKexError)) (lost lost' : Bool)
+pub told_is : (result : Result (Unit {0}) (RunError Failure PlainKexError)) (lost lost' : Bool)
     (queues queues' : Queues) (old all : List Question) (calls : List (Call Failure)) →
     lost ≡ false → lost' ≡ false → old ≡ [] → ToldBy (may_stop result) (told_of lost queues old)
     (told_of lost' queues' all) calls → (queues' ≡ queues) × (played queues' all ≡ calls)
@@ -155,7 +155,7 @@ told_is result false false queues queues' old all calls l m o h =
     ap (λ x. heading queues ++ played queues x) o ∙ append-nil (heading queues) in
     heads queues' queues (played queues' all) calls (e ∙ ap (λ x. x ++ calls) f)
 
-stepped_is : (old all calls : List (KexCall PlainKexError)) → old ≡ []
+pub stepped_is : (old all calls : List (KexCall PlainKexError)) → old ≡ []
     → Adds (Some old) (Some all) calls → all ≡ calls
 stepped_is old all calls o h =
     let z : Some all ≡ Some (old ++ calls) = h in

@@ -10,5 +10,6 @@ mod run;
 mod task;
 mod transfer;
 
-pub use run::{LONGEST, one_transcript, run_script};
+pub use run::{LONGEST, one_transcript, run_script, status_of};
 pub use ssh_players::ScriptError;
+pub use transfer::write_all;

@@ -81,7 +81,7 @@ fn error_status(error: &RunError<RecordError<ScriptError>, PlainKexError>) -> Op
 }
 
 /// The status of a run; none where memory was wanting.
-fn status_of(run: &Result<(), RunError<RecordError<ScriptError>, PlainKexError>>) -> Option<u8>
+pub fn status_of(run: &Result<(), RunError<RecordError<ScriptError>, PlainKexError>>) -> Option<u8>
     ensures { result ≡ status_of run.now }
 {
     match run {
@@ -127,7 +127,7 @@ fn run_scene(alloc: Global, script: Script, writing: Writing) -> Result<Report, 
         return Err(AllocError);
     };
     let mut handler = ScriptHandler::new(alloc, script.answers);
-    let mut kex = ScriptKex::new(alloc);
+    let mut kex = ScriptKex::new(alloc, true);
     let run = run_stream(
         alloc,
         &script.config,

@@ -83,7 +83,7 @@ pub(crate) fn read_front<S: Source>(
 }
 
 /// Writes all of it, piece by piece.
-pub(crate) fn write_all<W: Sink>(sink: &mut W, text: &[u8]) -> Result<(), IoFailed>
+pub fn write_all<W: Sink>(sink: &mut W, text: &[u8]) -> Result<(), IoFailed>
     ensures ok { OnOk result (Adds (W.held sink.old) (W.held sink.new) text.now) }
     ensures part { OnErr result (AddsPart (W.held sink.old) (W.held sink.new) text.now) }
     ensures cause { OnErr result (RoseOrFull (W.faults sink.old) (W.faults sink.new)) }

@@ -43,7 +43,7 @@ struct Written {
 // A run of a script over a link in memory whose call of this number fails; none without memory.
 fn run_over(alloc: Global, script: Script, link: &mut MemoryLink) -> Option<(String, String)> {
     let mut handler = ScriptHandler::new(alloc, script.answers);
-    let mut kex = ScriptKex::new(alloc);
+    let mut kex = ScriptKex::new(alloc, true);
     let run = run_stream(
         alloc,
         &script.config,
