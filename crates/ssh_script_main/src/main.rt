@@ -1,5 +1,5 @@
 //! The program: it runs the script that stands on standard input, and writes what comes of it to
-//! standard output. Its exit status is the answer of `run_script`. Where a line of a session's
+//! standard output. Its exit status is the answer of `run_program`. Where a line of a session's
 //! script is bad, it says on standard error which and why.
 #![tactic(auto)]
 
@@ -8,16 +8,20 @@ mod keeping;
 use crate::keeping::Keeping;
 use ssh_link::{Sink, Source, StdSink, StdSource};
 use ssh_scene::{BadLine, bad_line};
-use ssh_script::{LONGEST, run_script};
+use ssh_script::LONGEST;
+use ssh_threads::{GrantingPeer, run_program};
 use std::alloc::{AllocError, Global};
 use std::env;
 use std::process::ExitCode;
+use std::sync::Wait;
+use std::thread::Threads;
 
 /// The status where there was no memory for the words.
 const NO_MEMORY: u8 = 5;
 
 /// Does what the words after the program's name ask for.
-fn run<S: Source, W: Sink>(
+fn run<R: Threads + Wait + Clone + Drop + Sync, S: Source, W: Sink>(
+    rt: &R,
     alloc: Global,
     words: &[String],
     source: &mut S,
@@ -27,7 +31,8 @@ fn run<S: Source, W: Sink>(
     for word in words.iter().skip(1) {
         texts.push(word.as_str())?;
     }
-    Ok(run_script(alloc, texts.as_slice(), source, sink))
+    let mut peer = GrantingPeer::new(alloc);
+    Ok(run_program(rt, alloc, texts.as_slice(), source, sink, &mut peer))
 }
 
 /// Whether the words ask for the run of a session.
@@ -63,7 +68,7 @@ fn main(rt: HostRuntime) -> ExitCode {
     }
     let mut source = Keeping::new(rt.alloc(), StdSource::new(rt.stdin()));
     let mut sink = StdSink::new(rt.stdout());
-    let Ok(status) = run(rt.alloc(), words.as_slice(), &mut source, &mut sink) else {
+    let Ok(status) = run(&rt, rt.alloc(), words.as_slice(), &mut source, &mut sink) else {
         return ExitCode::from(NO_MEMORY);
     };
     if let Some(bad) = bad_line_of(rt.alloc(), words.as_slice(), &source) {

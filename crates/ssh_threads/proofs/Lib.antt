@@ -1,0 +1,6 @@
+pub mod Silent
+pub mod Serving
+pub mod Joining
+pub mod Counting
+pub mod Showing
+pub mod Leaving

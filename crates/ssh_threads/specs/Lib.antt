@@ -1,0 +1,7 @@
+pub mod Sessions
+pub mod Taken
+pub mod Pins
+pub mod Served
+pub mod Runs
+pub mod Lines
+pub mod Programs
