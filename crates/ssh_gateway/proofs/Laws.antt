@@ -1,6 +1,6 @@
 -- What the laws of every run say of the turns of a gateway.
 use Rattle.std.proofs.Common.{◌≡◌, ◌+◌, ℕ, List, [], ◌∷◌, ◌++◌, Option, None, not, true, false, map}
-use Rattle.std.proofs.Common.{Result, Ok, refl, sym, ◌∙◌, ap, subst}
+use Rattle.std.proofs.Common.{Result, Ok, refl, sym, ◌∙◌, ap, subst, append_assoc}
 use Rattle.std.specs.Prelude.{flat_map}
 use Rattle.std.proofs.lemmas.List.{append-nil}
 use Rattle.std.proofs.lemmas.List.Concat.{flat_map-append}
@@ -9,9 +9,10 @@ use Rattle.ssh_auth.specs.Publickey.{Acceptance}
 use Rattle.ssh_handler.specs.declared.recorded.RecordError.{RecordError}
 use Rattle.ssh_link.specs.declared.frame.InputKind.TheVariants.{OpenReply}
 use Rattle.ssh_rules.specs.Outcome.{Goes}
-use Rattle.ssh_rules.specs.Run.{Run, Turns, calls_of, who}
+use Rattle.ssh_rules.specs.Run.{Run, Turns, calls_of, entries, who}
 use Rattle.ssh_rules.specs.World.{Settings, World, opening_world}
-use Rattle.ssh_rules.proofs.Books.{nothing_kept}
+use Rattle.ssh_rules.proofs.Books.{nothing_kept, run_kept}
+use Rattle.ssh_rules.proofs.Ended.{run_live}
 use Rattle.ssh_run_laws.specs.Channels.{Waits as StillWaits, accepted_on, waits_on}
 use Rattle.ssh_run_laws.specs.Deeds.{deeds}
 use Rattle.ssh_run_laws.specs.Users.{first_user}
@@ -22,16 +23,22 @@ use Rattle.ssh_run_laws.proofs.Users.{users_stay}
 use Rattle.ssh_gateway.specs.declared.deciding.Verdict.{Verdict}
 use Rattle.ssh_gateway.specs.declared.deciding.Verdict.TheVariants.{Prohibited, Unreachable, Granted}
 use Rattle.ssh_gateway.specs.declared.switchboard.Asking.{Asking}
+use Rattle.ssh_gateway.specs.declared.switchboard.Connection.{Connection}
 use Rattle.ssh_gateway.specs.declared.targets.Arrived.{Arrived}
 use Rattle.ssh_gateway.specs.declared.targets.Arrived.TheVariants as arrived
 use Rattle.ssh_gateway.specs.declared.targets.TargetCall.{TargetCall}
 use Rattle.ssh_gateway.specs.declared.targets.TargetFault.{TargetFault}
+use Rattle.ssh_gateway.specs.Asked.{read}
 use Rattle.ssh_gateway.specs.Board.{Board, opening_board}
+use Rattle.ssh_gateway.specs.Bytes.{outgoing}
 use Rattle.ssh_gateway.specs.Choosing.{Permits, Source, Decides, Sends, Ends, Closes, Waits, IsChosen}
 use Rattle.ssh_gateway.specs.Choosing.{IsGiven, allows, connects, own_kind}
 use Rattle.ssh_gateway.specs.Laws.{first_let_in, all_deeds, connect_of, connects_made, answer_to}
-use Rattle.ssh_gateway.specs.Laws.{AllWait, DecidesBy, ComesTo, IsOpened}
-use Rattle.ssh_gateway.specs.Turns.{Round, Rounds, IsRound, board_after}
+use Rattle.ssh_gateway.specs.Laws.{AllCarry, AllWait, Carries, DecidesBy, ComesTo, IsOpened}
+use Rattle.ssh_gateway.specs.Turns.{Round, Rounds, IsRound, board_after, target_calls}
+use Rattle.ssh_gateway.proofs.Bytes.{reads_so}
+use Rattle.ssh_gateway.proofs.Distinct.{Each}
+use Rattle.ssh_gateway.proofs.Tied.{OpenedSo, Tied, tied_more}
 use Rattle.ssh_gateway.proofs.Undecided.{Hold}
 use Rattle.ssh_gateway.proofs.Waiting.{oldest, undecided_hold}
 use Rattle.ssh_gateway.proofs.Connecting.{ReadsNone, HandsOnNone, silences_none, read_last, after_none}
@@ -126,6 +133,17 @@ decides_by permits w board user round Waits same chosen given none =
     made_both round.before round.after none ∙ (ap connects_made chosen.2
     ∙ silences_none connect_of made_unread w _)
 
+-- ---- the connections
+
+all_carry : (w : World) (read_of sent_of : ℕ → List ℕ) (all : List Connection)
+    → ((id : ℕ) → read_of id ≡ sent_of id)
+    → Each (λ one. Carries w (sent_of one.id) one) all → AllCarry w read_of all
+all_carry w read_of sent_of [] same h = tt
+all_carry w read_of sent_of (one ∷ more) same h = (
+  subst (λ bytes. Carries w bytes one) (sym (same one.id)) h.0,
+  all_carry w read_of sent_of more same h.1,
+)
+
 -- ---- by the laws
 
 module _ {E F : Type 0} (accepts : Acceptance) (permits : Permits) (settings : Settings)
@@ -184,6 +202,53 @@ module _ {E F : Type 0} (accepts : Acceptance) (permits : Permits) (settings : S
         (let_in earlier parts.0 parts.1 parts.2) is.begins.chosen is.begins.given
         (ap connects_made is.told ∙ after_none connect_of made_behind round parts.0)
 
+    -- where an open is granted, its answer is accepted, and the channel stands
+    opened_so : (rounds : List (Round E F)) (round : Round E F) (board : Board) (w world : World)
+        → Rounds accepts permits opening_board (opening_world settings) rounds board w
+        → IsRound accepts permits board w round (Goes world) → (asked : Asking)
+        → round.source ≡ Decides asked Granted → OpenedSo round w world asked
+    opened_so rounds round board w world run is asked source =
+        let given : round.turn.input ≡ record {
+          moment = board.moment;
+          kind = OpenReply (board.last_ticket + 1) (answer_to asked Granted);
+        } = subst (λ s. IsGiven (own_kind (board.last_ticket + 1) s) board.moment round.turn.input)
+        source is.begins.given in
+        let chosen = subst (λ s. IsChosen permits w board s round.before) source is.begins.chosen in
+        let holds = (subst (Hold (all_deeds rounds)) (oldest w board asked chosen.0 chosen.1)
+        (new_ones rounds board w run)).0 in
+        let waits = waits_so rounds board w run asked.channel.0 holds in
+        let stands = answered_opens_stand (RecordError E) F accepts settings
+        (map (λ one. one.turn) rounds) w round.turn world
+        (one_run_of accepts permits opening_board (opening_world settings) rounds board w run)
+        (is.comes.plan, is.comes.owes, is.comes.follows, is.begins.taken)
+        (board.last_ticket + 1) (answer_to asked Granted) (ap (λ i. i.kind) given) refl waits in
+        (stands.0, stands.1, waits)
+
+    -- the connections stand as channels, and still do after these turns more
+    tied_from : (done rest : List (Round E F)) (board : Board) (w : World) (board' : Board)
+        (world : World)
+        → Rounds accepts permits opening_board (opening_world settings) done board w
+        → Tied done board w → Rounds accepts permits board w rest board' world
+        → Tied (done ++ rest) board' world
+    tied_from done [] board w board' world run tied h =
+        subst (λ l. Tied l board' world) (sym (append-nil done))
+        (subst (λ b. Tied done b world) (sym h.0) (subst (Tied done board) (sym h.1) tied))
+    tied_from done (round ∷ rest) board w board' world run tied h =
+        let start = opening_world settings in
+        let turns = map (λ (one : Round E F). one.turn) done in
+        let one_run = one_run_of accepts permits opening_board start done board w run in
+        let after = board_after round board in
+        subst (λ l. Tied l board' world) (append_assoc done (round ∷ []) rest)
+        (tied_from (done ++ round ∷ []) rest after h.0 board' world
+        (rounds_more accepts permits opening_board start done board w round after h.0 run h.1 refl)
+        (tied_more accepts permits board w round h.0 h.1 done (flat_map entries turns)
+        (run_kept accepts [] start turns w one_run (nothing_kept settings))
+        (run_live accepts start turns w one_run refl) tied
+        (opened_so done round board w h.0 run h.1)) h.2)
+
+    opening_tied : Tied {E = E} {F = F} [] opening_board (opening_world settings)
+    opening_tied = record { carry = tt; distinct = tt; numbered = tt; unused = λ id more. refl }
+
     pub comes_to : (earlier later : List (Round E F)) (board : Board) (world : World)
         → Rounds accepts permits opening_board (opening_world settings) (earlier ++ later) board
         world → ComesTo accepts permits settings earlier
@@ -191,6 +256,8 @@ module _ {E F : Type 0} (accepts : Acceptance) (permits : Permits) (settings : S
         let w = opening_world settings in
         let parts = parted accepts permits opening_board w earlier later board world run in
         let one_run = one_run_of accepts permits opening_board w earlier parts.0 parts.1 parts.2 in
+        let tied = tied_from [] earlier opening_board w parts.0 parts.1 (refl, refl) opening_tied
+        parts.2 in
         record {
           board = parts.0;
           world = parts.1;
@@ -203,6 +270,10 @@ module _ {E F : Type 0} (accepts : Acceptance) (permits : Permits) (settings : S
               chain_bytes number w (flat_map deeds (map (λ round. round.turn) earlier)) parts.1
               (run_chain number accepts [] w (map (λ round. round.turn) earlier) parts.1 one_run
               (nothing_kept settings)) ∙ ap (accepted_on number) (deeds_are earlier);
+          connections = all_carry parts.1 (λ id. read id (flat_map target_calls earlier))
+              (λ id. outgoing id earlier) parts.0.connections
+              (λ id. reads_so id accepts permits opening_board w earlier later board world run)
+              tied.carry;
         }
 
     pub opens_in : (earlier later : List (Round E F)) (round : Round E F) (asked : Asking)
@@ -214,26 +285,12 @@ module _ {E F : Type 0} (accepts : Acceptance) (permits : Permits) (settings : S
         let w = opening_world settings in
         let parts = parted accepts permits opening_board w earlier (round ∷ later) board world run in
         let is = parts.3.1 in
-        let given : round.turn.input ≡ record {
-          moment = parts.0.moment;
-          kind = OpenReply (parts.0.last_ticket + 1) (answer_to asked Granted);
-        } = subst (λ s. IsGiven (own_kind (parts.0.last_ticket + 1) s) parts.0.moment
-        round.turn.input) source is.begins.given in
-        let chosen = subst (λ s. IsChosen permits parts.1 parts.0 s round.before) source
-        is.begins.chosen in
-        let waits = (subst (Hold (all_deeds earlier)) (oldest parts.1 parts.0 asked chosen.0 chosen.1)
-        (new_ones earlier parts.0 parts.1 parts.2)).0 in
-        let stands = answered_opens_stand (RecordError E) F accepts settings
-        (map (λ one. one.turn) earlier) parts.1 round.turn parts.3.0
-        (one_run_of accepts permits opening_board w earlier parts.0 parts.1 parts.2)
-        (is.comes.plan, is.comes.owes, is.comes.follows, is.begins.taken)
-        (parts.0.last_ticket + 1) (answer_to asked Granted) (ap (λ i. i.kind) given) refl
-        (waits_so earlier parts.0 parts.1 parts.2 asked.channel.0 waits) in
+        let so = opened_so earlier round parts.0 parts.1 parts.3.0 parts.2 is asked source in
         record {
-          done = stands.0;
+          done = so.0;
           board = board_after round parts.0;
           world = parts.3.0;
           run = rounds_more accepts permits opening_board w earlier parts.0 parts.1 round
               (board_after round parts.0) parts.3.0 parts.2 is refl;
-          stands = stands.1;
+          stands = so.1;
         }

@@ -13,6 +13,12 @@ mod Connecting
 mod Unfinished
 mod Undecided
 mod Waiting
+mod Carrying
+mod Denying
+mod Distinct
+mod EofTaken
+mod Numbers
+mod Tied
 mod Laws
 mod Going
 mod Attending

@@ -61,17 +61,24 @@ abbrev pub OpensNone : List Question → Type 0
 OpensNone [] = Unit {0}
 OpensNone (question ∷ questions) = (open_asked question ≡ None) × OpensNone questions
 
+-- none of them is such a one
+abbrev pub AreFree : (such : Question → Bool) → List Question → Type 0
+AreFree such [] = Unit {0}
+AreFree such (question ∷ questions) = (such question ≡ false) × AreFree such questions
+
 -- of the questions that were answered by these calls, the first one that was answered by a call; those
 -- before it are about no open
-record Next {E : Type 0} (call : Call E) (calls : List (Call E)) (questions : List Question) : Type 0
-  where
-    question : Question
-    later : List Question
-    is : answered question ≡ call ∷ []
-    rest : calls ≡ flat_map answered later
-    opens : opened_in questions ≡ opened_by question ++ opened_in later
-    none : OpensNone questions → (open_asked question ≡ None) × OpensNone later
-    all : open_asked question ≡ None → OpensNone later → OpensNone questions
+pub record Next {E : Type 0} (call : Call E) (calls : List (Call E)) (questions : List Question)
+    : Type 0 where
+  pub question : Question
+  pub later : List Question
+  pub is : answered question ≡ call ∷ []
+  pub rest : calls ≡ flat_map answered later
+  pub free : (such : Question → Bool) → AreFree such questions
+      → (such question ≡ false) × AreFree such later
+  opens : opened_in questions ≡ opened_by question ++ opened_in later
+  none : OpensNone questions → (open_asked question ≡ None) × OpensNone later
+  all : open_asked question ≡ None → OpensNone later → OpensNone questions
 
 next_skips : {E : Type 0} (call : Call E) (calls : List (Call E)) (first : Question)
     (questions : List Question) → opened_by first ≡ [] → open_asked first ≡ None
@@ -81,6 +88,7 @@ next_skips call calls first questions none about next = record {
   later = next.later;
   is = next.is;
   rest = next.rest;
+  free = λ such free. next.free such free.1;
   opens = ap (λ l. l ++ opened_in questions) none ∙ next.opens;
   none = λ all. next.none all.1;
   all = λ here rest. (about, next.all here rest);
@@ -94,12 +102,13 @@ next_is {E} call other calls first questions is same = record {
   later = questions;
   is = is ∙ (let one : other ≡ call = cc in ap (λ c. c ∷ []) one);
   rest = cc;
+  free = λ such free. free;
   opens = refl;
   none = λ all. all;
   all = λ here rest. (here, rest);
 }
 
-next_of : {E : Type 0} (call : Call E) (calls : List (Call E)) (questions : List Question)
+pub next_of : {E : Type 0} (call : Call E) (calls : List (Call E)) (questions : List Question)
     → call ∷ calls ≡ flat_map answered questions → Next call calls questions
 next_of call calls [] same = absurd (cc)
 next_of call calls (ask.Banner ∷ questions) same =

@@ -6,6 +6,9 @@ use Rattle.ssh_link.specs.declared.command.Command.TheVariants.{Answer}
 use Rattle.ssh_link.specs.declared.frame.InputKind.TheVariants.{OpenReply}
 use Rattle.ssh_link.specs.declared.open_answer.OpenAnswer.{OpenAnswer}
 use Rattle.ssh_link.specs.declared.outcome.CommandOutcome.TheVariants.{Accepted}
+use Rattle.ssh_channels.specs.declared.chunk.DataKind.TheVariants.{Plain}
+use Rattle.ssh_channels.specs.Entry.{tagged}
+use Rattle.ssh_channels.specs.Layout.{chunk}
 use Rattle.ssh_rules.specs.Run.{calls_of, who}
 use Rattle.ssh_rules.specs.World.{Settings, World, opening_world}
 use Rattle.ssh_run_laws.specs.Channels.{Stands, Waits, accepted_on, bytes_on, waits_on}
@@ -14,8 +17,10 @@ use Rattle.ssh_run_laws.specs.Users.{first_user}
 use Rattle.ssh_gateway.specs.declared.deciding.Verdict.{Verdict}
 use Rattle.ssh_gateway.specs.declared.deciding.Verdict.TheVariants.{Granted}
 use Rattle.ssh_gateway.specs.declared.switchboard.Asking.{Asking}
+use Rattle.ssh_gateway.specs.declared.switchboard.Connection.{Connection}
 use Rattle.ssh_gateway.specs.declared.targets.TargetCall.{TargetCall}
 use Rattle.ssh_gateway.specs.declared.targets.TargetCall.TheVariants as call
+use Rattle.ssh_gateway.specs.Asked.{read}
 use Rattle.ssh_gateway.specs.Board.{Board, opening_board}
 use Rattle.ssh_gateway.specs.Choosing.{Permits, Source, Decides, allows, connects, is_prohibited}
 use Rattle.ssh_gateway.specs.Choosing.{rejection}
@@ -70,6 +75,18 @@ abbrev pub AllWait : World → List Asking → Type 0
 AllWait w [] = Unit {0}
 AllWait w (asked ∷ more) = Waits asked.channel.0 w × AllWait w more
 
+-- a connection stands as a channel: both sides agreed to it, no CLOSE of it was accepted, and an EOF
+-- was exactly where its target has ended (section 5.3); and this channel accepted just these bytes,
+-- as data (section 5.2)
+abbrev pub Carries : World → (bytes : List ℕ) → Connection → Type 0
+Carries w bytes one = Stands one.channel.0 one.target_ended w.channels.lines
+    × (bytes_on one.channel.0 w.channels.lines ≡ tagged (chunk Plain bytes))
+
+-- each of these does, with the bytes of its number
+abbrev pub AllCarry : World → (bytes_of : ℕ → List ℕ) → List Connection → Type 0
+AllCarry w bytes_of [] = Unit {0}
+AllCarry w bytes_of (one ∷ more) = Carries w (bytes_of one.id) one × AllCarry w bytes_of more
+
 -- after these turns
 pub record ComesTo {E F : Type 0} (accepts : Acceptance) (permits : Permits) (settings : Settings)
     (rounds : List (Round E F)) : Type 0 where
@@ -86,6 +103,9 @@ pub record ComesTo {E F : Type 0} (accepts : Acceptance) (permits : Permits) (se
   -- were accepted there since it was opened, one after another
   pub bytes : (number : ℕ)
       → bytes_on number world.channels.lines ≡ accepted_on number (all_deeds rounds)
+  -- each connection of the board stands as a channel, which accepted just the bytes that were read
+  -- from the target of that connection
+  pub connections : AllCarry world (λ id. read id (flat_map target_calls rounds)) board.connections
 
 -- behind these turns one accepts an open: its answer is accepted, and the channel stands
 pub record IsOpened {E F : Type 0} (accepts : Acceptance) (permits : Permits) (settings : Settings)
