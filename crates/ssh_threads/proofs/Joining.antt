@@ -30,6 +30,7 @@ use Rattle.ssh_threads.specs.Sessions.{Outcome, FailureTurn, Serves, hall}
 use Rattle.ssh_threads.specs.Served.{PeerTold, IsLeft}
 use Rattle.ssh_threads.specs.Taken.{taken_in, taken_of}
 use Rattle.ssh_threads.specs.declared.served.Served.{Served}
+use Rattle.ssh_threads.proofs.Unfailing.{unfailed}
 
 link_fault : (accepts : Acceptance) (w : World) (count max : ℕ) (last : Option FailureTurn)
     (rose : Type 0) → Closes accepts w count max last rose (Err LinkFault) → rose
@@ -66,6 +67,8 @@ pub ran : (lock : HubLock) (knew v x w : View) (before after : PeerTold) (served
     after.frames served.trace.items served.outcome w
 ran lock knew v x w before after served none left is meets = record {
   run = inl left.run;
+  unfailed = unfailed (Rose before.faults after.faults) served.trace.items served.outcome
+      (inl left.run);
   inputs = left.inputs;
   frames = left.frames;
   legal = meets.legal;
@@ -106,6 +109,7 @@ pub ran_since : (f g h : ℕ) (inputs inputs' given : Option (List Input))
 ran_since f g h inputs inputs' given frames frames' taken trace outcome seat later same_inputs
     same_frames r = record {
       run = run_since f g h trace outcome later r.run;
+      unfailed = r.unfailed;
       inputs = subst (λ i. Adds i given (of_feed (inputs_in trace))) same_inputs r.inputs;
       frames = subst (λ i. Adds i taken (frames_in trace)) same_frames r.frames;
       legal = r.legal;
@@ -125,6 +129,7 @@ pub not_run : (rose : Type 0) (inputs inputs' : Option (List Input))
 not_run rose inputs inputs' frames frames' config seat so same_inputs same_frames is =
     subst (RanInThreads rose inputs inputs' frames frames' [] (Err LinkFault)) (sym is) (record {
       run = inr (so, refl, refl);
+      unfailed = unfailed rose [] (Err LinkFault) (inr (so, refl, refl));
       inputs = nothing_more inputs inputs' same_inputs;
       frames = nothing_more frames frames' same_frames;
       legal = tt;

@@ -1,6 +1,7 @@
 pub mod Silent
 pub mod Serving
+pub mod Unfailing
 pub mod Joining
-pub mod Counting
+pub mod Asking
 pub mod Showing
 pub mod Leaving

@@ -12,11 +12,11 @@ use Rattle.ssh_hub_link.specs.Given.{frames_in}
 use Rattle.ssh_rules.specs.declared.error.RunError.TheVariants.{LinkFault}
 use Rattle.ssh_script.specs.Transfer.{AddsPart}
 use Rattle.ssh_script.specs.Transcript.{AskForScript, Ends, Shown, Unread, Unwritten, Starved}
-use Rattle.ssh_threads.specs.Lines.{are_whole, status_of, text_of, full_text}
+use Rattle.ssh_threads_lines.specs.Lines.{are_whole, status_of, text_of, full_text}
 use Rattle.ssh_threads.specs.Programs.{IsCount, threads_words, IsAsked, NoThreads, ShowsThreads}
 use Rattle.ssh_threads.specs.Runs.{RanInThreads}
 use Rattle.ssh_threads.specs.Sessions.{Outcome}
-use Rattle.ssh_threads.proofs.Counting.{text_full}
+use Rattle.ssh_threads_lines.proofs.Counting.{text_full}
 use Rattle.ssh_threads.proofs.Joining.{nothing_more}
 
 verdict_small : (b : Bool) → cond b 0 1 < 3

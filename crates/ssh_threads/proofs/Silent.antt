@@ -44,7 +44,7 @@ sent_by : (number : ℕ) (call : Call Failure) (w : Was Failure) → was call �
     → records_data number call ≡ list_any (sends_by number) (recorded_so w)
 sent_by number call w is = ap (λ v. list_any (sends_by number) (recorded_so v)) is
 
-first_is : {A : Type 0} (a b : A) → a ∷ [] ≡ b ∷ [] → a ≡ b
+pub first_is : {A : Type 0} (a b : A) → a ∷ [] ≡ b ∷ [] → a ≡ b
 first_is a b h = let z : a ∷ [] ≡ b ∷ [] = h in cc
 
 silent_asked : (number : ℕ) (queues : Queues) (call : Call Failure) (one : Question)

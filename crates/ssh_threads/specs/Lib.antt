@@ -3,5 +3,4 @@ pub mod Taken
 pub mod Pins
 pub mod Served
 pub mod Runs
-pub mod Lines
 pub mod Programs

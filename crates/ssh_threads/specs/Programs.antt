@@ -8,7 +8,7 @@ use Rattle.ssh_link.specs.declared.link.TraceEntry.{TraceEntry}
 use Rattle.ssh_hub.specs.declared.history.View.{View}
 use Rattle.ssh_hub_link.specs.Given.{frames_in}
 use Rattle.ssh_rules.specs.declared.error.RunError.TheVariants.{LinkFault}
-use Rattle.ssh_threads.specs.Lines.{status_of, text_of}
+use Rattle.ssh_threads_lines.specs.Lines.{status_of, text_of}
 use Rattle.ssh_threads.specs.Runs.{RanInThreads}
 use Rattle.ssh_threads.specs.Sessions.{Outcome}
 

@@ -1,12 +1,11 @@
 -- The session that threads share, and what its link tells of it.
 use Rattle.std.specs.Prelude.{◌≡◌, ◌≢◌, ◌-◌, ◌^◌, ℕ, false, List, [], ◌++◌, flat_map, length}
-use Rattle.std.specs.Prelude.{Option, None, option_to_list, Result}
+use Rattle.std.specs.Prelude.{Option, None, option_to_list}
 use Rattle.ssh_link.specs.declared.link.TraceEntry.{TraceEntry}
 use Rattle.ssh_link.specs.declared.plain_kex.PlainKexError.{PlainKexError}
 use Rattle.ssh_link.specs.Told.{Adds}
 use Rattle.ssh_channels.specs.declared.chunk.DataKind.{DataKind}
 use Rattle.ssh_channels.specs.Sent.{IsUnopened, since}
-use Rattle.ssh_rules.specs.declared.error.RunError.{RunError}
 use Rattle.ssh_rules.specs.Account.{Closes}
 use Rattle.ssh_rules.specs.Ledger.{outgoing}
 use Rattle.ssh_rules.specs.Run.{Turn, Run, calls_of, steps_of, entries}
@@ -18,10 +17,7 @@ use Rattle.ssh_scene.specs.Generated.{generated}
 use Rattle.ssh_players.specs.Played.{Failure, IsAnswered}
 use Rattle.ssh_players.specs.Exchanged.{IsExchanged}
 use Rattle.ssh_script.specs.Transcript.{scene_accepts, status_of}
-
--- how it ends
-abbrev pub Outcome : Type 0
-Outcome = Result (Unit {0}) (RunError Failure PlainKexError)
+pub use Rattle.ssh_threads_lines.specs.Lines.{Outcome}
 
 -- not for want of memory
 abbrev pub IsFed : Outcome → Type 0

@@ -7,7 +7,6 @@
 
 mod choice;
 mod granting;
-mod lines;
 mod peer;
 mod pinned;
 mod program;
@@ -18,4 +17,6 @@ mod threads;
 pub use granting::GrantingPeer;
 pub use peer::Peer;
 pub use program::run_program;
+pub use session::serve_over;
+pub use ssh_threads_lines::Outcome;
 pub use threads::{ThreadsRun, Trace, run_threads};

@@ -9,7 +9,9 @@ ghost use Rattle.ssh_hub.specs.declared.history.View.{View};
 
 use crate::peer::Peer;
 use ssh_hub_link::HubLink;
-use ssh_link::{CommandOutcome, Frame, Input, Link, LinkFault, Notice};
+use ssh_link::{ChannelMsg, CommandOutcome, Frame, Input, Link, LinkFault, Notice};
+use ssh_wire::ChannelId;
+use ssh_writers::Bells;
 use std::marker::{Brand, Model, PhantomData};
 use std::sync::Wait;
 
@@ -52,10 +54,21 @@ impl Pin for Brand {
     ghost frames = { None };
 }
 
-// A hub's link over a peer that is lent.
+// The channel whose writer may go on after this notice.
+fn wakes(notice: &Notice) -> Option<ChannelId> {
+    match notice {
+        Notice::Granted { channel, .. } => Some(*channel),
+        Notice::Ready { channel, .. } => Some(*channel),
+        Notice::Channel(channel, ChannelMsg::Close | ChannelMsg::OpenFailure(_)) => Some(*channel),
+        _ => None,
+    }
+}
+
+// A hub's link over a peer that is lent, which wakes the writers by their bells.
 #[derive(Drop)]
 pub(crate) struct Pinned<'a, R, P: Peer, J: Pin> {
     pub(crate) inner: HubLink<R, &'a mut P>,
+    pub(crate) bells: &'a Bells,
     pub(crate) of: PhantomData<J>,
 }
 
@@ -93,7 +106,10 @@ impl<'a, R: Wait + Clone + Drop, P: Peer, J: Pin> Link for Pinned<'a, R, P, J> {
     }
 
     fn notice(&mut self, notice: Notice) -> Result<(), LinkFault> {
-        self.inner.notice(notice)
+        let channel = wakes(&notice);
+        let told = self.inner.notice(notice);
+        self.bells.ring(channel);
+        told
     }
 
     fn answer(&mut self, ticket: u64, outcome: CommandOutcome) -> Result<(), LinkFault> {

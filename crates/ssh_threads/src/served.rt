@@ -8,10 +8,12 @@ ghost use Rattle.ssh_threads.specs.Served.{IsLeft, peer_told};
 use crate::choice::put;
 use crate::peer::Peer;
 use crate::pinned::{Pin, Pinned};
-use crate::session::{Outcome, serve_over};
+use crate::session::serve_over;
 use ssh_hub::{HubLock, Seat};
 use ssh_hub_link::HubLink;
 use ssh_link::TraceEntry;
+use ssh_threads_lines::Outcome;
+use ssh_writers::Bells;
 use std::alloc::{AllocError, Global};
 use std::marker::{Brand, PhantomData};
 use std::sync::{Arc, Wait};
@@ -32,6 +34,7 @@ fn serve_once<'a, R: Wait + Clone + Drop, P: Peer, J: Pin>(
     lock: Arc<HubLock>,
     seat: Seat,
     peer: &'a mut P,
+    bells: &'a Bells,
     left: &mut Option<Served>,
 ) -> &'a mut P
     requires fits { IsSeatOf (arc_value lock) seat }
@@ -47,12 +50,18 @@ fn serve_once<'a, R: Wait + Clone + Drop, P: Peer, J: Pin>(
     let inner = HubLink::new(rt, alloc, lock, seat, peer, true);
     let mut link: Pinned<'a, R, P, J> = Pinned {
         inner,
+        bells,
         of: PhantomData,
     };
     let outcome = serve_over(alloc, &mut link);
-    let Pinned { inner, of: _ } = link;
+    let Pinned {
+        inner,
+        bells,
+        of: _,
+    } = link;
     let trace = trace_of(alloc, &inner);
     let (peer, seat) = inner.finish();
+    bells.ring_all();
     let served = made(outcome, trace, seat);
     put(left, served);
     peer
@@ -105,13 +114,14 @@ fn copied(alloc: Global, entries: &[TraceEntry]) -> Result<Vec<TraceEntry>, Allo
 }
 
 /// Serves a session over the hub and the peer; None where memory was wanting. The hub has ended
-/// then in any case.
+/// then in any case, and all bells were rung.
 pub(crate) fn serve<R: Wait + Clone + Drop, P: Peer>(
     rt: &R,
     alloc: Global,
     lock: Arc<HubLock>,
     seat: Seat,
     peer: &mut P,
+    bells: &Bells,
 ) -> Option<Served>
     requires { IsSeatOf (arc_value lock) seat }
     ensures left { IfSome result (λ s. IsLeft (arc_value lock) (view_of seat)
@@ -121,9 +131,10 @@ pub(crate) fn serve<R: Wait + Clone + Drop, P: Peer>(
     let Ok(own) = rt.clone() else {
         let mut seat = seat;
         lock.end(rt, &mut seat);
+        bells.ring_all();
         return None;
     };
     let mut left = None;
-    serve_once::<R, P, Brand>(own, alloc, lock, seat, peer, &mut left);
+    serve_once::<R, P, Brand>(own, alloc, lock, seat, peer, bells, &mut left);
     left
 }

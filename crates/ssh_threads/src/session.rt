@@ -4,19 +4,18 @@ ghost use Rattle.ssh_link.specs.Faults.{Rose};
 ghost use Rattle.ssh_threads.specs.Sessions.{Serves, IsFed};
 
 use crate::choice::unless;
-use ssh_handler::RecordError;
-use ssh_link::{Link, PlainKexError};
-use ssh_players::{ScriptError, ScriptHandler, ScriptKex};
+use ssh_link::Link;
+use ssh_players::{ScriptHandler, ScriptKex};
 use ssh_scene::generated_script;
 use ssh_script::status_of;
-use ssh_session::{RunError, run_stream};
+use ssh_session::run_stream;
+use ssh_threads_lines::Outcome;
 use std::alloc::{AllocError, Global};
 
-/// How a session of a script's handler ends.
-pub(crate) type Outcome = Result<(), RunError<RecordError<ScriptError>, PlainKexError>>;
-
-/// Serves a session over the link until an input ends it or an error comes.
-pub(crate) fn serve_over<L: Link>(alloc: Global, link: &mut L) -> Result<Outcome, AllocError>
+/// Serves a session over the link until an input ends it or an error comes: with the standard
+/// settings, a handler that accepts the first request by the method none and every channel of the
+/// peer, and an exchange without cryptography. Want of memory, of the run too, is the only error.
+pub fn serve_over<L: Link>(alloc: Global, link: &mut L) -> Result<Outcome, AllocError>
     ensures { IfOk result (λ outcome. Serves (Rose (L.faults link.old) (L.faults link.new))
         (L.trace link.old) (L.trace link.new) outcome) }
 {

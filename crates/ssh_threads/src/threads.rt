@@ -13,14 +13,14 @@ ghost use Rattle.ssh_threads.specs.Served.{IsLeft, peer_told};
 use crate::choice::unless;
 use crate::peer::Peer;
 use crate::served::{Served, serve};
-use crate::session::Outcome;
 use ssh_handler::Config;
 use ssh_handles::Gate;
 use ssh_hub::{Config2, HandleError, HubLock, Seat};
 use ssh_link::{LinkFault, TraceEntry};
 use ssh_session::RunError;
+use ssh_threads_lines::Outcome;
 use ssh_wire::{ChannelId, WireError};
-use ssh_writers::{Post, Writer, Written, write_all};
+use ssh_writers::{Bells, Post, Writer, Written, write_all};
 use std::alloc::Global;
 use std::sync::{Arc, Wait};
 use std::thread::{Threads, join_mut};
@@ -39,6 +39,24 @@ pub struct ThreadsRun {
     pub lock: Arc<HubLock>,
     /// The session's seat, into which those of the writers were joined.
     pub seat: Seat,
+}
+
+impl ThreadsRun {
+    /// How the session ended; all else is dropped.
+    pub fn into_outcome(self) -> Outcome
+        ensures { result ≡ self.outcome }
+    {
+        let ThreadsRun {
+            outcome,
+            trace,
+            lock,
+            seat,
+        } = self;
+        drop(trace);
+        drop(lock);
+        drop(seat);
+        outcome
+    }
 }
 
 /// This side's number of the first channel.
@@ -144,6 +162,7 @@ fn staff<R: Wait>(
 fn serve_taken<R: Wait + Clone + Drop, P: Peer>(
     rt: &R,
     alloc: Global,
+    bells: &Bells,
     peer: &mut P,
     server: &mut Option<Server>,
 ) -> Option<Served>
@@ -153,7 +172,7 @@ fn serve_taken<R: Wait + Clone + Drop, P: Peer>(
         (peer_told P.Feed.inputs P.Feed.frames P.Feed.faults peer.new) s)) }
 {
     let Server { lock, seat } = server.take()?;
-    serve(rt, alloc, lock, seat, peer)
+    serve(rt, alloc, lock, seat, peer, bells)
 }
 
 /// Lets the team write, once, and gives back the seat into which all of theirs were joined; None where
@@ -162,6 +181,7 @@ fn write_taken<R: Threads + Wait + Sync, G: Gate + Sync>(
     rt: &R,
     alloc: Global,
     gate: &G,
+    bells: &Bells,
     lock: &HubLock,
     team: &mut Option<Team>,
 ) -> Option<Seat>
@@ -170,7 +190,7 @@ fn write_taken<R: Threads + Wait + Sync, G: Gate + Sync>(
     ensures { IfSome result (λ seat. IsSeatOf lock.now seat) }
 {
     let Team { post, writers } = team.take()?;
-    let Written { seat, result } = write_all(rt, alloc, gate, lock, post, writers);
+    let Written { seat, result } = write_all(rt, alloc, gate, bells, lock, post, writers);
     unless(result == Err(HandleError::NoMemory), seat)
 }
 
@@ -179,6 +199,7 @@ fn run_both<R: Threads + Wait + Clone + Drop + Sync, G: Gate + Sync, P: Peer + S
     rt: &R,
     alloc: Global,
     gate: &G,
+    bells: &Bells,
     lock: &HubLock,
     peer: &mut P,
     server: Server,
@@ -195,11 +216,11 @@ fn run_both<R: Threads + Wait + Clone + Drop + Sync, G: Gate + Sync, P: Peer + S
     let mut team = Some(team);
     let (served, written) = join_mut(
         rt,
-        &mut || serve_taken(rt, alloc, peer, &mut server),
+        &mut || serve_taken(rt, alloc, bells, peer, &mut server),
         &mut || -> Option<Seat>
             requires { IfSome team (λ team. (arc_value team.post.lock ≡ lock.now)
                 × All (IsWriterOf lock.now) team.writers.items) }
-        { write_taken(rt, alloc, gate, lock, &mut team) },
+        { write_taken(rt, alloc, gate, bells, lock, &mut team) },
     );
     served.zip(written)
 }
@@ -269,7 +290,8 @@ fn run_staffed<R: Threads + Wait + Clone + Drop + Sync, G: Gate + Sync, P: Peer 
     ensures memory { IfErr result (λ e. e ≡ NoMemory) }
 {
     let (server, team) = staff(rt, alloc, n, &lock, seat)?;
-    let Some(done) = run_both(rt, alloc, gate, &lock, peer, server, team) else {
+    let bells = Bells::new(alloc, n)?;
+    let Some(done) = run_both(rt, alloc, gate, &bells, &lock, peer, server, team) else {
         return Err(WireError::NoMemory);
     };
     let (served, theirs) = done;

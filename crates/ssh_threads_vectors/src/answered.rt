@@ -11,10 +11,7 @@ use ssh_handles::{ChannelWriteHalf, Handle};
 use ssh_hub::{Config2, HandleError, HubLock, Seat};
 use ssh_hub_link::{Feed, HubLink};
 use ssh_link::{ChannelMsg, Frame, Input, InputKind, Link, LinkFault, Refusal};
-use ssh_players::{ScriptHandler, ScriptKex};
-use ssh_scene::generated_script;
-use ssh_session::run_stream;
-use ssh_threads::GrantingPeer;
+use ssh_threads::{GrantingPeer, serve_over};
 use ssh_wire::message::{CHANNEL_OPEN, CHANNEL_REQUEST, GLOBAL_REQUEST};
 use ssh_wire::{ChannelOpenFailure, Text};
 use std::alloc::Global;
@@ -174,23 +171,10 @@ impl Feed for AnsweringPeer {
 
 // Whether a session over the link comes to its end.
 fn runs<L: Link>(alloc: Global, link: &mut L) -> bool {
-    let Ok(script) = generated_script(alloc, 0) else {
-        return false;
-    };
-    let mut handler = ScriptHandler::new(alloc, script.answers);
-    let mut kex = ScriptKex::new(alloc, false);
-    let outcome = run_stream(
-        alloc,
-        &script.config,
-        script.session_id.as_slice(),
-        &[],
-        &mut handler,
-        &script.verifier,
-        &mut kex,
-        link,
-        u64::MAX,
-    );
-    outcome.is_ok()
+    let outcome = serve_over(alloc, link);
+    let is_ok = matches!(&outcome, Ok(Ok(())));
+    drop(outcome);
+    is_ok
 }
 
 // A hub that is shared, and a seat of it.

@@ -129,9 +129,7 @@ fn both_run<R: Threads + Wait + Clone + Drop + Sync>(rt: &R, alloc: Global) -> b
     let Ok(run) = run_threads(rt, alloc, 2, &flags, &mut peer) else {
         return false;
     };
-    let is_ok = run.outcome.is_ok();
-    drop(run);
-    is_ok && flags.missed.load(Ordering::SeqCst) == 0
+    run.into_outcome().is_ok() && flags.missed.load(Ordering::SeqCst) == 0
 }
 
 #[test]

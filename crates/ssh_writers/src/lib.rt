@@ -4,11 +4,13 @@
 //! made no call of its own meanwhile.
 #![tactic(auto)]
 
+mod bell;
 mod post;
 mod team;
 mod waiting;
 mod writer;
 
+pub use bell::Bells;
 pub use post::Post;
 pub use team::write_all;
 pub use writer::{BYTES_EACH, Writer, Written};

@@ -4,6 +4,7 @@ ghost use Rattle.std.specs.Arc.{arc_value};
 ghost use Rattle.ssh_hub.specs.Words.{IsSeatOf};
 ghost use Rattle.ssh_writers.specs.Writers.{IsWriterOf, IsBackOf};
 
+use crate::bell::Bells;
 use crate::post::Post;
 use crate::writer::{Writer, Written};
 use ssh_handles::Gate;
@@ -14,11 +15,14 @@ use std::thread;
 use std::thread::Threads;
 
 /// Runs the writers at once, and gives back their seats, all joined into that of the post, with the
-/// first error. Where there is no memory to run them all, it asks for the end of the connection.
+/// first error. Each sleeps on the bell of its channel, which whoever serves the session is to ring:
+/// once the channel is there, more may be sent on it or it is closed, and all at the end of the hub.
+/// Where there is no memory to run them all, it asks for the end of the connection.
 pub fn write_all<R: Threads + Wait + Sync, G: Gate + Sync>(
     rt: &R,
     alloc: Global,
     gate: &G,
+    bells: &Bells,
     lock: &HubLock,
     post: Post,
     writers: Vec<Writer>,
@@ -33,7 +37,7 @@ pub fn write_all<R: Threads + Wait + Sync, G: Gate + Sync>(
         &|writer: Writer| -> Written
             requires { IsWriterOf lock.now writer }
             ensures { IsBackOf lock.entry.now result }
-        { writer.run(rt, alloc, gate, lock) },
+        { writer.run(rt, alloc, gate, bells, lock) },
     );
     match done {
         Ok(done) => gather(lock, post.into_seat(), done),

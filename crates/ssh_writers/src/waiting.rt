@@ -1,13 +1,16 @@
 // A seat that waits for a channel.
 ghost use Rattle.ssh_hub.specs.Words.{IsSeatOf};
 
+use crate::bell::Bells;
 use ssh_hub::{HandleError, HubLock, Seat};
 use ssh_wire::ChannelId;
 use std::sync::Wait;
 
-// Waits until the hub has the channel. `Ended`, the only error, where the hub ends before.
+// Waits until the hub has the channel: on the channel's bell, and where it has none, for any event.
+// `Ended`, the only error, where the hub ends before.
 pub(crate) fn wait_for<R: Wait>(
     rt: &R,
+    bells: &Bells,
     lock: &HubLock,
     seat: &mut Seat,
     channel: ChannelId,
@@ -23,7 +26,9 @@ pub(crate) fn wait_for<R: Wait>(
         if let Some(at) = lock.ended(rt, seat) {
             return Err(HandleError::Ended { at });
         }
-        pause(rt, lock, seat, place);
+        if !bells.wait(rt, channel) {
+            pause(rt, lock, seat, place);
+        }
     }
     unreachable!()
 }

@@ -5,6 +5,7 @@ ghost use Rattle.ssh_writers.specs.Writers.{IsWriterOf, HasMadeNone, HasWritten,
 ghost use Rattle.ssh_handles.specs.Handles.{handle_hub, reader_hub, writer_hub};
 ghost use Rattle.ssh_handles.specs.Handles.{writer_id, writer_view};
 
+use crate::bell::{Bells, Sleeping};
 use crate::post::{Post, Words};
 use crate::waiting::wait_for;
 use bytes::Bytes;
@@ -41,7 +42,14 @@ impl Writer {
     /// Waits until the channel is there, sends its bytes through the gate, and then the end of file
     /// (RFC 4254 section 5.3). After an error it asks for the end of the connection. Where it came to
     /// its end, the history has a seat whose first calls put its bytes on the channel.
-    pub fn run<R: Wait, G: Gate>(self, rt: &R, alloc: Global, gate: &G, lock: &HubLock) -> Written
+    pub fn run<R: Wait, G: Gate>(
+        self,
+        rt: &R,
+        alloc: Global,
+        gate: &G,
+        bells: &Bells,
+        lock: &HubLock,
+    ) -> Written
         requires { IsWriterOf lock.now self }
         ensures seat { IsSeatOf lock.now result.seat }
         ensures wrote { OnOk result.result (HasWritten self.channel (bytes_for self.channel)
@@ -53,7 +61,7 @@ impl Writer {
             mut seat,
             words,
         } = post;
-        if let Err(e) = wait_for(rt, lock, &mut seat, channel) {
+        if let Err(e) = wait_for(rt, bells, lock, &mut seat, channel) {
             return Written {
                 seat,
                 result: Err(e),
@@ -61,7 +69,7 @@ impl Writer {
         }
         let mut handle = Handle::new(shared, seat);
         match handle.channel(rt, channel) {
-            Ok(Some(channel)) => write_on(rt, alloc, gate, lock, handle, words, channel),
+            Ok(Some(channel)) => write_on(rt, alloc, gate, bells, lock, handle, words, channel),
             Ok(None) => {
                 let gone = HandleError::Refused(Refusal::UnknownChannel);
                 leave(rt, handle, words, Err(gone))
@@ -76,6 +84,7 @@ fn write_on<R: Wait, G: Gate>(
     rt: &R,
     alloc: Global,
     gate: &G,
+    bells: &Bells,
     lock: &HubLock,
     handle: Handle,
     words: Words,
@@ -90,7 +99,7 @@ fn write_on<R: Wait, G: Gate>(
         (bytes_for (writer_id channel.write)) (view_of result.seat).seen) }
 {
     let (read, mut write) = channel.split();
-    let sent = send_all(rt, alloc, gate, &mut write);
+    let sent = send_all(rt, alloc, gate, bells, &mut write);
     let mut written = leave(rt, handle, words, sent);
     lock.join(&mut written.seat, read.into_seat());
     lock.join(&mut written.seat, write.into_seat());
@@ -123,14 +132,22 @@ fn send_all<R: Wait, G: Gate>(
     rt: &R,
     alloc: Global,
     gate: &G,
+    bells: &Bells,
     half: &mut ChannelWriteHalf,
 ) -> Result<(), HandleError>
     ensures hub { writer_hub half.new ≡ writer_hub half.old }
     ensures wrote { OnOk result (WritesFirst (writer_id half.old) (bytes_for (writer_id half.old))
         (writer_view half.old) (writer_view half.new)) }
 {
-    let bytes = bytes_for(alloc, half.id())?;
-    half.data_bytes_through(rt, gate, bytes)?;
+    let channel = half.id();
+    let bytes = bytes_for(alloc, channel)?;
+    let own = Sleeping {
+        rt,
+        gate,
+        bells,
+        channel,
+    };
+    half.data_bytes_through(rt, &own, bytes)?;
     half.eof(rt)?;
     Ok(())
 }

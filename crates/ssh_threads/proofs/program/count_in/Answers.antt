@@ -1,6 +1,6 @@
 use Rattle.std.proofs.Common.{arith, subst}
 use Rattle.ssh_scene.specs.Grammar.{IsNumberIn}
-use Rattle.ssh_threads.proofs.Counting.{other_count}
+use Rattle.ssh_threads.proofs.Asking.{other_count}
 use Rattle.ssh_threads.proofs.program.count_in.Goals as goal
 
 pub returns-then-count-eq0 : goal.returns-then-count-eq0

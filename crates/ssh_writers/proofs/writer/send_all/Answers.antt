@@ -11,7 +11,7 @@ pub returns-clause-wrote : goal.returns-clause-wrote
 returns-clause-wrote g c =
     let channel = writer_id c.args.half.now in
     let bytes : c.in_ok-bytes.bytes ≡ bytes_for channel =
-    c.in_ok-bytes.ensures ∙ ap bytes_for c.id.ensures in
+    c.in_ok-bytes.ensures ∙ ap bytes_for c.id-channel.ensures in
     let ended : IsPut (Eof channel) 0 false (writer_view c.data_bytes_through.new.self) c.eof.result
     (writer_view c.eof.new.self) =
     subst (λ (n : ChannelId). IsPut (Eof n) 0 false (writer_view c.data_bytes_through.new.self)

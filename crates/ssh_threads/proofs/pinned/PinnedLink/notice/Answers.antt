@@ -5,7 +5,7 @@ use Rattle.ssh_hub.specs.declared.lock.HubLock.{HubLock}
 use Rattle.ssh_threads.proofs.pinned.PinnedLink.notice.Goals as goal
 
 pub invariant_of-self : goal.invariant_of-self
-invariant_of-self g c = let same = c.notice.ensures.same.0 in let pin = c.self.invariant in (
+invariant_of-self g c = let same = c.notice-told.ensures.same.0 in let pin = c.self.invariant in (
   ap (λ (l : HubLock). l.table.shared.table_id) same.0 ∙ pin.0,
   ap config_of same.0 ∙ pin.1,
   ap view_of same.1 ∙ pin.2,

@@ -1,7 +1,7 @@
 use Rattle.std.proofs.Common.{rules}
 use Rattle.ssh_hub_link.specs.Given.{frames_in}
-use Rattle.ssh_threads.proofs.Counting.{lines_more, whole_more}
-use Rattle.ssh_threads.proofs.lines.print_totals.Goals as goal
+use Rattle.ssh_threads_lines.proofs.Counting.{lines_more, whole_more}
+use Rattle.ssh_threads_lines.proofs.lines.print_totals.Goals as goal
 
 pub loop-k-preserved : goal.loop-k-preserved
 loop-k-preserved c = record {

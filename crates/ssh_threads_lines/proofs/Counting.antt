@@ -1,19 +1,15 @@
 -- What is counted and printed of a run in threads.
-use Rattle.std.proofs.Common.{◌≡◌, ◌≢◌, ◌==◌, ◌&&◌, ℕ, zero, suc, ◌+◌, List, [], ◌∷◌, ◌++◌, Bool}
-use Rattle.std.proofs.Common.{true, false, cond, codes, arith, refl, sym, ◌∙◌, ap, subst}
+use Rattle.std.proofs.Common.{◌≡◌, ◌==◌, ◌&&◌, ℕ, zero, suc, ◌+◌, List, [], ◌∷◌, ◌++◌, Bool}
+use Rattle.std.proofs.Common.{true, false, cond, codes, arith, refl, ◌∙◌, ap, subst}
 use Rattle.std.proofs.Common.{append_assoc}
 use Rattle.std.proofs.lemmas.Bool.{and_parts, eqb-true}
-use Rattle.std.specs.Fmt.{decimal}
-use Rattle.std.proofs.lemmas.Fmt.{decimal_injective}
 use Rattle.ssh_link.specs.Frames.{Frame}
 use Rattle.ssh_link.specs.declared.link.TraceEntry.{TraceEntry}
 use Rattle.ssh_link.specs.declared.link.TraceEntry.TheVariants.{Took, Sent, Noticed, Answered}
 use Rattle.ssh_hub_link.specs.Given.{frames_in}
 use Rattle.ssh_transcript.specs.Summary.{in_all}
-use Rattle.ssh_scene.specs.Grammar.{IsNumber}
-use Rattle.ssh_threads.specs.Lines.{data_on, total_on, total_line, total_lines, are_whole}
-use Rattle.ssh_threads.specs.Lines.{full_lines, full_text}
-use Rattle.ssh_threads.specs.Programs.{IsCount}
+use Rattle.ssh_threads_lines.specs.Lines.{data_on, total_on, total_line, total_lines, are_whole}
+use Rattle.ssh_threads_lines.specs.Lines.{full_lines, full_text}
 
 adds_none : (number : ℕ) (trace : List TraceEntry)
     → in_all (data_on number) trace ≡ total_on number (frames_in trace)
@@ -48,14 +44,6 @@ whole_more k frames =
     let next : suc k ≡ k + 1 = omega arith in
     subst (λ count. are_whole count frames ≡ are_whole k frames
     && (total_on (k + 2) frames == 100000)) next refl
-
--- digits of a number that may not be asked for ask for none
-pub other_count : (digits : List ℕ) (count : ℕ) → IsNumber digits count → (IsCount count → ⊥)
-    → (n : ℕ) → IsCount n → digits ≢ decimal n
-other_count digits count is never n asked same =
-    let equal : count ≡ n = decimal_injective count n is.0 (omega (arith, asked.1))
-    (sym is.1 ∙ same) in
-    never (subst IsCount (sym equal) asked)
 
 -- the lines of channels that have all bytes
 pub lines_full : (count : ℕ) (frames : List Frame) → are_whole count frames ≡ true

@@ -1,8 +1,8 @@
 use Rattle.std.proofs.Common.{◌≡◌, ◌++◌}
 use Rattle.std.specs.String.{string_bytes}
 use Rattle.ssh_hub_link.specs.Given.{frames_in}
-use Rattle.ssh_threads.specs.Lines.{total_lines, are_whole}
-use Rattle.ssh_threads.proofs.lines.print_totals.Given as goal
+use Rattle.ssh_threads_lines.specs.Lines.{total_lines, are_whole}
+use Rattle.ssh_threads_lines.proofs.lines.print_totals.Given as goal
 
 abbrev pub invariant-loop-k : goal.invariant-loop-k
 invariant-loop-k l = record {

@@ -1,12 +1,18 @@
 -- What is printed of a run in threads.
 use Rattle.std.specs.Prelude.{ℕ, zero, suc, ◌+◌, ◌==◌, ◌&&◌, Bool, true, cond}
-use Rattle.std.specs.Prelude.{List, [], ◌∷◌, ◌++◌, codes, length, Ok, Err}
+use Rattle.std.specs.Prelude.{List, [], ◌∷◌, ◌++◌, codes, length, Result, Ok, Err}
 use Rattle.std.specs.Fmt.{decimal}
 use Rattle.ssh_wire.specs.Messages.{channel_data}
 use Rattle.ssh_link.specs.Frames.{Frame, body_of}
+use Rattle.ssh_link.specs.declared.plain_kex.PlainKexError.{PlainKexError}
 use Rattle.ssh_channels.specs.Sent.{is_tagged, message_of}
+use Rattle.ssh_rules.specs.declared.error.RunError.{RunError}
+use Rattle.ssh_players.specs.Played.{Failure}
 use Rattle.ssh_transcript.specs.Print.{last_line}
-use Rattle.ssh_threads.specs.Sessions.{Outcome}
+
+-- how a session of a script's handler ends
+abbrev pub Outcome : Type 0
+Outcome = Result (Unit {0}) (RunError Failure PlainKexError)
 
 -- how many bytes of data a frame brings on this side's channel of the number: those of a
 -- CHANNEL_DATA (RFC 4254 section 5.2)

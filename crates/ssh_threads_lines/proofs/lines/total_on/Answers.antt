@@ -1,9 +1,9 @@
 use Rattle.std.proofs.Common.{◌≡◌, ◌∙◌, [], ap, drop, arith, rules}
 use Rattle.std.proofs.lemmas.List.{drop_all}
 use Rattle.ssh_transcript.specs.Summary.{in_all}
-use Rattle.ssh_threads.specs.Lines.{data_on}
-use Rattle.ssh_threads.proofs.Counting.{total_is}
-use Rattle.ssh_threads.proofs.lines.total_on.Goals as goal
+use Rattle.ssh_threads_lines.specs.Lines.{data_on}
+use Rattle.ssh_threads_lines.proofs.Counting.{total_is}
+use Rattle.ssh_threads_lines.proofs.lines.total_on.Goals as goal
 
 pub returns : goal.returns
 returns c =

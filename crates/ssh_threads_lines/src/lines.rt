@@ -3,11 +3,13 @@ ghost use Rattle.std.specs.Prelude.{◌≡◌, ◌≤◌, ◌==◌, ◌++◌, co
 ghost use Rattle.std.specs.String.{string_bytes};
 ghost use Rattle.ssh_channels.specs.Sent.{is_tagged, message_of};
 ghost use Rattle.ssh_hub_link.specs.Given.{frames_in};
-ghost use Rattle.ssh_threads.specs.Lines.{data_on, total_on, total_line, total_lines, are_whole};
-ghost use Rattle.ssh_threads.specs.Lines.{status_of, text_of};
+ghost use Rattle.ssh_threads_lines.specs.Lines.{data_on, total_on, total_line, total_lines, are_whole};
+ghost use Rattle.ssh_threads_lines.specs.Lines.{status_of, text_of};
 
-use crate::session::Outcome;
-use ssh_link::{Frame, TraceEntry};
+use ssh_handler::RecordError;
+use ssh_link::{Frame, PlainKexError, TraceEntry};
+use ssh_players::ScriptError;
+use ssh_rules::RunError;
 use ssh_transcript::{print_number, print_run};
 use ssh_wire::ChannelId;
 use ssh_wire::message::CHANNEL_DATA;
@@ -17,11 +19,16 @@ use std::alloc::{AllocError, Global};
 /// This side's number of the first channel.
 const FIRST_CHANNEL: u32 = 2;
 
-/// A status, and a text.
+/// How a session of a script's handler ends.
+pub type Outcome = Result<(), RunError<RecordError<ScriptError>, PlainKexError>>;
+
+/// What a program shows of a run.
 #[derive(Drop)]
-pub(crate) struct Report {
-    pub(crate) status: u8,
-    pub(crate) text: String,
+pub struct Report {
+    /// Its exit status.
+    pub status: u8,
+    /// What it prints.
+    pub text: String,
 }
 
 /// Whether the frame was written for this channel.
@@ -166,8 +173,10 @@ fn report_ended(alloc: Global, n: u32, trace: &[TraceEntry]) -> Result<Report, A
     Ok(Report { status, text })
 }
 
-/// What is printed of a run with this trace and this end.
-pub(crate) fn report_run(
+/// What is printed of a run of so many channels with this trace and this end: where it came to its
+/// end well, a line for each channel, with how many bytes of data were sent there; else the error.
+/// Want of memory is the only error of this call.
+pub fn report_run(
     alloc: Global,
     n: u32,
     trace: &[TraceEntry],

@@ -1,7 +1,7 @@
 use Rattle.std.proofs.Common.{◌≡◌, ◌+◌, drop}
 use Rattle.ssh_transcript.specs.Summary.{in_all}
-use Rattle.ssh_threads.specs.Lines.{data_on}
-use Rattle.ssh_threads.proofs.lines.total_on.Given as goal
+use Rattle.ssh_threads_lines.specs.Lines.{data_on}
+use Rattle.ssh_threads_lines.proofs.lines.total_on.Given as goal
 
 abbrev pub invariant-loop-entry : goal.invariant-loop-entry
 invariant-loop-entry l =
