@@ -9,5 +9,3 @@ mod scene;
 mod taking;
 #[cfg(test)]
 mod telling;
-#[cfg(test)]
-mod threads;

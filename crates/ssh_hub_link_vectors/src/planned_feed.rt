@@ -122,7 +122,7 @@ fn fails(faults: &mut u64) -> bool
     true
 }
 
-pub fn input_of(step: Step, moment: u64) -> Input
+fn input_of(step: Step, moment: u64) -> Input
     ensures { IsOfFeed result.kind }
 {
     let kind = match step {
