@@ -7,7 +7,7 @@ use ssh_hub_link::Feed;
 use ssh_link::{Frame, Input, InputKind, LinkFault};
 
 // What a call of the feed finds.
-#[derive(Clone, Copy, PartialEq)]
+#[derive(Clone, Copy)]
 pub enum Step {
     Payload(&'static [u8]),
     Keepalive,

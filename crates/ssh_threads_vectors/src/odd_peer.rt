@@ -1,33 +1,62 @@
 // Peers that do otherwise than the program's own.
 ghost use Rattle.std.specs.Prelude.{◌≡◌, ◌<◌, ◌≤◌, None, true};
 
+use crate::meeting::Flags;
 use ssh_hub_link::Feed;
 use ssh_link::{Frame, Input, InputKind, LinkFault};
 use ssh_threads::{GrantingPeer, Peer};
+use std::alloc::Global;
 
 // Where the peer does otherwise.
-#[derive(Clone, Copy, PartialEq)]
-pub enum Odd {
+#[derive(Clone, Copy)]
+pub enum Odd<'a> {
     // It is gone where it would let more through.
     Leaves,
     // It takes no frame after so many.
     Takes(u64),
     // It does not want channels.
     WantsNone,
+    // It meets a writer behind two opens, and fails where none comes.
+    Meets(&'a Flags),
 }
 
 // The program's peer, but for this. It counts what it gave, took and failed.
 #[derive(Drop)]
-pub struct OddPeer {
-    pub inner: GrantingPeer,
-    pub odd: Odd,
-    pub given: u64,
-    pub taken: u64,
-    pub faults: u64,
+pub struct OddPeer<'a> {
+    inner: GrantingPeer,
+    odd: Odd<'a>,
+    given: u64,
+    taken: u64,
+    faults: u64,
+}
+
+impl<'a> OddPeer<'a> {
+    pub fn new(alloc: Global, odd: Odd<'a>) -> OddPeer<'a> {
+        OddPeer {
+            inner: GrantingPeer::new(alloc),
+            odd,
+            given: 0,
+            taken: 0,
+            faults: 0,
+        }
+    }
+
+    // Whether it has to fail before its next input: the writer whom it is to meet did not come.
+    fn is_alone(&self) -> bool {
+        match self.odd {
+            Odd::Meets(flags) => self.given == 4 && !flags.peer_meets(),
+            _ => false,
+        }
+    }
+
+    // Whether it is gone behind so many inputs: service, user and one open.
+    fn is_gone(&self) -> bool {
+        matches!(self.odd, Odd::Leaves) && self.given > 3
+    }
 }
 
 // Counts one fault more, where the count has room.
-pub fn fails(faults: &mut u64) -> bool
+fn fails(faults: &mut u64) -> bool
     ensures rose { result ≡ true → faults.old < faults.new }
     ensures later { faults.old ≤ faults.new }
 {
@@ -38,7 +67,7 @@ pub fn fails(faults: &mut u64) -> bool
     true
 }
 
-impl Feed for OddPeer {
+impl<'a> Feed for OddPeer<'a> {
     ghost inputs = { λ _. None };
 
     ghost frames = { λ _. None };
@@ -51,15 +80,17 @@ impl Feed for OddPeer {
 
     ghost waits = { λ _ _ _. Unit {0} };
 
-    // Behind service, user and one open the first input lets more through.
     fn poll(&mut self) -> Result<Option<Input>, LinkFault> {
+        if self.is_alone() && fails(&mut self.faults) {
+            return Err(LinkFault::Failed);
+        }
         let input = match self.inner.poll() {
             Ok(Some(input)) => input,
             Ok(None) => return Ok(None),
             Err(_) => return Err(LinkFault::NoMemory),
         };
         self.given = self.given.saturating_add(1);
-        if self.odd == Odd::Leaves && self.given > 3 {
+        if self.is_gone() {
             let moment = input.moment;
             drop(input);
             return Ok(Some(Input {
@@ -98,9 +129,9 @@ impl Feed for OddPeer {
     }
 }
 
-impl Peer for OddPeer {
+impl<'a> Peer for OddPeer<'a> {
     fn channels(&mut self, n: u32) -> Result<(), LinkFault> {
-        if self.odd == Odd::WantsNone && fails(&mut self.faults) {
+        if matches!(self.odd, Odd::WantsNone) && fails(&mut self.faults) {
             return Err(LinkFault::Failed);
         }
         match self.inner.channels(n) {

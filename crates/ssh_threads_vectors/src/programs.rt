@@ -52,16 +52,10 @@ fn shows_always<R: Threads + Wait + Clone + Drop + Sync>(
 fn shows_odd<R: Threads + Wait + Clone + Drop + Sync>(
     rt: &R,
     alloc: Global,
-    odd: Odd,
+    odd: Odd<'_>,
     text: &str,
 ) -> bool {
-    let mut peer = OddPeer {
-        inner: GrantingPeer::new(alloc),
-        odd,
-        given: 0,
-        taken: 0,
-        faults: 0,
-    };
+    let mut peer = OddPeer::new(alloc, odd);
     shows(rt, alloc, &["threads", "1"], &mut peer, 1, text)
 }
 
