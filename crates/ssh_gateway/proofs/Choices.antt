@@ -1,14 +1,14 @@
 -- How the input of a turn is chosen.
 use Rattle.std.proofs.Common.{◌≡◌, ◌+◌, ℕ, List, [], ◌∷◌, ◌++◌, Option, Some, None, Ok, Err, Bool}
-use Rattle.std.proofs.Common.{true, false, not, cond, refl, sym, ◌∙◌, ap, subst, length, Result}
-use Rattle.std.specs.Prelude.{IsErrOf, IsTrue}
+use Rattle.std.proofs.Common.{true, false, not, cond, refl, sym, ◌∙◌, ap, subst, length}
+use Rattle.std.specs.Prelude.{IsTrue}
 use Rattle.std.specs.List.{slice_index_or, slice_set}
 use Rattle.std.proofs.lemmas.List.{append-nil}
 use Rattle.std.proofs.lemmas.List.Concat.{flat_map-append}
 use Rattle.ssh_wire.specs.declared.channel_id.ChannelId.{ChannelId}
 use Rattle.ssh_link.specs.Asked.{IsAsked}
 use Rattle.ssh_link.specs.Told.{Adds, ToldBy}
-use Rattle.ssh_link.proofs.Tellings.{adds_nil, adds_both}
+use Rattle.ssh_link.proofs.Tellings.{adds_nil, adds_both, adds_weak}
 use Rattle.ssh_session.proofs.Serving.{told_then}
 use Rattle.ssh_link.specs.declared.command.Command.TheVariants as command
 use Rattle.ssh_link.specs.declared.frame.Input.{Input}
@@ -28,7 +28,7 @@ use Rattle.ssh_gateway.specs.declared.targets.Arrived.TheVariants as arrived
 use Rattle.ssh_gateway.specs.declared.targets.TargetCall.{TargetCall}
 use Rattle.ssh_gateway.specs.declared.targets.TargetCall.TheVariants as call
 use Rattle.ssh_gateway.specs.declared.targets.TargetFault.{TargetFault}
-use Rattle.ssh_gateway.specs.declared.targets.TargetFault.TheVariants.{Failed}
+use Rattle.ssh_gateway.specs.declared.targets.TargetFault.TheVariants.{Failed, NoMemory}
 use Rattle.ssh_gateway.specs.Board.{Board}
 use Rattle.ssh_gateway.specs.Choosing.{Permits, Source, Decides, Sends, Ends, Closes, Waits, IsChosen}
 use Rattle.ssh_gateway.specs.Choosing.{IsIdle, AreIdle, IsGiven, allows, to_decide, heeded, most}
@@ -37,19 +37,8 @@ use Rattle.ssh_gateway.specs.Choosing.{connects, is_prohibited, rejection}
 use Rattle.ssh_gateway.specs.Choosing.{with_connections}
 use Rattle.ssh_gateway.specs.Doing.{IsDecided, FailsChoosing, finds, IsTried, IsLooked}
 use Rattle.ssh_gateway.specs.Doing.{FailsLooking, Chooses, Commands, source_of, closed_to, asks_link}
-use Rattle.ssh_gateway.proofs.Cutting.{cut_at, cut_last}
+use Rattle.ssh_gateway.proofs.Cutting.{cut_at, cut_last, cut_none}
 use Rattle.ssh_gateway.proofs.Lists.{index_here, set_here}
-
--- ---- an error
-
-abbrev fault_of : {T : Type 0} → Result T TargetFault → TargetFault
-fault_of (Ok value) = Failed
-fault_of (Err fault) = fault
-
--- an error that is handed on is the same error
-pub fails_so : {S T : Type 0} (fault : TargetFault) → IsErrOf {T = S} (Err fault) Failed
-    → IsErrOf {T = T} (Err fault) Failed
-fails_so fault is = ap Err (ap fault_of is)
 
 -- ---- an open
 
@@ -120,21 +109,42 @@ undecided_later w board wanted is unwanted_is = by (in_exchange w) (sym is ∙ u
     by true wants = refl
     by false wants = absurd (cc)
 
-pub fails_deciding : (permits : Permits) (w : World) (board : Board) (asked : Asking)
-    (later : List Asking) (told told' : Option (List TargetCall)) (wanted : Bool)
+pub fails_deciding : (fault : TargetFault) (permits : Permits) (w : World) (board : Board)
+    (asked : Asking) (later : List Asking) (told told' : Option (List TargetCall)) (wanted : Bool)
     → wanted ≡ not (in_exchange w) → wanted ≡ true → board.undecided ≡ asked ∷ later
     → allows permits (who w.user) asked ≡ true
     → ToldBy true told told'
-    (call.Connect (board.last_id + 1) asked.host asked.port (Err Failed) ∷ [])
-    → FailsChoosing permits w board told told'
-fails_deciding permits w board asked later told told' wanted is wants first allowed tells = (
+    (call.Connect (board.last_id + 1) asked.host asked.port (Err fault) ∷ [])
+    → FailsChoosing fault permits w board told told'
+fails_deciding fault permits w board asked later told told' wanted is wants first allowed tells = (
   Decides asked Granted,
   connects (board.last_id + 1) asked Granted,
-  call.Connect (board.last_id + 1) asked.host asked.port (Err Failed) ∷ [],
+  call.Connect (board.last_id + 1) asked.host asked.port (Err fault) ∷ [],
   (later, deciding w board asked later wanted is wants first, sym (ap not allowed), refl),
-  cut_at (call.Connect (board.last_id + 1) asked.host asked.port (Ok true)),
+  cut_at fault (call.Connect (board.last_id + 1) asked.host asked.port (Ok true)),
   tells,
 )
+
+-- it was decided, and there was no memory to note it
+pub fails_settling : (fault : TargetFault) (permits : Permits) (w : World) (board : Board)
+    (asked : Asking) (later : List Asking) (verdict : Verdict)
+    (told told' : Option (List TargetCall)) (wanted : Bool) → (fault ≡ Failed → ⊥)
+    → wanted ≡ not (in_exchange w) → wanted ≡ true → board.undecided ≡ asked ∷ later
+    → is_prohibited verdict ≡ not (allows permits (who w.user) asked)
+    → Adds told told' (connects (board.last_id + 1) asked verdict)
+    → FailsChoosing fault permits w board told told'
+fails_settling Failed permits w board asked later verdict told told' wanted other is wants first
+    judged adds = absurd (other refl)
+fails_settling NoMemory permits w board asked later verdict told told' wanted other is wants first
+    judged adds =
+    let calls = connects (board.last_id + 1) asked verdict in (
+      Decides asked verdict,
+      calls,
+      calls,
+      (later, deciding w board asked later wanted is wants first, judged, refl),
+      cut_none calls,
+      adds_weak told told' calls adds,
+    )
 
 -- ---- the connections
 
@@ -170,19 +180,19 @@ looked_here w all earlier later one place what told mid told' is long idle adds 
   adds_both told mid told' (silences w earlier) (finds one what) adds tried.1,
 )
 
-pub fails_here : (w : World) (all earlier later : List Connection) (one : Connection)
-    (told mid told' : Option (List TargetCall)) → all ≡ earlier ++ one ∷ later → AreIdle w earlier
-    → Adds told mid (silences w earlier) → may_send w one ≡ true
-    → ToldBy true mid told' (call.Read one.id most (Err Failed) ∷ [])
-    → FailsLooking w all told told'
-fails_here w all earlier later one told mid told' is idle adds may tells = (
+pub fails_here : (fault : TargetFault) (w : World) (all earlier later : List Connection)
+    (one : Connection) (told mid told' : Option (List TargetCall)) → all ≡ earlier ++ one ∷ later
+    → AreIdle w earlier → Adds told mid (silences w earlier) → may_send w one ≡ true
+    → ToldBy true mid told' (call.Read one.id most (Err fault) ∷ [])
+    → FailsLooking fault w all told told'
+fails_here fault w all earlier later one told mid told' is idle adds may tells = (
   earlier,
   later,
   one,
   is,
   idle,
   may,
-  told_then true told mid told' (silences w earlier) (call.Read one.id most (Err Failed) ∷ []) adds
+  told_then true told mid told' (silences w earlier) (call.Read one.id most (Err fault) ∷ []) adds
       tells,
 )
 
@@ -300,16 +310,17 @@ chooses_decided permits w board board' told told' kind decided = (
   (decided.6, ap Some decided.7, refl),
 )
 
-pub fails_choosing : (permits : Permits) (w : World) (board : Board)
+pub fails_choosing : (fault : TargetFault) (permits : Permits) (w : World) (board : Board)
     (told told' : Option (List TargetCall)) → to_decide w board ≡ [] → wants_commands w ≡ true
-    → FailsLooking w board.connections told told' → FailsChoosing permits w board told told'
-fails_choosing permits w board told told' none wanted fails =
+    → FailsLooking fault w board.connections told told'
+    → FailsChoosing fault permits w board told told'
+fails_choosing fault permits w board told told' none wanted fails =
     let read = call.Read (fails.2).id most (Ok arrived.End) in (
       Ends fails.0 fails.2 fails.1,
       silences w fails.0 ++ read ∷ [],
-      silences w fails.0 ++ call.Read (fails.2).id most (Err Failed) ∷ [],
+      silences w fails.0 ++ call.Read (fails.2).id most (Err fault) ∷ [],
       ((none, heeded_all w board wanted ∙ fails.3, fails.4), fails.5, refl),
-      cut_last (silences w fails.0) read,
+      cut_last fault (silences w fails.0) read,
       fails.6,
     )
 

@@ -8,6 +8,7 @@ use Rattle.ssh_link.specs.Told.{Adds}
 use Rattle.ssh_link.proofs.Tellings.{adds_both, adds_nil}
 use Rattle.ssh_auth.specs.declared.question.Question.{Question}
 use Rattle.ssh_gateway.specs.declared.targets.TargetCall.{TargetCall}
+use Rattle.ssh_gateway.specs.declared.targets.TargetFault.{TargetFault}
 use Rattle.ssh_gateway.specs.Board.{Board, noted, all_noted, due_on, all_due}
 use Rattle.ssh_gateway.specs.Doing.{FailsTelling, closed_to}
 use Rattle.ssh_gateway.proofs.Cutting.{fails_more, fails_behind}
@@ -62,17 +63,18 @@ heard_all asked i first board told mid all (done, adds, due, was) =
           (sym (due ∙ (ap (λ l. done ++ all_due l board) none ∙ append-nil done))) adds,
     )
 
-pub heard_part : (asked : List Question) (i : ℕ) (question : Question) (first board : Board)
-    (told mid told' : Option (List TargetCall)) → i < length asked
+pub heard_part : (fault : TargetFault) (asked : List Question) (i : ℕ) (question : Question)
+    (first board : Board) (told mid told' : Option (List TargetCall)) → i < length asked
     → question ≡ slice_index_or asked i question → IsHeard asked i first board told mid
-    → FailsTelling (due_on question board.connections) mid told'
-    → FailsTelling (all_due asked first) told told'
-heard_part asked i question first board told mid told' few is (done, adds, due, was) fails =
+    → FailsTelling fault (due_on question board.connections) mid told'
+    → FailsTelling fault (all_due asked first) told told'
+heard_part fault asked i question first board told mid told' few is (done, adds, due, was) fails =
     let one = due_on question board.connections in
     let rest = all_due (drop (suc i) asked) (noted question board) in
-    subst (λ all. FailsTelling all told told')
+    subst (λ all. FailsTelling fault all told told')
     (sym (due ∙ ap (λ l. done ++ l) (next_due asked i question board few is)))
-    (fails_behind done (one ++ rest) told mid told' adds (fails_more one rest mid told' fails))
+    (fails_behind fault done (one ++ rest) told mid told' adds
+    (fails_more fault one rest mid told' fails))
 
 -- ---- behind an input
 
@@ -93,12 +95,12 @@ delivered notebook asked questions board board' closes told told' reads noted te
       subst (λ all. Adds told told' (closed_to closes ++ all_due all board)) same tells,
     )
 
-pub undelivered : (notebook : Option (List Question)) (asked questions : List Question)
-    (board : Board) (closes : Option ℕ) (told told' : Option (List TargetCall))
-    → IfSome notebook (λ all. asked ≡ all)
-    → FailsTelling (closed_to closes ++ all_due asked board) told told'
+pub undelivered : (fault : TargetFault) (notebook : Option (List Question))
+    (asked questions : List Question) (board : Board) (closes : Option ℕ)
+    (told told' : Option (List TargetCall)) → IfSome notebook (λ all. asked ≡ all)
+    → FailsTelling fault (closed_to closes ++ all_due asked board) told told'
     → notebook ≡ Some questions
-    → FailsTelling (closed_to closes ++ all_due questions board) told told'
-undelivered notebook asked questions board closes told told' reads fails is =
-    subst (λ all. FailsTelling (closed_to closes ++ all_due all board) told told')
+    → FailsTelling fault (closed_to closes ++ all_due questions board) told told'
+undelivered fault notebook asked questions board closes told told' reads fails is =
+    subst (λ all. FailsTelling fault (closed_to closes ++ all_due all board) told told')
     (kept_is notebook asked questions reads is) fails

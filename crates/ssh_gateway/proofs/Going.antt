@@ -39,7 +39,7 @@ use Rattle.ssh_gateway.specs.Serving.{KeepsTelling, UnlessSilenced}
 use Rattle.ssh_gateway.specs.Turns.{Round, Rounds, IsRound, board_after, link_entries, target_calls}
 use Rattle.ssh_gateway.proofs.Bytes.{writes_so, reads_so}
 use Rattle.ssh_gateway.proofs.Laws.{one_run_of, rounds_more, decides_in, comes_to, opens_in}
-use Rattle.ssh_gateway.proofs.Unfinished.{once_in, unfinished_so}
+use Rattle.ssh_gateway.proofs.Unfinished.{once_in, short_so, unfinished_so}
 
 -- these turns were finished, and it goes on
 pub record Going {E F : Type 0} (accepts : Acceptance) (permits : Permits) (settings : Settings)
@@ -211,7 +211,7 @@ broken_complete accepts permits board w before between after e h k same target_s
     (none.fair (valid none)) same
 broken_complete accepts permits board w before between after e h k same target_same
     (inr (inr (inr none))) valid =
-    no_rise before.target_faults between.target_faults after.target_faults k none.rose target_same
+    no_rise before.target_faults between.target_faults after.target_faults k none.1 target_same
 
 completes : {E F : Type 0} (accepts : Acceptance) (permits : Permits) (max : ℕ) (board : Board)
     (w : World) (count : ℕ) (before between after : Outside F)
@@ -239,7 +239,10 @@ unfinished_by : {E F : Type 0} (accepts : Acceptance) (permits : Permits) (max :
     → (ends : EndsSo accepts permits max board w (length rounds) between after result)
     → UnfinishedSo accepts permits max board w rounds between after result ends
 unfinished_by accepts permits max board w first rounds between after (Ok done) run ends = tt
-unfinished_by accepts permits max board w first rounds between after (Err error.NoMemory) run ends = tt
+unfinished_by accepts permits max board w first rounds between after (Err error.NoMemory) run
+    (inl none) = tt
+unfinished_by accepts permits max board w first rounds between after (Err error.NoMemory) run
+    (inr ends) = short_so accepts permits board w first rounds between after run ends.1
 unfinished_by accepts permits max board w first rounds between after (Err error.TurnLimit) run ends =
     tt
 unfinished_by accepts permits max board w first rounds between after (Err error.TargetFault) run ends =

@@ -31,7 +31,7 @@ use Rattle.ssh_gateway.specs.Admitting.{admission, admissions}
 use Rattle.ssh_gateway.specs.Answering.{answered, told_of}
 use Rattle.ssh_gateway.specs.Raised.{lowered}
 use Rattle.ssh_gateway.specs.Serving.{Beneath, OwesOrNothing, Serves, Stops, ServesOrStops}
-use Rattle.ssh_gateway.specs.Serving.{KeepsTelling, UnlessSilenced}
+use Rattle.ssh_gateway.specs.Serving.{KeepsTelling, UnlessSilenced, UnlessCallbackFailed}
 use Rattle.ssh_gateway.proofs.Heard.{heard}
 
 abbrev under : {E F : Type 0} → Told E F → Beneath F
@@ -108,6 +108,12 @@ told_unless run.ChannelsFull Silent P told either other = told refl
 told_unless run.KeepaliveTimeout Silent P told either other = told refl
 told_unless run.InactivityTimeout Silent P told either other = told refl
 
+-- where no callback answered an error, what was told is exact
+told_if : {E F : Type 0} (why : RunError (RecordError E) F) (P : Type 0)
+    → (may_stop {T = Flow} (Err why) ≡ false → P) → UnlessCallbackFailed why P
+told_if (run.Handler e) P told = tt
+told_if why P told = told refl
+
 -- the questions that a notebook has
 abbrev kept_in : Option (List Question) → List Question
 kept_in None = []
@@ -167,6 +173,10 @@ stops_by : {E F : Type 0} (accepts : Acceptance) (w : World) (input : Input) (na
     → Stops accepts w input name name' calls told (under before) (under after) e
 stops_by accepts w input name name' calls told asked before after session why e IsOwed owed named
     kept step was is =
+    let called = subst (λ b. ToldBy (may_stop {T = Flow} (Err why)) b
+    (told_of name' told asked) (calls_in step.events)) was
+    (subst (λ a. ToldBy (may_stop {T = Flow} (Err why)) before.calls a
+    (calls_in step.events)) is step.called) in
     record {
       plan = step.plan;
       owes = owed step.plan step.owes;
@@ -178,13 +188,11 @@ stops_by accepts w input name name' calls told asked before after session why e 
       told_link = step.told;
       later = step.later;
       questions = kept_in asked;
+      answered = told_if why _ (λ goes. (keeps_telling name name' calls told asked
+          (calls_in step.events) (may_stop {T = Flow} (Err why)) goes called).1);
       handler = λ other.
           let keeps = KeepsAll name name' calls told asked (calls_in step.events) in
           let lower = named other in
-          let called = subst (λ b. ToldBy (may_stop {T = Flow} (Err why)) b
-          (told_of name' told asked) (calls_in step.events)) was
-          (subst (λ a. ToldBy (may_stop {T = Flow} (Err why)) before.calls a
-          (calls_in step.events)) is step.called) in
           subst (λ x. UnlessSilenced x (told ≡ None) keeps) (sym lower)
           (told_unless why (told ≡ None) keeps
           (λ goes. keeps_telling name name' calls told asked (calls_in step.events)

@@ -51,7 +51,7 @@ use Rattle.ssh_gateway.specs.Doing.{Chooses, asks_link, closed_to, FailsChoosing
 use Rattle.ssh_gateway.specs.Doing.{IsNextCount}
 use Rattle.ssh_gateway.specs.Raised.{lowered, link_error, target_error}
 use Rattle.ssh_gateway.specs.Serving.{Beneath, Outside, Serves, Stops, Turned, TellsRound}
-use Rattle.ssh_gateway.specs.Serving.{OwesOrNothing, turn_of, ServesNone, TellsNone}
+use Rattle.ssh_gateway.specs.Serving.{OwesOrNothing, turn_of, ServesNone, TellsPart}
 use Rattle.ssh_gateway.specs.Serving.{KeepsTelling, UnlessRefused, UnlessSilenced, Breaks, BreaksTelling}
 use Rattle.ssh_gateway.specs.Turns.{Round, Begins}
 use Rattle.ssh_gateway.proofs.Accepting.{takes_data_of}
@@ -200,14 +200,6 @@ turned {E} {F} accepts permits board mid board' w input closes name name' calls 
       target_later = target_later;
     }
 
--- ---- the error of a target
-
--- unless memory was wanting the outside failed
-not_memory : {E F : Type 0} (fault : TargetFault) (e : GatewayError E F)
-    → e ≡ target_error fault → e ≢ error.NoMemory → (fault ≡ Failed) × (e ≡ error.TargetFault)
-not_memory Failed e is other = (refl, is)
-not_memory NoMemory e is other = absurd (other is)
-
 -- ---- a turn that was not finished
 
 -- no other error comes where the input was valid, unless the link failed
@@ -306,32 +298,29 @@ stopped {E} {F} accepts permits board mid w input closes name name' calls told b
         owes = stops.owes;
         why = stops.why;
         caused = caused;
+        answered = stops.answered;
         told = tells;
       })));
     }
 
--- a target failed as it was told of the input
-fails_telling : {E F : Type 0} (accepts : Acceptance) (permits : Permits) (board mid : Board)
-    (w : World) (input : Input) (closes : Option ℕ) (name name' : ℕ) (calls : List (Call E))
-    (told : Option (List (Call E))) (asked : Option (List Question)) (before after : Outside F)
-    (trace' : Option (List TraceEntry)) (faults' : ℕ) (told' : Option (List TargetCall))
-    (session : Session) (flow : Flow)
+-- a part was told to the targets
+tells_part : {E F : Type 0} (fault : TargetFault) (accepts : Acceptance) (permits : Permits)
+    (board mid : Board) (w : World) (input : Input) (closes : Option ℕ) (name name' : ℕ)
+    (calls : List (Call E)) (told : Option (List (Call E))) (asked : Option (List Question))
+    (before after : Outside F) (trace' : Option (List TraceEntry)) (faults' : ℕ)
+    (told' : Option (List TargetCall)) (session : Session) (flow : Flow)
     → Given permits board w input closes before.beneath.trace trace' before.targets told' mid
     → (serves : Serves accepts w input name name' calls told asked (over before trace' faults')
     after.beneath session flow)
-    → ((questions : List Question) → asked ≡ Some questions
-    → FailsTelling (closed_to closes ++ all_due questions mid) told' after.targets)
-    → Rose before.target_faults after.target_faults
-    → BreaksTelling {E = E} accepts permits board w name name' calls told before after
-    error.TargetFault
-fails_telling {E} {F} accepts permits board mid w input closes name name' calls told asked before after
-    trace' faults' told' session flow given serves fails rose =
-    let part = fails serves.questions serves.kept in
+    → FailsTelling fault (closed_to closes ++ all_due serves.questions mid) told' after.targets
+    → TellsPart E fault accepts permits board w before after
+tells_part {E} {F} fault accepts permits board mid w input closes name name' calls told asked before
+    after trace' faults' told' session flow given serves part =
     let same = due_so permits board w input closes before.beneath.trace trace' before.targets told'
     mid given serves.questions in
     let round : Round E F = round_of permits board w input closes before.beneath.trace trace'
     before.targets told' mid given serves.events serves.questions part.0 in
-    let none : TellsNone {E = E} accepts permits board w before after error.TargetFault = record {
+    record {
       round = round;
       begins = begins_so permits board w input closes before.beneath.trace trace' before.targets
           told' mid given serves.events serves.questions part.0;
@@ -342,15 +331,12 @@ fails_telling {E} {F} accepts permits board mid w input closes name name' calls 
         follows = serves.follows;
         answered = serves.answered;
       };
-      is = refl;
-      rose = rose;
-      cut = subst (λ due. IsCutOff due part.0) same part.1;
+      cut = subst (λ due. IsCutOff fault due part.0) same part.1;
       stepped = serves.stepped;
       told_link = adds_both before.beneath.trace trace' after.beneath.trace
           (took given.source input) (told_in serves.events) given.linked serves.told_link;
       told = told_then true before.targets told' after.targets given.calls part.0 given.asked part.2;
-    } in
-    (inr (inr (inr none)), ((serves.same, serves.admitted), serves.answered))
+    }
 
 pub untold : {E F : Type 0} (accepts : Acceptance) (permits : Permits) (board mid : Board)
     (w : World) (input : Input) (closes : Option ℕ) (name name' : ℕ) (calls : List (Call E))
@@ -361,36 +347,28 @@ pub untold : {E F : Type 0} (accepts : Acceptance) (permits : Permits) (board mi
     → Given permits board w input closes before.beneath.trace trace' before.targets told' mid
     → (serves : Serves accepts w input name name' calls told asked (over before trace' faults')
     after.beneath session flow)
-    → (fault ≡ Failed → (questions : List Question) → asked ≡ Some questions
-    → FailsTelling (closed_to closes ++ all_due questions mid) told' after.targets)
+    → ((questions : List Question) → asked ≡ Some questions
+    → FailsTelling fault (closed_to closes ++ all_due questions mid) told' after.targets)
     → (fault ≡ Failed → Rose before.target_faults after.target_faults)
     → Breaks accepts permits board w name name' calls told before after e
-untold {E} {F} accepts permits board mid w input closes name name' calls told asked before after trace'
-    faults' told' session flow fault e is given serves fails rose =
-    let round : Round E F = round_of permits board w input closes before.beneath.trace trace'
-    before.targets told' mid given serves.events serves.questions [] in
-    record {
+unfolding tells_part
+untold accepts permits board mid w input closes name name' calls told asked before after trace' faults'
+    told' session flow Failed e is given serves fails rose = record {
       broken = λ other.
-          let only = not_memory fault e is other in
-          subst (BreaksTelling accepts permits board w name name' calls told before after)
-          (sym only.1)
-          (fails_telling accepts permits board mid w input closes name name' calls told asked before
-          after trace' faults' told' session flow given serves (fails only.0) (rose only.0));
-      short = λ is_short. inr (inr (inr (record {
-        round = round;
-        begins = begins_so permits board w input closes before.beneath.trace trace' before.targets
-            told' mid given serves.events serves.questions [];
-        outcome = serves.outcome;
-        comes = record {
-          plan = serves.plan;
-          owes = serves.owes;
-          follows = serves.follows;
-          answered = serves.answered;
-        };
-        stepped = serves.stepped;
-        told_link = adds_both before.beneath.trace trace' after.beneath.trace
-            (took given.source input) (told_in serves.events) given.linked serves.told_link;
-      })));
+          subst (BreaksTelling accepts permits board w name name' calls told before after) (sym is) (
+            inr (inr (inr (refl, rose refl, tells_part Failed accepts permits board mid w input closes
+                name name' calls told asked before after trace' faults' told' session flow given
+                serves (fails serves.questions serves.kept)))),
+            ((serves.same, serves.admitted), serves.answered),
+          );
+      short = λ short. absurd (cc);
+    }
+untold accepts permits board mid w input closes name name' calls told asked before after trace' faults'
+    told' session flow NoMemory e is given serves fails rose = record {
+      broken = λ other. absurd (other is);
+      short = λ short. inr (inr (inr (tells_part NoMemory accepts permits board mid w input closes name
+          name' calls told asked before after trace' faults' told' session flow given serves
+          (fails serves.questions serves.kept))));
     }
 
 -- before an input was given, the handler of authentication was not asked
@@ -402,19 +380,21 @@ pub not_chosen : {E F : Type 0} (accepts : Acceptance) (permits : Permits) (boar
     (w : World) (name : ℕ) (calls : List (Call E)) (told : Option (List (Call E)))
     (before after : Outside F) (fault : TargetFault) (e : GatewayError E F)
     → told ≡ Some calls → e ≡ target_error fault
-    → (fault ≡ Failed → Rose before.target_faults after.target_faults
-    × FailsChoosing permits w board before.targets after.targets)
+    → (fault ≡ Failed → Rose before.target_faults after.target_faults)
+    → FailsChoosing fault permits w board before.targets after.targets
     → after.beneath ≡ before.beneath
     → Breaks accepts permits board w name name calls told before after e
-not_chosen {E} accepts permits board w name calls told before after fault e tells is fails same = record {
+not_chosen accepts permits board w name calls told before after Failed e tells is rose fails same = record {
   broken = λ other.
-      let only = not_memory fault e is other in
-      subst (BreaksTelling accepts permits board w name name calls told before after) (sym only.1) (
-        inl (refl, (fails only.0).0, same, (fails only.0).1),
-        (quiet name calls told tells, refl),
-      );
-  short = λ is_short. inl same;
+      subst (BreaksTelling accepts permits board w name name calls told before after) (sym is)
+      (inl (refl, rose refl, same, fails), (quiet name calls told tells, refl));
+  short = λ short. absurd (cc);
 }
+not_chosen accepts permits board w name calls told before after NoMemory e tells is rose fails same =
+    record {
+      broken = λ other. absurd (other is);
+      short = λ short. inl (same, fails);
+    }
 
 not_link_memory : {E F : Type 0} (fault : LinkFault) (e : GatewayError E F)
     → e ≡ link_error fault → e ≢ error.NoMemory

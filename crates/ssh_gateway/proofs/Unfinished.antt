@@ -27,16 +27,18 @@ use Rattle.ssh_gateway.specs.declared.targets.Arrived.TheVariants as arrived
 use Rattle.ssh_gateway.specs.declared.targets.TargetCall.{TargetCall}
 use Rattle.ssh_gateway.specs.declared.targets.TargetCall.TheVariants as call
 use Rattle.ssh_gateway.specs.declared.targets.TargetFault.{TargetFault}
-use Rattle.ssh_gateway.specs.Asked.{IsCutOff, failed, written, written_by, read}
+use Rattle.ssh_gateway.specs.declared.targets.TargetFault.TheVariants.{Failed, NoMemory}
+use Rattle.ssh_gateway.specs.Asked.{IsFailed, IsCutOff, failed, written, written_by, read}
 use Rattle.ssh_gateway.specs.Board.{Board, opening_board, is_on, noted, passed_to, due_on}
 use Rattle.ssh_gateway.specs.Board.{all_due}
 use Rattle.ssh_gateway.specs.Bytes.{came, incoming, sent_by, outgoing}
 use Rattle.ssh_gateway.specs.Choosing.{Permits, Source, Decides, Sends, Ends, Closes, Waits}
 use Rattle.ssh_gateway.specs.Choosing.{IsChosen, allows, silence, silences, may_send, closed_by}
-use Rattle.ssh_gateway.specs.Serving.{Outside, IsBroken}
-use Rattle.ssh_gateway.specs.Turns.{Round, Rounds, board_within, board_after, due_after}
+use Rattle.ssh_gateway.specs.Serving.{Outside, IsBroken, IsShort, TellsPart, TellsRound}
+use Rattle.ssh_gateway.specs.Turns.{Round, Rounds, Begins, board_within, board_after, due_after}
 use Rattle.ssh_gateway.specs.Turns.{target_calls}
-use Rattle.ssh_gateway.specs.Unfinished.{last_round, last_asked, connect_by, connects_in, ending_by}
+use Rattle.ssh_gateway.specs.Unfinished.{last_round, last_asked, short_round, short_asked}
+use Rattle.ssh_gateway.specs.Unfinished.{connect_by, connects_in, ending_by}
 use Rattle.ssh_gateway.specs.Unfinished.{endings_in, ConnectsAtMost, was_accepted}
 use Rattle.ssh_gateway.specs.Unfinished.{last_sent, AtMostOne, IsUnfinished}
 use Rattle.ssh_gateway.proofs.Bytes.{written_both, read_both, all_written, closed_quiet, before_bytes}
@@ -74,47 +76,58 @@ front_one (x ∷ xs) rest y is =
 
 -- where a call that failed counts for no more than the call
 abbrev FailsLess : {B : Type 0} → (TargetCall → List B) → Type 0
-FailsLess {B} f = (one : TargetCall) → (rest : List B) × (f one ≡ f (failed one) ++ rest)
+FailsLess {B} f = (fault : TargetFault) (one : TargetCall)
+    → (rest : List B) × (f one ≡ f (failed fault one) ++ rest)
 
-cut_front : {B : Type 0} (f : TargetCall → List B) (due made : List TargetCall) → FailsLess f
-    → IsCutOff due made → IsPrefix (flat_map f made) (flat_map f due)
-cut_front {B} f due made less (before, after, one, is, was) =
-    let rest = (less one).0 in
-    let kept : f one ≡ f (failed one) ++ rest = (less one).1 in
-    let first : flat_map f made ≡ flat_map f before ++ f (failed one) =
-    ap (λ l. flat_map f l) was ∙ (flat_map-append f before (failed one ∷ [])
-    ∙ ap (λ l. flat_map f before ++ l) (append-nil (f (failed one)))) in
+failed_front : {B : Type 0} (f : TargetCall → List B) (fault : TargetFault)
+    (due made : List TargetCall) → FailsLess f → IsFailed fault due made
+    → IsPrefix (flat_map f made) (flat_map f due)
+failed_front {B} f fault due made less (before, after, one, is, was) =
+    let last = failed fault one in
+    let rest = (less fault one).0 in
+    let kept : f one ≡ f last ++ rest = (less fault one).1 in
+    let first : flat_map f made ≡ flat_map f before ++ f last =
+    ap (λ l. flat_map f l) was ∙ (flat_map-append f before (last ∷ [])
+    ∙ ap (λ l. flat_map f before ++ l) (append-nil (f last))) in
     let all : flat_map f due ≡ flat_map f before ++ (f one ++ flat_map f after) =
     ap (λ l. flat_map f l) is ∙ flat_map-append f before (one ∷ after) in (
       rest ++ flat_map f after,
       ap (λ l. l ++ (rest ++ flat_map f after)) first
-          ∙ (append_assoc (flat_map f before) (f (failed one)) (rest ++ flat_map f after)
+          ∙ (append_assoc (flat_map f before) (f last) (rest ++ flat_map f after)
           ∙ (ap (λ l. flat_map f before ++ l)
-          (sym (append_assoc (f (failed one)) rest (flat_map f after))
+          (sym (append_assoc (f last) rest (flat_map f after))
           ∙ ap (λ l. l ++ flat_map f after) (sym kept))
           ∙ sym all)),
     )
 
+cut_front : {B : Type 0} (f : TargetCall → List B) (fault : TargetFault)
+    (due made : List TargetCall) → FailsLess f → IsCutOff fault due made
+    → IsPrefix (flat_map f made) (flat_map f due)
+cut_front f fault due made less (inl cut) = failed_front f fault due made less cut
+cut_front f fault due made less (inr (only, (rest, is))) =
+    (flat_map f rest, sym (flat_map-append f made rest) ∙ ap (λ l. flat_map f l) is)
+
 connects_less : FailsLess connect_by
-connects_less (call.Connect id host port answer) = ([], refl)
-connects_less (call.Write id bytes answer) = ([], refl)
-connects_less (call.Read id most answer) = ([], refl)
-connects_less (call.Finish id answer) = ([], refl)
-connects_less (call.Close id answer) = ([], refl)
+connects_less fault (call.Connect id host port answer) = ([], refl)
+connects_less fault (call.Write id bytes answer) = ([], refl)
+connects_less fault (call.Read id most answer) = ([], refl)
+connects_less fault (call.Finish id answer) = ([], refl)
+connects_less fault (call.Close id answer) = ([], refl)
 
 endings_less : FailsLess ending_by
-endings_less (call.Connect id host port answer) = ([], refl)
-endings_less (call.Write id bytes answer) = ([], refl)
-endings_less (call.Read id most answer) = ([], refl)
-endings_less (call.Finish id answer) = ([], refl)
-endings_less (call.Close id answer) = ([], refl)
+endings_less fault (call.Connect id host port answer) = ([], refl)
+endings_less fault (call.Write id bytes answer) = ([], refl)
+endings_less fault (call.Read id most answer) = ([], refl)
+endings_less fault (call.Finish id answer) = ([], refl)
+endings_less fault (call.Close id answer) = ([], refl)
 
 written_less : (id : ℕ) → FailsLess (written_by id)
-written_less id (call.Connect other host port answer) = ([], refl)
-written_less id (call.Write other bytes answer) = (written_by id (call.Write other bytes answer), refl)
-written_less id (call.Read other most answer) = ([], refl)
-written_less id (call.Finish other answer) = ([], refl)
-written_less id (call.Close other answer) = ([], refl)
+written_less id fault (call.Connect other host port answer) = ([], refl)
+written_less id fault (call.Write other bytes answer) =
+    (written_by id (call.Write other bytes answer), refl)
+written_less id fault (call.Read other most answer) = ([], refl)
+written_less id fault (call.Finish other answer) = ([], refl)
+written_less id fault (call.Close other answer) = ([], refl)
 
 -- ---- the calls that choose an input
 
@@ -272,28 +285,28 @@ once_in accepts permits board w (first ∷ earlier) later round board' world h =
 
 -- ---- the four ways
 
-unchosen : {E F : Type 0} (accepts : Acceptance) (permits : Permits) (board : Board)
-    (w first : World) (rounds : List (Round E F)) (source : Source) (due made : List TargetCall)
-    (told told' : Option (List TargetCall))
+unchosen : {E F : Type 0} (fault : TargetFault) (accepts : Acceptance) (permits : Permits)
+    (board : Board) (w first : World) (rounds : List (Round E F)) (source : Source)
+    (due made : List TargetCall) (told told' : Option (List TargetCall))
     → Rounds accepts permits opening_board first rounds board w
-    → IsChosen permits w board source due → IsCutOff due made → ToldBy true told told' made
+    → IsChosen permits w board source due → IsCutOff fault due made → ToldBy true told told' made
     → IsUnfinished permits board w rounds None made told told'
-unchosen {E} {F} accepts permits board w first rounds source due made told told' run chosen cut tells =
+unchosen fault accepts permits board w first rounds source due made told told' run chosen cut tells =
     record {
       told = tells;
       connects = fewer_connects permits board w due made
-          (cut_front connect_by due made connects_less cut)
+          (cut_front connect_by fault due made connects_less cut)
           (chosen_connects permits w board source due chosen);
       once = once_front (endings_in made) (endings_in due)
-          (cut_front ending_by due made endings_less cut)
+          (cut_front ending_by fault due made endings_less cut)
           (inl (chosen_endings permits w board source due chosen));
       ends = subst (λ l. IsPrefix (endings_in made) l)
           (chosen_endings permits w board source due chosen)
-          (cut_front ending_by due made endings_less cut);
+          (cut_front ending_by fault due made endings_less cut);
       writes = λ id. written_front id accepts permits board w first rounds made [] run
           (subst (λ l. IsPrefix (written id made) l)
           ((before_bytes id permits w board source due chosen).0)
-          (cut_front (written_by id) due made (written_less id) cut));
+          (cut_front (written_by id) fault due made (written_less id) cut));
       reads = λ id. read_front id accepts permits board w first rounds made [] run
           (none_first (read id made));
     }
@@ -355,6 +368,43 @@ due_written id round board =
     ∙ (ap (λ l. l ++ written id (all_due round.asked (board_within round board)))
     ((closed_quiet id round.source).0) ∙ all_written id round.asked (board_within round board))
 
+-- .. or none were
+served_part : {E F : Type 0} (accepts : Acceptance) (permits : Permits) (board : Board)
+    (w first : World) (rounds : List (Round E F)) (round : Round E F) (between after : Outside F)
+    → Rounds accepts permits opening_board first rounds board w → Begins permits board w round
+    → round.after ≡ [] → TellsRound between after round
+    → IsUnfinished permits board w rounds (Some round) (target_calls round) between.targets
+    after.targets
+served_part accepts permits board w first rounds round between after run begins nothing told =
+    given_so accepts permits board w first rounds round between.targets after.targets run
+    begins.chosen (ap connects_in nothing) (inl (ap endings_in nothing))
+    (subst (λ l. IsPrefix (endings_in l) (endings_in (due_after round board))) (sym nothing)
+    (none_first (endings_in (due_after round board))))
+    (λ id. subst (λ l. IsPrefix (written id l) (came id round.asked (board_within round board)))
+    (sym nothing) (none_first (came id round.asked (board_within round board))))
+    (adds_weak between.targets after.targets (target_calls round) told.2)
+
+-- .. or a part was told
+told_part : {E F : Type 0} (fault : TargetFault) (accepts : Acceptance) (permits : Permits)
+    (board : Board) (w first : World) (rounds : List (Round E F)) (between after : Outside F)
+    → Rounds accepts permits opening_board first rounds board w
+    → (part : TellsPart E fault accepts permits board w between after)
+    → IsUnfinished permits board w rounds (Some part.round) (target_calls part.round)
+    between.targets after.targets
+told_part fault accepts permits board w first rounds between after run part =
+    let round = part.round in
+    let due = due_after round board in
+    let front = cut_front connect_by fault due round.after connects_less part.cut in
+    given_so accepts permits board w first rounds round between.targets after.targets run
+    part.begins.chosen
+    (front_none (connects_in round.after) front.0 (front.1 ∙ after_connects round board))
+    (once_front (endings_in round.after) (endings_in due)
+    (cut_front ending_by fault due round.after endings_less part.cut)
+    (one_ending accepts permits board w round part.outcome part.begins part.comes))
+    (cut_front ending_by fault due round.after endings_less part.cut)
+    (λ id. subst (λ l. IsPrefix (written id round.after) l) (due_written id round board)
+    (cut_front (written_by id) fault due round.after (written_less id) part.cut)) part.told
+
 pub unfinished_so : {E F : Type 0} (accepts : Acceptance) (permits : Permits) (board : Board)
     (w first : World) (rounds : List (Round E F)) (between after : Outside F) (e : GatewayError E F)
     → Rounds accepts permits opening_board first rounds board w
@@ -363,32 +413,32 @@ pub unfinished_so : {E F : Type 0} (accepts : Acceptance) (permits : Permits) (b
     (last_round accepts permits board w between after e broken)
     (last_asked accepts permits board w between after e broken) between.targets after.targets
 unfinished_so accepts permits board w first rounds between after e run (inl none) =
-    unchosen accepts permits board w first rounds none.3.0 none.3.1 none.3.2 between.targets
+    unchosen Failed accepts permits board w first rounds none.3.0 none.3.1 none.3.2 between.targets
     after.targets run none.3.3 none.3.4 none.3.5
 unfinished_so accepts permits board w first rounds between after e run (inr (inl none)) =
     ungiven accepts permits board w first rounds Waits none.4 between.targets after.targets run
     none.5 none.6
 unfinished_so accepts permits board w first rounds between after e run (inr (inr (inl none))) =
-    let round = none.round in
-    let nothing = none.nothing in
-    given_so accepts permits board w first rounds round between.targets after.targets run
-    none.begins.chosen (ap connects_in nothing) (inl (ap endings_in nothing))
-    (subst (λ l. IsPrefix (endings_in l) (endings_in (due_after round board))) (sym nothing)
-    (none_first (endings_in (due_after round board))))
-    (λ id. subst (λ l. IsPrefix (written id l) (came id round.asked (board_within round board)))
-    (sym nothing) (none_first (came id round.asked (board_within round board))))
-    (adds_weak between.targets after.targets (target_calls round) none.told.2)
+    served_part accepts permits board w first rounds none.round between after run none.begins
+    none.nothing none.told
 unfinished_so accepts permits board w first rounds between after e run (inr (inr (inr none))) =
-    let round = none.round in
-    let due = due_after round board in
-    given_so accepts permits board w first rounds round between.targets after.targets run
-    none.begins.chosen
-    (front_none (connects_in round.after)
-    (cut_front connect_by due round.after connects_less none.cut).0
-    ((cut_front connect_by due round.after connects_less none.cut).1 ∙ after_connects round board))
-    (once_front (endings_in round.after) (endings_in due)
-    (cut_front ending_by due round.after endings_less none.cut)
-    (one_ending accepts permits board w round none.outcome none.begins none.comes))
-    (cut_front ending_by due round.after endings_less none.cut)
-    (λ id. subst (λ l. IsPrefix (written id round.after) l) (due_written id round board)
-    (cut_front (written_by id) due round.after (written_less id) none.cut)) none.told
+    told_part Failed accepts permits board w first rounds between after run none.2
+
+pub short_so : {E F : Type 0} (accepts : Acceptance) (permits : Permits) (board : Board)
+    (w first : World) (rounds : List (Round E F)) (between after : Outside F)
+    → Rounds accepts permits opening_board first rounds board w
+    → (short : IsShort E accepts permits board w between after)
+    → IsUnfinished permits board w rounds
+    (short_round accepts permits board w between after short)
+    (short_asked accepts permits board w between after short) between.targets after.targets
+short_so accepts permits board w first rounds between after run (inl none) =
+    unchosen NoMemory accepts permits board w first rounds none.1.0 none.1.1 none.1.2
+    between.targets after.targets run none.1.3 none.1.4 none.1.5
+short_so accepts permits board w first rounds between after run (inr (inl none)) =
+    ungiven accepts permits board w first rounds Waits none.2 between.targets after.targets run
+    none.3 none.4
+short_so accepts permits board w first rounds between after run (inr (inr (inl none))) =
+    served_part accepts permits board w first rounds none.round between after run none.begins
+    none.nothing none.told
+short_so accepts permits board w first rounds between after run (inr (inr (inr none))) =
+    told_part NoMemory accepts permits board w first rounds between after run none

@@ -1,12 +1,14 @@
 -- What targets are asked, and the bytes of a connection in it.
-use Rattle.std.specs.Prelude.{◌≡◌, ◌≢◌, ◌≤◌, ℕ, ◌==◌, cond, List, [], ◌∷◌, ◌++◌, length, flat_map}
+use mathlib.Core.List.{IsPrefix}
+use Rattle.std.specs.Prelude.{◌≡◌, ◌≢◌, ◌≤◌, ◌⊎◌, ℕ, ◌==◌, cond, List, [], ◌∷◌, ◌++◌, length}
+use Rattle.std.specs.Prelude.{flat_map}
 use Rattle.std.specs.Prelude.{Result, Ok, Err, IfOk}
 use Rattle.ssh_gateway.specs.declared.targets.Arrived.{Arrived}
 use Rattle.ssh_gateway.specs.declared.targets.Arrived.TheVariants as arrived
 use Rattle.ssh_gateway.specs.declared.targets.TargetCall.{TargetCall}
 use Rattle.ssh_gateway.specs.declared.targets.TargetCall.TheVariants as call
 use Rattle.ssh_gateway.specs.declared.targets.TargetFault.{TargetFault}
-use Rattle.ssh_gateway.specs.declared.targets.TargetFault.TheVariants.{Failed}
+use Rattle.ssh_gateway.specs.declared.targets.TargetFault.TheVariants.{NoMemory}
 
 -- bytes that were read are some, and no more than were asked for
 abbrev pub IsFull : (most : ℕ) → Arrived → Type 0
@@ -32,15 +34,19 @@ written id calls = flat_map (written_by id) calls
 abbrev pub read : (id : ℕ) → List TargetCall → List ℕ
 read id calls = flat_map (read_by id) calls
 
--- the same call, of which the outside failed
-abbrev pub failed : TargetCall → TargetCall
-failed (call.Connect id host port answer) = call.Connect id host port (Err Failed)
-failed (call.Write id bytes answer) = call.Write id bytes (Err Failed)
-failed (call.Read id most answer) = call.Read id most (Err Failed)
-failed (call.Finish id answer) = call.Finish id (Err Failed)
-failed (call.Close id answer) = call.Close id (Err Failed)
+-- the same call, which was not finished for this reason
+abbrev pub failed : TargetFault → TargetCall → TargetCall
+failed fault (call.Connect id host port answer) = call.Connect id host port (Err fault)
+failed fault (call.Write id bytes answer) = call.Write id bytes (Err fault)
+failed fault (call.Read id most answer) = call.Read id most (Err fault)
+failed fault (call.Finish id answer) = call.Finish id (Err fault)
+failed fault (call.Close id answer) = call.Close id (Err fault)
 
--- of the calls that were due these were made: all up to one that failed
-abbrev pub IsCutOff : (due made : List TargetCall) → Type 0
-IsCutOff due made = (before after : List TargetCall) × (one : TargetCall)
-    × (due ≡ before ++ one ∷ after) × (made ≡ before ++ failed one ∷ [])
+-- of the calls that were due these were made: all up to one that failed so
+abbrev pub IsFailed : TargetFault → (due made : List TargetCall) → Type 0
+IsFailed fault due made = (before after : List TargetCall) × (one : TargetCall)
+    × (due ≡ before ++ one ∷ after) × (made ≡ before ++ failed fault one ∷ [])
+
+-- or the gateway itself found no memory behind some of them, none of which failed
+abbrev pub IsCutOff : TargetFault → (due made : List TargetCall) → Type 0
+IsCutOff fault due made = IsFailed fault due made ⊎ ((fault ≡ NoMemory) × IsPrefix made due)

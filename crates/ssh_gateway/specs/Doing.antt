@@ -18,7 +18,7 @@ use Rattle.ssh_gateway.specs.declared.switchboard.Connection.{Connection}
 use Rattle.ssh_gateway.specs.declared.targets.Arrived.TheVariants as arrived
 use Rattle.ssh_gateway.specs.declared.targets.TargetCall.{TargetCall}
 use Rattle.ssh_gateway.specs.declared.targets.TargetCall.TheVariants as call
-use Rattle.ssh_gateway.specs.declared.targets.TargetFault.TheVariants.{Failed}
+use Rattle.ssh_gateway.specs.declared.targets.TargetFault.{TargetFault}
 use Rattle.ssh_gateway.specs.Asked.{IsCutOff}
 use Rattle.ssh_gateway.specs.Board.{Board}
 use Rattle.ssh_gateway.specs.Choosing.{Permits, Source, Sends, Ends, Closes, IsChosen, IsIdle, AreIdle, allows, is_prohibited, connects}
@@ -41,11 +41,11 @@ IsDecided permits w board board' told told' (Some kind) =
     × (kind ≡ OpenReply (board.last_ticket + 1)
     (record { channel = asked.channel; rejection = rejection verdict; texts = None }))
 
--- the targets failed where they were asked to choose some source
-abbrev pub FailsChoosing : Permits → World → Board
+-- the choice of some source was not finished for this reason
+abbrev pub FailsChoosing : TargetFault → Permits → World → Board
     → (told told' : Option (List TargetCall)) → Type 0
-FailsChoosing permits w board told told' = (source : Source) × (due made : List TargetCall)
-    × IsChosen permits w board source due × IsCutOff due made × ToldBy true told told' made
+FailsChoosing fault permits w board told told' = (source : Source) × (due made : List TargetCall)
+    × IsChosen permits w board source due × IsCutOff fault due made × ToldBy true told told' made
 
 -- ---- one connection
 
@@ -74,12 +74,12 @@ IsLooked w all told told' (Some (place, what)) = (earlier later : List Connectio
     × AreIdle w earlier × IsFound w one what
     × Adds told told' (silences w earlier ++ finds one what)
 
--- a read failed behind those before
-abbrev pub FailsLooking : World → List Connection → (told told' : Option (List TargetCall))
-    → Type 0
-FailsLooking w all told told' = (earlier later : List Connection) × (one : Connection)
+-- a read failed so behind those before
+abbrev pub FailsLooking : TargetFault → World → List Connection
+    → (told told' : Option (List TargetCall)) → Type 0
+FailsLooking fault w all told told' = (earlier later : List Connection) × (one : Connection)
     × (all ≡ earlier ++ one ∷ later) × AreIdle w earlier × (may_send w one ≡ true)
-    × ToldBy true told told' (silences w earlier ++ call.Read one.id most (Err Failed) ∷ [])
+    × ToldBy true told told' (silences w earlier ++ call.Read one.id most (Err fault) ∷ [])
 
 -- ---- the choice
 
@@ -116,7 +116,8 @@ abbrev pub asks_link : Option InputKind → Input → List TraceEntry
 asks_link None input = Took false false input ∷ []
 asks_link (Some kind) input = []
 
--- of what was due to the targets a part was told, up to a call that failed
-abbrev pub FailsTelling : (due : List TargetCall) → (told told' : Option (List TargetCall)) → Type 0
-FailsTelling due told told' = (made : List TargetCall) × IsCutOff due made
+-- of what was due to the targets a part was told, for this reason
+abbrev pub FailsTelling : TargetFault → (due : List TargetCall)
+    → (told told' : Option (List TargetCall)) → Type 0
+FailsTelling fault due told told' = (made : List TargetCall) × IsCutOff fault due made
     × ToldBy true told told' made

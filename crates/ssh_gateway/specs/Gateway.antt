@@ -1,6 +1,7 @@
 -- What a gateway promises: turns one after another, each by its rule, and how they end.
 use Rattle.std.specs.Prelude.{◌≡◌, ◌<◌, ◌⊎◌, ℕ, List, [], ◌∷◌, ◌++◌, length, map, flat_map, Result}
 use Rattle.std.specs.Prelude.{Ok, Err, Option, None}
+use Rattle.std.proofs.Common.{inl, inr}
 use Rattle.ssh_link.specs.Told.{Adds}
 use Rattle.ssh_auth.specs.declared.call.Call.{Call}
 use Rattle.ssh_auth.specs.declared.question.Question.{Question}
@@ -27,6 +28,7 @@ use Rattle.ssh_gateway.specs.Serving.{Outside, IsBroken, ServesNone, TellsRound,
 use Rattle.ssh_gateway.specs.Serving.{IsShort, last_events, last_questions}
 use Rattle.ssh_gateway.specs.Turns.{Round, Rounds, IsRound, link_entries, target_calls}
 use Rattle.ssh_gateway.specs.Unfinished.{AtMostOne, endings_in, IsUnfinished, last_round, last_asked}
+use Rattle.ssh_gateway.specs.Unfinished.{short_round, short_asked}
 
 -- ---- how it ends
 
@@ -71,7 +73,13 @@ UnfinishedSo accepts permits max board w rounds between after (Err (error.Run e)
     (last_round accepts permits board w between after (error.Run e) ends.1)
     (last_asked accepts permits board w between after (error.Run e) ends.1)
     between.targets after.targets
-UnfinishedSo accepts permits max board w rounds between after (Err error.NoMemory) ends = Unit {0}
+UnfinishedSo accepts permits max board w rounds between after (Err error.NoMemory) (inl none) =
+    Unit {0}
+UnfinishedSo accepts permits max board w rounds between after (Err error.NoMemory) (inr ends) =
+    IsUnfinished permits board w rounds
+    (short_round accepts permits board w between after ends.1)
+    (short_asked accepts permits board w between after ends.1)
+    between.targets after.targets
 UnfinishedSo accepts permits max board w rounds between after (Err error.TurnLimit) ends = Unit {0}
 UnfinishedSo accepts permits max board w rounds between after (Ok done) ends = Unit {0}
 

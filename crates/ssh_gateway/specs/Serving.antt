@@ -28,6 +28,8 @@ use Rattle.ssh_session.specs.declared.session.Session.{Session}
 use Rattle.ssh_gateway.specs.declared.error.GatewayError.{GatewayError}
 use Rattle.ssh_gateway.specs.declared.error.GatewayError.TheVariants as error
 use Rattle.ssh_gateway.specs.declared.targets.TargetCall.{TargetCall}
+use Rattle.ssh_gateway.specs.declared.targets.TargetFault.{TargetFault}
+use Rattle.ssh_gateway.specs.declared.targets.TargetFault.TheVariants as target
 use Rattle.ssh_gateway.specs.Admitting.{TellsAdmissions, admissions}
 use Rattle.ssh_gateway.specs.Answering.{answered}
 use Rattle.ssh_gateway.specs.Asked.{IsCutOff}
@@ -122,6 +124,11 @@ abbrev pub UnlessSilenced : {E F : Type 0} → GatewayError E F → (Silent : Ty
 UnlessSilenced (error.Run (run.Handler e)) Silent P = Silent ⊎ P
 UnlessSilenced _ Silent P = P
 
+-- unless a callback answered an error
+abbrev pub UnlessCallbackFailed : {E F : Type 0} → RunError E F → Type 0 → Type 0
+UnlessCallbackFailed (run.Handler e) P = Unit {0}
+UnlessCallbackFailed _ P = P
+
 -- it was not finished, by a cause, which the error names unless memory was wanting
 pub record Stops {E F : Type 0} (accepts : Acceptance) (w : World) (input : Input)
     (name name' : GName) (calls : List (Call E)) (told : Option (List (Call E)))
@@ -136,6 +143,7 @@ pub record Stops {E F : Type 0} (accepts : Acceptance) (w : World) (input : Inpu
   pub told_link : Adds before.trace after.trace (told_in events)
   pub later : before.faults ≤ after.faults
   pub questions : List Question
+  pub answered : UnlessCallbackFailed why (own_calls (calls_in events) ≡ flat_map answered questions)
   pub handler : e ≢ error.NoMemory → UnlessSilenced e (told ≡ None)
       (KeepsTelling name name' calls told (admissions events)
       × (own_calls (calls_in events) ≡ flat_map answered questions))
@@ -164,7 +172,7 @@ abbrev pub ChoosesNone : {E F : Type 0} → Permits → Board → World → (bef
     → GatewayError E F → Type 0
 ChoosesNone permits board w before after e = (e ≡ error.TargetFault)
     × Rose before.target_faults after.target_faults × (after.beneath ≡ before.beneath)
-    × FailsChoosing permits w board before.targets after.targets
+    × FailsChoosing target.Failed permits w board before.targets after.targets
 
 -- or the link failed where it was asked
 abbrev pub GivesNone : {E F : Type 0} → Permits → Board → World → (before after : Outside F)
@@ -193,19 +201,24 @@ pub record ServesNone {E F : Type 0} (accepts : Acceptance) (permits : Permits) 
   pub answered : UnlessRefused e (own_calls (calls_of round.turn) ≡ flat_map answered round.asked)
   pub told : TellsRound before after round
 
--- or it was finished, and a target failed as it was told of it
-pub record TellsNone {E F : Type 0} (accepts : Acceptance) (permits : Permits) (board : Board)
-    (w : World) (before after : Outside F) (e : GatewayError E F) : Type 0 where
+-- or it was finished, and the targets were told a part of it, for this reason
+pub record TellsPart (E : Type 0) {F : Type 0} (fault : TargetFault) (accepts : Acceptance)
+    (permits : Permits) (board : Board) (w : World) (before after : Outside F) : Type 0 where
   pub round : Round E F
   pub begins : Begins permits board w round
   pub outcome : Outcome
   pub comes : Comes accepts w round outcome
-  pub is : e ≡ error.TargetFault
-  pub rose : Rose before.target_faults after.target_faults
-  pub cut : IsCutOff (due_after round board) round.after
+  pub cut : IsCutOff fault (due_after round board) round.after
   pub stepped : Adds before.beneath.steps after.beneath.steps (steps_of round.turn)
   pub told_link : Adds before.beneath.trace after.beneath.trace (link_entries round)
   pub told : ToldBy true before.targets after.targets (target_calls round)
+
+-- since one of them failed
+abbrev pub TellsNone : {E F : Type 0} → Acceptance → Permits → Board → World
+    → (before after : Outside F) → GatewayError E F → Type 0
+TellsNone {E} accepts permits board w before after e = (e ≡ error.TargetFault)
+    × Rose before.target_faults after.target_faults
+    × TellsPart E target.Failed accepts permits board w before after
 
 abbrev pub IsBroken : {E F : Type 0} → Acceptance → Permits → Board → World
     → (before after : Outside F) → GatewayError E F → Type 0
@@ -216,7 +229,21 @@ IsBroken accepts permits board w before after e = ChoosesNone permits board w be
 
 -- ---- a turn for which memory was wanting
 
--- as its input was served, by this cause; the targets were asked nothing after it
+-- as it was to be chosen
+abbrev pub ChoosesShort : {F : Type 0} → Permits → Board → World → (before after : Outside F)
+    → Type 0
+ChoosesShort permits board w before after = (after.beneath ≡ before.beneath)
+    × FailsChoosing target.NoMemory permits w board before.targets after.targets
+
+-- or as the link was asked for its input
+abbrev pub GivesShort : {F : Type 0} → Permits → Board → World → (before after : Outside F)
+    → Type 0
+GivesShort permits board w before after = AddsNothing before.beneath.trace after.beneath.trace
+    × (after.beneath.steps ≡ before.beneath.steps)
+    × (calls : List TargetCall) × IsChosen permits w board Waits calls
+    × Adds before.targets after.targets calls
+
+-- or as its input was served, by this cause; the targets were asked nothing after it
 pub record ServesShort (E : Type 0) {F : Type 0} (accepts : Acceptance) (permits : Permits)
     (board : Board) (w : World) (before after : Outside F) : Type 0 where
   pub round : Round E F
@@ -227,28 +254,16 @@ pub record ServesShort (E : Type 0) {F : Type 0} (accepts : Acceptance) (permits
   pub why : RunError (RecordError E) F
   pub caused : IsCaused (cause_of why) plan
       (Rose before.beneath.faults after.beneath.faults) round.turn.events
+  pub answered : UnlessCallbackFailed why (own_calls (calls_of round.turn) ≡ flat_map answered round.asked)
   pub told : TellsRound before after round
 
 -- or as the targets were told of it
-pub record TellsShort (E : Type 0) {F : Type 0} (accepts : Acceptance) (permits : Permits)
-    (board : Board) (w : World) (before after : Outside F) : Type 0 where
-  pub round : Round E F
-  pub begins : Begins permits board w round
-  pub outcome : Outcome
-  pub comes : Comes accepts w round outcome
-  pub stepped : Adds before.beneath.steps after.beneath.steps (steps_of round.turn)
-  pub told_link : Adds before.beneath.trace after.beneath.trace (link_entries round)
-
--- or before it: as an input was chosen, or as the link was asked for one
 abbrev pub IsShort : (E : Type 0) → {F : Type 0} → Acceptance → Permits → Board → World
     → (before after : Outside F) → Type 0
-IsShort E accepts permits board w before after = (after.beneath ≡ before.beneath)
-    ⊎ ((AddsNothing before.beneath.trace after.beneath.trace
-    × (after.beneath.steps ≡ before.beneath.steps)
-    × ((calls : List TargetCall) × IsChosen permits w board Waits calls
-    × Adds before.targets after.targets calls))
+IsShort E accepts permits board w before after = ChoosesShort permits board w before after
+    ⊎ (GivesShort permits board w before after
     ⊎ (ServesShort E accepts permits board w before after
-    ⊎ TellsShort E accepts permits board w before after))
+    ⊎ TellsPart E target.NoMemory accepts permits board w before after))
 
 -- ---- a turn that was finished, or was not
 
@@ -259,7 +274,7 @@ abbrev pub last_events : {E F : Type 0} (accepts : Acceptance) (permits : Permit
 last_events accepts permits board w before after e (inl none) = []
 last_events accepts permits board w before after e (inr (inl none)) = []
 last_events accepts permits board w before after e (inr (inr (inl none))) = none.round.turn.events
-last_events accepts permits board w before after e (inr (inr (inr none))) = none.round.turn.events
+last_events accepts permits board w before after e (inr (inr (inr none))) = none.2.round.turn.events
 
 -- what its callbacks asked, but for authentication
 abbrev pub last_questions : {E F : Type 0} (accepts : Acceptance) (permits : Permits)
@@ -268,7 +283,7 @@ abbrev pub last_questions : {E F : Type 0} (accepts : Acceptance) (permits : Per
 last_questions accepts permits board w before after e (inl none) = []
 last_questions accepts permits board w before after e (inr (inl none)) = []
 last_questions accepts permits board w before after e (inr (inr (inl none))) = none.round.asked
-last_questions accepts permits board w before after e (inr (inr (inr none))) = none.round.asked
+last_questions accepts permits board w before after e (inr (inr (inr none))) = none.2.round.asked
 
 -- the turn was finished
 pub record Turned {E F : Type 0} (accepts : Acceptance) (permits : Permits) (board board' : Board)

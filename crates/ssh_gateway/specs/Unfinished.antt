@@ -20,7 +20,7 @@ use Rattle.ssh_gateway.specs.Asked.{written, read}
 use Rattle.ssh_gateway.specs.Board.{Board, opening_board}
 use Rattle.ssh_gateway.specs.Bytes.{came, incoming, sent_by, outgoing}
 use Rattle.ssh_gateway.specs.Choosing.{Permits, allows, to_decide}
-use Rattle.ssh_gateway.specs.Serving.{Outside, IsBroken}
+use Rattle.ssh_gateway.specs.Serving.{Outside, IsBroken, IsShort}
 use Rattle.ssh_gateway.specs.Turns.{Round, board_within, due_after, target_calls}
 
 -- ---- its input and its calls
@@ -32,7 +32,7 @@ abbrev pub last_round : {E F : Type 0} (accepts : Acceptance) (permits : Permits
 last_round accepts permits board w before after e (inl none) = None
 last_round accepts permits board w before after e (inr (inl none)) = None
 last_round accepts permits board w before after e (inr (inr (inl none))) = Some none.round
-last_round accepts permits board w before after e (inr (inr (inr none))) = Some none.round
+last_round accepts permits board w before after e (inr (inr (inr none))) = Some none.2.round
 
 -- what the targets were asked in it, the call that failed among it
 abbrev pub last_asked : {E F : Type 0} (accepts : Acceptance) (permits : Permits) (board : Board)
@@ -41,7 +41,24 @@ abbrev pub last_asked : {E F : Type 0} (accepts : Acceptance) (permits : Permits
 last_asked accepts permits board w before after e (inl none) = none.3.2
 last_asked accepts permits board w before after e (inr (inl none)) = none.4
 last_asked accepts permits board w before after e (inr (inr (inl none))) = target_calls none.round
-last_asked accepts permits board w before after e (inr (inr (inr none))) = target_calls none.round
+last_asked accepts permits board w before after e (inr (inr (inr none))) = target_calls none.2.round
+
+-- the same of one for which memory was wanting
+abbrev pub short_round : {E F : Type 0} (accepts : Acceptance) (permits : Permits) (board : Board)
+    (w : World) (before after : Outside F) → IsShort E accepts permits board w before after
+    → Option (Round E F)
+short_round accepts permits board w before after (inl none) = None
+short_round accepts permits board w before after (inr (inl none)) = None
+short_round accepts permits board w before after (inr (inr (inl none))) = Some none.round
+short_round accepts permits board w before after (inr (inr (inr none))) = Some none.round
+
+abbrev pub short_asked : {E F : Type 0} (accepts : Acceptance) (permits : Permits) (board : Board)
+    (w : World) (before after : Outside F) → IsShort E accepts permits board w before after
+    → List TargetCall
+short_asked accepts permits board w before after (inl none) = none.1.2
+short_asked accepts permits board w before after (inr (inl none)) = none.2
+short_asked accepts permits board w before after (inr (inr (inl none))) = target_calls none.round
+short_asked accepts permits board w before after (inr (inr (inr none))) = target_calls none.round
 
 -- ---- the connects, and the calls that end something, whatever they answered
 
@@ -107,7 +124,7 @@ last_due board (Some round) = due_after round board
 pub record IsUnfinished {E F : Type 0} (permits : Permits) (board : Board) (w : World)
     (rounds : List (Round E F)) (last : Option (Round E F)) (calls : List TargetCall)
     (before after : Option (List TargetCall)) : Type 0 where
-  -- it asked for no others; targets that failed may have stopped telling
+  -- it asked for no others; targets that failed, or had no memory, may have stopped telling
   pub told : ToldBy true before after calls
   -- it made at most one connect, where the policy allows it
   pub connects : ConnectsAtMost permits board w calls

@@ -1,6 +1,6 @@
 // The input of a turn.
 ghost use Rattle.std.specs.Prelude.{◌≡◌, ◌<◌, ◌≤◌, ◌-◌, ◌^◌, List, [], ◌∷◌, ◌++◌, length, Some, None};
-ghost use Rattle.std.specs.Prelude.{IfOk, OnOk, OnErr, IsErrOf};
+ghost use Rattle.std.specs.Prelude.{IfOk, IfErr, OnOk, OnErr, IsErrOf};
 ghost use Rattle.ssh_link.specs.declared.frame.InputKind.TheVariants.{Command as CommandKind};
 ghost use Rattle.ssh_link.specs.Faults.{Rose};
 ghost use Rattle.ssh_link.specs.Told.{Adds, AddsNothing};
@@ -85,8 +85,8 @@ impl Switchboard {
             to_decide w self.old ≡ [] → IfOk result (Chooses permits w self.old self.new
             (T.told targets.old) (T.told targets.new)) }
         ensures failed { (w : World) (permits : Permits) → Refines session.now w →
-            to_decide w self.old ≡ [] → IsErrOf result TargetFault.Failed →
-            FailsChoosing permits w self.old (T.told targets.old) (T.told targets.new) }
+            to_decide w self.old ≡ [] → IfErr result (λ fault.
+            FailsChoosing fault permits w self.old (T.told targets.old) (T.told targets.new)) }
         ensures counts { OnOk result (IsNextCount self.old self.new) }
         ensures cause { IsErrOf result TargetFault.Failed → Rose (T.faults targets.old)
             (T.faults targets.new) }
@@ -115,9 +115,9 @@ impl Switchboard {
         ensures chosen { (w : World) → Refines session.now w →
             IfOk result (Chooses (P.permits policy.now) w self.old self.new
             (T.told targets.old) (T.told targets.new)) }
-        ensures failed { (w : World) → Refines session.now w → IsErrOf result TargetFault.Failed →
-            FailsChoosing (P.permits policy.now) w self.old (T.told targets.old)
-            (T.told targets.new) }
+        ensures failed { (w : World) → Refines session.now w → IfErr result (λ fault.
+            FailsChoosing fault (P.permits policy.now) w self.old (T.told targets.old)
+            (T.told targets.new)) }
         ensures counts { OnOk result (IsNextCount self.old self.new) }
         ensures cause { IsErrOf result TargetFault.Failed → Rose (T.faults targets.old)
             (T.faults targets.new) }

@@ -1,6 +1,6 @@
 // The decision on an open.
 ghost use Rattle.std.specs.Prelude.{◌≡◌, ◌≢◌, ◌<◌, ◌≤◌, ◌+◌, ◌-◌, ◌^◌, [], ◌∷◌, true, false, Some, None, not, Ok, Err};
-ghost use Rattle.std.specs.Prelude.{IfOk, IsErrOf, OnOk};
+ghost use Rattle.std.specs.Prelude.{IfOk, IfErr, IsErrOf, OnOk};
 ghost use Rattle.std.specs.Option.{option_copied};
 ghost use Rattle.ssh_link.specs.Faults.{Rose};
 ghost use Rattle.ssh_link.specs.Told.{Adds, ToldBy};
@@ -60,10 +60,10 @@ fn judge<P: Policy, T: Targets>(
     ensures judged { IfOk result (λ verdict. (is_prohibited verdict
         ≡ not (allows (P.permits policy.now) (option_copied user.entry) asking.now))
         × Adds (T.told targets.old) (T.told targets.new) (connects id asking.now verdict)) }
-    ensures failed { IsErrOf result TargetFault.Failed →
+    ensures failed { IfErr result (λ fault.
         (allows (P.permits policy.now) (option_copied user.entry) asking.now ≡ true)
         × ToldBy true (T.told targets.old) (T.told targets.new)
-        (Connect id asking.now.host asking.now.port (Err TargetFault.Failed) ∷ []) }
+        (Connect id asking.now.host asking.now.port (Err fault) ∷ [])) }
     ensures cause { IsErrOf result TargetFault.Failed → Rose (T.faults targets.old)
         (T.faults targets.new) }
     ensures later { T.faults targets.old ≤ T.faults targets.new }
@@ -123,9 +123,9 @@ impl Switchboard {
         ensures decided { (w : World) → Refines session.now w → IfOk result
             (IsDecided (P.permits policy.now) w self.old self.new (T.told targets.old)
             (T.told targets.new)) }
-        ensures failed { (w : World) → Refines session.now w → IsErrOf result TargetFault.Failed →
-            FailsChoosing (P.permits policy.now) w self.old (T.told targets.old)
-            (T.told targets.new) }
+        ensures failed { (w : World) → Refines session.now w → IfErr result (λ fault.
+            FailsChoosing fault (P.permits policy.now) w self.old (T.told targets.old)
+            (T.told targets.new)) }
         ensures same { result ≡ Ok None → self.new ≡ self.old }
         ensures counts { OnOk result (IsNextCount self.old self.new) }
         ensures cause { IsErrOf result TargetFault.Failed → Rose (T.faults targets.old)

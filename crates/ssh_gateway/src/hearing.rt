@@ -1,5 +1,5 @@
 // What the peer sent goes to the targets.
-ghost use Rattle.std.specs.Prelude.{◌≡◌, ◌≤◌, ◌++◌, OnOk, IsErrOf};
+ghost use Rattle.std.specs.Prelude.{◌≡◌, ◌≤◌, ◌++◌, IfErr, OnOk, IsErrOf};
 ghost use Rattle.ssh_link.specs.Faults.{Rose};
 ghost use Rattle.ssh_link.specs.Told.{Adds};
 ghost use Rattle.ssh_gateway.specs.Board.{noted, all_noted, due_on, all_due};
@@ -17,8 +17,8 @@ fn tell_target<T: Targets>(
 ) -> Result<(), TargetFault>
     ensures told { OnOk result (Adds (T.told targets.old) (T.told targets.new)
         (due_on question.now connections.now)) }
-    ensures failed { IsErrOf result TargetFault.Failed → FailsTelling
-        (due_on question.now connections.now) (T.told targets.old) (T.told targets.new) }
+    ensures failed { IfErr result (λ fault. FailsTelling fault
+        (due_on question.now connections.now) (T.told targets.old) (T.told targets.new)) }
     ensures cause { IsErrOf result TargetFault.Failed → Rose (T.faults targets.old)
         (T.faults targets.new) }
     ensures later { T.faults targets.old ≤ T.faults targets.new }
@@ -40,8 +40,8 @@ fn tell_target<T: Targets>(
 /// A connection that the gateway itself closed is closed to its target.
 fn close_own<T: Targets>(closes: Option<u64>, targets: &mut T) -> Result<(), TargetFault>
     ensures told { OnOk result (Adds (T.told targets.old) (T.told targets.new) (closed_to closes)) }
-    ensures failed { IsErrOf result TargetFault.Failed → FailsTelling
-        (closed_to closes) (T.told targets.old) (T.told targets.new) }
+    ensures failed { IfErr result (λ fault. FailsTelling fault (closed_to closes)
+        (T.told targets.old) (T.told targets.new)) }
     ensures cause { IsErrOf result TargetFault.Failed → Rose (T.faults targets.old)
         (T.faults targets.new) }
     ensures later { T.faults targets.old ≤ T.faults targets.new }
@@ -58,15 +58,17 @@ impl Switchboard {
         ensures noted { OnOk result (self.new ≡ noted question.now self.old) }
         ensures told { OnOk result (Adds (T.told targets.old) (T.told targets.new)
             (due_on question.now self.old.connections)) }
-        ensures failed { IsErrOf result TargetFault.Failed → FailsTelling
+        ensures failed { IfErr result (λ fault. FailsTelling fault
             (due_on question.now self.old.connections) (T.told targets.old)
-            (T.told targets.new) }
+            (T.told targets.new)) }
         ensures cause { IsErrOf result TargetFault.Failed → Rose (T.faults targets.old)
             (T.faults targets.new) }
         ensures later { T.faults targets.old ≤ T.faults targets.new }
     {
-        tell_target(self.connections.as_slice(), question, targets)?;
-        self.note(question)
+        match tell_target(self.connections.as_slice(), question, targets) {
+            Ok(()) => self.note(question),
+            Err(fault) => Err(fault),
+        }
     }
 
     /// All that was asked, in order.
@@ -78,8 +80,8 @@ impl Switchboard {
         ensures noted { OnOk result (self.new ≡ all_noted asked.now self.old) }
         ensures told { OnOk result (Adds (T.told targets.old) (T.told targets.new)
             (all_due asked.now self.old)) }
-        ensures failed { IsErrOf result TargetFault.Failed → FailsTelling
-            (all_due asked.now self.old) (T.told targets.old) (T.told targets.new) }
+        ensures failed { IfErr result (λ fault. FailsTelling fault
+            (all_due asked.now self.old) (T.told targets.old) (T.told targets.new)) }
         ensures cause { IsErrOf result TargetFault.Failed → Rose (T.faults targets.old)
             (T.faults targets.new) }
         ensures later { T.faults targets.old ≤ T.faults targets.new }
@@ -103,9 +105,9 @@ impl Switchboard {
         ensures noted { OnOk result (self.new ≡ all_noted asked.now self.old) }
         ensures told { OnOk result (Adds (T.told targets.old) (T.told targets.new)
             (closed_to closes ++ all_due asked.now self.old)) }
-        ensures failed { IsErrOf result TargetFault.Failed → FailsTelling
+        ensures failed { IfErr result (λ fault. FailsTelling fault
             (closed_to closes ++ all_due asked.now self.old) (T.told targets.old)
-            (T.told targets.new) }
+            (T.told targets.new)) }
         ensures cause { IsErrOf result TargetFault.Failed → Rose (T.faults targets.old)
             (T.faults targets.new) }
         ensures later { T.faults targets.old ≤ T.faults targets.new }

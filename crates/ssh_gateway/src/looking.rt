@@ -1,5 +1,5 @@
 // What the connections have for the peer.
-ghost use Rattle.std.specs.Prelude.{◌≡◌, ◌<◌, ◌≤◌, ◌++◌, [], ◌∷◌, true, Err, IfOk, IfSome};
+ghost use Rattle.std.specs.Prelude.{◌≡◌, ◌<◌, ◌≤◌, ◌++◌, [], ◌∷◌, true, Err, IfOk, IfErr, IfSome};
 ghost use Rattle.std.specs.Prelude.{IsErrOf, length};
 ghost use Rattle.ssh_link.specs.Faults.{Rose};
 ghost use Rattle.ssh_link.specs.Told.{ToldBy};
@@ -36,9 +36,9 @@ fn try_one<T: Targets>(
 ) -> Result<Option<Found>, TargetFault>
     ensures tried { (w : World) → Refines session.now w →
         IfOk result (IsTried w one (T.told targets.old) (T.told targets.new)) }
-    ensures failed { (w : World) → Refines session.now w → IsErrOf result TargetFault.Failed →
+    ensures failed { (w : World) → Refines session.now w → IfErr result (λ fault.
         (may_send w one ≡ true) × ToldBy true (T.told targets.old) (T.told targets.new)
-        (Read one.id most (Err TargetFault.Failed) ∷ []) }
+        (Read one.id most (Err fault) ∷ [])) }
     ensures cause { IsErrOf result TargetFault.Failed → Rose (T.faults targets.old)
         (T.faults targets.new) }
     ensures later { T.faults targets.old ≤ T.faults targets.new }
@@ -66,8 +66,8 @@ pub(crate) fn look<T: Targets>(
     ensures looked { (w : World) → Refines session.now w →
         IfOk result (IsLooked w connections.now (T.told targets.old) (T.told targets.new)) }
     ensures place { IfOk result (λ found. IfSome found (λ at. at.0 < length connections.now)) }
-    ensures failed { (w : World) → Refines session.now w → IsErrOf result TargetFault.Failed →
-        FailsLooking w connections.now (T.told targets.old) (T.told targets.new) }
+    ensures failed { (w : World) → Refines session.now w → IfErr result (λ fault.
+        FailsLooking fault w connections.now (T.told targets.old) (T.told targets.new)) }
     ensures cause { IsErrOf result TargetFault.Failed → Rose (T.faults targets.old)
         (T.faults targets.new) }
     ensures later { T.faults targets.old ≤ T.faults targets.new }

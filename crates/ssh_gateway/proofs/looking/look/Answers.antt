@@ -9,7 +9,6 @@ use Rattle.ssh_gateway.specs.declared.switchboard.Connection.{Connection}
 use Rattle.ssh_gateway.specs.Choosing.{AreIdle, connected, silences}
 use Rattle.ssh_gateway.specs.Doing.{IsTried}
 use Rattle.ssh_gateway.proofs.Choices.{looked_more, looked_here, fails_here}
-use Rattle.ssh_gateway.proofs.Cutting.{other_fault}
 use Rattle.ssh_gateway.proofs.looking.look.Goals as goal
 
 pub loop-place-init : goal.loop-place-init
@@ -35,13 +34,14 @@ returns-in-Ok-Some-clause-looked g c = λ w r.
     c.in-Ok-Some.field-0-is (c.in-Ok-Some.ensures.tried w r))
 
 pub returns-in-Err-clause-failed : goal.returns-in-Err-clause-failed
-returns-in-Err-clause-failed g c = λ w r is.
+returns-in-Err-clause-failed g c = λ w r.
     let all = c.args.connections.now in
     let place = c.loop-place.place in
     let before = c.loop-place.invariant.idle w r in
-    let fails = c.in-Err.ensures.failed w r (other_fault c.in-Err.fault is) in
-    fails_here w all (take place all) (drop (suc place) all) (slice_index_or all place none) _ _ _
-    (split_at all place none (omega arith)) before.0 before.1 fails.0 fails.1
+    let fails = c.in-Err.ensures.failed w r in
+    fails_here c.in-Err.fault w all (take place all) (drop (suc place) all)
+    (slice_index_or all place none) _ _ _ (split_at all place none (omega arith)) before.0 before.1
+    fails.0 fails.1
 
 pub loop-place-preserved : goal.loop-place-preserved
 loop-place-preserved g c = record {

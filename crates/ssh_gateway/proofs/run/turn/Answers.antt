@@ -42,7 +42,7 @@ returns-in-Err-clause-turned g c = λ w calls r silent live repeats kept tells.
     c.args.board.now w c.args.keeper.now.auth.ghost_name calls
     (g.A.AuthHandler.told c.args.keeper.now.auth.now) before after c.in-Err.fault _ tells
     c.target_error.ensures.is
-    (λ is. (c.in-Err.ensures.cause (ap Err is), c.in-Err.ensures.failed w r (ap Err is))) refl
+    (λ is. c.in-Err.ensures.cause (ap Err is)) (c.in-Err.ensures.failed w r) refl
 
 pub returns-in-Err-give-clause-turned : goal.returns-in-Err-give-clause-turned
 returns-in-Err-give-clause-turned g c = λ w calls r silent live repeats kept tells.
@@ -97,10 +97,10 @@ returns-in-Err-deliver-clause-turned g c = λ w calls r silent live repeats kept
     (g.T.Targets.told c.choose.new.targets) (c.in-Ok.ensures.chosen w r)
     c.in-Ok-give.ensures.given c.in-Ok-give.ensures.told c.in-Ok-give.ensures.board)
     (c.in-Ok-serve.ensures.served w calls r silent live repeats kept tells)
-    (λ failed questions is. undelivered c.serve.new.keeper.notebook.now c.asked.result.now questions
-    c.give.new.self c.in-Ok.chosen.closes
+    (λ questions is. undelivered c.in-Err-deliver.fault c.serve.new.keeper.notebook.now
+    c.asked.result.now questions c.give.new.self c.in-Ok.chosen.closes
     (g.T.Targets.told c.choose.new.targets) (g.T.Targets.told c.deliver.new.targets) c.asked.ensures
-    (c.in-Err-deliver.ensures.failed (ap Err failed)) is)
+    c.in-Err-deliver.ensures.failed is)
     (λ failed. let rose = c.in-Err-deliver.ensures.cause (ap Err failed) in
     omega (arith, chosen, rose))
 

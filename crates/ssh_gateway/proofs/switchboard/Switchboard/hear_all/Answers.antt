@@ -21,7 +21,7 @@ loop-question-preserved g c =
     }
 
 pub returns-in-Err-clause-failed : goal.returns-in-Err-clause-failed
-returns-in-Err-clause-failed g c = λ is.
-    heard_part c.args.asked.now c.loop-question.question-index c.question-item.result
-    c.args.self.now c.loop-question.self _ _ _ c.loop-question-test.true c.question-item.is
-    c.loop-question.invariant.heard (c.in-Err.ensures.failed is)
+returns-in-Err-clause-failed g c =
+    heard_part c.in-Err.fault c.args.asked.now c.loop-question.question-index
+    c.question-item.result c.args.self.now c.loop-question.self _ _ _ c.loop-question-test.true
+    c.question-item.is c.loop-question.invariant.heard c.in-Err.ensures.failed
