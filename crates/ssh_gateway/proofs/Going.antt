@@ -35,7 +35,8 @@ use Rattle.ssh_gateway.specs.Gateway.{EndsSo, EndIsValid, IsComplete, Unfinished
 use Rattle.ssh_gateway.specs.Gateway.{Attended}
 use Rattle.ssh_gateway.specs.Raised.{lowered}
 use Rattle.ssh_gateway.specs.Serving.{Outside, IsServed, IsBroken, ServesNone, Turned, Breaks}
-use Rattle.ssh_gateway.specs.Serving.{KeepsTelling, UnlessSilenced}
+use Rattle.ssh_gateway.specs.Serving.{KeepsTelling, UnlessSilenced, UnlessCallbackFailed, IsShort}
+use Rattle.ssh_gateway.specs.Serving.{UnlessShortCallback}
 use Rattle.ssh_gateway.specs.Turns.{Round, Rounds, IsRound, board_after, link_entries, target_calls}
 use Rattle.ssh_gateway.proofs.Bytes.{writes_so, reads_so}
 use Rattle.ssh_gateway.proofs.Laws.{one_run_of, rounds_more, decides_in, comes_to, opens_in}
@@ -370,6 +371,22 @@ silenced_and (run.Handler e) Silent P Q (inl silent) = inl silent
 silenced_and (run.Handler e) Silent P Q (inr both) = inr both.1
 silenced_and why Silent P Q both = both.1
 
+-- .. and of two that hold unless a callback answered an error as memory was wanting
+callback_map : {E F : Type 0} (why : RunError E F) (P R : Type 0) → (P → R)
+    → UnlessCallbackFailed why P → UnlessCallbackFailed why R
+callback_map (run.Handler e) P R f h = tt
+callback_map why P R f h = f h
+
+pub short_map : {E F : Type 0} (accepts : Acceptance) (permits : Permits) (board : Board)
+    (w : World) (before after : Outside F) (short : IsShort E accepts permits board w before after)
+    (P R : Type 0) → (P → R) → UnlessShortCallback accepts permits board w before after short P
+    → UnlessShortCallback accepts permits board w before after short R
+short_map accepts permits board w before after (inl none) P R f h = f h
+short_map accepts permits board w before after (inr (inl none)) P R f h = f h
+short_map accepts permits board w before after (inr (inr (inl none))) P R f h =
+    callback_map none.why P R f h
+short_map accepts permits board w before after (inr (inr (inr none))) P R f h = f h
+
 -- a turn that was not finished
 unfinished : {E F : Type 0} (accepts : Acceptance) (permits : Permits) (settings : Settings)
     (count max : ℕ) (board : Board) (name mid_name name' : ℕ) (first : List (Call E))
@@ -383,11 +400,16 @@ unfinished : {E F : Type 0} (accepts : Acceptance) (permits : Permits) (settings
     before after (Err e)
 unfolding gatewayed
 unfinished accepts permits settings count max board name mid_name name' first told told' asked before
-    now after session going error.NoMemory few other breaks = record {
+    now after session going error.NoMemory few other breaks =
+    let both = breaks.short refl in
+    record {
       whole = gatewayed accepts permits settings count max board name mid_name first told asked before
-          now after session (Err error.NoMemory) going (inr (few, breaks.short refl));
-      admitted = tt;
-      answered = tt;
+          now after session (Err error.NoMemory) going (inr (few, both.0));
+      admitted = short_map accepts permits board going.world now after both.0 _ _
+          (λ keeps. keeps_more accepts permits settings count board name mid_name name' first told
+          told' asked before now session _ going keeps.0) both.1;
+      answered = short_map accepts permits board going.world now after both.0 _ _
+          (λ keeps. keeps.1) both.1;
     }
 unfinished accepts permits settings count max board name mid_name name' first told told' asked before
     now after session going error.TurnLimit few other breaks = absurd (other refl)

@@ -188,8 +188,8 @@ stops_by accepts w input name name' calls told asked before after session why e 
       told_link = step.told;
       later = step.later;
       questions = kept_in asked;
-      answered = told_if why _ (λ goes. (keeps_telling name name' calls told asked
-          (calls_in step.events) (may_stop {T = Flow} (Err why)) goes called).1);
+      exact = told_if why _ (λ goes. keeps_telling name name' calls told asked
+          (calls_in step.events) (may_stop {T = Flow} (Err why)) goes called);
       handler = λ other.
           let keeps = KeepsAll name name' calls told asked (calls_in step.events) in
           let lower = named other in

@@ -53,6 +53,7 @@ use Rattle.ssh_gateway.specs.Raised.{lowered, link_error, target_error}
 use Rattle.ssh_gateway.specs.Serving.{Beneath, Outside, Serves, Stops, Turned, TellsRound}
 use Rattle.ssh_gateway.specs.Serving.{OwesOrNothing, turn_of, ServesNone, TellsPart}
 use Rattle.ssh_gateway.specs.Serving.{KeepsTelling, UnlessRefused, UnlessSilenced, Breaks, BreaksTelling}
+use Rattle.ssh_gateway.specs.Serving.{ServesShort, UnlessCallbackFailed}
 use Rattle.ssh_gateway.specs.Turns.{Round, Begins}
 use Rattle.ssh_gateway.proofs.Accepting.{takes_data_of}
 use Rattle.ssh_gateway.proofs.Choices.{took_is, waits_only, settled_moment, is_asked}
@@ -244,6 +245,12 @@ unless_refused error.TurnLimit Silent P Q h = h.1
 unless_refused (error.Run (run.Handler e)) Silent P Q h = tt
 unless_refused (error.Run why) Silent P Q h = h.1
 
+-- where no callback answered an error
+exact_answers : {E F : Type 0} (why : RunError E F) (P Q : Type 0)
+    → UnlessCallbackFailed why (P × Q) → UnlessCallbackFailed why Q
+exact_answers (run.Handler e) P Q h = tt
+exact_answers why P Q h = h.1
+
 pub stopped : {E F : Type 0} (accepts : Acceptance) (permits : Permits) (board mid : Board)
     (w : World) (input : Input) (closes : Option ℕ) (name name' : ℕ) (calls : List (Call E))
     (told : Option (List (Call E))) (before after : Outside F)
@@ -290,17 +297,19 @@ stopped {E} {F} accepts permits board mid w input closes name name' calls told b
             told = tells;
           } in
           (inr (inr (inl none)), stops.handler other);
-      short = λ is. inr (inr (inl (record {
-        round = round;
-        begins = begins;
-        nothing = refl;
-        plan = stops.plan;
-        owes = stops.owes;
-        why = stops.why;
-        caused = caused;
-        answered = stops.answered;
-        told = tells;
-      })));
+      short = λ is.
+          let none : ServesShort E accepts permits board w before after = record {
+            round = round;
+            begins = begins;
+            nothing = refl;
+            plan = stops.plan;
+            owes = stops.owes;
+            why = stops.why;
+            caused = caused;
+            answered = exact_answers stops.why keeps answers stops.exact;
+            told = tells;
+          } in
+          (inr (inr (inl none)), stops.exact);
     }
 
 -- a part was told to the targets
@@ -356,9 +365,13 @@ untold accepts permits board mid w input closes name name' calls told asked befo
     told' session flow Failed e is given serves fails rose = record {
       broken = λ other.
           subst (BreaksTelling accepts permits board w name name' calls told before after) (sym is) (
-            inr (inr (inr (refl, rose refl, tells_part Failed accepts permits board mid w input closes
-                name name' calls told asked before after trace' faults' told' session flow given
-                serves (fails serves.questions serves.kept)))),
+            inr (inr (inr (
+              refl,
+              rose refl,
+              tells_part Failed accepts permits board mid w input closes
+                  name name' calls told asked before after trace' faults' told' session flow given
+                  serves (fails serves.questions serves.kept),
+            ))),
             ((serves.same, serves.admitted), serves.answered),
           );
       short = λ short. absurd (cc);
@@ -366,9 +379,12 @@ untold accepts permits board mid w input closes name name' calls told asked befo
 untold accepts permits board mid w input closes name name' calls told asked before after trace' faults'
     told' session flow NoMemory e is given serves fails rose = record {
       broken = λ other. absurd (other is);
-      short = λ short. inr (inr (inr (tells_part NoMemory accepts permits board mid w input closes name
-          name' calls told asked before after trace' faults' told' session flow given serves
-          (fails serves.questions serves.kept))));
+      short = λ short. (
+        inr (inr (inr (tells_part NoMemory accepts permits board mid w input closes name name' calls
+            told asked before after trace' faults' told' session flow given serves
+            (fails serves.questions serves.kept)))),
+        ((serves.same, serves.admitted), serves.answered),
+      );
     }
 
 -- before an input was given, the handler of authentication was not asked
@@ -393,7 +409,7 @@ not_chosen accepts permits board w name calls told before after Failed e tells i
 not_chosen accepts permits board w name calls told before after NoMemory e tells is rose fails same =
     record {
       broken = λ other. absurd (other is);
-      short = λ short. inl (same, fails);
+      short = λ short. (inl (same, fails), (quiet name calls told tells, refl));
     }
 
 not_link_memory : {E F : Type 0} (fault : LinkFault) (e : GatewayError E F)
@@ -424,7 +440,10 @@ not_given accepts permits board mid w name calls told chosen before after fault 
             inr (inl (refl, rose only.0, trace, steps, made, waits, adds)),
             (quiet name calls told tells, refl),
           );
-      short = λ is_short. inr (inl (trace, steps, (made, waits, adds)));
+      short = λ is_short. (
+        inr (inl (trace, steps, made, waits, adds)),
+        (quiet name calls told tells, refl),
+      );
     }
 
 -- ---- the counts

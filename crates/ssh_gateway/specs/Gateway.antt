@@ -26,6 +26,7 @@ use Rattle.ssh_gateway.specs.Choosing.{Permits, Decides}
 use Rattle.ssh_gateway.specs.Laws.{first_let_in, DecidesBy, ComesTo, IsOpened}
 use Rattle.ssh_gateway.specs.Serving.{Outside, IsBroken, ServesNone, TellsRound, UnlessSilenced}
 use Rattle.ssh_gateway.specs.Serving.{IsShort, last_events, last_questions}
+use Rattle.ssh_gateway.specs.Serving.{short_events, short_questions, UnlessShortCallback}
 use Rattle.ssh_gateway.specs.Turns.{Round, Rounds, IsRound, link_entries, target_calls}
 use Rattle.ssh_gateway.specs.Unfinished.{AtMostOne, endings_in, IsUnfinished, last_round, last_asked}
 use Rattle.ssh_gateway.specs.Unfinished.{short_round, short_asked}
@@ -153,7 +154,9 @@ abbrev pub end_events : {E F : Type 0} (accepts : Acceptance) (permits : Permits
     → List (Event (RecordError E) F)
 end_events accepts permits max board w count between after (Ok done) ends = ends.1.0.turn.events
 end_events accepts permits max board w count between after (Err error.TurnLimit) ends = []
-end_events accepts permits max board w count between after (Err error.NoMemory) ends = []
+end_events accepts permits max board w count between after (Err error.NoMemory) (inl none) = []
+end_events accepts permits max board w count between after (Err error.NoMemory) (inr ends) =
+    short_events accepts permits board w between after ends.1
 end_events accepts permits max board w count between after (Err error.TargetFault) ends =
     last_events accepts permits board w between after error.TargetFault ends.1
 end_events accepts permits max board w count between after (Err (error.Run e)) ends =
@@ -166,20 +169,29 @@ abbrev pub end_questions : {E F : Type 0} (accepts : Acceptance) (permits : Perm
     → EndsSo accepts permits max board w count between after result → List Question
 end_questions accepts permits max board w count between after (Ok done) ends = ends.1.0.asked
 end_questions accepts permits max board w count between after (Err error.TurnLimit) ends = []
-end_questions accepts permits max board w count between after (Err error.NoMemory) ends = []
+end_questions accepts permits max board w count between after (Err error.NoMemory) (inl none) = []
+end_questions accepts permits max board w count between after (Err error.NoMemory) (inr ends) =
+    short_questions accepts permits board w between after ends.1
 end_questions accepts permits max board w count between after (Err error.TargetFault) ends =
     last_questions accepts permits board w between after error.TargetFault ends.1
 end_questions accepts permits max board w count between after (Err (error.Run e)) ends =
     last_questions accepts permits board w between after (error.Run e) ends.1
 
--- unless memory was wanting, or that handler answered an error of its own and tells no longer
-abbrev pub UnlessLost : {E F : Type 0} → Result (Unit {0}) (GatewayError E F) → (Silent : Type 0)
+-- unless memory was wanting and a callback answered an error, or that handler answered an error of
+-- its own and tells no longer
+abbrev pub UnlessLost : {E F : Type 0} (accepts : Acceptance) (permits : Permits) (max : ℕ)
+    (board : Board) (w : World) (count : ℕ) (between after : Outside F)
+    (result : Result (Unit {0}) (GatewayError E F))
+    → EndsSo accepts permits max board w count between after result → (Silent : Type 0)
     → (P : Type 0) → Type 0
-UnlessLost (Err error.NoMemory) Silent P = Unit {0}
-UnlessLost (Err (error.Run e)) Silent P = UnlessSilenced (error.Run e) Silent P
-UnlessLost (Err error.TargetFault) Silent P = P
-UnlessLost (Err error.TurnLimit) Silent P = P
-UnlessLost (Ok done) Silent P = P
+UnlessLost accepts permits max board w count between after (Err error.NoMemory) (inl none) Silent P = P
+UnlessLost accepts permits max board w count between after (Err error.NoMemory) (inr ends) Silent P =
+    UnlessShortCallback accepts permits board w between after ends.1 P
+UnlessLost accepts permits max board w count between after (Err (error.Run e)) ends Silent P =
+    UnlessSilenced (error.Run e) Silent P
+UnlessLost accepts permits max board w count between after (Err error.TargetFault) ends Silent P = P
+UnlessLost accepts permits max board w count between after (Err error.TurnLimit) ends Silent P = P
+UnlessLost accepts permits max board w count between after (Ok done) ends Silent P = P
 
 pub record Attended {E F : Type 0} (accepts : Acceptance) (permits : Permits)
     (settings : Settings) (max : ℕ) (Silent : Type 0) (IsTold : List (Call E) → Type 0)
@@ -187,12 +199,14 @@ pub record Attended {E F : Type 0} (accepts : Acceptance) (permits : Permits)
   pub whole : Gatewayed accepts permits settings max before after result
   -- the handler of authentication was asked for the calls of authentication in these turns, and of
   -- the one that was not finished as far as it came, in order, and for nothing else
-  pub admitted : UnlessLost result Silent (IsTold
+  pub admitted : UnlessLost accepts permits max whole.board whole.world (length whole.rounds)
+      whole.between after result whole.ends Silent (IsTold
       (flat_map (λ round. admissions round.turn.events) whole.rounds
       ++ admissions (end_events accepts permits max whole.board whole.world (length whole.rounds)
       whole.between after result whole.ends)))
   -- all else that was asked in that last turn was answered by the rule, as in those before it
-  pub answered : UnlessLost result Silent
+  pub answered : UnlessLost accepts permits max whole.board whole.world (length whole.rounds)
+      whole.between after result whole.ends Silent
       (own_calls (calls_in (end_events accepts permits max whole.board whole.world
       (length whole.rounds) whole.between after result whole.ends))
       ≡ flat_map answered (end_questions accepts permits max whole.board whole.world

@@ -143,7 +143,8 @@ pub record Stops {E F : Type 0} (accepts : Acceptance) (w : World) (input : Inpu
   pub told_link : Adds before.trace after.trace (told_in events)
   pub later : before.faults ≤ after.faults
   pub questions : List Question
-  pub answered : UnlessCallbackFailed why (own_calls (calls_in events) ≡ flat_map answered questions)
+  pub exact : UnlessCallbackFailed why (KeepsTelling name name' calls told (admissions events)
+      × (own_calls (calls_in events) ≡ flat_map answered questions))
   pub handler : e ≢ error.NoMemory → UnlessSilenced e (told ≡ None)
       (KeepsTelling name name' calls told (admissions events)
       × (own_calls (calls_in events) ≡ flat_map answered questions))
@@ -267,6 +268,34 @@ IsShort E accepts permits board w before after = ChoosesShort permits board w be
 
 -- ---- a turn that was finished, or was not
 
+-- what happened in one for which memory was wanting, where an input was given
+abbrev pub short_events : {E F : Type 0} (accepts : Acceptance) (permits : Permits) (board : Board)
+    (w : World) (before after : Outside F) → IsShort E accepts permits board w before after
+    → List (Event (RecordError E) F)
+short_events accepts permits board w before after (inl none) = []
+short_events accepts permits board w before after (inr (inl none)) = []
+short_events accepts permits board w before after (inr (inr (inl none))) = none.round.turn.events
+short_events accepts permits board w before after (inr (inr (inr none))) = none.round.turn.events
+
+-- what its callbacks asked, but for authentication
+abbrev pub short_questions : {E F : Type 0} (accepts : Acceptance) (permits : Permits)
+    (board : Board) (w : World) (before after : Outside F)
+    → IsShort E accepts permits board w before after → List Question
+short_questions accepts permits board w before after (inl none) = []
+short_questions accepts permits board w before after (inr (inl none)) = []
+short_questions accepts permits board w before after (inr (inr (inl none))) = none.round.asked
+short_questions accepts permits board w before after (inr (inr (inr none))) = none.round.asked
+
+-- unless a callback answered an error in it
+abbrev pub UnlessShortCallback : {E F : Type 0} (accepts : Acceptance) (permits : Permits)
+    (board : Board) (w : World) (before after : Outside F)
+    → IsShort E accepts permits board w before after → (P : Type 0) → Type 0
+UnlessShortCallback accepts permits board w before after (inl none) P = P
+UnlessShortCallback accepts permits board w before after (inr (inl none)) P = P
+UnlessShortCallback accepts permits board w before after (inr (inr (inl none))) P =
+    UnlessCallbackFailed none.why P
+UnlessShortCallback accepts permits board w before after (inr (inr (inr none))) P = P
+
 -- what happened in one that was not, where an input was given
 abbrev pub last_events : {E F : Type 0} (accepts : Acceptance) (permits : Permits) (board : Board)
     (w : World) (before after : Outside F) (e : GatewayError E F)
@@ -314,12 +343,25 @@ BreaksTelling accepts permits board w name name' calls told before after e =
     × (own_calls (calls_in (last_events accepts permits board w before after e broken))
     ≡ flat_map answered (last_questions accepts permits board w before after e broken)))
 
+-- the same, where memory was wanting
+abbrev pub ShortTelling : {E F : Type 0} → Acceptance → Permits → Board → World
+    → (name name' : GName) → (calls : List (Call E)) → (told : Option (List (Call E)))
+    → (before after : Outside F) → Type 0
+ShortTelling {E} accepts permits board w name name' calls told before after =
+    (short : IsShort E accepts permits board w before after)
+    × UnlessShortCallback accepts permits board w before after short
+    (KeepsTelling name name' calls told
+    (admissions (short_events accepts permits board w before after short))
+    × (own_calls (calls_in (short_events accepts permits board w before after short))
+    ≡ flat_map answered (short_questions accepts permits board w before after short)))
+
 pub record Breaks {E F : Type 0} (accepts : Acceptance) (permits : Permits) (board : Board)
     (w : World) (name name' : GName) (calls : List (Call E)) (told : Option (List (Call E)))
     (before after : Outside F) (e : GatewayError E F) : Type 0 where
   pub broken : e ≢ error.NoMemory
       → BreaksTelling accepts permits board w name name' calls told before after e
-  pub short : e ≡ error.NoMemory → IsShort E accepts permits board w before after
+  pub short : e ≡ error.NoMemory
+      → ShortTelling accepts permits board w name name' calls told before after
 
 abbrev pub TurnsOrBreaks : {E F : Type 0} → Acceptance → Permits → (board board' : Board) → World
     → (name name' : GName) → (calls : List (Call E)) → (told : Option (List (Call E)))

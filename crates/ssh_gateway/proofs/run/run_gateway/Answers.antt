@@ -1,5 +1,7 @@
 use Rattle.std.proofs.Common.{◌≡◌, refl, sym, ◌∙◌, ap}
+use Rattle.std.proofs.lemmas.List.{append-nil}
 use Rattle.ssh_rules.specs.World.{settings_of}
+use Rattle.ssh_gateway.specs.Answering.{of_authentication}
 use Rattle.ssh_gateway.specs.Serving.{outside}
 use Rattle.ssh_gateway.proofs.Attending.{attended_as, unbegun}
 use Rattle.ssh_gateway.proofs.run.run_gateway.Goals as goal
@@ -25,5 +27,6 @@ returns-in-Err g c = record {
       (settings_of c.args.config.now c.args.session_id.now c.args.remote_sshid.now
       (g.K.Kex.repeats c.args.kex.now)) c.args.max_turns _ _
       (outside g.K.Kex.steps g.L.Link.trace g.L.Link.faults g.T.Targets.told g.T.Targets.faults
-      c.args.kex.now c.args.link.now c.args.targets.now);
+      c.args.kex.now c.args.link.now c.args.targets.now)
+      (calls, tells, sym (append-nil (of_authentication calls)));
 }
