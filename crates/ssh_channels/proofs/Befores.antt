@@ -344,9 +344,9 @@ before_told e frames b = record {
 }
 
 -- an open
-pub before_opened : (number peer window room limit : ℕ) → 0 < limit → window < 2 ^ 32 →
-    Before (opened number peer window room limit) []
-before_opened number peer window room limit h k = record {
+pub before_opened : (number peer window room limit packet : ℕ) → 0 < limit → window < 2 ^ 32 →
+    Before (opened number peer window room limit packet) []
+before_opened number peer window room limit packet h k = record {
   sends = record {
     pieces = [];
     flow = refl;
@@ -354,11 +354,11 @@ before_opened number peer window room limit h k = record {
     sum = sym (take_all 0 [] (omega arith));
   };
   replies = refl;
-  sound = sound_opened number peer window room limit h k;
+  sound = sound_opened number peer window room limit packet h k;
 }
 
-pub before_asked : (number room : ℕ) → Before (asked number room) []
-before_asked number room = record {
+pub before_asked : (number room packet : ℕ) → Before (asked number room packet) []
+before_asked number room packet = record {
   sends = record {
     pieces = [];
     flow = refl;
@@ -366,7 +366,7 @@ before_asked number room = record {
     sum = sym (take_all 0 [] (omega arith));
   };
   replies = refl;
-  sound = sound_asked number room;
+  sound = sound_asked number room packet;
 }
 
 -- nothing was sent on a channel that waits

@@ -14,9 +14,10 @@ use Rattle.ssh_channels.specs.Layout.{bare_frame}
 use Rattle.ssh_channels.specs.Table.{Table, line_at}
 use Rattle.ssh_channels.specs.Calls.{Op, Byte, Send, Eof, Close, Peer_close, Flush_line, Flush_all}
 use Rattle.ssh_channels.specs.Calls.{Grant, Adjust, Draw}
-use Rattle.ssh_channels.specs.Calls.{Open_next, Drop_pending, Insert, Confirm, Fail_open}
+use Rattle.ssh_channels.specs.Calls.{Open_next, Accept_next, Drop_pending, Insert, Confirm}
+use Rattle.ssh_channels.specs.Calls.{Fail_open}
 use Rattle.ssh_channels.specs.Calls.{Set_target, Request, Settle, Stage}
-use Rattle.ssh_channels.specs.Entry.{Entry, asked, agreed, accepted, joined, all_framed}
+use Rattle.ssh_channels.specs.Entry.{Entry, opened, asked, agreed, accepted, joined, all_framed}
 use Rattle.ssh_channels.specs.Entry.{more_may_come, close_may_come}
 use Rattle.ssh_channels.specs.Entry.{flush_out, flushed, granting, accepting, closes_now, eof_out}
 use Rattle.ssh_channels.specs.Entry.{after_eof, IsDue}
@@ -31,8 +32,7 @@ use Rattle.ssh_channels.specs.Lines.{takes_grant, takes_in, says, aims, takes_re
 use Rattle.ssh_channels.specs.Lines.{takes_reply, confirms, fails, drawn}
 use Rattle.ssh_channels.specs.Entry.{requesting, reply_may_come, replying, replies_out}
 use Rattle.ssh_channels.specs.Lines.{next_number}
-use Rattle.ssh_channels.specs.Lines.{drops_pending}
-use Rattle.ssh_channels.specs.Lines.{asks, adds, numbers}
+use Rattle.ssh_channels.specs.Lines.{asks, accepts, adds, joins, numbers}
 use Rattle.ssh_channels.specs.Stands.{Stands}
 use Rattle.ssh_channels.specs.Sent.{Each, Ledgered}
 use Rattle.ssh_channels.specs.Does.{does, entry_of, is_idle}
@@ -252,13 +252,21 @@ module _ (l : Lines) (sound : Each Sound l) (h : Each IsDue l) where
   drawn_due None = h
   drawn_due (Some n) = h
 
-  asks_due : (room : ℕ) (o : Option ℕ) → next_number l ≡ o → Each IsDue (asks room o l)
-  asks_due room None is = h
-  asks_due room (Some n) is = added_each IsDue l (asked n room) (next_absent n l is) (omega arith) h
+  asks_due : (room packet : ℕ) (o : Option ℕ) → next_number l ≡ o
+      → Each IsDue (asks room packet o l)
+  asks_due room packet None is = h
+  asks_due room packet (Some n) is =
+      added_each IsDue l (asked n room packet) (next_absent n l is) (omega arith) h
+
+  accepts_due : (peer window room limit packet : ℕ) (o : Option ℕ) → next_number l ≡ o
+      → Each IsDue (accepts peer window room limit packet o l)
+  accepts_due peer window room limit packet None is = h
+  accepts_due peer window room limit packet (Some n) is =
+      added_each IsDue l (opened n peer window room limit packet) (next_absent n l is) (omega arith)
+      h
 
   adds_at : (o : Option Entry) (e : Entry) → find e.number l.entries ≡ o → IsDue e →
-      Each IsDue (cond (is_some o) l (record (drops_pending e.number l)
-      { entries = added e l.entries }))
+      Each IsDue (cond (is_some o) l (joins e l))
   adds_at None e is d = added_each IsDue l e is d h
   adds_at (Some f) e is d = h
 
@@ -368,7 +376,10 @@ op_due (Flush_all is_rekeying) l i s h = all_due l
 op_due (Grant n amount) l i s h = grant_due l s h n amount
 op_due (Adjust n count target) l i s h = adjust_due l s h n count target
 op_due Draw l i s h = drawn_due l s h (next_number l)
-op_due (Open_next window packet) l i s h = asks_due l s h window (next_number l) refl
+op_due (Open_next window packet) l i s h = asks_due l s h window packet (next_number l) refl
+op_due (Accept_next peer window room packet own_packet) l i s h =
+    unless_due l s h (packet == 0) _
+    (accepts_due l s h peer window room packet own_packet (next_number l) refl)
 op_due (Drop_pending n) l i s h = h
 op_due (Insert line) l i s h =
     unless_due l s h (line.recipient_maximum_packet_size == 0) _

@@ -50,9 +50,9 @@ not_told e s h = told_at e.told e refl s h
 pub framed_all : (e : Entry) → all_framed e ≡ true → length (accepted e) ≤ e.framed
 framed_all e h = search rules
 
-pub sound_opened : (number peer window room limit : ℕ) → 0 < limit → window < 2 ^ 32 →
-    Sound (opened number peer window room limit)
-sound_opened number peer window room limit h k = record {
+pub sound_opened : (number peer window room limit packet : ℕ) → 0 < limit → window < 2 ^ 32 →
+    Sound (opened number peer window room limit packet)
+sound_opened number peer window room limit packet h k = record {
   low = omega arith;
   within = omega arith;
   small = omega arith;
@@ -63,8 +63,8 @@ sound_opened number peer window room limit h k = record {
   ended = λ t. absurd (cc);
 }
 
-pub sound_asked : (number room : ℕ) → Sound (asked number room)
-sound_asked number room = record {
+pub sound_asked : (number room packet : ℕ) → Sound (asked number room packet)
+sound_asked number room packet = record {
   low = omega arith;
   within = omega arith;
   small = omega arith;

@@ -1,5 +1,5 @@
 -- Each call of a table does to the channels what the standard says, and answers so.
-use Rattle.std.proofs.Common.{◌≡◌, ◌<◌, ◌-◌, ◌==◌, ℕ, [], ◌∷◌, ◌++◌, Bool, true, false, not}
+use Rattle.std.proofs.Common.{◌≡◌, ◌<◌, ◌^◌, ◌-◌, ◌==◌, ℕ, [], ◌∷◌, ◌++◌, Bool, true, false, not}
 use Rattle.std.proofs.Common.{cond, Option, Some, None, rules, refl, sym, ap, subst, arith}
 use Rattle.ssh_wire.specs.declared.open.ChannelOpenConfirmation.{ChannelOpenConfirmation}
 use Rattle.ssh_channels.specs.declared.params.ChannelParams.{ChannelParams}
@@ -10,15 +10,18 @@ use Rattle.ssh_channels.specs.Calls as calls
 use Rattle.ssh_channels.specs.Calls.{Op, Byte, Send, Eof, Close, Peer_close, Flush_line, Flush_all}
 use Rattle.ssh_channels.specs.Calls.{Grant, Adjust}
 use Rattle.ssh_channels.specs.Calls.{Draw, op}
-use Rattle.ssh_channels.specs.Calls.{Open_next, Drop_pending, Insert, Confirm, Fail_open}
+use Rattle.ssh_channels.specs.Calls.{Open_next, Accept_next, Drop_pending, Insert, Confirm}
+use Rattle.ssh_channels.specs.Calls.{Fail_open}
 use Rattle.ssh_channels.specs.Calls.{Set_target, Request, Settle, Stage}
 use Rattle.ssh_channels.specs.Paths.{Accepts, Framed, Credit, Room, Number, Place, Refused, answer}
 use Rattle.ssh_channels.specs.Entry.{Entry, flushed, granting, reply_may_come}
 use Rattle.ssh_channels.specs.Replies.{Wanted}
-use Rattle.ssh_channels.specs.Lines.{Lines, find}
+use Rattle.ssh_channels.specs.Lines.{Lines, find, adds_with}
 use Rattle.ssh_channels.specs.Stands.{Holds, Stands}
 use Rattle.ssh_channels.specs.Does as does
 use Rattle.ssh_channels.specs.Does.{IsMeant, goes_out, credit_after, coming_of, place_of, answers}
+use Rattle.ssh_channels.specs.Does.{entry_of}
+use Rattle.ssh_link.specs.Frames.{Frame}
 use Rattle.ssh_channels.proofs.Holding as holding
 use Rattle.ssh_channels.proofs.Standing.{Found, found}
 use Rattle.ssh_channels.proofs.Callings as callings
@@ -50,6 +53,24 @@ confirm_stands msg t l small s =
     (λ k. callings.confirm_stands msg.recipient_channel msg.sender_channel msg.initial_window_size
     msg.maximum_packet_size t l k small s)
 
+accept_stands : (peer window room packet own_packet : ℕ) (t : Table) (l : Lines) → window < 2 ^ 32
+    → Stands t l → let o = Accept_next peer window room packet own_packet in
+    Stands (op o t) (does.does o l)
+accept_stands peer window room packet own_packet t l small s =
+    unless_at (packet == 0) packet t _ l _ refl s
+    (λ k. opening.accept_stands t l s peer window room packet own_packet k small)
+
+-- a channel that comes with the frame that tells the peer of it
+pub insert_with_stands : (frame : Frame) (line : ChannelParams) (t : Table) (l : Lines)
+    → IsMeant (Insert line) → 0 < line.recipient_maximum_packet_size → Stands t l →
+    Stands (calls.insert_with frame line t) (adds_with frame (entry_of line) l)
+insert_with_stands frame p t l (peer, room, packet, own_packet, window, small, is) some s =
+    let k : 0 < packet = subst (λ (x : ChannelParams). 0 < x.recipient_maximum_packet_size) is some
+    in
+    subst (λ x. Stands (calls.insert_with frame x t) (adds_with frame (entry_of x) l)) (sym is)
+    (opening.add_with_stands t l s peer p.sender_channel window room packet own_packet k small
+    frame)
+
 pub op_stands : (o : Op) (t : Table) (l : Lines) → IsMeant o → Stands t l
     → Stands (op o t) (does.does o l)
 op_stands (Byte n message) t l m s = callings.says_stands n message t l s
@@ -63,6 +84,8 @@ op_stands (Grant n amount) t l m s = callings.grant_stands n amount t l s
 op_stands (Adjust n count target) t l m s = callings.adjust_stands n count target t l s
 op_stands Draw t l m s = opening.draw_stands t l s
 op_stands (Open_next window packet) t l m s = opening.ask_stands t l s window packet
+op_stands (Accept_next peer window room packet own_packet) t l m s =
+    accept_stands peer window room packet own_packet t l m s
 op_stands (Drop_pending n) t l m s = opening.drop_stands t l s n
 op_stands (Insert p) t l m s = insert_stands p t l m s
 op_stands (Confirm msg) t l m s = confirm_stands msg t l m s
@@ -171,6 +194,8 @@ module _ (t : Table) (l : Lines) (s : Stands t l) where
       ap Room (coming_same n count target (line_at n t) (find n l.entries) (at n))
   op_answers Draw = ap Number (opening.next_same t l s)
   op_answers (Open_next window packet) = ap Number (opening.next_same t l s)
+  op_answers (Accept_next peer window room packet own_packet) =
+      ap (λ o. cond (packet == 0) Refused (Number o)) (opening.next_same t l s)
   op_answers (Drop_pending n) = ap Accepts (opening.pending_same t l s n)
   op_answers (Insert p) =
       ap (λ b. cond (p.recipient_maximum_packet_size == 0) Refused (Accepts (not b)))

@@ -28,3 +28,4 @@ pub mod Dues
 pub mod Closed
 pub mod Moments
 pub mod InOrder
+pub mod Others

@@ -15,8 +15,8 @@ use Rattle.ssh_channels.specs.Line.{ending_frames, closing}
 use Rattle.ssh_channels.specs.Line.{closing_frames, confirmed_by, requested, owes_reply}
 use Rattle.ssh_channels.specs.Line.{replied, reply_frames}
 use Rattle.ssh_channels.specs.Window.{adjusting, adjusted, adjusted_frames, aimed}
-use Rattle.ssh_channels.specs.Table.{Table, line_at, write, act}
-use Rattle.ssh_channels.specs.Numbers.{draw, open_next, drop_pending, insert}
+use Rattle.ssh_channels.specs.Table.{Table, line_at, is_live, write, act}
+use Rattle.ssh_channels.specs.Numbers.{draw, open_next, accept_next, drop_pending, add, insert}
 
 -- a message that says no more than its number goes out
 abbrev pub byte : (n message : ℕ) → Table → Table
@@ -137,6 +137,10 @@ settle n place success = act (owes_reply place) (reply_frames n place success)
 abbrev pub stage : Frame → Table → Table
 stage frame = write (frame ∷ [])
 
+-- a channel is added under its own number, and this frame staged, where that number is not live
+abbrev pub insert_with : Frame → ChannelParams → Table → Table
+insert_with frame l t = cond (is_live l.sender_channel.0 t) t (stage frame (add l t))
+
 -- the staged frames are handed on, where no exchange runs
 abbrev pub hand_on : (is_rekeying : Bool) → Table → Table
 hand_on is_rekeying t = cond is_rekeying t (record t { staged = [] })
@@ -161,6 +165,7 @@ pub data Op : Type 0 where
   Adjust : (n count target : ℕ) → Op
   Draw : Op
   Open_next : (window packet : ℕ) → Op
+  Accept_next : (peer window room packet own_packet : ℕ) → Op
   Drop_pending : (n : ℕ) → Op
   Insert : ChannelParams → Op
   Confirm : ChannelOpenConfirmation → Op
@@ -183,6 +188,8 @@ op (Grant n amount) = grant n amount
 op (Adjust n count target) = adjust n count target
 op Draw = draw
 op (Open_next window packet) = open_next window packet
+op (Accept_next peer window room packet own_packet) =
+    unless_zero packet (accept_next peer window room packet own_packet)
 op (Drop_pending n) = drop_pending n
 op (Insert l) = unless_zero l.recipient_maximum_packet_size (insert l)
 op (Confirm msg) = unless_zero msg.maximum_packet_size (confirm msg)

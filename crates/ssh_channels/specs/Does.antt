@@ -11,7 +11,8 @@ use Rattle.ssh_channels.specs.declared.adjusted.Adjusted.TheVariants as adjusted
 use Rattle.ssh_channels.specs.Line.{established}
 use Rattle.ssh_channels.specs.Calls.{Op, Byte, Send, Eof, Close, Peer_close, Flush_line, Flush_all}
 use Rattle.ssh_channels.specs.Calls.{Grant, Adjust, Draw}
-use Rattle.ssh_channels.specs.Calls.{Open_next, Drop_pending, Insert, Confirm, Fail_open}
+use Rattle.ssh_channels.specs.Calls.{Open_next, Accept_next, Drop_pending, Insert, Confirm}
+use Rattle.ssh_channels.specs.Calls.{Fail_open}
 use Rattle.ssh_channels.specs.Calls.{Set_target, Request, Settle, Stage}
 use Rattle.ssh_channels.specs.Paths.{Answer, Done, Accepts, Framed, Credit, Room, Number, Place}
 use Rattle.ssh_channels.specs.Paths.{Refused}
@@ -23,7 +24,7 @@ use Rattle.ssh_channels.specs.Lines.{peer_closes, goes_on}
 use Rattle.ssh_channels.specs.Lines.{all_go_on, takes_grant, takes_in, says, aims}
 use Rattle.ssh_channels.specs.Lines.{takes_request, takes_reply, confirms, fails}
 use Rattle.ssh_channels.specs.Lines.{next_number, draws}
-use Rattle.ssh_channels.specs.Lines.{drops_pending, asks_next, adds}
+use Rattle.ssh_channels.specs.Lines.{drops_pending, asks_next, accepts_next, adds}
 use Rattle.ssh_channels.specs.Layout.{bare_frame}
 use Rattle.ssh_channels.specs.Sent.{is_beside, may_stage}
 
@@ -32,7 +33,7 @@ abbrev pub entry_of : ChannelParams → Entry
 entry_of line =
     opened line.sender_channel.0 line.recipient_channel line.recipient_window_size
     line.sender_window_size
-    line.recipient_maximum_packet_size
+    line.recipient_maximum_packet_size line.sender_maximum_packet_size
 
 -- a packet size of 0 is refused
 abbrev pub unless_zero : (packet : ℕ) → (Lines → Lines) → Lines → Lines
@@ -49,7 +50,9 @@ does (Flush_all is_rekeying) = all_go_on
 does (Grant n amount) = takes_grant n amount
 does (Adjust n count target) = takes_in n count target
 does Draw = draws
-does (Open_next window packet) = asks_next window
+does (Open_next window packet) = asks_next window packet
+does (Accept_next peer window room packet own_packet) =
+    unless_zero packet (accepts_next peer window room packet own_packet)
 does (Drop_pending n) = drops_pending n
 does (Insert line) = unless_zero line.recipient_maximum_packet_size (adds (entry_of line))
 does (Confirm msg) = unless_zero msg.maximum_packet_size
@@ -102,6 +105,8 @@ answers (Grant n amount) l = Credit (credit_after amount (find n l.entries))
 answers (Adjust n count target) l = Room (coming_of count target (find n l.entries))
 answers Draw l = Number (next_number l)
 answers (Open_next window packet) l = Number (next_number l)
+answers (Accept_next peer window room packet own_packet) l =
+    cond (packet == 0) Refused (Number (next_number l))
 answers (Drop_pending n) l = Accepts (list_any (is_at (nat_cmp n)) l.pending)
 answers (Insert line) l = cond (line.recipient_maximum_packet_size == 0) Refused
     (Accepts (not (is_some (find line.sender_channel.0 l.entries))))
@@ -117,15 +122,17 @@ answers (Stage frame) l = Done
 abbrev pub IsMeant : Op → Type 0
 IsMeant (Insert line) = (peer room packet own_packet window : ℕ) × (window < 2 ^ 32)
     × (line ≡ established peer line.sender_channel window room packet own_packet)
+IsMeant (Accept_next peer window room packet own_packet) = window < 2 ^ 32
 IsMeant (Confirm msg) = msg.initial_window_size < 2 ^ 32
 IsMeant (Set_target n target) = target < 2 ^ 32
 IsMeant _ = Unit {0}
 
 -- calls after which what was sent is still what has to be; a channel comes together with the
--- message that opens it, so the two calls that bring one are not among them
+-- message that opens it, so the three calls that bring one are not among them
 abbrev pub IsFair : Op → Lines → Type 0
 IsFair (Byte n message) l = is_beside (bare_frame message n 0) ≡ true
 IsFair (Open_next window packet) l = ⊥
+IsFair (Accept_next peer window room packet own_packet) l = ⊥
 IsFair (Insert line) l = ⊥
 IsFair (Confirm msg) l = msg.initial_window_size < 2 ^ 32
 IsFair (Set_target n target) l = target < 2 ^ 32

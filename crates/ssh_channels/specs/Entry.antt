@@ -17,8 +17,10 @@ pub record Entry : Type 0 where
   -- this side's number of it, and the peer's (section 5.1)
   pub number : ℕ
   pub peer : ℕ
-  -- the most bytes of data that the peer takes in one message (section 5.1)
+  -- the most bytes of data that the peer takes in one message, and the most that this side takes
+  -- (section 5.1)
   pub limit : ℕ
+  pub packet : ℕ
   -- both sides agreed to it; a channel that this side opens waits until the peer has (section 5.1)
   pub confirmed : Bool
   -- what each accepted data command brought, but no empty one (section 5.2)
@@ -39,13 +41,14 @@ pub record Entry : Type 0 where
   pub close : Bool
   pub told : Bool
 
--- a channel that both sides agreed to: its numbers, the peer's window, this side's, and the peer's
--- packet size
-abbrev pub opened : (number peer window room limit : ℕ) → Entry
-opened number peer window room limit = record {
+-- a channel that both sides agreed to: its numbers, the peer's window, this side's, and their
+-- packet sizes
+abbrev pub opened : (number peer window room limit packet : ℕ) → Entry
+opened number peer window room limit packet = record {
   number = number;
   peer = peer;
   limit = limit;
+  packet = packet;
   confirmed = true;
   chunks = [];
   granted = window;
@@ -59,8 +62,8 @@ opened number peer window room limit = record {
 }
 
 -- a channel that this side opens; the peer has named nothing yet (section 5.1)
-abbrev pub asked : (number room : ℕ) → Entry
-asked number room = record (opened number 0 0 room 0) { confirmed = false }
+abbrev pub asked : (number room packet : ℕ) → Entry
+asked number room packet = record (opened number 0 0 room 0 packet) { confirmed = false }
 
 -- the peer agrees to it, with its number, window and packet size (section 5.1)
 abbrev pub agreed : (peer window limit : ℕ) → Entry → Entry

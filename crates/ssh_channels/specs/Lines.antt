@@ -12,7 +12,7 @@ use Rattle.ssh_link.specs.Frames.{Frame}
 use Rattle.ssh_channels.specs.declared.chunk.Chunk.{Chunk}
 use Rattle.ssh_channels.specs.Layout.{bare_frame, close_frame}
 use Rattle.ssh_channels.specs.Numbers.{first_free}
-use Rattle.ssh_channels.specs.Entry.{Entry, asked, agreed, all_framed, more_may_come}
+use Rattle.ssh_channels.specs.Entry.{Entry, opened, asked, agreed, all_framed, more_may_come}
 use Rattle.ssh_channels.specs.Entry.{close_may_come, flush_out, requesting, reply_may_come}
 use Rattle.ssh_channels.specs.Entry.{replying, replies_out}
 use Rattle.ssh_channels.specs.Entry.{flushed, granting, accepting, closes_now, eof_out, after_eof}
@@ -193,17 +193,37 @@ abbrev pub drops_pending : (number : ℕ) → Lines → Lines
 drops_pending number l = record l { pending = remove_key (is_at (nat_cmp number)) l.pending }
 
 -- it is this side's open's
-abbrev pub asks : (room : ℕ) → Option ℕ → Lines → Lines
-asks room None l = l
-asks room (Some n) l = record l { last = n; entries = added (asked n room) l.entries }
+abbrev pub asks : (room packet : ℕ) → Option ℕ → Lines → Lines
+asks room packet None l = l
+asks room packet (Some n) l =
+    record l { last = n; entries = added (asked n room packet) l.entries }
 
-abbrev pub asks_next : (room : ℕ) → Lines → Lines
-asks_next room l = asks room (next_number l) l
+abbrev pub asks_next : (room packet : ℕ) → Lines → Lines
+asks_next room packet l = asks room packet (next_number l) l
 
--- an open of the peer's is accepted; its number is no longer pending
+-- it is that of an open of the peer's which is accepted at once
+abbrev pub accepts : (peer window room limit packet : ℕ) → Option ℕ → Lines → Lines
+accepts peer window room limit packet None l = l
+accepts peer window room limit packet (Some n) l = record l {
+  last = n;
+  entries = added (opened n peer window room limit packet) l.entries;
+}
+
+abbrev pub accepts_next : (peer window room limit packet : ℕ) → Lines → Lines
+accepts_next peer window room limit packet l =
+    accepts peer window room limit packet (next_number l) l
+
+-- an open of the peer's is accepted that waited; its number is no longer pending
+abbrev pub joins : Entry → Lines → Lines
+joins e l = record (drops_pending e.number l) { entries = added e l.entries }
+
 abbrev pub adds : Entry → Lines → Lines
-adds e l = cond (is_some (find e.number l.entries)) l
-    (record (drops_pending e.number l) { entries = added e l.entries })
+adds e l = cond (is_some (find e.number l.entries)) l (joins e l)
+
+-- and this frame tells the peer of it
+abbrev pub adds_with : Frame → Entry → Lines → Lines
+adds_with frame e l = cond (is_some (find e.number l.entries)) l
+    (write (frame ∷ []) (joins e l))
 
 -- what was written is handed on, where no exchange runs
 abbrev pub handed : (is_rekeying : Bool) → Lines → List Frame

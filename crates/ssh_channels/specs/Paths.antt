@@ -9,7 +9,8 @@ use Rattle.ssh_channels.specs.Numbers.{next_number}
 use Rattle.ssh_channels.specs.Table.{Table, is_live, is_pending, has}
 use Rattle.ssh_channels.specs.Calls.{Op, Byte, Send, Eof, Close, Peer_close, Flush_line, Flush_all}
 use Rattle.ssh_channels.specs.Calls.{Grant, Adjust, Draw}
-use Rattle.ssh_channels.specs.Calls.{Open_next, Drop_pending, Insert, Confirm, Fail_open}
+use Rattle.ssh_channels.specs.Calls.{Open_next, Accept_next, Drop_pending, Insert, Confirm}
+use Rattle.ssh_channels.specs.Calls.{Fail_open}
 use Rattle.ssh_channels.specs.Calls.{Set_target, Request, Settle, Stage, op}
 use Rattle.ssh_channels.specs.Calls.{flush_first, framed_at, credit_after, adjusting_at, place_at}
 
@@ -83,6 +84,8 @@ answer (Grant n amount) t = Credit (credit_after n amount t)
 answer (Adjust n count target) t = Room (adjusting_at n count target t)
 answer Draw t = Number (next_number t)
 answer (Open_next window packet) t = Number (next_number t)
+answer (Accept_next peer window room packet own_packet) t =
+    cond (packet == 0) Refused (Number (next_number t))
 answer (Drop_pending n) t = Accepts (is_pending n t)
 answer (Insert l) t = cond (l.recipient_maximum_packet_size == 0) Refused
     (Accepts (not (is_live l.sender_channel.0 t)))

@@ -20,6 +20,7 @@ pub record Holds (key : ℕ) (line : ChannelParams) (e : Entry) : Type 0 where
   pub own : line.sender_channel.0 ≡ e.number
   pub peer : line.recipient_channel ≡ e.peer
   pub limit : line.recipient_maximum_packet_size ≡ e.limit
+  pub packet : line.sender_maximum_packet_size ≡ e.packet
   pub confirmed : line.confirmed ≡ e.confirmed
   pub room : line.sender_window_size ≡ e.room
   pub target : line.target ≡ e.target

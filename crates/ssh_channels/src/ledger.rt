@@ -7,7 +7,8 @@ ghost use Rattle.ssh_link.specs.declared.link.TraceEntry.TheVariants.{Sent};
 ghost use Rattle.ssh_channels.specs.Layout.{on_channel};
 ghost use Rattle.ssh_channels.specs.Numbers as numbers;
 ghost use Rattle.ssh_channels.specs.Table.{Table};
-ghost use Rattle.ssh_channels.specs.Calls.{Op, op, hand_on, handed};
+ghost use Rattle.ssh_channels.specs.declared.params.ChannelParams.{ChannelParams};
+ghost use Rattle.ssh_channels.specs.Calls.{Op, Insert, op, insert_with, hand_on, handed};
 ghost use Rattle.ssh_channels.specs.Paths.{answer};
 ghost use Rattle.ssh_channels.specs.Entry.{Entry, Sound, IsDue, IsDeferred, accepted, due, opened};
 ghost use Rattle.ssh_channels.specs.Lines as lines;
@@ -16,15 +17,19 @@ ghost use Rattle.ssh_channels.specs.Stands.{Stands};
 ghost use Rattle.ssh_channels.specs.Sent.{Each, Ledgered, IsQuiet, Sends, AllRefuse, farewell};
 ghost use Rattle.ssh_channels.specs.Sent.{IsUnopened, StartsWith, is_opening, is_close, since};
 ghost use Rattle.ssh_channels.specs.Sent.{RepliesInOrder, StartsInOrder};
-ghost use Rattle.ssh_channels.specs.Does.{IsMeant, IsFair, is_idle, does, answers};
+ghost use Rattle.ssh_channels.specs.Does.{IsMeant, IsFair, is_idle, does, answers, entry_of};
 
 /// A table keeps the channels of a connection as the standard sees them (RFC 4254 section 5): an
 /// empty table keeps none, each call does to the channels what the standard says and answers what
-/// it says of them, and what is handed on are the frames that were written.
+/// it says of them, one that comes with its frame comes so, and what is handed on are the frames
+/// that were written.
 pub fn table_keeps_channels()
     ensures empty { Stands numbers.empty no_lines }
     ensures stands { (o : Op) → (t : Table) → (l : Lines) → IsMeant o → Stands t l →
         Stands (op o t) (does o l) }
+    ensures comes { (frame : Frame) → (line : ChannelParams) → (t : Table) → (l : Lines) →
+        IsMeant (Insert line) → 0 < line.recipient_maximum_packet_size → Stands t l →
+        Stands (insert_with frame line t) (lines.adds_with frame (entry_of line) l) }
     ensures answers { (o : Op) → (t : Table) → (l : Lines) → Stands t l → answer o t ≡ answers o l }
     ensures hands_on { (is_rekeying : Bool) → (t : Table) → (l : Lines) → Stands t l →
         Stands (hand_on is_rekeying t) (lines.hands_on is_rekeying l) }
@@ -34,21 +39,28 @@ pub fn table_keeps_channels()
 
 /// What was sent on a channel is what was framed of the bytes that it accepted, and on one that
 /// left, what had been sent when it did, with its CLOSE behind. Each call keeps that, after each
-/// trace of a connection; so does an open of the peer's that is accepted with its CONFIRMATION, an
-/// open of this side's that goes out, what is handed on, and what is on no channel. So at every
+/// trace of a connection; so does an open of the peer's that is accepted with its CONFIRMATION, at
+/// once or later, an open of this side's that goes out, what is handed on, and what is on no
+/// channel. So at every
 /// moment of the trace, what had been sent on a channel was the start of it.
 pub fn sent_is_framed()
     ensures empty { Ledgered no_lines [] }
     ensures calls { (o : Op) → (l : Lines) → (past : List TraceEntry) → IsFair o l →
         Ledgered l past → Ledgered (does o l) past }
-    ensures opens { (number peer window room limit : ℕ) → (payload : List ℕ) → (l : Lines) →
+    ensures opens { (number peer window room limit packet : ℕ) → (payload : List ℕ) →
+        (l : Lines) → (past : List TraceEntry) → 0 < limit → window < 2 ^ 32 →
+        is_opening payload ≡ true → Ledgered l past →
+        Ledgered (lines.adds_with (on_channel number payload)
+        (opened number peer window room limit packet) l) past }
+    ensures asks { (n room packet : ℕ) → (payload : List ℕ) → (l : Lines) →
+        (past : List TraceEntry) → is_opening payload ≡ true → lines.next_number l ≡ Some n →
+        Ledgered l past →
+        Ledgered (write (on_channel n payload ∷ []) (lines.asks_next room packet l)) past }
+    ensures accepts { (n peer window room limit packet : ℕ) → (payload : List ℕ) → (l : Lines) →
         (past : List TraceEntry) → 0 < limit → window < 2 ^ 32 → is_opening payload ≡ true →
-        find number l.entries ≡ None → Ledgered l past →
-        Ledgered (write (on_channel number payload ∷ [])
-        (lines.adds (opened number peer window room limit) l)) past }
-    ensures asks { (n room : ℕ) → (payload : List ℕ) → (l : Lines) → (past : List TraceEntry) →
-        is_opening payload ≡ true → lines.next_number l ≡ Some n → Ledgered l past →
-        Ledgered (write (on_channel n payload ∷ []) (lines.asks_next room l)) past }
+        lines.next_number l ≡ Some n → Ledgered l past →
+        Ledgered (write (on_channel n payload ∷ [])
+        (lines.accepts_next peer window room limit packet l)) past }
     ensures hands_on { (is_rekeying : Bool) → (l : Lines) → (past : List TraceEntry) →
         Ledgered l past →
         Ledgered (lines.hands_on is_rekeying l) (past ++ map Sent (lines.handed is_rekeying l)) }

@@ -12,6 +12,7 @@ mod closing;
 mod error;
 mod flushing;
 mod frames;
+mod laws;
 mod ledger;
 mod noted;
 mod opens;
@@ -30,6 +31,7 @@ mod writers;
 pub use adjusted::Adjusted;
 pub use chunk::{Chunk, DataKind};
 pub use error::TableError;
+pub use laws::{next_number_is_free, others_stay, waiting_is_cut};
 pub use ledger::{
     close_is_last, framed_is_due, replies_in_order, sent_is_framed, table_keeps_channels,
 };

@@ -14,6 +14,7 @@ use bytes::Bytes;
 use ssh_link::Frame;
 use ssh_wire::ChannelId;
 use std::alloc::Global;
+use std::collections::VecDeque;
 
 /// A channel that this side opened and the peer has not confirmed, or that is established (RFC 4254
 /// section 5.1). What waits to be sent on it is private, and so are the replies that the peer's
@@ -169,7 +170,7 @@ impl ChannelParams {
         &mut self,
         own: ChannelId,
         chunk: Chunk,
-        staged: &mut Vec<Frame>,
+        staged: &mut VecDeque<Frame>,
     ) -> Result<(), TableError>
         requires whole { line.takes_whole chunk.bytes self.old ≡ true }
         ensures line { OnOk result (self.new ≡ line.spent (length chunk.bytes) self.old) }
@@ -180,7 +181,7 @@ impl ChannelParams {
         ensures memory { IfErr result (λ e. e ≡ NoMemory) }
     {
         let count = chunk.bytes.len() as u32;
-        staged.push(data_frame(self.recipient(own), chunk.kind, chunk.bytes))?;
+        staged.push_back(data_frame(self.recipient(own), chunk.kind, chunk.bytes))?;
         self.recipient_window_size -= count;
         Ok(())
     }
@@ -190,7 +191,7 @@ impl ChannelParams {
         &mut self,
         alloc: Global,
         own: ChannelId,
-        staged: &mut Vec<Frame>,
+        staged: &mut VecDeque<Frame>,
     ) -> Result<(), TableError>
         ensures line { OnOk result (self.new ≡ line.flushed self.old) }
         ensures staged { OnOk result (staged.new.items
@@ -214,7 +215,7 @@ impl ChannelParams {
         &self,
         own: ChannelId,
         done: bool,
-        frames: &mut Vec<Frame>,
+        frames: &mut VecDeque<Frame>,
     ) -> Result<(), TableError>
         ensures ok { OnOk result (frames.new.items
             ≡ frames.old.items ++ line.deferred_if own.0 done self.now) }
@@ -225,10 +226,10 @@ impl ChannelParams {
         }
         let to = self.recipient(own);
         if self.pending_eof {
-            frames.push(eof_frame(to))?;
+            frames.push_back(eof_frame(to))?;
         }
         if self.pending_close {
-            frames.push(close_frame(to))?;
+            frames.push_back(close_frame(to))?;
         }
         Ok(())
     }
@@ -239,7 +240,7 @@ impl ChannelParams {
         &mut self,
         alloc: Global,
         own: ChannelId,
-        staged: &mut Vec<Frame>,
+        staged: &mut VecDeque<Frame>,
     ) -> Result<bool, TableError>
         ensures closes { IfOk result (λ gone. gone ≡ line.closes self.old) }
         ensures line { OnOk result (self.new ≡ line.settled self.old) }
@@ -270,7 +271,7 @@ impl ChannelParams {
         alloc: Global,
         own: ChannelId,
         amount: u32,
-        staged: &mut Vec<Frame>,
+        staged: &mut VecDeque<Frame>,
     ) -> Result<bool, TableError>
         ensures closes { IfOk result (λ gone. gone ≡ line.closes (line.granted amount self.old)) }
         ensures line { OnOk result (self.new ≡ line.settled (line.granted amount self.old)) }
@@ -297,7 +298,11 @@ impl ChannelParams {
 
     /// An EOF command: EOF goes out, or waits behind the data. Where there is no memory, all is as
     /// before.
-    pub(crate) fn end(&mut self, own: ChannelId, staged: &mut Vec<Frame>) -> Result<(), TableError>
+    pub(crate) fn end(
+        &mut self,
+        own: ChannelId,
+        staged: &mut VecDeque<Frame>,
+    ) -> Result<(), TableError>
         ensures line { OnOk result (self.new ≡ line.ending self.old) }
         ensures staged { OnOk result (staged.new.items
             ≡ staged.old.items ++ line.ending_frames own.0 self.old) }
@@ -306,7 +311,7 @@ impl ChannelParams {
         ensures memory { IfErr result (λ e. e ≡ NoMemory) }
     {
         if self.nothing_waits() {
-            staged.push(eof_frame(self.recipient(own)))?;
+            staged.push_back(eof_frame(self.recipient(own)))?;
             self.pending_eof = false;
         } else {
             self.pending_eof = true;
@@ -322,7 +327,7 @@ impl ChannelParams {
         own: ChannelId,
         chunk: Chunk,
         is_rekeying: bool,
-        staged: &mut Vec<Frame>,
+        staged: &mut VecDeque<Frame>,
     ) -> Result<(), TableError>
         ensures line { OnOk result (self.new ≡ line.taking chunk is_rekeying self.old) }
         ensures staged { OnOk result (staged.new.items
@@ -357,7 +362,7 @@ impl ChannelParams {
         own: ChannelId,
         count: usize,
         target: u32,
-        staged: &mut Vec<Frame>,
+        staged: &mut VecDeque<Frame>,
     ) -> Result<Adjusted, TableError>
         ensures answer { IfOk result (λ r. r ≡ window.adjusting count target self.old) }
         ensures waiting { self.new.waiting ≡ self.old.waiting }
@@ -374,7 +379,7 @@ impl ChannelParams {
         let room = self.sender_window_size - count as u32;
         if room < target / 2 {
             let amount = target - room;
-            staged.push(adjust_frame(self.recipient(own), amount))?;
+            staged.push_back(adjust_frame(self.recipient(own), amount))?;
             self.sender_window_size = target;
             return Ok(Adjusted::Granted(amount));
         }
@@ -409,7 +414,7 @@ impl ChannelParams {
         own: ChannelId,
         place: Option<u64>,
         success: bool,
-        staged: &mut Vec<Frame>,
+        staged: &mut VecDeque<Frame>,
     ) -> Result<(), TableError>
         requires owed { line.owes_reply place self.old ≡ true }
         ensures line { OnOk result (self.new ≡ line.replied place success self.old) }

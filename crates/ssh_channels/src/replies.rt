@@ -47,7 +47,7 @@ fn stage_ready(
     alloc: Global,
     to: Recipient,
     unsent: &VecDeque<Reply>,
-    staged: &mut Vec<Frame>,
+    staged: &mut VecDeque<Frame>,
 ) -> Result<(), TableError>
     ensures staged { OnOk result (staged.new.items
         ≡ staged.old.items ++ map (layout.reply_frame to.own.0 to.peer)
@@ -65,16 +65,16 @@ fn ready_frames(
     alloc: Global,
     to: Recipient,
     unsent: &VecDeque<Reply>,
-) -> Result<Vec<Frame>, TableError>
+) -> Result<VecDeque<Frame>, TableError>
     ensures ok { IfOk result (λ frames. frames.items
         ≡ map (layout.reply_frame to.own.0 to.peer) (replies.ready unsent.now.items)) }
     ensures memory { IfErr result (λ e. e ≡ NoMemory) }
 {
-    let mut frames = Vec::new(alloc);
+    let mut frames = VecDeque::new(alloc);
     for reply in unsent.iter() {
         match reply {
             Reply::Owed => return Ok(frames),
-            Reply::Settled(success) => frames.push(reply_frame(to, *success))?,
+            Reply::Settled(success) => frames.push_back(reply_frame(to, *success))?,
         }
     }
     Ok(frames)
@@ -162,7 +162,7 @@ impl Replies {
         to: Recipient,
         place: Option<u64>,
         success: bool,
-        staged: &mut Vec<Frame>,
+        staged: &mut VecDeque<Frame>,
     ) -> Result<(), TableError>
         requires owed { replies.owes place self.old ≡ true }
         ensures settled { OnOk result (self.new ≡ replies.settled place success self.old) }

@@ -117,7 +117,7 @@ impl Encrypted {
             return Ok(false);
         }
         let frame = bare_frame(line.recipient(channel), msg);
-        self.staged.push(frame)?;
+        self.staged.push_back(frame)?;
         Ok(true)
     }
 
@@ -127,7 +127,7 @@ impl Encrypted {
         ensures unchanged { OnErr result (self.new ≡ self.old) }
         ensures memory { IfErr result (λ e. e ≡ NoMemory) }
     {
-        self.staged.push(frame)?;
+        self.staged.push_back(frame)?;
         Ok(())
     }
 }

@@ -22,12 +22,12 @@ use Rattle.ssh_drive.specs.declared.moves.MoveError.{MoveError}
 use Rattle.ssh_drive.specs.declared.moves.MoveError.TheVariants as error
 use Rattle.ssh_drive.specs.Authorised.{turn_of, served_in, NeedsUserBehind}
 use Rattle.ssh_drive.specs.Authorised.{AreAuthorised}
-use Rattle.ssh_drive.specs.Moves.{Place, Made, Served, Said, Handed_on, Leads, Drives}
+use Rattle.ssh_drive.specs.Moves.{Place, Made, Served, Said, Let_out, Handed_on, Leads, Drives}
 use Rattle.ssh_drive.specs.Moves.{OwesOrStops, EndsSo, flush_cause, opening_place}
 use Rattle.ssh_drive.specs.Moves.{coming}
 use Rattle.ssh_drive.proofs.Staying.{lead_set}
 use Rattle.ssh_drive.proofs.Entering.{clear_stays, someone_now}
-use Rattle.ssh_drive.proofs.Guarding.{behind_guarded, command_stays, flush_guarded}
+use Rattle.ssh_drive.proofs.Guarding.{behind_guarded, command_stays, let_out_clear, flush_guarded}
 use Rattle.ssh_drive.proofs.Guarding.{none_accepts, notices_need_none}
 
 -- ---- moves one after another, and a last one
@@ -37,6 +37,7 @@ abbrev pub IsBegun : {E F : Type 0} → Acceptance → (moment : ℕ) → Place 
 IsBegun accepts moment place (Served payload events) = (plan : Plan Outcome)
     × OwesOrStops accepts moment place payload plan × Walks plan events
 IsBegun accepts moment place (Said command outcome) = Unit {0}
+IsBegun accepts moment place (Let_out channel count) = Unit {0}
 IsBegun accepts moment place (Handed_on events) = (plan : Plan Outcome)
     × OwesFlush place.untold place.world plan × Walks plan events
 
@@ -52,6 +53,7 @@ lead_begun : {E F : Type 0} (accepts : Acceptance) (moment : ℕ) (place : Place
 lead_begun accepts moment place (Served payload events) to (plan, owes, follows, none) =
     (plan, inl owes, follows_walks plan events (Goes to.world) follows)
 lead_begun accepts moment place (Said command outcome) to leads = tt
+lead_begun accepts moment place (Let_out channel count) to leads = tt
 lead_begun accepts moment place (Handed_on events) to (plan, owes, follows, none) =
     (plan, owes, follows_walks plan events (Goes to.world) follows)
 
@@ -90,6 +92,7 @@ served_both moment [] ys = refl
 served_both moment (Served payload events ∷ xs) ys =
     ap (λ turns. turn_of moment payload events ∷ turns) (served_both moment xs ys)
 served_both moment (Said command outcome ∷ xs) ys = served_both moment xs ys
+served_both moment (Let_out channel count ∷ xs) ys = served_both moment xs ys
 served_both moment (Handed_on events ∷ xs) ys = served_both moment xs ys
 
 -- a move by which no handler is called
@@ -168,6 +171,8 @@ one_authorised accepts settings moment before place (Served payload events) so_f
     event set h owes (subst (Walks plan) splits walks) needs))
 one_authorised accepts settings moment before place (Said command outcome) so_far set h begun needs
     = absurd needs
+one_authorised accepts settings moment before place (Let_out channel count) so_far set h begun needs
+    = absurd needs
 one_authorised accepts settings moment before place (Handed_on events) so_far set h
     (plan, owes, walks) (past, more, event, splits, needs, is) =
     subst (λ so. SomeoneIsIn accepts settings (served_in moment (before ++ so ∷ []))) (sym is)
@@ -200,6 +205,13 @@ one_guarded accepts settings moment before place (Said command outcome) to set h
     (beside moment before (Said command outcome) refl)
     (command_stays accepts (LastNamed turns) (SomeoneIsIn accepts settings turns) place.world
     command notices outcome to.world is h)
+one_guarded accepts settings moment before place (Let_out channel count) to set h (is, at) =
+    let turns = served_in moment before in
+    subst (λ ts. IsGuarded accepts settings ts to.world)
+    (beside moment before (Let_out channel count) refl)
+    (subst (λ (p : Place). IsGuarded accepts settings turns p.world) (sym at)
+    (either (λ x. inl x) (λ clear. inr (let_out_clear place.world.disconnected (LastNamed turns)
+    channel.0 place.world clear)) h))
 one_guarded accepts settings moment before place (Handed_on events) to set h
     (plan, owes, follows, none) =
     let turns = served_in moment before in

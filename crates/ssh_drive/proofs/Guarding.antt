@@ -1,6 +1,6 @@
 -- Moves are plans in which nothing of the connection comes before an answer that accepts a user.
 use Rattle.std.proofs.Common.{◌≡◌, ◌⊎◌, ℕ, List, [], ◌∷◌, ◌++◌, map, Bool, true, false, cond}
-use Rattle.std.proofs.Common.{Some, None, Ok, refl, sym, subst, inl, inr}
+use Rattle.std.proofs.Common.{Some, None, Ok, refl, sym, ap, subst, inl, inr}
 use Rattle.ssh_link.specs.declared.command.Command.{Command}
 use Rattle.ssh_link.specs.declared.frame.InputKind.{InputKind}
 use Rattle.ssh_link.specs.declared.frame.InputKind.TheVariants as input
@@ -19,7 +19,9 @@ use Rattle.ssh_session.specs.Between.{OwesBehind, OwesUnlessEnded, flushed}
 use Rattle.ssh_rules.specs.Effect.{Does, effect}
 use Rattle.ssh_rules.specs.Outcome.{Outcome, Goes, Ends}
 use Rattle.ssh_rules.specs.Run.{begins, command_row, going_out, hand_on, handed_on, is_due}
-use Rattle.ssh_rules.specs.World.{World, circumstances, is_held}
+use Rattle.ssh_rules.specs.World.{World, circumstances, is_held, lined}
+use Rattle.ssh_channels.specs.Entry.{flush_out, flushed as flushed_entry}
+use Rattle.ssh_channels.specs.Lines.{Lines, find, goes_on, settles, where_found}
 use Rattle.ssh_rules.proofs.Admitted.{noted_guarded, owed_guarded}
 use Rattle.ssh_rules.proofs.Admitting.{unnamed}
 use Rattle.ssh_rules.proofs.Guards.{IsClear, NamesLast, Guarded, SomeAccepts, Walks}
@@ -108,6 +110,19 @@ command_stays accepts named a w command notices outcome world is (inr clear) =
       | inl none ↦ absurd none
       | inr later ↦ inr (clear_stays named (input.Command 0 command) world (λ other r. r) later)
     ]
+
+-- ---- what a channel lets out: before a user is in there is none
+
+none_lets_out : (n : ℕ) (l : Lines) → l.entries ≡ [] → goes_on n l ≡ l
+none_lets_out n l none =
+    ap (λ es. where_found (find n es) (λ e. settles (flushed_entry e) (flush_out e)) l) none
+
+pub let_out_clear : (ended : Bool) (named : List ℕ → Type 0) (n : ℕ) (w : World)
+    → IsClear named w → IsClear named (cond ended w (lined (goes_on n) w))
+let_out_clear true named n w clear = clear
+let_out_clear false named n w clear =
+    subst (λ l. IsClear named (lined (λ _. l) w)) (sym (none_lets_out n w.channels.lines clear.1))
+    clear
 
 -- ---- what is handed on
 

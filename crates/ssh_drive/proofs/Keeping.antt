@@ -1,6 +1,6 @@
 -- What was sent on the channels stays what has to be sent, by each move (RFC 4254 section 5).
 use Rattle.std.proofs.Common.{◌≡◌, ℕ, List, [], ◌∷◌, ◌++◌, map, Bool, true, false, cond, None}
-use Rattle.std.proofs.Common.{sym, ◌∙◌, ap, subst, append_assoc}
+use Rattle.std.proofs.Common.{refl, sym, ◌∙◌, ap, subst, append_assoc}
 use Rattle.std.specs.Prelude.{flat_map}
 use Rattle.std.proofs.lemmas.List.{append-nil}
 use Rattle.ssh_link.specs.declared.command.Command.{Command}
@@ -11,7 +11,8 @@ use Rattle.ssh_link.specs.declared.notice.Notice.{Notice}
 use Rattle.ssh_link.specs.declared.outcome.CommandOutcome.{CommandOutcome}
 use Rattle.ssh_auth.specs.Plan.{Plan, Finish, Event, Follows, told_in}
 use Rattle.ssh_auth.specs.Publickey.{Acceptance}
-use Rattle.ssh_channels.specs.Lines.{find, last_left}
+use Rattle.ssh_channels.specs.Calls.{Flush_line}
+use Rattle.ssh_channels.specs.Lines.{find, goes_on, last_left}
 use Rattle.ssh_channels.specs.Sent.{IsKept, IsQuiet, since}
 use Rattle.ssh_channels.proofs.Traces.{since_both}
 use Rattle.ssh_rules.specs.Acts.{Beginning, acts, exchanged, frames_given, moved, tell_all}
@@ -19,12 +20,14 @@ use Rattle.ssh_session.specs.Between.{OwesBehind, flushed}
 use Rattle.ssh_rules.specs.Effect.{Does, effect}
 use Rattle.ssh_rules.specs.Outcome.{Outcome, Goes}
 use Rattle.ssh_rules.specs.Run.{Turn, Owes, begins, going_out, hand_on, handed_on, is_due}
-use Rattle.ssh_rules.specs.World.{World}
+use Rattle.ssh_rules.specs.World.{World, lined}
+use Rattle.ssh_rules.proofs.Absent.{goes_on_absent}
+use Rattle.ssh_rules.proofs.Pending.{goes_on_pends}
 use Rattle.ssh_rules.proofs.Acting.{EffectComes}
 use Rattle.ssh_rules.proofs.Books.{given_quiet, all_quiet, handed_kept, owed_kept}
-use Rattle.ssh_rules.proofs.Keeping.{Kept, effect_on, keyed_on, renewed_on}
+use Rattle.ssh_rules.proofs.Keeping.{Kept, call_on, effect_on, keyed_on, renewed_on}
 use Rattle.ssh_rules.proofs.Passing.{moved_on}
-use Rattle.ssh_drive.specs.Moves.{Place, Made, Served, Said, Handed_on, Leads, Drives}
+use Rattle.ssh_drive.specs.Moves.{Place, Made, Served, Said, Let_out, Handed_on, Leads, Drives}
 use Rattle.ssh_drive.specs.Moves.{coming, told_of}
 use Rattle.ssh_drive.proofs.Behind.{told_first, owes_live}
 
@@ -169,6 +172,15 @@ handed_on_kept past w notices events world h k =
     (flush_kept (past ++ map Noticed notices) w told.0 world told.2
     (noticed_kept past notices w k))
 
+-- ---- what waits on a channel is written, unless the connection was ended
+
+let_out_kept : (ended : Bool) (past : List TraceEntry) (n : ℕ) (w : World) → Kept past w
+    → Kept past (cond ended w (lined (goes_on n) w))
+let_out_kept true past n w k = k
+let_out_kept false past n w k =
+    call_on past (Flush_line n false) w tt refl (λ m. goes_on_absent m n w.channels.lines)
+    (goes_on_pends n w.channels.lines) k
+
 -- ---- moves
 
 pub lead_kept : {E F : Type 0} (accepts : Acceptance) (moment : ℕ) (past : List TraceEntry)
@@ -179,6 +191,10 @@ lead_kept accepts moment past before (Served payload events) after leads k =
     after.world leads.1 leads.2 k
 lead_kept accepts moment past before (Said command outcome) after leads k =
     said_kept past before.world command leads.0 outcome after.world leads.1 k
+lead_kept accepts moment past before (Let_out channel count) after leads k =
+    subst (λ t. Kept t after.world) (sym (append-nil past))
+    (subst (λ (place : Place). Kept past place.world) (sym leads.1)
+    (let_out_kept before.world.disconnected past channel.0 before.world k))
 lead_kept accepts moment past before (Handed_on events) after leads k =
     handed_on_kept past before.world before.untold events after.world
     (subst (λ p. Follows p events (Goes after.world)) leads.1 leads.2) k

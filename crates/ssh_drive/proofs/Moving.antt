@@ -1,9 +1,12 @@
 -- What each call of a session promises, as a move.
 use Rattle.std.proofs.Common.{◌≡◌, ℕ, List, [], ◌++◌, Option, Some, None, Result, Ok, Err, Bool}
 use Rattle.std.proofs.Common.{false, refl, sym, subst, arith, inl, inr}
-use Rattle.std.specs.Prelude.{OnOk}
+use Rattle.std.specs.Prelude.{IfOk, OnOk}
 use Rattle.std.proofs.lemmas.List.{append-nil}
+use Rattle.ssh_wire.specs.declared.channel_id.ChannelId.{ChannelId}
 use Rattle.ssh_wire.specs.declared.error.WireError.{WireError}
+use Rattle.ssh_channels.specs.declared.error.TableError.{TableError}
+use Rattle.ssh_channels.specs.Lines.{goes_on}
 use Rattle.ssh_link.specs.Told.{ToldBy}
 use Rattle.ssh_link.proofs.Tellings.{adds_nil}
 use Rattle.ssh_link.specs.declared.command.Command.{Command}
@@ -20,16 +23,17 @@ use Rattle.ssh_rules.specs.declared.error.RunError.{RunError}
 use Rattle.ssh_session.specs.declared.session.Session.{Session}
 use Rattle.ssh_rules.specs.Account.{Told}
 use Rattle.ssh_session.specs.Between.{Applies, ComesFlushed, Flushes, StepsAfter, untold}
+use Rattle.ssh_session.specs.Between.{goes_out_unless_ended}
 use Rattle.ssh_rules.specs.Outcome.{Outcome}
 use Rattle.ssh_rules.specs.Cause.{IsCaused}
 use Rattle.ssh_session.specs.Serve.{Refines}
-use Rattle.ssh_rules.specs.World.{World}
+use Rattle.ssh_rules.specs.World.{World, lined, unless_ended}
 use Rattle.ssh_session.proofs.Serving.{told_none}
-use Rattle.ssh_drive.specs.declared.moves.Move.TheVariants.{Payload, Say, HandOn}
+use Rattle.ssh_drive.specs.declared.moves.Move.TheVariants.{Payload, Say, LetOut, HandOn}
 use Rattle.ssh_drive.specs.declared.moves.MoveError.{MoveError}
 use Rattle.ssh_drive.specs.declared.moves.MoveError.TheVariants as error
 use Rattle.ssh_drive.specs.Driven.{Makes}
-use Rattle.ssh_drive.specs.Moves.{Served, Said, Handed_on, coming, flush_cause}
+use Rattle.ssh_drive.specs.Moves.{Served, Said, Let_out, Handed_on, coming, flush_cause}
 use Rattle.ssh_drive.specs.Moves.{placed}
 
 -- these alone
@@ -118,6 +122,43 @@ command_made E F accepts moment w command a before session (Ok outcome) applies 
       comes = (placed done.1 (untold session), (done.0, done.2, done.4), done.3, refl);
     }
 command_made E F accepts moment w command a before session (Err e) applies refines = record {
+  made = None;
+  given = tt;
+  later = omega arith;
+  called = told_none false a.calls;
+  stepped = adds_nil a.steps;
+  told = adds_nil a.trace;
+  comes = tt;
+}
+
+-- ---- what a channel lets out
+
+abbrev pub let_out_result : {E F : Type 0} → Result ℕ TableError → Result Flow (MoveError E F)
+let_out_result (Ok count) = Ok Continue
+let_out_result (Err e) = Err error.NoMemory
+
+pub let_out_made : (E F : Type 0) (accepts : Acceptance) (moment : ℕ) (w : World)
+    (channel : ChannelId) (a : Told E F) (before session : Session) (result : Result ℕ TableError)
+    → IfOk result (λ count. count ≡ goes_out_unless_ended w channel.0)
+    → OnOk result (Refines session (unless_ended (lined (goes_on channel.0)) w))
+    → untold session ≡ untold before
+    → Makes accepts moment (placed w (untold before)) (LetOut channel) a a session
+    (let_out_result result)
+let_out_made E F accepts moment w channel a before session (Ok count) out refines told = record {
+  made = Some (Let_out channel count);
+  given = refl;
+  later = omega arith;
+  called = told_none false a.calls;
+  stepped = adds_nil a.steps;
+  told = adds_nil a.trace;
+  comes = (
+    placed (unless_ended (lined (goes_on channel.0)) w) (untold before),
+    (out, refl),
+    refines,
+    told,
+  );
+}
+let_out_made E F accepts moment w channel a before session (Err e) out refines told = record {
   made = None;
   given = tt;
   later = omega arith;

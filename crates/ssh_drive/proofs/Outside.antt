@@ -24,7 +24,7 @@ use Rattle.ssh_rules.proofs.Idling.{still_idle, ended_settled, handed_settled, o
 use Rattle.ssh_rules.proofs.Keeping.{Kept, ComesKept}
 use Rattle.ssh_rules.proofs.Settled.{Anything}
 use Rattle.ssh_drive.specs.Driven.{IsOutside, hands_on}
-use Rattle.ssh_drive.specs.Moves.{Place, Made, Served, Said, Handed_on, Leads, coming}
+use Rattle.ssh_drive.specs.Moves.{Place, Made, Served, Said, Let_out, Handed_on, Leads, coming}
 use Rattle.ssh_drive.proofs.Behind.{told_first, owes_live, flush_comes}
 
 -- ---- where no exchange runs, all but a KEXINIT is read, as a payload is that has no number
@@ -144,6 +144,8 @@ lead_settled accepts moment past more before (Served payload events) to (plan, o
       ]
     ]
 lead_settled accepts moment past more before (Said command outcome) to leads k later hands out =
+    absurd (let e : false ≡ true = hands in cc)
+lead_settled accepts moment past more before (Let_out channel count) to leads k later hands out =
     absurd (let e : false ≡ true = hands in cc)
 lead_settled accepts moment past more before (Handed_on events) to (plan, owes, follows, none) k
     later hands out =

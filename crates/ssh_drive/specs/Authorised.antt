@@ -5,7 +5,7 @@ use Rattle.ssh_auth.specs.Publickey.{Acceptance}
 use Rattle.ssh_rules.specs.Authorised.{NeedsUser, SomeoneIsIn}
 use Rattle.ssh_rules.specs.Run.{Turn}
 use Rattle.ssh_rules.specs.World.{Settings}
-use Rattle.ssh_drive.specs.Moves.{Made, Served, Said, Handed_on, coming}
+use Rattle.ssh_drive.specs.Moves.{Made, Served, Said, Let_out, Handed_on, coming}
 
 -- a payload that was served, as an input of a run: nobody was asked for commands
 abbrev pub turn_of : {E F : Type 0} → (moment : ℕ) → (payload : List ℕ) → List (Event E F)
@@ -31,6 +31,7 @@ NeedsUserBehind {E} {F} (Served payload events) so_far = (past more : List (Even
     × (event : Event E F) × (events ≡ past ++ event ∷ more) × NeedsUser event
     × (so_far ≡ Served payload past)
 NeedsUserBehind (Said command outcome) so_far = ⊥
+NeedsUserBehind (Let_out channel count) so_far = ⊥
 NeedsUserBehind {E} {F} (Handed_on events) so_far = (past more : List (Event (Unit {0}) F))
     × (event : Event (Unit {0}) F) × (events ≡ past ++ event ∷ more) × NeedsUser event
     × (so_far ≡ Handed_on past)

@@ -1,4 +1,4 @@
--- What a program has that drives a session itself, from the contracts of its three calls.
+-- What a program has that drives a session itself, from the contracts of its four calls.
 use Rattle.std.specs.Prelude.{◌≡◌, ◌≤◌, ◌⊎◌, ℕ, Bool, true, false, List, [], ◌∷◌, ◌++◌, map}
 use Rattle.std.specs.Prelude.{flat_map, option_to_list, Option, Some, None, IfSome, Result, Ok}
 use Rattle.ssh_link.specs.Faults.{Rose}
@@ -19,15 +19,17 @@ use Rattle.ssh_rules.specs.World.{Settings, in_exchange}
 use Rattle.ssh_drive.specs.declared.moves.Move.{Move}
 use Rattle.ssh_drive.specs.declared.moves.MoveError.{MoveError}
 use Rattle.ssh_drive.specs.Authorised.{AreAuthorised}
-use Rattle.ssh_drive.specs.Moves.{Place, Made, Served, Said, Leads, Drives}
+use Rattle.ssh_drive.specs.Moves.{Place, Made, Served, Said, Let_out, Leads, Drives}
 use Rattle.ssh_drive.specs.Moves.{opening_place, move_of, calls_of, steps_of, told_of}
 use Rattle.ssh_drive.specs.Moves.{EndsSo, may_stop_telling}
 
 -- ---- what was sent
 
--- what was written goes out with a payload and where it is handed on, and not with a command
+-- what was written goes out with a payload and where it is handed on, and not with a command or
+-- where a channel lets out what waits
 abbrev pub hands_on : {E F : Type 0} → Made E F → Bool
 hands_on (Said command outcome) = false
+hands_on (Let_out channel count) = false
 hands_on _ = true
 
 -- the peer begins an exchange of keys by it (RFC 4253 section 7.1)
@@ -80,8 +82,8 @@ pub record Driven {E F : Type 0} (accepts : Acceptance) (settings : Settings) (m
   pub run : Drives accepts moment (opening_place settings) made place
   -- one more, which ended the connection or was not finished
   pub last : Option (Made E F)
-  -- and those that it did not come to, with a command for which memory was wanting: none where all
-  -- went well
+  -- and those that it did not come to, with one for which memory was wanting: none where all went
+  -- well
   pub left : List Move
   pub given : map move_of (made ++ option_to_list last) ++ left ≡ moves
   pub all : result ≡ Ok Continue → left ≡ []
@@ -112,7 +114,8 @@ ComesTo accepts moment place None rose session (Ok Continue) = ⊥
 ComesTo accepts moment place made rose session result =
     EndsSo accepts moment place made rose result
 
--- one move was made in this place: none is told of where memory was wanting for a command
+-- one move was made in this place: none is told of where memory was wanting for a command, or for
+-- what a channel lets out
 pub record Makes {E F : Type 0} (accepts : Acceptance) (moment : ℕ) (place : Place) (move : Move)
     (before after : Told E F) (session : Session) (result : Result Flow (MoveError E F)) :
     Type 0 where

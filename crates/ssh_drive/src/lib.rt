@@ -1,6 +1,7 @@
 //! Two loops that drive a session by its calls, for a program that waits for its sockets itself,
-//! with the laws that follow: `drive` serves payloads, gives commands between them and hands on
-//! what these wrote; `serve_payloads` serves payloads alone, and has more of the laws of a run.
+//! with the laws that follow: `drive` serves payloads, gives commands between them, lets out what
+//! waits on channels and hands on what was written; `serve_payloads` serves payloads alone, and has
+//! more of the laws of a run.
 //! A program whose inputs all come by one link takes `run_stream` of `ssh_session`.
 #![tactic(auto)]
 

@@ -8,11 +8,12 @@ ghost use Rattle.ssh_drive.specs.Driven.{Driven, Makes};
 ghost use Rattle.ssh_drive.specs.Moves.{placed};
 
 use bytes::Bytes;
+use ssh_channels::TableError;
 use ssh_handler::{Config, Handler};
 use ssh_keys::Verifier;
 use ssh_link::{Command, Input, InputKind, Kex, Link};
 use ssh_session::{Flow, FlushError, RunError, Session};
-use ssh_wire::WireError;
+use ssh_wire::{ChannelId, WireError};
 use std::alloc::Global;
 
 /// What a program does next with its session: one call of `Session`.
@@ -23,7 +24,10 @@ pub enum Move {
     /// It gives this command, by `Session::apply`. A command that is refused does nothing, and its
     /// outcome is not kept.
     Say(Command),
-    /// It hands on what commands wrote, by `Session::flush`.
+    /// It writes what waits on this channel, as far as the peer's grants go, by
+    /// `Session::flush_pending`. How many bytes of data that are is not kept.
+    LetOut(ChannelId),
+    /// It hands on what was written, by `Session::flush`.
     HandOn,
 }
 
@@ -31,7 +35,7 @@ pub enum Move {
 /// `KE` that of the exchange of keys.
 #[derive(Debug, Drop)]
 pub enum MoveError<HE, KE> {
-    /// There was no memory for the session, or for a command.
+    /// There was no memory for the session, for a command, or for what a channel lets out.
     NoMemory,
     /// A payload was not served, for this reason.
     Payload(RunError<HE, KE>),
@@ -46,6 +50,17 @@ impl<HE, KE> From<WireError> for MoveError<HE, KE> {
 
     // `Session::new` and `Session::apply` answer no other error than want of memory.
     fn from(_: WireError) -> MoveError<HE, KE> {
+        MoveError::NoMemory
+    }
+}
+
+impl<HE, KE> From<TableError> for MoveError<HE, KE> {
+    ghost use Rattle.ssh_drive.specs.declared.moves.MoveError.TheVariants as error;
+
+    ghost from_gives = { λ _ e. e ≡ error.NoMemory };
+
+    // `Session::flush_pending` answers no other error than want of memory.
+    fn from(_: TableError) -> MoveError<HE, KE> {
         MoveError::NoMemory
     }
 }
@@ -74,12 +89,12 @@ impl<HE, KE> From<FlushError<KE>> for MoveError<HE, KE> {
 /// 1970: in order, until one ends the connection (`Ended`) or fails.
 ///
 /// It is for a program that waits for its sockets itself, and gives commands as its users ask for
-/// them; one that reads its moves as they come writes the same loop of `Session::step`, `apply` and
-/// `flush`, and has the same laws of it. The link is only told here: no input is taken from it. The
-/// premises are those of `run_stream`: a session id under 4 GiB, and a handler that suits the config
-/// and the line by which the peer's software names itself.
+/// them; one that reads its moves as they come writes the same loop of `Session::step`, `apply`,
+/// `flush_pending` and `flush`, and has the same laws of it. The link is only told here: no input
+/// is taken from it. The premises are those of `run_stream`: a session id under 4 GiB, and a
+/// handler that suits the config and the line by which the peer's software names itself.
 ///
-/// What is promised (`Driven`) follows from the contracts of these three calls alone. The handler
+/// What is promised (`Driven`) follows from the contracts of these four calls alone. The handler
 /// is called, and the link told, for these moves and for nothing else. After each move, what was
 /// sent and written on each channel is the first of what it accepted, in order, and no more than
 /// the peer granted; and after each that hands on outside an exchange of keys each channel has sent
@@ -165,6 +180,10 @@ fn make<H: Handler, V: Verifier, K: Kex, L: Link>(
         }
         Move::Say(command) => {
             session.apply(command)?;
+            Ok(Flow::Continue)
+        }
+        Move::LetOut(channel) => {
+            session.flush_pending(channel)?;
             Ok(Flow::Continue)
         }
         Move::HandOn => {

@@ -29,7 +29,7 @@ use Rattle.ssh_ends.specs.Change.{adjust_out, sending, ending, closing, aiming, 
 use Rattle.ssh_ends.specs.Pair.{Party, changed, changed_at, on_channel, begins, partnered}
 use Rattle.ssh_ends.specs.Sound.{Beside}
 use Rattle.ssh_ends.specs.Ends.{Keeps}
-use Rattle.ssh_ends.proofs.Sides.{one_number, not_same, at_here}
+use Rattle.ssh_ends.proofs.Sides.{one_number, not_same}
 use Rattle.ssh_ends.proofs.Lookups.{find, put_finds, put_rises, IsAbove, is_above, added_here}
 use Rattle.ssh_ends.proofs.Lookups.{added_other, added_rises}
 use Rattle.ssh_ends.proofs.Openings.{next_is_fresh}
@@ -298,13 +298,15 @@ module _ (t : Table) (flight : List Frame) (p q : Party) (h : Keeps t flight p) 
       subst (λ m. find m (insert_entry nat_cmp t.lines k l) ≡ Some l) (sym (one_number n k t'))
       (added_here k l t.lines all_below)
   added_at false n l t' =
-      added_other n k l t.lines all_below (not_same n k t') ∙ h.lines n
+      added_other n k l t.lines (not_same n k t') ∙ h.lines n
 
-  keeps_new : (window packet peer : ℕ) (x : Saying)
-      → Keeps (calls.stage (frame_saying k peer x) (numbers.opened window packet (Some k) t))
-      flight (begins (line.opening k window packet) peer x p)
-  keeps_new window packet peer x =
-      let l = line.opening k window packet in
+  -- a channel of the next number comes, with a message about it
+  keeps_new : (l : ChannelParams) (peer : ℕ) (x : Saying)
+      → Keeps (calls.stage (frame_saying k peer x) (record t {
+        last = k;
+        lines = insert_entry nat_cmp t.lines k l;
+      })) flight (begins l peer x p)
+  keeps_new l peer x =
       record {
         rises = added_rises 0 k l t.lines (omega arith) all_below h.rises;
         lines = λ n. added_at (n == k) n l refl;
@@ -326,39 +328,20 @@ module _ (t : Table) (flight : List Frame) (p q : Party) (h : Keeps t flight p) 
       flight (begins (line.opening (p.last + 1) window packet) peer x p)
   keeps_begun window packet peer x =
       subst (λ y. Keeps y flight (begins (line.opening k window packet) peer x p))
-      (sym (begun_is window packet peer x)) (keeps_new window packet peer x)
+      (sym (begun_is window packet peer x)) (keeps_new (line.opening k window packet) peer x)
 
-  again : (c : Bool) (x y z : Option ChannelParams) → cond c x (cond c y z) ≡ cond c x z
-  again true x y z = refl
-  again false x y z = refl
-
-  -- and the channel is confirmed at once
+  -- one that the other side opened, and that is accepted at once
   pub keeps_welcome : (window packet own theirs limit : ℕ)
-      → Keeps (calls.confirm (record {
-        recipient_channel = p.last + 1;
-        sender_channel = own;
-        initial_window_size = theirs;
-        maximum_packet_size = limit;
-      }) (calls.stage (frame_saying (p.last + 1) own (Confirm window packet))
-      (numbers.open_next window packet t))) flight
-      (partnered (p.last + 1) own (begins (line.confirmed_by own theirs limit
-      (line.opening (p.last + 1) window packet)) own (Confirm window packet) p))
+      → Keeps (calls.stage (frame_saying (p.last + 1) own (Confirm window packet))
+      (numbers.accept_next own theirs window limit packet t)) flight
+      (partnered (p.last + 1) own (begins (line.established own (record { 0 = p.last + 1 }) theirs
+      window limit packet) own (Confirm window packet) p))
   keeps_welcome window packet own theirs limit =
-      let l = line.opening k window packet in
-      let l' = line.confirmed_by own theirs limit l in
-      let begun = calls.stage (frame_saying k own (Confirm window packet))
-      (numbers.open_next window packet t) in
+      let l = line.established own (record { 0 = k }) theirs window limit packet in
+      let told = λ (o : Option ℕ).
+      calls.stage (frame_saying k own (Confirm window packet))
+      (numbers.accepted own theirs window limit packet o t) in
       let p1 = begins l own (Confirm window packet) p in
-      let p2 = partnered k own (begins l' own (Confirm window packet) p) in
-      let change = hearing own (Confirm theirs limit) in
-      let told = calls.confirm (record {
-        recipient_channel = k;
-        sender_channel = own;
-        initial_window_size = theirs;
-        maximum_packet_size = limit;
-      }) begun in
-      keeps_like told flight (changed k l (silent (Some l')) p1) p2
-      (subst (λ o. Keeps told flight (changed_at k change o p1)) (at_here k (Some l) p.line)
-      (keeps_confirm k begun flight p1 (keeps_begun window packet own (Confirm window packet)) own
-      theirs limit))
-      (λ n. again (n == k) (Some l') (Some l) (p.line n)) refl (append-nil p1.flight)
+      keeps_like (told (numbers.next_number t)) flight p1 (partnered k own p1)
+      (subst (λ o. Keeps (told o) flight p1) (sym next_is)
+      (keeps_new l own (Confirm window packet))) (λ n. refl) refl refl

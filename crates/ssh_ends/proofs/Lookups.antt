@@ -7,7 +7,9 @@ use Rattle.std.specs.Cmp.{nat_cmp_is, unsigned_tied}
 use Rattle.std.specs.BTreeMap.{is_at, insert_entry}
 use Rattle.std.specs.Map.{lookup, set_value, remove_entry}
 use Rattle.ssh_channels.specs.declared.params.ChannelParams.{ChannelParams}
+use Rattle.ssh_channels.specs.Line.{opening}
 use Rattle.ssh_channels.specs.Table.{Table, line_at, put}
+use Rattle.ssh_channels.proofs.Others.{set_other, gone_other, come_other}
 use Rattle.ssh_ends.specs.Ends.{Rises}
 use Rattle.ssh_ends.proofs.Sides.{same_number, one_number, apart, not_same}
 
@@ -23,9 +25,6 @@ is_number n m = unsigned_tied n m
 looks : (b : Bool) (n : ℕ) (x : ℕ × ChannelParams) (xs : Lines) → (n == x.0) ≡ b
     → find n (x ∷ xs) ≡ cond b (Some x.1) (find n xs)
 looks b n x xs t = ap (λ c. cond c (Some x.1) (find n xs)) (is_number n x.0 ∙ t)
-
-elsewhere_too : (n k m : ℕ) → (n ≡ k → ⊥) → k ≡ m → (n == m) ≡ false
-elsewhere_too n k m other same = apart n m (λ is. other (is ∙ sym same))
 
 rises_less : (least less : ℕ) (xs : Lines) → less ≤ least → Rises least xs → Rises less xs
 rises_less least less [] le h = tt
@@ -63,21 +62,9 @@ changed_here k l v (x ∷ xs) is =
     ap (find k) (changed_is k l x xs)
     ∙ here_at (k == x.0) k l v x xs refl is (changed_here k l v xs)
 
-other_at : (b : Bool) (n k : ℕ) (l : ChannelParams) (x : ℕ × ChannelParams) (xs : Lines)
-    → (n ≡ k → ⊥) → (k == x.0) ≡ b → find n (changed_to k l xs) ≡ find n xs
-    → find n (cond b ((x.0, l) ∷ xs) (x ∷ changed_to k l xs)) ≡ find n (x ∷ xs)
-other_at true n k l x xs other t next =
-    let u = elsewhere_too n k x.0 other (one_number k x.0 t) in
-    looks false n (x.0, l) xs u ∙ sym (looks false n x xs u)
-other_at false n k l x xs other t next =
-    ap (λ o. cond (is_at (nat_cmp n) x.0) (Some x.1) o) next
-
 pub changed_other : (n k : ℕ) (l : ChannelParams) (xs : List (ℕ × ChannelParams))
     → (n ≡ k → ⊥) → find n (set_value (is_at (nat_cmp k)) xs l) ≡ find n xs
-changed_other n k l [] other = refl
-changed_other n k l (x ∷ xs) other =
-    ap (find n) (changed_is k l x xs)
-    ∙ other_at (k == x.0) n k l x xs other refl (changed_other n k l xs other)
+changed_other n k l xs other = set_other n k l (apart n k other) xs
 
 changed_rises_at : (b : Bool) (least k : ℕ) (l : ChannelParams) (x : ℕ × ChannelParams)
     (xs : Lines) → Rises least (x ∷ xs) → Rises (x.0 + 1) (changed_to k l xs)
@@ -114,20 +101,9 @@ removed_here least k (x ∷ xs) h =
     ap (find k) (removed_is k x xs)
     ∙ gone_at (k == x.0) least k x xs refl h (removed_here (x.0 + 1) k xs h.1)
 
-stays_at : (b : Bool) (n k : ℕ) (x : ℕ × ChannelParams) (xs : Lines) → (n ≡ k → ⊥)
-    → (k == x.0) ≡ b → find n (removed_from k xs) ≡ find n xs
-    → find n (cond b xs (x ∷ removed_from k xs)) ≡ find n (x ∷ xs)
-stays_at true n k x xs other t next =
-    sym (looks false n x xs (elsewhere_too n k x.0 other (one_number k x.0 t)))
-stays_at false n k x xs other t next =
-    ap (λ o. cond (is_at (nat_cmp n) x.0) (Some x.1) o) next
-
 pub removed_other : (n k : ℕ) (xs : List (ℕ × ChannelParams)) → (n ≡ k → ⊥)
     → find n (remove_entry (is_at (nat_cmp k)) xs) ≡ find n xs
-removed_other n k [] other = refl
-removed_other n k (x ∷ xs) other =
-    ap (find n) (removed_is k x xs)
-    ∙ stays_at (k == x.0) n k x xs other refl (removed_other n k xs other)
+removed_other n k xs other = gone_other n k (opening 0 0 0) (apart n k other) xs
 
 removed_rises_at : (b : Bool) (least k : ℕ) (x : ℕ × ChannelParams) (xs : Lines)
     → Rises least (x ∷ xs) → Rises (x.0 + 1) (removed_from k xs)
@@ -180,12 +156,9 @@ added_here k l (x ∷ xs) h =
     ∙ (looks false k x (insert_entry nat_cmp xs k l) (apart k x.0 (λ is. omega arith))
     ∙ added_here k l xs h.1)
 
-pub added_other : (n k : ℕ) (l : ChannelParams) (xs : List (ℕ × ChannelParams)) → IsAbove k xs
+pub added_other : (n k : ℕ) (l : ChannelParams) (xs : List (ℕ × ChannelParams))
     → (n ≡ k → ⊥) → find n (insert_entry nat_cmp xs k l) ≡ find n xs
-added_other n k l [] h other = looks false n (k, l) [] (apart n k other)
-added_other n k l (x ∷ xs) h other =
-    ap (find n) (past k l x xs h.0)
-    ∙ ap (λ o. cond (is_at (nat_cmp n) x.0) (Some x.1) o) (added_other n k l xs h.1 other)
+added_other n k l xs other = come_other n k l (apart n k other) xs
 
 pub added_rises : (least k : ℕ) (l : ChannelParams) (xs : List (ℕ × ChannelParams)) → least ≤ k
     → IsAbove k xs → Rises least xs → Rises least (insert_entry nat_cmp xs k l)

@@ -4,7 +4,7 @@ use Rattle.std.proofs.Common.{[], ◌∷◌, ◌++◌, refl, sym, ◌∙◌, ap,
 use Rattle.std.proofs.Common.{inl, inr, arith, ◌-◌, length}
 use Rattle.ssh_channels.specs.declared.params.ChannelParams.{ChannelParams}
 use Rattle.ssh_channels.specs.Entry.{joined}
-use Rattle.ssh_channels.specs.Line.{opening, confirmed_by}
+use Rattle.ssh_channels.specs.Line.{opening, established}
 use Rattle.ssh_ends.specs.Saying.{Saying, Open, Confirm, Message, letter}
 use Rattle.ssh_ends.specs.Pair.{Party, Pair, begins, left, partnered, opens, welcomes}
 use Rattle.ssh_ends.specs.Strand.{AreCoded, Strand, said_on, data_in, granted_in}
@@ -133,7 +133,7 @@ module _ (window packet theirs limit own peer : ℕ) (rest : List Message) (p q 
   k = p.last + 1
 
   abbrev line : ChannelParams
-  line = confirmed_by own theirs limit (opening (p.last + 1) window packet)
+  line = established own (record { 0 = p.last + 1 }) theirs window limit packet
 
   abbrev near_after : Party
   near_after = partnered (p.last + 1) own (begins line own (Confirm window packet) p)

@@ -177,17 +177,17 @@ module _ (window packet : ℕ) (x y : Post) (p q : Party) (here : IsPost window 
 
   welcome_keeps : (own theirs limit : ℕ) → p.last + 1 < 2 ^ 32
       → Keeps (accepts_under (numbers.next_number table) own theirs limit x.end) x.flight
-      (partnered (p.last + 1) own (begins (line.confirmed_by own theirs limit
-      (line.opening (p.last + 1) window packet)) own (Confirm window packet) p))
+      (partnered (p.last + 1) own (begins (line.established own (record { 0 = p.last + 1 }) theirs
+      window limit packet) own (Confirm window packet) p))
   welcome_keeps own theirs limit room =
       let k = p.last + 1 in
       subst (λ o. Keeps (accepts_under o own theirs limit x.end) x.flight
-      (partnered k own (begins (line.confirmed_by own theirs limit
-      (line.opening k window packet)) own (Confirm window packet) p)))
+      (partnered k own (begins (line.established own (record { 0 = k }) theirs window limit packet)
+      own (Confirm window packet) p)))
       (sym (next_is table x.flight p q here.keeps b room))
       (sized (λ v l. Keeps (accepts_under (Some k) own theirs limit x.end) x.flight
-      (partnered k own (begins (line.confirmed_by own theirs limit
-      (line.opening k v l)) own (Confirm v l) p)))
+      (partnered k own (begins (line.established own (record { 0 = k }) theirs v limit l) own
+      (Confirm v l) p)))
       (keeps_welcome table x.flight p q here.keeps b room x.end.window x.end.packet own theirs
       limit))
 

@@ -9,7 +9,7 @@ use Rattle.ssh_channels.specs.declared.chunk.DataKind.TheVariants.{Plain, Extend
 use Rattle.ssh_channels.specs.Layout.{on_channel}
 use Rattle.ssh_channels.specs.Line.{is_opening}
 use Rattle.ssh_channels.specs.Table.{Table, has}
-use Rattle.ssh_channels.specs.Numbers.{next_number, open_next}
+use Rattle.ssh_channels.specs.Numbers.{next_number, open_next, accept_next}
 use Rattle.ssh_channels.specs.Calls as calls
 use Rattle.ssh_ends.specs.Incoming.{IsSilent, Says}
 use Rattle.ssh_ends.specs.declared.end.Delivered.{Delivered}
@@ -52,14 +52,11 @@ begun frame end = calls.stage frame (open_next end.window end.packet end.table)
 abbrev pub opens : (own : ℕ) → EndTable → Table
 opens own end = begun (open_frame_of own end.window end.packet) end
 
--- the other end's open of a channel is accepted under this number, at once
+-- the other end's open of a channel is accepted under this number, the next one, at once
 abbrev pub accepts : (own sender window packet : ℕ) → EndTable → Table
-accepts own sender window packet end = calls.confirm (record {
-  recipient_channel = own;
-  sender_channel = sender;
-  initial_window_size = window;
-  maximum_packet_size = packet;
-}) (begun (confirmation_frame_of own sender end.window end.packet) end)
+accepts own sender window packet end =
+    calls.stage (confirmation_frame_of own sender end.window end.packet)
+    (accept_next sender window end.window packet end.packet end.table)
 
 abbrev pub accepts_under : Option ℕ → (sender window packet : ℕ) → EndTable → Table
 accepts_under None sender window packet end = end.table

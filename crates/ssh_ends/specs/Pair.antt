@@ -5,7 +5,7 @@ use Rattle.std.specs.List.{list_any}
 use Rattle.ssh_channels.specs.declared.params.ChannelParams.{ChannelParams}
 use Rattle.ssh_channels.specs.declared.chunk.Chunk.{Chunk}
 use Rattle.ssh_channels.specs.declared.chunk.DataKind.{DataKind}
-use Rattle.ssh_channels.specs.Line.{opening, confirmed_by}
+use Rattle.ssh_channels.specs.Line.{opening, established}
 use Rattle.ssh_ends.specs.End.{unless_dropped}
 use Rattle.ssh_ends.specs.Saying.{Saying, Open, Confirm, Data, Message, letter, letters, is_close}
 use Rattle.ssh_ends.specs.Saying.{code_of}
@@ -82,7 +82,7 @@ opens window packet w = record w {
 abbrev pub welcomes : (window packet : ℕ) → (own theirs limit : ℕ) → List Message → Pair → Pair
 welcomes window packet own theirs limit rest w = record {
   near = partnered (w.near.last + 1) own
-      (begins (confirmed_by own theirs limit (opening (w.near.last + 1) window packet)) own
+      (begins (established own (record { 0 = w.near.last + 1 }) theirs window limit packet) own
       (Confirm window packet) w.near);
   far = partnered own (w.near.last + 1) (left rest w.far);
 }

@@ -15,7 +15,7 @@ use crate::reading::read;
 use crate::{EndError, Incoming};
 use bytes::Bytes;
 use ssh_channels::{Adjusted, Encrypted, FrameSink};
-use ssh_wire::{ChannelId, ChannelOpenConfirmation};
+use ssh_wire::ChannelId;
 use std::alloc::Global;
 use std::marker::Model;
 
@@ -219,7 +219,7 @@ impl End {
     }
 
     // Accepts a channel that the other side calls `sender`, and on which it takes so many bytes, and
-    // so many in one message. Nothing can fail behind the first call that changes something.
+    // so many in one message.
     fn accept(&mut self, sender: u32, window: u32, packet: u32) -> Result<(), EndError>
         requires { packet ≢ 0 }
         ensures accepted { OnOk result (self.new ≡ spec.with_table (spec.accepts_under
@@ -233,16 +233,9 @@ impl End {
             return Err(EndError::Full);
         };
         let frame = confirmation_frame(self.alloc, own, sender, self.window, self.packet)?;
-        let own = self
+        let _ = self
             .table
-            .new_channel_with(self.window, self.packet, frame)?;
-        let confirmation = ChannelOpenConfirmation {
-            recipient_channel: own.0,
-            sender_channel: sender,
-            initial_window_size: window,
-            maximum_packet_size: packet,
-        };
-        let _ = self.table.confirm(&confirmation)?;
+            .accept(sender, window, self.window, packet, self.packet, frame)?;
         Ok(())
     }
 

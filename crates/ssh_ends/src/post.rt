@@ -1,7 +1,5 @@
 // An end, and the frames of it that the other end has not taken.
-ghost use Rattle.std.specs.Prelude.{◌≡◌, ◌⊎◌, ◌<◌, ◌++◌, IfOk, IfErr, OnOk, OnErr, MatchOption, List};
-ghost use Rattle.std.specs.Prelude.{IsTrue, None, Some, ◌∷◌, []};
-ghost use Rattle.ssh_link.specs.Frames.{Frame as FrameOf};
+ghost use Rattle.std.specs.Prelude.{◌≡◌, ◌⊎◌, ◌<◌, IfOk, IfErr, OnOk};
 ghost use Rattle.ssh_ends.specs.End.{with_table};
 ghost use Rattle.ssh_ends.specs.Ends as spec;
 ghost use Rattle.ssh_ends.specs.Run.{IsRanged};
@@ -11,7 +9,6 @@ use crate::{Delivered, End, EndError, EndEvent};
 use ssh_channels::FrameSink;
 use ssh_link::Frame;
 use std::alloc::Global;
-use std::collections::VecDeque;
 use std::marker::Model;
 
 /// An end, and the frames that it handed on and the other end has not taken, in order.
@@ -19,7 +16,7 @@ use std::marker::Model;
 pub(crate) struct Post {
     alloc: Global,
     end: End,
-    flight: VecDeque<Frame>,
+    flight: FrameSink,
 }
 
 impl Model for Post {
@@ -27,7 +24,7 @@ impl Model for Post {
 
     ghost Value = { PostOf };
 
-    ghost view = { λ post. record { end = post.end; flight = post.flight.items } };
+    ghost view = { λ post. record { end = post.end; flight = post.flight } };
 }
 
 impl Post {
@@ -38,7 +35,7 @@ impl Post {
         Post {
             alloc,
             end: End::new(alloc, window, packet),
-            flight: VecDeque::new(alloc),
+            flight: FrameSink::new(alloc),
         }
     }
 
@@ -79,12 +76,12 @@ impl Post {
         ensures errors { IfErr result (λ e. (e ≡ NoMemory)
             ⊎ spec.TakesNone other.old.flight self.old.end e) }
     {
-        let Some(payload) = other.first()? else {
+        let Some(frame) = other.flight.pop_front() else {
             return Ok(None);
         };
+        let payload = payload_of(self.alloc, &frame)?;
         match self.end.take(payload.as_slice()) {
             Ok(delivered) => {
-                other.pass();
                 self.hand_on()?;
                 Ok(delivered)
             }
@@ -97,11 +94,7 @@ impl Post {
         ensures handed { OnOk result (self.new ≡ spec.handed_on self.old.end self.old.flight) }
         ensures memory { IfErr result (λ e. e ≡ NoMemory) }
     {
-        let mut sink = FrameSink::new(self.alloc);
-        self.end.out(&mut sink)?;
-        let mut frames = VecDeque::from_vec(sink.into_vec());
-        self.flight.append(&mut frames)?;
-        Ok(())
+        self.end.out(&mut self.flight)
     }
 
     /// Whether the other end has taken all frames.
@@ -109,35 +102,6 @@ impl Post {
         ensures { result ≡ spec.has_no_flight self.now }
     {
         self.flight.is_empty()
-    }
-
-    // The first frame that is under way.
-    fn front(&self) -> Option<&Frame>
-        ensures { MatchOption result (self.now.flight ≡ [])
-            (λ frame. (rest : List FrameOf) × (self.now.flight ≡ frame.now ∷ rest)) }
-    {
-        self.flight.front()
-    }
-
-    // Its payload.
-    fn first(&self) -> Result<Option<Vec<u8>>, EndError>
-        ensures first { IfOk result (λ first. MatchOption first (self.now.flight ≡ [])
-            (λ payload. (frame : FrameOf) × (rest : List FrameOf)
-            × (self.now.flight ≡ frame ∷ rest) × (payload.items ≡ frame.payload))) }
-        ensures memory { IfErr result (λ e. e ≡ NoMemory) }
-    {
-        match self.front() {
-            Some(frame) => Ok(Some(payload_of(self.alloc, frame)?)),
-            None => Ok(None),
-        }
-    }
-
-    // The first frame was taken.
-    fn pass(&mut self)
-        ensures { (frame : FrameOf) (rest : List FrameOf) → self.old.flight ≡ frame ∷ rest
-            → self.new ≡ record self.old { flight = rest } }
-    {
-        let _ = self.flight.pop_front();
     }
 }
 

@@ -12,7 +12,7 @@ const CHANNEL: ChannelId = ChannelId(2);
 fn passes(alloc: Global, from: &mut End, to: &mut End, text: &mut Vec<u8>) -> Result<(), EndError> {
     let mut sink = FrameSink::new(alloc);
     from.out(&mut sink)?;
-    for frame in sink.as_slice() {
+    for frame in sink.into_vec() {
         let (head, body) = frame.parts();
         let mut payload = Vec::new(alloc);
         payload.extend_from_slice(head)?;

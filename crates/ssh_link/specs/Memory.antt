@@ -3,6 +3,8 @@ use Rattle.std.specs.Prelude.{◌+◌, ◌^◌, ◌==◌, ◌&&◌, ℕ, Bool, n
 use Rattle.std.specs.Prelude.{◌++◌}
 use Rattle.std.specs.List.{list_any}
 use Rattle.ssh_link.specs.declared.frame.Input.{Input}
+use Rattle.ssh_link.specs.declared.link.LinkFault.{LinkFault}
+use Rattle.ssh_link.specs.declared.link.LinkFault.TheVariants.{Failed, NoMemory}
 use Rattle.ssh_link.specs.declared.link.TraceEntry.{TraceEntry}
 use Rattle.ssh_link.specs.declared.link.TraceEntry.TheVariants.{Took}
 use Rattle.ssh_link.specs.Faults.{one_more}
@@ -41,21 +43,35 @@ pub record Remembered : Type 0 where
   pub supply : Supply
   -- its calls that fail
   pub failures : Failures
+  -- how many of its other calls found no memory
+  pub starved : ℕ
   -- its finished calls in order
   pub trace : List TraceEntry
 
 -- a link that has these inputs, and the end at this moment, and was not called yet
 abbrev pub unused_until : ℕ → List Input → List ℕ → Remembered
 unused_until moment inputs fails =
-    record { supply = left_until moment inputs; failures = no_calls fails; trace = [] }
+    record {
+      supply = left_until moment inputs;
+      failures = no_calls fails;
+      starved = 0;
+      trace = [];
+    }
 
 -- with the end at the moment of the last of them
 abbrev pub unused : List Input → List ℕ → Remembered
 unused inputs fails = unused_until (last_moment inputs) inputs fails
 
--- after a call that was not finished
-abbrev pub failed : Remembered → Remembered
-failed link = record link { failures = called link.failures }
+-- after a call that was not finished: it failed as planned, or found no memory
+abbrev pub starved_by : LinkFault → ℕ → ℕ
+starved_by Failed count = count
+starved_by NoMemory count = one_more count
+
+abbrev pub failed : LinkFault → Remembered → Remembered
+failed fault link = record link {
+  failures = called link.failures;
+  starved = starved_by fault link.starved;
+}
 
 -- after a call that was finished, and told so
 abbrev pub finished : Remembered → TraceEntry → Remembered

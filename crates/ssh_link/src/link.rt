@@ -7,7 +7,7 @@ ghost use Rattle.ssh_link.specs.declared.link.TraceEntry.TheVariants.{Took, Sent
 ghost use Rattle.ssh_link.specs.declared.link.TraceEntry.TheVariants.{Answered};
 ghost use Rattle.ssh_link.specs.Told.{AddsOne, AddsNothing};
 ghost use Rattle.ssh_link.specs.Asked.{IsAsked};
-ghost use Rattle.ssh_link.specs.Faults.{Rose};
+ghost use Rattle.ssh_link.specs.Faults.{Rose, NeverFalls, RoseIfKept};
 
 use crate::{CommandOutcome, Frame, Input, Notice};
 use ssh_wire::WireError;
@@ -76,6 +76,10 @@ pub trait Link {
     /// How often the outside has failed: it rises where a call fails so, and never falls.
     ghost faults: { Self → ℕ };
 
+    /// How often a call found no memory, where the link counts that: it rises where a call ends so,
+    /// and never falls. No count is kept, where it is not written.
+    ghost starved: { Self → Option ℕ } = { λ _. None };
+
     /// The next input. A link gives a command only where `commands` asks for it, and a reply to
     /// an open only where `replies` asks for it.
     fn next(&mut self, commands: bool, replies: bool) -> Result<Input, LinkFault>
@@ -84,21 +88,30 @@ pub trait Link {
         ensures asked { IfOk result (λ input. IsAsked commands replies input.kind) }
         ensures err { OnErr result (AddsNothing (trace self.old) (trace self.new)) }
         ensures cause { IsErrOf result LinkFault.Failed → Rose (faults self.old) (faults self.new) }
-        ensures later { faults self.old ≤ faults self.new };
+        ensures memory { IsErrOf result LinkFault.NoMemory
+            → RoseIfKept (starved self.old) (starved self.new) }
+        ensures later { faults self.old ≤ faults self.new }
+        ensures counted { NeverFalls (starved self.old) (starved self.new) };
 
     /// Hands a frame on to the peer.
     fn send(&mut self, frame: Frame) -> Result<(), LinkFault>
         ensures sent { OnOk result (AddsOne (trace self.old) (trace self.new) (Sent frame)) }
         ensures err { OnErr result (AddsNothing (trace self.old) (trace self.new)) }
         ensures cause { IsErrOf result LinkFault.Failed → Rose (faults self.old) (faults self.new) }
-        ensures later { faults self.old ≤ faults self.new };
+        ensures memory { IsErrOf result LinkFault.NoMemory
+            → RoseIfKept (starved self.old) (starved self.new) }
+        ensures later { faults self.old ≤ faults self.new }
+        ensures counted { NeverFalls (starved self.old) (starved self.new) };
 
     /// Tells the users of the channels what happened.
     fn notice(&mut self, notice: Notice) -> Result<(), LinkFault>
         ensures noticed { OnOk result (AddsOne (trace self.old) (trace self.new) (Noticed notice)) }
         ensures err { OnErr result (AddsNothing (trace self.old) (trace self.new)) }
         ensures cause { IsErrOf result LinkFault.Failed → Rose (faults self.old) (faults self.new) }
-        ensures later { faults self.old ≤ faults self.new };
+        ensures memory { IsErrOf result LinkFault.NoMemory
+            → RoseIfKept (starved self.old) (starved self.new) }
+        ensures later { faults self.old ≤ faults self.new }
+        ensures counted { NeverFalls (starved self.old) (starved self.new) };
 
     /// Answers what came of the command or the reply with this ticket.
     fn answer(&mut self, ticket: u64, outcome: CommandOutcome) -> Result<(), LinkFault>
@@ -106,5 +119,8 @@ pub trait Link {
             (Answered ticket outcome)) }
         ensures err { OnErr result (AddsNothing (trace self.old) (trace self.new)) }
         ensures cause { IsErrOf result LinkFault.Failed → Rose (faults self.old) (faults self.new) }
-        ensures later { faults self.old ≤ faults self.new };
+        ensures memory { IsErrOf result LinkFault.NoMemory
+            → RoseIfKept (starved self.old) (starved self.new) }
+        ensures later { faults self.old ≤ faults self.new }
+        ensures counted { NeverFalls (starved self.old) (starved self.new) };
 }

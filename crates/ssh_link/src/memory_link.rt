@@ -5,7 +5,7 @@ ghost use Rattle.ssh_link.specs.declared.link.TraceEntry.TheVariants.{Took, Sent
 ghost use Rattle.ssh_link.specs.declared.link.TraceEntry.TheVariants.{Answered};
 ghost use Rattle.ssh_link.specs.Told.{AddsOne, AddsNothing};
 ghost use Rattle.ssh_link.specs.Asked.{IsAsked};
-ghost use Rattle.ssh_link.specs.Faults.{Rose};
+ghost use Rattle.ssh_link.specs.Faults.{Rose, NeverFalls, RoseIfKept, one_more};
 ghost use Rattle.ssh_link.specs.Supply.{next_input};
 ghost use Rattle.ssh_link.specs.Memory.{unused, unused_until, failed, finished, gave, fails_next};
 
@@ -25,6 +25,8 @@ use std::marker::Model;
 pub struct MemoryLink {
     inputs: InputQueue,
     failures: PlannedFailures,
+    // How many of the other calls found no memory. A full count stands still.
+    starved: u64,
     trace: Vec<TraceEntry>,
 }
 
@@ -36,6 +38,7 @@ impl Model for MemoryLink {
     ghost view = { λ link. record {
       supply = link.inputs;
       failures = link.failures;
+      starved = link.starved;
       trace =
           link.trace.items;
     } };
@@ -51,6 +54,7 @@ impl MemoryLink {
         Ok(MemoryLink {
             inputs: InputQueue::new(alloc, inputs)?,
             failures: PlannedFailures::new(fails),
+            starved: 0,
             trace: Vec::new(alloc),
         })
     }
@@ -69,6 +73,7 @@ impl MemoryLink {
         Ok(MemoryLink {
             inputs: InputQueue::ending_at(alloc, inputs, end_moment)?,
             failures: PlannedFailures::new(fails),
+            starved: 0,
             trace: Vec::new(alloc),
         })
     }
@@ -98,17 +103,28 @@ impl MemoryLink {
     // A call that is to be told so, where it does not fail.
     fn finish(&mut self, entry: TraceEntry) -> Result<(), LinkFault>
         ensures finished { OnOk result (self.new ≡ finished self.old entry) }
-        ensures failed { OnErr result (self.new ≡ failed self.old) }
+        ensures failed { IfErr result (λ fault. self.new ≡ failed fault self.old) }
         ensures planned { IsErrOf result LinkFault.Failed ↔ IsTrue (fails_next self.old.failures) }
+        ensures later { self.old.starved ≤ self.new.starved }
     {
         if self.failures.next_fails() {
             drop(entry);
             return Err(LinkFault::Failed);
         }
         if pushed(&mut self.trace, entry).is_err() {
-            return Err(LinkFault::NoMemory);
+            return Err(self.starve());
         }
         Ok(())
+    }
+
+    // A call that found no memory.
+    fn starve(&mut self) -> LinkFault
+        ensures fault { result ≡ LinkFault.NoMemory }
+        ensures counted { self.new ≡ record self.old { starved = one_more self.old.starved } }
+        ensures later { self.old.starved ≤ self.new.starved }
+    {
+        self.starved = self.starved.saturating_add(1);
+        LinkFault::NoMemory
     }
 }
 
@@ -116,6 +132,8 @@ impl Link for MemoryLink {
     ghost trace = { λ link. Some link.trace };
 
     ghost faults = { λ link. link.failures.faults };
+
+    ghost starved = { λ link. Some link.starved };
 
     fn next(&mut self, commands: bool, replies: bool) -> Result<Input, LinkFault>
         ensures took { IfOk result (λ input. AddsOne (Some self.old.trace) (Some self.new.trace)
@@ -125,17 +143,20 @@ impl Link for MemoryLink {
         ensures cause { IsErrOf result LinkFault.Failed
             → Rose self.old.failures.faults self.new.failures.faults }
         ensures quiet { OnOk result (self.new.failures.faults ≡ self.old.failures.faults) }
+        ensures memory { IsErrOf result LinkFault.NoMemory
+            → RoseIfKept (Some self.old.starved) (Some self.new.starved) }
         ensures later { self.old.failures.faults ≤ self.new.failures.faults }
+        ensures counted { NeverFalls (Some self.old.starved) (Some self.new.starved) }
         ensures given { IfOk result (λ input. (input ≡ next_input commands replies self.old.supply)
             × (self.new ≡ gave commands replies self.old)) }
-        ensures failed { OnErr result (self.new ≡ failed self.old) }
+        ensures failed { IfErr result (λ fault. self.new ≡ failed fault self.old) }
         ensures planned { IsErrOf result LinkFault.Failed ↔ IsTrue (fails_next self.old.failures) }
     {
         if self.failures.next_fails() {
             return Err(LinkFault::Failed);
         }
         let Ok(input) = self.inputs.copy_next(commands, replies) else {
-            return Err(LinkFault::NoMemory);
+            return Err(self.starve());
         };
         let entry = TraceEntry::Took {
             commands,
@@ -143,7 +164,7 @@ impl Link for MemoryLink {
             input,
         };
         if pushed(&mut self.trace, entry).is_err() {
-            return Err(LinkFault::NoMemory);
+            return Err(self.starve());
         }
         Ok(self.inputs.give_next(commands, replies))
     }
@@ -155,9 +176,12 @@ impl Link for MemoryLink {
         ensures cause { IsErrOf result LinkFault.Failed
             → Rose self.old.failures.faults self.new.failures.faults }
         ensures quiet { OnOk result (self.new.failures.faults ≡ self.old.failures.faults) }
+        ensures memory { IsErrOf result LinkFault.NoMemory
+            → RoseIfKept (Some self.old.starved) (Some self.new.starved) }
         ensures later { self.old.failures.faults ≤ self.new.failures.faults }
+        ensures counted { NeverFalls (Some self.old.starved) (Some self.new.starved) }
         ensures finished { OnOk result (self.new ≡ finished self.old (Sent frame)) }
-        ensures failed { OnErr result (self.new ≡ failed self.old) }
+        ensures failed { IfErr result (λ fault. self.new ≡ failed fault self.old) }
         ensures planned { IsErrOf result LinkFault.Failed ↔ IsTrue (fails_next self.old.failures) }
     {
         self.finish(TraceEntry::Sent(frame))
@@ -170,9 +194,12 @@ impl Link for MemoryLink {
         ensures cause { IsErrOf result LinkFault.Failed
             → Rose self.old.failures.faults self.new.failures.faults }
         ensures quiet { OnOk result (self.new.failures.faults ≡ self.old.failures.faults) }
+        ensures memory { IsErrOf result LinkFault.NoMemory
+            → RoseIfKept (Some self.old.starved) (Some self.new.starved) }
         ensures later { self.old.failures.faults ≤ self.new.failures.faults }
+        ensures counted { NeverFalls (Some self.old.starved) (Some self.new.starved) }
         ensures finished { OnOk result (self.new ≡ finished self.old (Noticed notice)) }
-        ensures failed { OnErr result (self.new ≡ failed self.old) }
+        ensures failed { IfErr result (λ fault. self.new ≡ failed fault self.old) }
         ensures planned { IsErrOf result LinkFault.Failed ↔ IsTrue (fails_next self.old.failures) }
     {
         self.finish(TraceEntry::Noticed(notice))
@@ -185,9 +212,12 @@ impl Link for MemoryLink {
         ensures cause { IsErrOf result LinkFault.Failed
             → Rose self.old.failures.faults self.new.failures.faults }
         ensures quiet { OnOk result (self.new.failures.faults ≡ self.old.failures.faults) }
+        ensures memory { IsErrOf result LinkFault.NoMemory
+            → RoseIfKept (Some self.old.starved) (Some self.new.starved) }
         ensures later { self.old.failures.faults ≤ self.new.failures.faults }
+        ensures counted { NeverFalls (Some self.old.starved) (Some self.new.starved) }
         ensures finished { OnOk result (self.new ≡ finished self.old (Answered ticket outcome)) }
-        ensures failed { OnErr result (self.new ≡ failed self.old) }
+        ensures failed { IfErr result (λ fault. self.new ≡ failed fault self.old) }
         ensures planned { IsErrOf result LinkFault.Failed ↔ IsTrue (fails_next self.old.failures) }
     {
         self.finish(TraceEntry::Answered(ticket, outcome))

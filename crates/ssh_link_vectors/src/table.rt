@@ -23,6 +23,10 @@ enum Way {
 enum Call {
     // Channel, the peer's number, its window, its packet size; the room is 8.
     Insert(u32, u32, u32, u32),
+    // The same, with its confirmation, of which the number stands.
+    InsertWith(u32, u32, u32, u32),
+    // The peer's number, its window, its packet size; the same.
+    Accept(u32, u32, u32),
     Data(u32, Way, &'static [u8]),
     // With the data type code.
     Extended(u32, u32, Way, &'static [u8]),
@@ -152,6 +156,16 @@ fn confirmation(channel: u32, packet: u32) -> ChannelOpenConfirmation {
     }
 }
 
+// A confirmation of which the number stands alone.
+fn confirmed(channel: u32) -> Frame {
+    Frame::short(&[91], None, Some(ChannelId(channel)))
+}
+
+fn accepted(table: &mut Encrypted, peer: u32, window: u32, packet: u32) -> Answer {
+    let own = table.next_channel_id().map_or(0, |channel| channel.0);
+    number(table.accept(peer, window, 8, packet, 1024, confirmed(own)))
+}
+
 // One call of data.
 fn sent(
     table: &mut Encrypted,
@@ -195,6 +209,11 @@ fn made(
             let params = ChannelParams::new(alloc, peer, own, window, 8, packet, 32768);
             is(table.insert(params))
         }
+        Call::InsertWith(own, peer, window, packet) => {
+            let own = ChannelId(own);
+            let params = ChannelParams::new(alloc, peer, own, window, 8, packet, 32768);
+            is(table.insert_with(params, confirmed(own.0)))
+        }
         Call::Data(n, way, bytes) => {
             let bytes = Bytes::copy_from_slice(alloc, bytes)?;
             sent(table, sink, ChannelId(n), way, bytes)
@@ -227,6 +246,7 @@ fn made_without_bytes(table: &mut Encrypted, sink: &mut FrameSink, call: Call) -
         Call::Flush => done(table.flush(sink, false)),
         Call::FlushInExchange => done(table.flush(sink, true)),
         Call::StageSuccess => done(table.stage(Frame::short(&[81], None, None))),
+        Call::Accept(peer, window, packet) => accepted(table, peer, window, packet),
         Call::Draw => number(table.new_channel_id()),
         Call::Open => number(table.new_channel(8, 32768)),
         Call::DropPending(n) => Answer::Is(table.drop_pending(ChannelId(n))),
@@ -292,9 +312,11 @@ fn holds(alloc: Global, row: Row) -> Result<bool, WireError> {
     let mut staged = FrameSink::new(alloc);
     let is_flushed = table.flush(&mut staged, false) == Ok(());
     drop(table);
-    let are_put = are_sent(sink.as_slice(), row.sink);
-    drop(sink);
-    let are_staged = are_sent(staged.as_slice(), row.staged);
-    drop(staged);
+    let put = sink.into_vec();
+    let are_put = are_sent(put.as_slice(), row.sink);
+    drop(put);
+    let left = staged.into_vec();
+    let are_staged = are_sent(left.as_slice(), row.staged);
+    drop(left);
     Ok(are_answered? && is_flushed && are_put && are_staged)
 }

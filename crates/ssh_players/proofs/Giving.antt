@@ -1,7 +1,7 @@
 -- What a script's link gives and tells.
 use Rattle.std.proofs.Common.{◌≡◌, ℕ, List, [], ◌∷◌, ◌++◌, Some, Result, Ok, Err, Bool, true, false}
 use Rattle.std.proofs.Common.{refl, sym, ◌∙◌, ap, append_assoc}
-use Rattle.std.specs.Prelude.{IfOk, OnOk, OnErr, ◌↔◌, IsErrOf, IsTrue, ◌&&◌, ◌<◌}
+use Rattle.std.specs.Prelude.{IfErr, IfOk, OnOk, OnErr, ◌↔◌, IsErrOf, IsTrue, ◌&&◌, ◌<◌}
 use Rattle.std.specs.List.{list_any}
 use Rattle.ssh_link.specs.declared.frame.Input.{Input}
 use Rattle.ssh_link.specs.declared.link.LinkFault.{LinkFault}
@@ -41,9 +41,9 @@ same_fails : (numbered : Bool) (f : Failures) → numbered ≡ is_numbered f →
 same_fails true f e = rw (sym e) refl
 same_fails false f e = rw (sym e) refl
 
-serves_failed : (supply : Supply) (link new : Remembered) → Serves supply link → new ≡ failed link
-    → Serves supply new
-serves_failed supply link new s e = record {
+serves_failed : (supply : Supply) (link new : Remembered) (fault : LinkFault) → Serves supply link
+    → new ≡ failed fault link → Serves supply new
+serves_failed supply link new fault s e = record {
   given = ap (λ l. as_given supply l.trace) e ∙ (s.given ∙ ap (λ l. l.trace) (sym e));
   left = ap (λ l. left_after supply l.trace) e ∙ (s.left ∙ ap (λ l. l.supply) (sym e));
   sound = ap (λ l. l.failures.fails) e ∙ (same_fails (is_numbered link.failures) link.failures refl
@@ -67,25 +67,28 @@ serves_more supply link new entry s g e =
     }
 
 -- after a call that gives no input
-pub serves_call : {T E : Type 0} (result : Result T E) (supply : Supply) (link new : Remembered)
+pub serves_call : {T : Type 0} (result : Result T LinkFault) (supply : Supply) (link new : Remembered)
     (entry : TraceEntry) → Serves supply link →
     given_as link.supply entry ≡ entry → after link.supply entry ≡ link.supply
-    → OnOk result (new ≡ finished link entry) → OnErr result (new ≡ failed link)
+    → OnOk result (new ≡ finished link entry) → IfErr result (λ fault. new ≡ failed fault link)
     → Serves supply new
 serves_call (Ok value) supply link new entry s g a e f =
     serves_more supply link new entry s g (e ∙ ap (λ x. record (finished link entry) { supply = x })
     (sym a))
-serves_call (Err error) supply link new entry s g a e f = serves_failed supply link new s f
+serves_call (Err error) supply link new entry s g a e f =
+    serves_failed supply link new error s f
 
 -- after one that gives one
-pub serves_next : {E : Type 0} (result : Result Input E) (supply : Supply) (link new : Remembered)
+pub serves_next : (result : Result Input LinkFault) (supply : Supply) (link new : Remembered)
     (commands replies : Bool) → Serves supply link →
     IfOk result (λ input. (input ≡ next_input commands replies link.supply)
-    × (new ≡ gave commands replies link)) → OnErr result (new ≡ failed link) → Serves supply new
+    × (new ≡ gave commands replies link)) → IfErr result (λ fault. new ≡ failed fault link)
+    → Serves supply new
 serves_next (Ok input) supply link new commands replies s e f =
     serves_more supply link new (Took commands replies (next_input commands replies link.supply)) s
     refl e.1
-serves_next (Err error) supply link new commands replies s e f = serves_failed supply link new s f
+serves_next (Err error) supply link new commands replies s e f =
+    serves_failed supply link new error s f
 
 -- what stands behind the heading is told behind it
 adds_behind : (inputs : List Input) (moment : ℕ) (old new more : List TraceEntry)

@@ -53,12 +53,15 @@ impl ScriptLink {
 }
 
 impl Link for ScriptLink {
+    ghost use Rattle.std.specs.Prelude.{Some};
     ghost use Rattle.ssh_players.specs.Given.{trace_of};
 
     // It tells first what it gives, and then its calls.
     ghost trace = { λ link. trace_of link.inputs.items link.last_moment link.memory.trace };
 
     ghost faults = { λ _. 0 };
+
+    ghost starved = { λ link. Some link.memory.starved };
 
     fn next(&mut self, commands: bool, replies: bool) -> Result<Input, LinkFault> {
         self.memory.next(commands, replies)

@@ -153,7 +153,7 @@ failed_absent n m l h = at_absent n m _ l
     (λ e apart. chosen_absent (not e.confirmed) n _ _ (left_absent n e true [] l apart h) h) h
 
 -- what goes on at the end of an exchange of keys leaves it so
-goes_on_absent : (n m : ℕ) (l : Lines) → IsAbsent n l → IsAbsent n (goes_on m l)
+pub goes_on_absent : (n m : ℕ) (l : Lines) → IsAbsent n l → IsAbsent n (goes_on m l)
 goes_on_absent n m l h = at_absent n m _ l
     (λ e apart. settled_absent n (flushed e) e (flush_out e) l apart refl h) h
 

@@ -19,7 +19,7 @@ use Rattle.ssh_rules.specs.declared.gate.Gate.TheVariants as gate
 use Rattle.ssh_rules.specs.declared.opens.Handling.{Handling}
 use Rattle.ssh_rules.specs.declared.opens.Handling.TheVariants.{Asks, Unsupported, Unknown, GivenUp}
 use Rattle.ssh_rules.specs.Acts.{Calls, acts, done_all}
-use Rattle.ssh_rules.specs.Answered.{is_answer_on, is_open}
+use Rattle.ssh_rules.specs.Answered.{is_answer, is_answer_on, is_drawn, is_open}
 use Rattle.ssh_rules.specs.Gate.{gate_of}
 use Rattle.ssh_rules.specs.Opening.{Opening}
 use Rattle.ssh_rules.specs.Opens.{own, failure_frame}
@@ -31,7 +31,7 @@ use Rattle.ssh_rules.specs.Types.{handling, opening_by, unsupported, unknown, gi
 use Rattle.ssh_rules.specs.Ticks.{keepalive_acts}
 use Rattle.ssh_rules.specs.World.{World, circumstances, hears, wants_if}
 use Rattle.ssh_rules.proofs.Acting.{acts_come, exchange_comes}
-use Rattle.ssh_rules.proofs.Answers.{inserted_count, answers_on, wants_owe}
+use Rattle.ssh_rules.proofs.Answers.{inserted_count, answers_on, on_number, wants_owe}
 use Rattle.ssh_rules.proofs.Calling.{IsBesideOpen, beside_at, read_open}
 use Rattle.ssh_rules.proofs.Counting.{Covered, covered, asked_more}
 use Rattle.ssh_rules.proofs.Measures.{Measure, one_if, lines_owe, how_many_one}
@@ -65,11 +65,12 @@ open_covered number left m opening type w h =
     (acts_come (law (answers_on number) k) (Calls None lent ∷ []) v
     (waits_step (number == m) number left m opening w refl h) (λ world j. tt) commands tt)
 
--- the same, where something is asked at all; where nothing is, one more answer may be left, which
--- was written
-abbrev pub CoveredOnce : (number left : ℕ) → Plan Outcome → Type 0
-CoveredOnce number left (Finish outcome) = Covered (answers_on number) (left + 1) (Finish outcome)
-CoveredOnce number left plan = Covered (answers_on number) left plan
+-- the same, where something is asked at all; where nothing is, more answers may be left: one, which
+-- was written on the number that the open drew
+abbrev pub CoveredOnce : (number left most : ℕ) → Plan Outcome → Type 0
+CoveredOnce number left most (Finish outcome) =
+    Covered (answers_on number) most (Finish outcome)
+CoveredOnce number left most plan = Covered (answers_on number) left plan
 
 asked_low : (b : Bool) (left m : ℕ) → left ≤ m → cond b (left + 1) left ≤ cond b (m + 1) m
 asked_low true left m l = omega (arith, l)
@@ -86,32 +87,33 @@ covered_more of left m (Ask question next) l h = λ answer.
     (asked_low (of.asks question) left m l) (h answer)
 covered_more of left m (Tell entry next) l h = covered_more of left m next l h
 
-pub once_more : (number left : ℕ) (plan : Plan Outcome) → CoveredOnce number left plan →
-    Covered (answers_on number) (left + 1) plan
-once_more number left (Finish outcome) h = h
-once_more number left (Ask question next) h =
-    covered_more (answers_on number) left (left + 1) (Ask question next) (omega arith) h
-once_more number left (Tell entry next) h =
-    covered_more (answers_on number) left (left + 1) (Tell entry next) (omega arith) h
+pub once_more : (number left most : ℕ) (plan : Plan Outcome) → left ≤ most →
+    CoveredOnce number left most plan → Covered (answers_on number) most plan
+once_more number left most (Finish outcome) l h = h
+once_more number left most (Ask question next) l h =
+    covered_more (answers_on number) left most (Ask question next) l h
+once_more number left most (Tell entry next) l h =
+    covered_more (answers_on number) left most (Tell entry next) l h
 
-one_most : (b : Bool) → one_if b ≤ 1
-one_most true = omega arith
-one_most false = omega arith
+-- one more answer may be left where the open draws the number
+abbrev pub most_on : (number left : ℕ) → (drawn : Option ℕ) → ℕ
+most_on number left drawn = left + one_if (is_drawn number drawn)
 
 -- an open that is refused at once has one answer written
 away_covered : (number left : ℕ) (drawn : Option ℕ) (payload : List ℕ) (w : World) →
     OwesUpTo (answers_on number) left w →
-    CoveredOnce number left (acts (turns_first drawn payload) w)
+    CoveredOnce number left (most_on number left drawn) (acts (turns_first drawn payload) w)
 away_covered number left None payload w h = tt
 away_covered number left (Some m) payload w h =
     let frame = failure_frame m payload in
     let one = how_many_one (is_answer_on number) w.channels.lines.written frame in
-    let most = one_most (is_answer_on number frame) in
+    let most : one_if (is_answer_on number frame) ≤ one_if (number == m) =
+    on_number (number == m) (is_answer frame) in
     omega (arith, one, most, h)
 
 opens_covered : (number left : ℕ) (drawn : Option ℕ) (message : OpenChannelMessage)
     (does : Handling) (w : World) → OwesUpTo (answers_on number) left w →
-    CoveredOnce number left (acts (open_acts drawn message does) w)
+    CoveredOnce number left (most_on number left drawn) (acts (open_acts drawn message does) w)
 opens_covered number left None message (Asks type) w h = tt
 opens_covered number left (Some m) message (Asks type) w h =
     open_covered number left m (opening_by message) type w h
@@ -124,7 +126,7 @@ opens_covered number left drawn message Unknown w h =
 
 said_covered : (number left : ℕ) (w : World) (moment : ℕ) (fields : List ℕ) (said : Said) →
     SaysOpen fields said → OwesUpTo (answers_on number) left w →
-    CoveredOnce number left (row w moment said)
+    CoveredOnce number left (most_on number left (next_number w.channels.lines)) (row w moment said)
 said_covered number left w moment fields (Open message) says h =
     opens_covered number left (next_number w.channels.lines) message
     (handling w.channels.no_more_sessions message.typ) w h
@@ -149,15 +151,17 @@ row_covered number left w moment said beside h =
     covered (answers_on number) left left (row w moment said) (omega arith)
     (row_upto (answers_on number) left w moment said beside (requests_owe number left w said h) h)
 
--- a payload is a CHANNEL_OPEN, of which at most one more answer comes, or none comes of it
-abbrev pub CoveredPayload : (number left : ℕ) → InputKind → Plan Outcome → Type 0
-CoveredPayload number left kind plan =
-    ((is_open kind ≡ true) × CoveredOnce number left plan) ⊎ Covered (answers_on number) left plan
+-- a payload is a CHANNEL_OPEN, of which at most one more answer comes, on the number that it draws,
+-- or none comes of it
+abbrev pub CoveredPayload : (number left : ℕ) → World → InputKind → Plan Outcome → Type 0
+CoveredPayload number left w kind plan = ((is_open kind ≡ true)
+    × CoveredOnce number left (most_on number left (next_number w.channels.lines)) plan)
+    ⊎ Covered (answers_on number) left plan
 
 payload_covered : (number left : ℕ) (w : World) (moment : ℕ) (payload : List ℕ) (said : Said) →
     ((gate_of w payload ≡ gate.ChannelOpen) × SaysOpen (drop 1 payload) said) ⊎ IsBesideOpen said →
     OwesUpTo (answers_on number) left w →
-    CoveredPayload number left (input.Payload payload) (row w moment said)
+    CoveredPayload number left w (input.Payload payload) (row w moment said)
 payload_covered number left w moment payload said (inl at) h = inl (
   read_open w payload at.0,
   said_covered number left w moment (drop 1 payload) said at.1 h,
@@ -183,11 +187,11 @@ command_covered number left w ticket commanded h =
 
 pub kind_covered : (accepts : Acceptance) (number left : ℕ) (w : World) (moment : ℕ)
     (kind : InputKind) (plan : Plan Outcome) → OwesKind accepts w moment kind plan →
-    OwesUpTo (answers_on number) left w → CoveredPayload number left kind plan
+    OwesUpTo (answers_on number) left w → CoveredPayload number left w kind plan
 kind_covered accepts number left w moment input.End plan o h = rw o (inr h)
 kind_covered accepts number left w moment (input.Payload payload) plan o h =
     let v = hears payload w in
-    payload_so accepts v moment payload plan (CoveredPayload number left (input.Payload payload)) o
+    payload_so accepts v moment payload plan (CoveredPayload number left v (input.Payload payload)) o
     (λ said says. payload_covered number left v moment payload said
     (beside_at (circumstances accepts v.settings moment) v (gate_of v payload) (drop 1 payload) said
     says) h)

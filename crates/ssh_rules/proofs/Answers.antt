@@ -133,7 +133,7 @@ waiting_once from m P (x ∷ xs) h =
 abbrev pub asks_open : (number : ℕ) → Question → Bool
 asks_open number question = is_tagged number (open_asked question)
 
-on_number : (b c : Bool) → one_if (b && c) ≤ one_if b
+pub on_number : (b c : Bool) → one_if (b && c) ≤ one_if b
 on_number true true = omega arith
 on_number true false = omega arith
 on_number false c = omega arith

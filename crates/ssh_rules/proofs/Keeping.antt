@@ -24,7 +24,7 @@ use Rattle.ssh_channels.specs.Does.{IsFair, is_idle, does}
 use Rattle.ssh_channels.specs.Entry.{Entry, IsDue, opened, asked}
 use Rattle.ssh_channels.specs.Layout.{chunk, on_channel}
 use Rattle.ssh_channels.specs.Lines.{Lines, find, added, next_number, drops_pending, takes_data}
-use Rattle.ssh_channels.specs.Lines.{asks, asks_next, takes_reply, all_go_on}
+use Rattle.ssh_channels.specs.Lines.{asks, asks_next, joins, takes_reply, all_go_on}
 use Rattle.ssh_channels.specs.Sent.{Each, Ledgered, may_go}
 use Rattle.ssh_channels.proofs.Booked.{op_kept, opens_kept, asks_kept}
 use Rattle.ssh_channels.proofs.Dues.{all_sound, all_due, op_due}
@@ -186,11 +186,11 @@ added_due false m e l t is p h = subst (λ o. IfSome o IsDue) (sym (find_beside 
     (h m)
 
 -- what is reserved stays so beside an open of this side's
-asked_reserved : (n room : ℕ) (l : Lines) → next_number l ≡ Some n → (k : ℕ) → IsReserved l k
-    → IsReserved (asks_next room l) k
-asked_reserved n room l is k h =
-    subst (λ o. IsReserved (asks room o l) k) (sym is)
-    (beside_added (asked n room) l.entries k (next_apart k n l is h.1) h.0, h.1)
+asked_reserved : (n room packet : ℕ) (l : Lines) → next_number l ≡ Some n → (k : ℕ)
+    → IsReserved l k → IsReserved (asks_next room packet l) k
+asked_reserved n room packet l is k h =
+    subst (λ o. IsReserved (asks room packet o l) k) (sym is)
+    (beside_added (asked n room packet) l.entries k (next_apart k n l is h.1) h.0, h.1)
 
 -- of nothing, nothing is due
 none_due : (n : ℕ) → 0 ≡ min 0 n
@@ -204,15 +204,15 @@ confirmed_on past number opening w is k =
     let waits = found_waiting 0 number (IsReserved lines) w.channels.opens opening k.waiting is in
     let free = waits.0.0 in
     let room = w.settings.config.window_size in
-    let e = opened number opening.peer opening.window room opening.packet in
-    let kept = opens_kept number opening.peer opening.window room opening.packet _ lines
-    past waits.1 waits.2 refl free k.ledger in
+    let packet = w.settings.config.maximum_packet_size in
+    let e = opened number opening.peer opening.window room opening.packet packet in
+    let kept = opens_kept number opening.peer opening.window room opening.packet packet _ lines
+    past waits.1 waits.2 refl k.ledger in
     record {
       ledger = kept;
       due = λ out. rw free (λ m. added_due (m == number) m e lines refl free
           (none_due opening.window) (k.due out));
-      waiting = rw free (removed_waiting 0 number (IsReserved lines)
-          (IsReserved (record (drops_pending number lines) { entries = added e lines.entries }))
+      waiting = rw free (removed_waiting 0 number (IsReserved lines) (IsReserved (joins e lines))
           w.channels.opens
           (λ m apart h. (
             beside_added e lines.entries m apart h.0,
@@ -277,11 +277,12 @@ opened_on past (Some n) asked w is k =
     let room = w.settings.config.window_size in
     let packet = w.settings.config.maximum_packet_size in
     record {
-      ledger = asks_kept n room (open_payload asked n room packet) lines past refl is k.ledger;
+      ledger = asks_kept n room packet (open_payload asked n room packet) lines past refl is
+          k.ledger;
       due = λ out. op_due (Open_next room packet) lines refl (all_sound lines past k.ledger)
           (k.due out);
-      waiting = still_waiting 0 (IsReserved lines) (IsReserved (asks_next room lines))
-          w.channels.opens (asked_reserved n room lines is) k.waiting;
+      waiting = still_waiting 0 (IsReserved lines) (IsReserved (asks_next room packet lines))
+          w.channels.opens (asked_reserved n room packet lines is) k.waiting;
     }
 
 opens_on : (past : List TraceEntry) (asked : OwnOpen) (w : World) (long : Bool)

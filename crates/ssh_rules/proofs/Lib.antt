@@ -81,3 +81,6 @@ pub mod Carried
 pub mod BareRows
 pub mod FittingRows
 pub mod Received
+pub mod NeverBegun
+pub mod Frameless
+pub mod Beginnings

@@ -26,7 +26,7 @@ use Rattle.ssh_channels.specs.Lines.{Lines, find, put, without, added, write, tu
 use Rattle.ssh_channels.specs.Lines.{settles, where_found, takes_data, takes_eof, takes_close}
 use Rattle.ssh_channels.specs.Lines.{peer_closes, takes_grant, takes_in, aims, takes_reply}
 use Rattle.ssh_channels.specs.Lines.{confirms}
-use Rattle.ssh_channels.specs.Lines.{fails, adds, asks, drops_pending, numbers, goes_on}
+use Rattle.ssh_channels.specs.Lines.{fails, joins, asks, drops_pending, numbers, goes_on}
 use Rattle.ssh_channels.specs.Lines.{each_goes_on, all_go_on}
 use Rattle.ssh_channels.specs.Sent.{is_tagged, is_reply}
 use Rattle.ssh_channels.specs.Room.{coming, having, adjust_out}
@@ -355,19 +355,15 @@ aims_owe of k m target l h = found (find m l.entries) of k m _ l refl
     (λ e is. turned of k (record e { target = target }) e [] l is refl tt h) h
 
 -- a channel that is new has no reply
-pub added_owe : (of : Measure) (k : ℕ) (e : Entry) (l : Lines) → e.replies ≡ [] →
-    LinesOwe of k l → LinesOwe of k (adds e l)
-added_owe of k e l none h =
-    let more = of.begun e l.entries none in
-    chosen (is_some (find e.number l.entries)) of k l
-    (record (drops_pending e.number l) { entries = added e l.entries }) h
-    (omega (arith, more, h))
+pub joined_owe : (of : Measure) (k : ℕ) (e : Entry) (l : Lines) → e.replies ≡ [] →
+    LinesOwe of k l → LinesOwe of k (joins e l)
+joined_owe of k e l none h = let more = of.begun e l.entries none in omega (arith, more, h)
 
-pub asked_owe : (of : Measure) (k room : ℕ) (drawn : Option ℕ) (l : Lines) → LinesOwe of k l →
-    LinesOwe of k (asks room drawn l)
-asked_owe of k room None l h = h
-asked_owe of k room (Some n) l h =
-    let more = of.begun (asked n room) l.entries refl in omega (arith, more, h)
+pub asked_owe : (of : Measure) (k room packet : ℕ) (drawn : Option ℕ) (l : Lines) →
+    LinesOwe of k l → LinesOwe of k (asks room packet drawn l)
+asked_owe of k room packet None l h = h
+asked_owe of k room packet (Some n) l h =
+    let more = of.begun (asked n room packet) l.entries refl in omega (arith, more, h)
 
 -- ---- replies to requests (RFC 4254 section 5.4)
 

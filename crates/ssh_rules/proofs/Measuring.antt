@@ -1,6 +1,7 @@
 -- What a measure counts in a world: no command makes more of it, and no row but an open of the
 -- peer's and a request (RFC 4254 section 5).
 use Rattle.std.proofs.Common.{◌≡◌, ◌≤◌, ◌+◌, ◌||◌, ℕ, List, [], ◌∷◌, Bool, true, false}
+use Rattle.std.proofs.Common.{is_some}
 use Rattle.std.proofs.Common.{Option, Some, None, cond, refl, ap, arith, ◌==◌}
 use Rattle.std.specs.Prelude.{length, if◌then◌else◌}
 use Rattle.ssh_wire.specs.declared.channel_id.ChannelId.{ChannelId}
@@ -19,7 +20,8 @@ use Rattle.ssh_channels.specs.Does.{coming_of}
 use Rattle.ssh_channels.specs.Entry.{Entry, opened}
 use Rattle.ssh_channels.specs.Layout.{chunk, on_channel, as_uint32}
 use Rattle.ssh_channels.specs.Lines.{Lines, find, takes_data, takes_eof, takes_close, peer_closes}
-use Rattle.ssh_channels.specs.Lines.{takes_grant, takes_in, takes_reply, aims, confirms, fails, adds}
+use Rattle.ssh_channels.specs.Lines.{takes_grant, takes_in, takes_reply, aims, confirms, fails}
+use Rattle.ssh_channels.specs.Lines.{joins}
 use Rattle.ssh_channels.specs.Lines.{drops_pending, asks_next, next_number, write, all_go_on}
 use Rattle.ssh_rules.specs.declared.messages.Spoken.{Spoken}
 use Rattle.ssh_rules.specs.declared.messages.Spoken.TheVariants as spoken
@@ -51,7 +53,7 @@ use Rattle.ssh_rules.proofs.Measures.{Measure, AreSilent, LinesOwe, lines_owe, h
 use Rattle.ssh_rules.proofs.Measures.{IsNoReply, aims_owe}
 use Rattle.ssh_rules.proofs.Measures.{written_owe, data_owe, eof_owe, close_owe, peer_close_owe}
 use Rattle.ssh_rules.proofs.Measures.{grant_owe, adjust_owe, confirmed_owe, failed_owe}
-use Rattle.ssh_rules.proofs.Measures.{added_owe, asked_owe, reply_owe, all_owe}
+use Rattle.ssh_rules.proofs.Measures.{joined_owe, asked_owe, reply_owe, all_owe}
 use Rattle.ssh_rules.proofs.Settled.{Anything, any_built, Any_command}
 use Rattle.ssh_rules.proofs.Beside.{on_come}
 use Rattle.ssh_rules.proofs.Requested.{one_kept, for_kept}
@@ -125,17 +127,29 @@ fails_upto of k m payload opening w false is unlike o h =
     rw is (answered_upto of k m opening payload (drops_pending m) w unlike
     (same_lines of w.channels.lines) o h)
 
+-- so is one that is accepted, whose channel comes with it
+comes_upto : (b : Bool) (of : Measure) (k m : ℕ) (opening : Opening) (payload : List ℕ)
+    (e : Entry) (w : World) → IsNoReply (failure_frame m payload) → e.replies ≡ [] →
+    opening_of m w ≡ Some opening → OwesUpTo of k w →
+    OwesUpTo of k (lined (λ l. cond b l (write (failure_frame m payload ∷ []) (joins e l)))
+    (answered m w))
+comes_upto true of k m opening payload e w unlike none is h =
+    let left = of.answered m payload opening w.channels.opens unlike is in
+    omega (arith, left, h)
+comes_upto false of k m opening payload e w unlike none is h =
+    answered_upto of k m opening payload (joins e) w unlike
+    (joined_owe of _ e w.channels.lines none (same_lines of w.channels.lines)) is h
+
 decides_upto : (of : Measure) (k m : ℕ) (opening : Opening) (reason : Option ChannelOpenFailure)
     (texts : Option (List ℕ × List ℕ)) (w : World) → opening_of m w ≡ Some opening →
     OwesUpTo of k w →
     EffectComes (OwesUpTo of k) (decides m opening reason texts w)
 decides_upto of k m opening None texts w is h =
     let room = w.settings.config.window_size in
-    let e = opened m opening.peer opening.window room opening.packet in
-    answered_upto of k m opening
-    (confirmation_frame m opening.peer room w.settings.config.maximum_packet_size).payload (adds e)
-    w (refl, refl)
-    (added_owe of _ e w.channels.lines refl (same_lines of w.channels.lines)) is h
+    let packet = w.settings.config.maximum_packet_size in
+    comes_upto (is_some (find m w.channels.lines.entries)) of k m opening
+    (confirmation_frame m opening.peer room packet).payload
+    (opened m opening.peer opening.window room opening.packet packet) w (refl, refl) refl is h
 decides_upto of k m opening (Some reason) texts w is h =
     fails_upto of k m (failure_of opening reason texts) opening w
     (is_too_long (failure_of opening reason texts)) refl (refl, refl) is h
@@ -154,10 +168,12 @@ opened_upto : (of : Measure) (k : ℕ) (drawn : Option ℕ) (asked : OwnOpen) (w
 opened_upto of k None asked w h = h
 opened_upto of k (Some n) asked w h =
     let room = w.settings.config.window_size in
-    let frame = open_frame asked n room w.settings.config.maximum_packet_size in
-    writes_upto of k (frame ∷ []) (lined (asks_next room) w) (of.other frame refl (refl, refl), tt)
-    (lined_upto of k (asks_next room) w
-    (asked_owe of _ room (next_number w.channels.lines) w.channels.lines
+    let packet = w.settings.config.maximum_packet_size in
+    let frame = open_frame asked n room packet in
+    writes_upto of k (frame ∷ []) (lined (asks_next room packet) w)
+    (of.other frame refl (refl, refl), tt)
+    (lined_upto of k (asks_next room packet) w
+    (asked_owe of _ room packet (next_number w.channels.lines) w.channels.lines
     (same_lines of w.channels.lines)) h)
 
 opens_upto : (of : Measure) (k : ℕ) (asked : OwnOpen) (w : World) (long : Bool) →

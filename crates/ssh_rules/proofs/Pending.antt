@@ -190,7 +190,7 @@ pub failed_pends : (m : ℕ) (l : Lines) → (fails m l).pending ≡ l.pending
 failed_pends m l = at_pends m (find m l.entries) _ l
     (λ e. chosen_pends (not e.confirmed) _ _ l.pending refl refl)
 
-goes_on_pends : (m : ℕ) (l : Lines) → (goes_on m l).pending ≡ l.pending
+pub goes_on_pends : (m : ℕ) (l : Lines) → (goes_on m l).pending ≡ l.pending
 goes_on_pends m l = at_pends m (find m l.entries) _ l
     (λ e. settled_pends (flushed e) (flush_out e) l)
 

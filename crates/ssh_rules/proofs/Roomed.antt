@@ -21,7 +21,8 @@ use Rattle.ssh_link.specs.declared.outcome.Refusal.TheVariants.{TooLong}
 use Rattle.ssh_channels.specs.declared.chunk.DataKind.TheVariants.{Plain, Extended}
 use Rattle.ssh_channels.specs.Entry.{Entry, opened, asked}
 use Rattle.ssh_channels.specs.Layout.{chunk, on_channel}
-use Rattle.ssh_channels.specs.Lines.{Lines, find, added, adds, asks, next_number, drops_pending}
+use Rattle.ssh_channels.specs.Lines.{Lines, find, added, adds_with, joins, asks, next_number}
+use Rattle.ssh_channels.specs.Lines.{drops_pending}
 use Rattle.ssh_channels.specs.Lines.{write}
 use Rattle.ssh_channels.specs.Sent.{is_tagged, is_opening}
 use Rattle.ssh_channels.proofs.Booked.{next_absent}
@@ -149,15 +150,15 @@ confirms_room : (n window passed grew number : ℕ) (opening : Opening) (w : Wor
 confirms_room n window passed grew number opening w free h =
     let lines = w.channels.lines in
     let room = w.settings.config.window_size in
-    let e = opened number opening.peer opening.window room opening.packet in
-    let frame = confirmation_frame number opening.peer room
-    w.settings.config.maximum_packet_size in
-    let more : Lines = record (drops_pending number lines) { entries = added e lines.entries } in
-    let is : adds e lines ≡ more = ap (λ o. cond (is_some o) lines more) free in (
+    let packet = w.settings.config.maximum_packet_size in
+    let e = opened number opening.peer opening.window room opening.packet packet in
+    let frame = confirmation_frame number opening.peer room packet in
+    let more : Lines = write (frame ∷ []) (joins e lines) in
+    let is : adds_with frame e lines ≡ more = ap (λ o. cond (is_some o) lines more) free in (
       h.0,
-      subst (λ l. Roomy n (cond (n == number) 0 passed) window grew (write (frame ∷ []) l))
-          (sym is) (begun_room (n == number) n window passed grew e frame lines refl free h.0 refl
-          refl h.1),
+      subst (Roomy n (cond (n == number) 0 passed) window grew) (sym is)
+          (begun_room (n == number) n window passed grew e frame lines refl free h.0 refl refl
+          h.1),
     )
 
 -- this side's open draws a number
@@ -168,11 +169,12 @@ opened_room n window passed grew None own w is h = h
 opened_room n window passed grew (Some number) own w is h =
     let lines = w.channels.lines in
     let room = w.settings.config.window_size in
-    let frame = open_frame own number room w.settings.config.maximum_packet_size in (
+    let packet = w.settings.config.maximum_packet_size in
+    let frame = open_frame own number room packet in (
       h.0,
       subst (λ o. Roomy n (cond (n == number) 0 passed) window grew
-          (write (frame ∷ []) (asks room o lines))) (sym is)
-          (begun_room (n == number) n window passed grew (asked number room) frame lines refl
+          (write (frame ∷ []) (asks room packet o lines))) (sym is)
+          (begun_room (n == number) n window passed grew (asked number room packet) frame lines refl
           (next_absent number lines is) h.0 refl refl h.1),
     )
 

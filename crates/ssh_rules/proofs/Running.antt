@@ -240,7 +240,7 @@ passed_runs running accepts w moment payload plan Barred is o h = rw o tt
 passed_runs running accepts w moment payload plan Late is o h = rw o tt
 
 -- the bytes that come are counted, and an exchange that runs goes on
-early_same : (payload : List ℕ) (exchange : ExchangeState) →
+pub early_same : (payload : List ℕ) (exchange : ExchangeState) →
     is_running (early_with payload exchange) ≡ is_running exchange
 early_same payload Idle = refl
 early_same payload (Own early) = refl

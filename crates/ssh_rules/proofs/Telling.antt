@@ -230,7 +230,7 @@ service_given : (w : World) (b : Bool)
 service_given w true = (refl, λ message. acts_given (greets message) w)
 service_given w false = refl
 
-row_given : (w : World) (moment : ℕ) (said : Said) → SendsGiven (row w moment said)
+pub row_given : (w : World) (moment : ℕ) (said : Said) → SendsGiven (row w moment said)
 row_given w moment (Service name) = service_given w (bytes_eq name (codes "ssh-userauth"))
 row_given w moment (Request asked) =
     state_given w.user.state (λ auth. verdict_on auth asked) w moment true (verdict_beside asked)
@@ -239,7 +239,7 @@ row_given w moment (Response said) =
     (response_beside said)
 row_given w moment said = acts_given (owed w said) w
 
-command_given : (w : World) (ticket : ℕ) (commanded : Command)
+pub command_given : (w : World) (ticket : ℕ) (commanded : Command)
     → SendsGiven (command_row w ticket commanded)
 command_given w ticket commanded =
     one_done (effect w commanded) _ (λ outcome world. (tt, refl))

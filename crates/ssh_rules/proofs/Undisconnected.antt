@@ -26,7 +26,8 @@ use Rattle.ssh_channels.specs.Layout.{chunk, data_frame, eof_frame, close_frame}
 use Rattle.ssh_channels.specs.Layout.{adjust_frame, on_channel, reply_frame}
 use Rattle.ssh_channels.specs.Lines.{Lines, find, turns, closes, leaves, settles, where_found}
 use Rattle.ssh_channels.specs.Lines.{takes_data, takes_eof, takes_close, peer_closes, takes_grant}
-use Rattle.ssh_channels.specs.Lines.{takes_in, confirms, fails, adds, asks, asks_next}
+use Rattle.ssh_channels.specs.Lines.{takes_in, confirms, fails, adds_with, joins, asks, asks_next}
+use Rattle.ssh_channels.specs.Lines.{write}
 use Rattle.ssh_channels.specs.Lines.{added, drops_pending, next_number, numbers, goes_on}
 use Rattle.ssh_channels.specs.Lines.{each_goes_on, all_go_on, aims, takes_request, takes_reply}
 use Rattle.ssh_channels.specs.Room.{coming, having, adjust_out}
@@ -200,14 +201,16 @@ reply_quiet m place success l h = found (find m l.entries) _ l
     (turned (replying place success e) (replies_out place success e) l
     (replies_none e.number e.peer _) h) h) h
 
-added_quiet : (e : Entry) (l : Lines) → IsQuiet l → IsQuiet (adds e l)
-added_quiet e l h =
-    chosen (is_some (find e.number l.entries)) l
-    (record (drops_pending e.number l) { entries = added e l.entries }) h h
+added_quiet : (frame : Frame) (e : Entry) (l : Lines) → is_disconnect frame ≡ false → IsQuiet l
+    → IsQuiet (adds_with frame e l)
+added_quiet frame e l other h =
+    chosen (is_some (find e.number l.entries)) l (write (frame ∷ []) (joins e l)) h
+    (both_none l.written (frame ∷ []) h (other, tt))
 
-asked_quiet : (room : ℕ) (drawn : Option ℕ) (l : Lines) → IsQuiet l → IsQuiet (asks room drawn l)
-asked_quiet room None l h = h
-asked_quiet room (Some n) l h = h
+asked_quiet : (room packet : ℕ) (drawn : Option ℕ) (l : Lines) → IsQuiet l
+    → IsQuiet (asks room packet drawn l)
+asked_quiet room packet None l h = h
+asked_quiet room packet (Some n) l h = h
 
 -- ---- commands
 
@@ -231,11 +234,9 @@ decides_silent : (m : ℕ) (opening : Opening) (reason : Option ChannelOpenFailu
     → EffectComes IsSilent (decides m opening reason texts w)
 decides_silent m opening None texts w h =
     let room = w.settings.config.window_size in
-    let l = adds (opened m opening.peer opening.window room opening.packet) w.channels.lines in
-    both_none l.written
-    (confirmation_frame m opening.peer room w.settings.config.maximum_packet_size ∷ [])
-    (added_quiet (opened m opening.peer opening.window room opening.packet) w.channels.lines h)
-    (refl, tt)
+    let packet = w.settings.config.maximum_packet_size in
+    added_quiet (confirmation_frame m opening.peer room packet)
+    (opened m opening.peer opening.window room opening.packet packet) w.channels.lines refl h
 decides_silent m opening (Some reason) texts w h =
     let payload = failure_of opening reason texts in
     fails_silent m payload w (is_too_long payload) refl refl h
@@ -251,10 +252,10 @@ opened_silent : (drawn : Option ℕ) (asked : OwnOpen) (w : World) → IsSilent 
 opened_silent None asked w h = h
 opened_silent (Some n) asked w h =
     let room = w.settings.config.window_size in
-    let l = asks_next room w.channels.lines in
-    both_none l.written
-    (open_frame asked n room w.settings.config.maximum_packet_size ∷ [])
-    (asked_quiet room (next_number w.channels.lines) w.channels.lines h) (refl, tt)
+    let packet = w.settings.config.maximum_packet_size in
+    let l = asks_next room packet w.channels.lines in
+    both_none l.written (open_frame asked n room packet ∷ [])
+    (asked_quiet room packet (next_number w.channels.lines) w.channels.lines h) (refl, tt)
 
 opens_silent : (asked : OwnOpen) (w : World) (long : Bool)
     → is_too_long (open_payload asked 0 w.settings.config.window_size

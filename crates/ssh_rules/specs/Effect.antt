@@ -21,7 +21,8 @@ use Rattle.ssh_link.specs.declared.outcome.Refusal.TheVariants.{Disconnected, Cl
 use Rattle.ssh_channels.specs.declared.chunk.DataKind.TheVariants.{Plain, Extended}
 use Rattle.ssh_channels.specs.Entry.{Entry, opened}
 use Rattle.ssh_channels.specs.Layout.{chunk, on_channel}
-use Rattle.ssh_channels.specs.Lines.{find, takes_data, takes_eof, takes_close, adds, drops_pending}
+use Rattle.ssh_channels.specs.Lines.{find, takes_data, takes_eof, takes_close, adds_with}
+use Rattle.ssh_channels.specs.Lines.{drops_pending}
 use Rattle.ssh_channels.specs.Lines.{asks_next, next_number}
 use Rattle.ssh_rules.specs.declared.state.EncryptedState.{EncryptedState}
 use Rattle.ssh_rules.specs.declared.state.EncryptedState.TheVariants.{InitCompression}
@@ -153,10 +154,10 @@ abbrev pub confirms : (number : ℕ) → Opening → World → Effect
 confirms number opening w = Does
     (Ready (record { 0 = number }) opening.window opening.packet ∷ [])
     Accepted
-    (writes (confirmation_frame number opening.peer w.settings.config.window_size
-    w.settings.config.maximum_packet_size ∷ [])
-    (lined (adds (opened number opening.peer opening.window w.settings.config.window_size
-    opening.packet)) (answered number w)))
+    (lined (adds_with (confirmation_frame number opening.peer w.settings.config.window_size
+    w.settings.config.maximum_packet_size)
+    (opened number opening.peer opening.window w.settings.config.window_size opening.packet
+    w.settings.config.maximum_packet_size)) (answered number w))
 
 -- the open is refused (section 5.1)
 abbrev pub fails_open : (number : ℕ) → (payload : List ℕ) → World → Effect
@@ -180,7 +181,7 @@ opens_at None asked w = refuses NumbersFull w
 opens_at (Some number) asked w = Does [] (Opened (record { 0 = number }))
     (writes (open_frame asked number w.settings.config.window_size
     w.settings.config.maximum_packet_size ∷ [])
-    (lined (asks_next w.settings.config.window_size) w))
+    (lined (asks_next w.settings.config.window_size w.settings.config.maximum_packet_size) w))
 
 abbrev pub opens : OwnOpen → World → Effect
 opens asked w = if is_too_long (open_payload asked 0 w.settings.config.window_size

@@ -1,7 +1,7 @@
 -- The state of a session in the standard's terms. It is a record of the definitions alone: the code
 -- has what it needs of it, and the relation `Refines` of `ssh_session` ties the two.
 use Rattle.std.specs.Prelude.{◌&&◌, ◌||◌, ◌++◌, ◌∷◌, ℕ, Bool, List, [], true, false, not, cond}
-use Rattle.std.specs.Prelude.{◌==◌, drop, Option, Some, None, option_to_list}
+use Rattle.std.specs.Prelude.{◌==◌, min, drop, Option, Some, None, option_to_list}
 use Rattle.ssh_link.specs.Frames.{Frame}
 use Rattle.ssh_handler.specs.declared.config.Config.{Config}
 use Rattle.ssh_auth.specs.Publickey.{Acceptance, Circumstances}
@@ -163,6 +163,19 @@ room_of (Some e) = e.room
 
 abbrev pub room_on : (number : ℕ) → World → ℕ
 room_on number w = room_of (find number w.channels.lines.entries)
+
+-- the most bytes of data that this side takes on it in one message; on no channel none (section
+-- 5.1)
+abbrev pub packet_of : Option Entry → ℕ
+packet_of None = 0
+packet_of (Some e) = e.packet
+
+abbrev pub packet_on : (number : ℕ) → World → ℕ
+packet_on number w = packet_of (find number w.channels.lines.entries)
+
+-- the most that the peer may send on it in one message now
+abbrev pub writable_on : (number : ℕ) → World → ℕ
+writable_on number w = min (room_on number w) (packet_on number w)
 
 -- ---- what changes of the world
 

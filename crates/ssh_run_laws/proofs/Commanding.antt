@@ -21,7 +21,7 @@ use Rattle.ssh_channels.specs.declared.chunk.DataKind.{DataKind}
 use Rattle.ssh_channels.specs.declared.chunk.DataKind.TheVariants.{Plain, Extended}
 use Rattle.ssh_channels.specs.Entry.{Entry, asked, more_may_come, opened, tagged}
 use Rattle.ssh_channels.specs.Layout.{chunk}
-use Rattle.ssh_channels.specs.Lines.{added, asks, drops_pending, find, next_number, takes_data}
+use Rattle.ssh_channels.specs.Lines.{added, asks, joins, find, next_number, takes_data}
 use Rattle.ssh_channels.proofs.Booked.{next_absent}
 use Rattle.ssh_channels.proofs.Listed.{find_new, one_number}
 use Rattle.ssh_rules.specs.Effect.{Does, Effect, accepts, answers, decides, done_apart, done_by}
@@ -106,16 +106,17 @@ opened_leads n w one None open_asked is = (tt, refused_leads n w one NumbersFull
 opened_leads n w one (Some k) open_asked is =
     let lines = w.channels.lines in
     let room = w.settings.config.window_size in
-    let e = asked k room in
+    let packet = w.settings.config.maximum_packet_size in
+    let e = asked k room packet in
     let free = next_absent k lines is in (
       tt,
       record {
         bytes = rw is (new_bytes (n == k) n e lines.entries lines.left refl free refl);
         waits = λ waits h t. h t;
         stands = λ ended_not ended s. rw is (new_stands (n == k) n e lines
-            (asks room (Some k) lines) refl free refl ended s);
-        still = λ none ended s. rw is (new_still (n == k) n e lines (asks room (Some k) lines) refl
-            free refl refl refl ended s);
+            (asks room packet (Some k) lines) refl free refl ended s);
+        still = λ none ended s. rw is (new_still (n == k) n e lines
+            (asks room packet (Some k) lines) refl free refl refl refl ended s);
         opened = λ t. absurd (cc);
         fresh = λ t q. cc;
       },
@@ -269,18 +270,17 @@ confirmed_leads n past w answer opening kept is accepting =
     let room = w.settings.config.window_size in
     let free = (found_waiting 0 number (IsReserved lines) w.channels.opens opening kept.waiting
     is).0.0 in
-    let e = opened number opening.peer opening.window room opening.packet in (
+    let packet = w.settings.config.maximum_packet_size in
+    let e = opened number opening.peer opening.window room opening.packet packet in (
       (refl, tt),
       record {
         bytes = rw (free, accepting)
             (new_bytes (n == number) n e lines.entries lines.left refl free refl);
         waits = λ waits h t. answered_waits n number w waits h t;
-        stands = λ none ended s. rw free (new_stands (n == number) n e lines
-            (record (drops_pending number lines) { entries = added e lines.entries }) refl free refl
-            ended s);
-        still = λ none ended s. rw free (new_still (n == number) n e lines
-            (record (drops_pending number lines) { entries = added e lines.entries }) refl free refl
-            refl refl ended s);
+        stands = λ none ended s. rw free (new_stands (n == number) n e lines (joins e lines) refl
+            free refl ended s);
+        still = λ none ended s. rw free (new_still (n == number) n e lines (joins e lines) refl free
+            refl refl refl ended s);
         opened = λ t. rw free (opened_here (n == number) n e lines.entries refl free refl refl refl
             (subst (λ r. cond (n == number) (is_accepting r) false ≡ true) accepting t));
         fresh = λ t q. cc;

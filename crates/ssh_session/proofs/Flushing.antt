@@ -1,7 +1,7 @@
 -- The end of an input without one.
-use Rattle.std.proofs.Common.{◌≡◌, Bool, true, false, cond, List, [], ◌∷◌, ◌++◌, map}
-use Rattle.std.proofs.Common.{Result, Ok, Err, refl, sym, ◌∙◌, ap, subst}
-use Rattle.ssh_link.specs.Faults.{Rose}
+use Rattle.std.proofs.Common.{◌≡◌, ◌⊎◌, ℕ, Option, Bool, true, false, cond, List, [], ◌∷◌, ◌++◌, map}
+use Rattle.std.proofs.Common.{Result, Ok, Err, refl, sym, ◌∙◌, ap, subst, inl, inr}
+use Rattle.ssh_link.specs.Faults.{Rose, RoseIfKept}
 use Rattle.ssh_link.specs.declared.link.TraceEntry.{TraceEntry}
 use Rattle.ssh_link.specs.declared.link.TraceEntry.TheVariants.{Noticed, Sent}
 use Rattle.ssh_link.specs.declared.notice.Notice.{Notice}
@@ -10,38 +10,44 @@ use Rattle.ssh_auth.specs.declared.question.Question.TheVariants as asked
 use Rattle.ssh_auth.specs.Plan.{Plan, Finish, Ask, Tell, Answer, Answered, Event, Reaches}
 use Rattle.ssh_auth.specs.Plan.{Handler_error, Exchange_error, Breaks, Refused, calls_in}
 use Rattle.ssh_auth.proofs.Plans.{calls_in_both}
+use Rattle.ssh_rules.specs.declared.error.FlushError.{FlushError}
+use Rattle.ssh_rules.specs.declared.error.FlushError.TheVariants as flush
 use Rattle.ssh_rules.specs.declared.error.RunError.{RunError}
 use Rattle.ssh_rules.specs.declared.error.RunError.TheVariants as error
 use Rattle.ssh_session.specs.declared.session.Session.{Session}
 use Rattle.ssh_rules.specs.Acts.{Beginning, acts, frames_given, moved, tell_all}
-use Rattle.ssh_session.specs.Between.{ComesFlushed, Flushes, flushed}
+use Rattle.ssh_session.specs.Between.{ComesFlushed, Flushes, FlushesTo, flush_cause_of, flushed}
+use Rattle.ssh_session.specs.Handing.{DoesTo, IsCutBefore, IsCutBehind, ServesTo}
+use Rattle.ssh_rules.specs.Account.{Told}
+use Rattle.ssh_rules.specs.Cut.{IsCut}
 use Rattle.ssh_rules.specs.Failure.{flush_error_of}
 use Rattle.ssh_rules.specs.Heard.{Heard}
 use Rattle.ssh_rules.specs.Outcome.{Outcome, Goes, Fails}
 use Rattle.ssh_rules.specs.Outcome as outcome
 use Rattle.ssh_rules.specs.Run.{begins, going_out, hand_on, handed_on, is_due}
 use Rattle.ssh_rules.specs.Cause.{Cause, Wants_memory, Link_failed, Limit_reached}
-use Rattle.ssh_session.specs.Serve.{Refines}
+use Rattle.ssh_session.specs.Serve.{IsUnchanged, Refines}
 use Rattle.ssh_rules.specs.Cause.{Faulty, Refused_by, Broken_by, IsCaused, cause_of}
-use Rattle.ssh_session.specs.Serve.{Serves, Does}
 use Rattle.ssh_rules.specs.World.{World}
-use Rattle.ssh_session.proofs.Serving.{completes, serves_nothing}
+use Rattle.ssh_session.proofs.Finishing.{begun_behind}
+use Rattle.ssh_session.proofs.Serving.{serves_nothing}
 use Rattle.ssh_session.proofs.Stepping.{told_of}
 
 -- ---- behind the frames
 
 ended_step : {E F : Type 0} (ended due : Bool) (w : World) (a : Heard E F) (session : Session) →
     ended ≡ true → Refines session w →
-    Serves (cond ended (Finish (Goes w)) (acts (begins due) w))
+    ServesTo IsCutBehind (cond ended (Finish (Goes w)) (acts (begins due) w))
     (λ (_ : Unit {0}) world. Finish (Goes world)) a a session (Ok tt)
 ended_step true due w a session is r =
-    serves_nothing tt (λ (_ : Unit {0}) world. Finish (Goes world)) a w session r
+    (serves_nothing tt (λ (_ : Unit {0}) world. Finish (Goes world)) a w session r, tt)
 ended_step false due w a session is r = absurd (cc)
 
 stands_step : {E F : Type 0} (ended due : Bool) (w : World) (a b : Heard E F) (session : Session)
     (result : Result (Unit {0}) (RunError E F)) → ended ≡ false →
-    Serves (acts (begins due) w) (λ (_ : Unit {0}) world. Finish (Goes world)) a b session result →
-    Serves (cond ended (Finish (Goes w)) (acts (begins due) w))
+    ServesTo IsCutBehind (acts (begins due) w) (λ (_ : Unit {0}) world. Finish (Goes world)) a b
+    session result →
+    ServesTo IsCutBehind (cond ended (Finish (Goes w)) (acts (begins due) w))
     (λ (_ : Unit {0}) world. Finish (Goes world)) a b session result
 stands_step true due w a b session result stands h = absurd (cc)
 stands_step false due w a b session result stands h = h
@@ -49,18 +55,20 @@ stands_step false due w a b session result stands h = h
 -- the connection was ended
 pub flush_ended : {E F : Type 0} (w : World) (a : Heard E F) (session : Session) →
     w.disconnected ≡ true → Refines session w →
-    Serves (flushed w) (λ (_ : Unit {0}) world. Finish (Goes world)) a a session (Ok tt)
+    ServesTo IsCutBehind (flushed w) (λ (_ : Unit {0}) world. Finish (Goes world)) a a session
+    (Ok tt)
 flush_ended w a session is r = ended_step w.disconnected (is_due false w) w a session is r
 
 -- it was not: an exchange of keys began where one is due, or did not begin
 pub flush_due : {E F : Type 0} (w : World) (a b : Heard E F) (session : Session)
     (result : Result (Unit {0}) (RunError E F)) → w.disconnected ≡ false →
-    Does (begins (is_due false w)) w a b session result →
-    Serves (flushed w) (λ (_ : Unit {0}) world. Finish (Goes world)) a b session result
+    DoesTo IsCutBefore (begins (is_due false w)) w a b session result →
+    ServesTo IsCutBehind (flushed w) (λ (_ : Unit {0}) world. Finish (Goes world)) a b session
+    result
 flush_due w a b session result stands h =
     let due = is_due false w in
     stands_step w.disconnected due w a b session result stands
-    (completes (begins due) w a b session result h)
+    (begun_behind due w a b session result h)
 
 -- ---- no other errors
 
@@ -198,42 +206,128 @@ caused_uncalled (Faulty fault) plan rose events h k =
 caused_uncalled (Refused_by e) plan rose events h k = absurd (unasked plan events e h k)
 caused_uncalled (Broken_by e) plan rose events h k = broken_uncalled plan events e h k
 
+-- how far frames were handed on
+cut_nowhere : {A B C D : Type 0} → A ⊎ ((⊥ × B) ⊎ (⊥ × C)) → A ⊎ D
+cut_nowhere (inl none) = inl none
+cut_nowhere (inr (inl (link, frame))) = absurd link
+cut_nowhere (inr (inr (inside, all))) = absurd inside
+
+fails_cut : {E F : Type 0} (e : RunError E F) (starved : Type 0) (plan : Plan Outcome)
+    (events : List (Event E F)) → IsCut (cause_of e) starved plan events →
+    IsCut {E = E} {F = F} (flush_cause_of (flush_error_of e)) starved plan events
+fails_cut error.NoMemory starved plan events h = h
+fails_cut error.LinkFault starved plan events h = h
+fails_cut (error.Kex e) starved plan events h = h
+fails_cut error.InputLimit starved plan events h = cut_nowhere h
+fails_cut (error.Encoding why) starved plan events h = cut_nowhere h
+fails_cut error.Inconsistent starved plan events h = cut_nowhere h
+fails_cut error.Pending starved plan events h = cut_nowhere h
+fails_cut (error.Key why) starved plan events h = cut_nowhere h
+fails_cut error.UnsupportedAuthMethod starved plan events h = cut_nowhere h
+fails_cut (error.Handler e) starved plan events h = cut_nowhere h
+fails_cut error.ChannelsFull starved plan events h = cut_nowhere h
+fails_cut error.KeepaliveTimeout starved plan events h = cut_nowhere h
+fails_cut error.InactivityTimeout starved plan events h = cut_nowhere h
+
 -- ---- what it comes to
 
 -- it is finished
 pub flush_goes : {E F : Type 0} (notices : List Notice) (w : World) (a b : Heard E F)
-    (session : Session) → Serves (tell_all (map Noticed notices) (hand_on w flushed))
+    (session : Session) → ServesTo IsCut (tell_all (map Noticed notices) (hand_on w flushed))
     (λ (_ : Unit {0}) world. Finish (Goes world)) a b session (Ok tt) →
-    Flushes notices w (told_of a) (told_of b) session (Ok tt)
-flush_goes notices w a b session h =
-    let owed = tell_all (map Noticed notices) (hand_on w flushed) in
-    record {
-      plan = owed;
-      owes = refl;
-      events = h.0;
-      uncalled = reached_uncalled owed h.0 (Finish (Goes h.2.0)) (flushed_alone notices w) h.2.1;
-      told = h.1.told;
-      later = h.1.later;
-      stepped = h.1.stepped;
-      comes = (h.2.0, h.2.1, h.2.2);
-    }
+    FlushesTo notices w (told_of a) (told_of b) (RoseIfKept a.starved b.starved) session (Ok tt)
+flush_goes notices w a b session (h, _) =
+    let owed = tell_all (map Noticed notices) (hand_on w flushed) in (
+      record {
+        plan = owed;
+        owes = refl;
+        events = h.0;
+        uncalled = reached_uncalled owed h.0 (Finish (Goes h.2.0)) (flushed_alone notices w) h.2.1;
+        told = h.1.told;
+        later = h.1.later;
+        stepped = h.1.stepped;
+        comes = (h.2.0, h.2.1, h.2.2);
+      },
+      tt,
+    )
 
 -- it is not, and the session is spent
 pub flush_fails : {E F : Type 0} (notices : List Notice) (w : World) (a b : Heard E F)
     (session session' : Session) (e : RunError E F) →
-    Serves (tell_all (map Noticed notices) (hand_on w flushed))
+    ServesTo IsCut (tell_all (map Noticed notices) (hand_on w flushed))
     (λ (_ : Unit {0}) world. Finish (Goes world)) a b session (Err e) →
-    Flushes notices w (told_of a) (told_of b) session' (Err (flush_error_of e))
-flush_fails notices w a b session session' e h =
+    FlushesTo notices w (told_of a) (told_of b) (RoseIfKept a.starved b.starved) session'
+    (Err (flush_error_of e))
+flush_fails notices w a b session session' e (h, cut) =
     let owed = tell_all (map Noticed notices) (hand_on w flushed) in
-    let rose = Rose a.faults b.faults in
-    record {
-      plan = owed;
-      owes = refl;
-      events = h.0;
-      uncalled = caused_uncalled (cause_of e) owed rose h.0 (flushed_alone notices w) h.2;
-      told = h.1.told;
-      later = h.1.later;
-      stepped = h.1.stepped;
-      comes = fails_so owed rose h.0 session' e (flushed_alone notices w) h.2;
-    }
+    let rose = Rose a.faults b.faults in (
+      record {
+        plan = owed;
+        owes = refl;
+        events = h.0;
+        uncalled = caused_uncalled (cause_of e) owed rose h.0 (flushed_alone notices w) h.2;
+        told = h.1.told;
+        later = h.1.later;
+        stepped = h.1.stepped;
+        comes = fails_so owed rose h.0 session' e (flushed_alone notices w) h.2;
+      },
+      fails_cut e (RoseIfKept a.starved b.starved) owed h.0 cut,
+    )
+
+-- it was flushed, however far the frames were handed on
+pub flushes_cut : {E F : Type 0} (notices : List Notice) (w : World) (a b : Told E F)
+    (starved : Type 0) (session : Session) (result : Result (Unit {0}) (FlushError F)) →
+    FlushesTo notices w a b starved session result → Flushes notices w a b session result
+flushes_cut notices w a b starved session result h = h.0
+
+flush_comes_still : {E F : Type 0} (plan : Plan Outcome) (events : List (Event E F))
+    (rose : Type 0) (session session' : Session) (result : Result (Unit {0}) (FlushError F)) →
+    IsUnchanged session session' → ComesFlushed plan events rose session result →
+    ComesFlushed plan events rose session' result
+flush_comes_still plan events rose session session' (Ok done) same h =
+    (h.0, h.1, same h.0 h.2)
+flush_comes_still plan events rose session session' (Err flush.NoMemory) same h = h
+flush_comes_still plan events rose session session' (Err flush.LinkFault) same h = h
+flush_comes_still plan events rose session session' (Err (flush.Kex e)) same h = h
+
+flushes_still : {E F : Type 0} (notices : List Notice) (w : World) (a b : Told E F)
+    (session session' : Session) (result : Result (Unit {0}) (FlushError F)) →
+    IsUnchanged session session' → Flushes notices w a b session result →
+    Flushes notices w a b session' result
+flushes_still notices w a b session session' result same h = record {
+  plan = h.plan;
+  owes = h.owes;
+  events = h.events;
+  uncalled = h.uncalled;
+  told = h.told;
+  later = h.later;
+  stepped = h.stepped;
+  comes = flush_comes_still h.plan h.events (Rose a.faults b.faults) session session' result same
+      h.comes;
+}
+
+-- .. and it is so of a session that stands for the same worlds
+flush_still : {E F : Type 0} (notices : List Notice) (w : World) (a b : Told E F)
+    (starved : Type 0) (session session' : Session) (result : Result (Unit {0}) (FlushError F)) →
+    IsUnchanged session session' → FlushesTo notices w a b starved session result →
+    FlushesTo notices w a b starved session' result
+unfolding flushes_still
+flush_still notices w a b starved session session' (Ok done) same h =
+    (flushes_still notices w a b session session' (Ok done) same h.0, tt)
+flush_still notices w a b starved session session' (Err e) same h =
+    (flushes_still notices w a b session session' (Err e) same h.0, h.1)
+
+-- the same of notices, and of what was told, under other names
+pub flush_known : {E F : Type 0} (notices notices' : List Notice) (w : World)
+    (a a' b b' : Told E F) (p p' q q' : Option ℕ) (session session' : Session)
+    (result : Result (Unit {0}) (FlushError F)) → notices ≡ notices' → a ≡ a' → b ≡ b' →
+    p ≡ p' → q ≡ q' → IsUnchanged session session' →
+    FlushesTo notices w a b (RoseIfKept p q) session result →
+    FlushesTo notices' w a' b' (RoseIfKept p' q') session' result
+flush_known notices notices' w a a' b b' p p' q q' session session' result n s t c d same h =
+    subst (λ x. FlushesTo x w a' b' (RoseIfKept p' q') session' result) n
+    (subst (λ x. FlushesTo notices w x b' (RoseIfKept p' q') session' result) s
+    (subst (λ x. FlushesTo notices w a x (RoseIfKept p' q') session' result) t
+    (subst (λ x. FlushesTo notices w a b (RoseIfKept x q') session' result) c
+    (subst (λ x. FlushesTo notices w a b (RoseIfKept p x) session' result) d
+    (flush_still notices w a b (RoseIfKept p q) session session' result same h)))))

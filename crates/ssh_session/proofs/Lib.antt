@@ -1,4 +1,5 @@
 pub mod Serving
+pub mod Handing
 pub mod Finishing
 pub mod Commanding
 pub mod Refining

@@ -4,16 +4,17 @@ use Rattle.std.specs.Prelude.{◌^◌, length, cond}
 use Rattle.ssh_link.specs.Frames.{Frame}
 use Rattle.ssh_wire.specs.declared.channel_id.ChannelId.{ChannelId}
 use Rattle.ssh_wire.specs.declared.open.ChannelOpenConfirmation.{ChannelOpenConfirmation}
-use Rattle.ssh_channels.specs.Calls.{stage, Draw, Drop_pending, Stage, Confirm, confirm}
+use Rattle.ssh_channels.specs.Calls.{stage, insert_with, Draw, Drop_pending, Stage, Confirm}
+use Rattle.ssh_channels.specs.Calls.{confirm}
 use Rattle.ssh_channels.specs.Does.{does}
 use Rattle.ssh_channels.specs.Entry.{opened}
 use Rattle.ssh_channels.specs.Line.{established}
-use Rattle.ssh_channels.specs.Lines.{Lines, drawn, next_number, adds, drops_pending, write}
+use Rattle.ssh_channels.specs.Lines.{Lines, drawn, next_number, adds_with, drops_pending, write}
 use Rattle.ssh_channels.specs.Lines.{confirms}
 use Rattle.ssh_channels.specs.Numbers as numbers
 use Rattle.ssh_channels.specs.Stands.{Stands}
 use Rattle.ssh_channels.specs.Table.{Table}
-use Rattle.ssh_channels.proofs.Opening.{add_stands, draw_stands, drop_stands}
+use Rattle.ssh_channels.proofs.Opening.{add_with_stands, draw_stands, drop_stands}
 use Rattle.ssh_session.specs.declared.session.Session.{Session}
 use Rattle.ssh_rules.specs.Opening.{Opening}
 use Rattle.ssh_session.specs.Serve.{Refines}
@@ -66,20 +67,15 @@ draws_stands table old w n e d r =
 pub confirms_stands : (table : Table) (old : Session) (w : World) (peer : ℕ) (own : ChannelId)
     (window room packet own_packet : ℕ)
     (frame : Frame) → 0 < packet → window < 2 ^ 32 →
-    table ≡ stage frame (numbers.insert (established peer own window room packet own_packet)
-    old.table) → Refines old w →
-    Stands table (write (frame ∷ []) (adds (opened own.0 peer window room packet) w.channels.lines))
+    table ≡ insert_with frame (established peer own window room packet own_packet) old.table →
+    Refines old w →
+    Stands table (adds_with frame (opened own.0 peer window room packet own_packet)
+    w.channels.lines)
 confirms_stands table old w peer own window room packet own_packet frame k small e r =
-    let s = add_stands old.table w.channels.lines r.table peer own window room packet own_packet k
-    small in
-    subst (λ t. Stands t (write (frame ∷ []) (adds (opened own.0 peer window room packet)
-    w.channels.lines))) (sym e)
-    (record {
-      entries = s.entries;
-      pending = s.pending;
-      last = s.last;
-      written = ap (λ fs. fs ++ frame ∷ []) s.written;
-    })
+    subst (λ t. Stands t (adds_with frame (opened own.0 peer window room packet own_packet)
+    w.channels.lines)) (sym e)
+    (add_with_stands old.table w.channels.lines r.table peer own window room packet own_packet k
+    small frame)
 
 -- a refusal was written, and its number is free
 pub fails_stands : (table : Table) (old : Session) (w : World) (n : ℕ) (frame : Frame) →

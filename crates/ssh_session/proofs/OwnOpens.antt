@@ -42,12 +42,13 @@ pub opened_own : (asked : OwnOpen) (session : Session) (old : Session) (w : Worl
     old.common.config.window_size old.common.config.maximum_packet_size)) w))
     → Refines session (writes (open_frame asked number w.settings.config.window_size
     w.settings.config.maximum_packet_size ∷ [])
-    (lined (asks_next w.settings.config.window_size) w))
+    (lined (asks_next w.settings.config.window_size w.settings.config.maximum_packet_size) w))
 opened_own asked session old w number frame r is h =
     subst (λ (k : Config). Refines session (writes (open_frame asked number k.window_size
-    k.maximum_packet_size ∷ []) (lined (asks_next k.window_size) w))) r.config
+    k.maximum_packet_size ∷ []) (lined (asks_next k.window_size k.maximum_packet_size) w))) r.config
     (subst (λ (f : Frame). Refines session (writes (f ∷ [])
-    (lined (asks_next old.common.config.window_size) w))) is h)
+    (lined (asks_next old.common.config.window_size old.common.config.maximum_packet_size) w))) is
+    h)
 
 -- the table is as it was
 pub untouched : (session : Session) (table : Table)

@@ -30,12 +30,15 @@ use Rattle.ssh_channels.proofs.Standing.{Found, found}
 use Rattle.ssh_session.specs.declared.session.Session.{Session}
 use Rattle.ssh_rules.specs.Effect.{not_usable, no_sending, no_closing}
 use Rattle.ssh_rules.specs.declared.exchange.Keys.{Keys}
-use Rattle.ssh_rules.specs.Acts.{renews}
-use Rattle.ssh_rules.specs.Exchange.{given, heard, renewed}
+use Rattle.ssh_rules.specs.Acts.{gives, steps_on}
+use Rattle.ssh_rules.specs.Exchange.{given, heard}
 use Rattle.ssh_rules.specs.Run.{nothing_waits, going_out, handed_on}
+use Rattle.ssh_session.specs.Handing.{lets_out, turns_keys}
 use Rattle.ssh_session.specs.Serve.{Refines}
 use Rattle.ssh_rules.specs.World.{World, hears, in_exchange, is_empty, is_held, keyed, lined}
 use Rattle.ssh_rules.specs.World.{is_there, next_place, room_of, room_on, target_of, target_on}
+use Rattle.ssh_rules.specs.World.{packet_of, packet_on}
+use Rattle.ssh_handler.specs.Receiving as receiving
 
 -- ---- the table
 
@@ -203,6 +206,18 @@ room_of_same n None (Some e) f = absurd f
 room_of_same n (Some line) None f = absurd f
 room_of_same n (Some line) (Some e) f = f.0.room
 
+packet_of_same : (n : ℕ) (line : Option ChannelParams) (e : Option Entry) → Found n line e →
+    receiving.packet_of line ≡ packet_of e
+packet_of_same n None None f = refl
+packet_of_same n None (Some e) f = absurd f
+packet_of_same n (Some line) None f = absurd f
+packet_of_same n (Some line) (Some e) f = f.0.packet
+
+pub packet_same : (n : ℕ) (session : Session) (w : World) → Refines session w →
+    receiving.packet_at n session.table ≡ packet_on n w
+packet_same n session w r =
+    packet_of_same n _ _ (found 0 n session.table.lines w.channels.lines.entries r.table.entries)
+
 pub room_same : (n : ℕ) (session : Session) (w : World) → Refines session w →
     calls.room_at n session.table ≡ room_on n w
 room_same n session w r =
@@ -281,14 +296,18 @@ heard_by session keepalives keys fits w payload ticks is r = record {
   live = r.live;
 }
 
--- the new keys are in use, and what waited goes on
-pub renewed_to : (session : Session) (table : Table) (keys : Keys)
-    (fits : length session.session_id < 2 ^ 32) (w : World) → table ≡ calls.flush_all session.table →
-    keys ≡ renewed → Refines session w →
-    Refines (record session { table = table; keys = keys; session_id_fits = fits }) (renews w)
-renewed_to session table keys fits w gone_on is r =
-    rekeyed (record session { table = table; session_id_fits = fits }) keys fits (lined all_go_on w)
-    renewed is (called (Flush_all false) session table fits w tt gone_on r)
+-- what waited goes on
+pub let_out_to : (session : Session) (table : Table) (fits : length session.session_id < 2 ^ 32)
+    (w : World) → table ≡ calls.flush_all session.table → Refines session w →
+    Refines (record session { table = table; session_id_fits = fits }) (lined all_go_on w)
+let_out_to session table fits w gone_on r =
+    called (Flush_all false) session table fits w tt gone_on r
+
+-- .. before the frames of the exchange or behind them, which is the same
+pub moved_so : (payload : List ℕ) (frames : List Frame) (done : Bool) (w : World) →
+    turns_keys payload done (gives frames (lets_out done w)) ≡ steps_on payload done (gives frames w)
+moved_so payload frames true w = refl
+moved_so payload frames false w = refl
 
 -- ---- the end of an input
 

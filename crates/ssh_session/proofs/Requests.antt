@@ -4,6 +4,7 @@ use Rattle.std.proofs.Common.{◌≡◌, ◌<◌, ℕ, Bool, true, false, List, 
 use Rattle.std.proofs.Common.{Err, refl, sym, ap, subst, arith}
 use Rattle.ssh_link.specs.Faults.{Rose}
 use Rattle.ssh_link.specs.Told.{Adds, ToldBy}
+use Rattle.ssh_link.proofs.Counts.{counted_same}
 use Rattle.ssh_link.proofs.Tellings.{adds_nil}
 use Rattle.ssh_auth.specs.declared.auth_request.AuthRequest.{AuthRequest}
 use Rattle.ssh_auth.specs.declared.auth_step.AuthStep.{AuthStep}
@@ -47,6 +48,7 @@ heard {E} {F} stops a b calls h = record {
   told = subst (Adds a.trace b.trace) (sym (told_of_calls F calls))
       (subst (λ t. Adds a.trace t []) (sym h.0.2) (adds_nil a.trace));
   later = let x = h.0.3 in omega (arith, x);
+  counted = counted_same a.starved b.starved h.0.4;
   stepped = subst (Adds a.steps b.steps) (sym (steps_of_calls F calls))
       (subst (λ s. Adds a.steps s []) (sym h.0.1) (adds_nil a.steps));
   same = h.0.0;

@@ -23,8 +23,8 @@ use Rattle.ssh_rules.specs.declared.error.Flow.TheVariants.{Continue, Ended}
 use Rattle.ssh_rules.specs.declared.error.RunError.{RunError}
 use Rattle.ssh_rules.specs.declared.error.RunError.TheVariants as error
 use Rattle.ssh_session.specs.declared.session.Session.{Session}
-use Rattle.ssh_rules.specs.Account.{Told, Closes, Ran, Laws}
-use Rattle.ssh_session.specs.Steps.{Steps}
+use Rattle.ssh_rules.specs.Account.{Told, Closes, Ran, RanTo, Laws}
+use Rattle.ssh_session.specs.Steps.{Steps, StepsTo}
 use Rattle.ssh_rules.specs.Failure.{error_of_link}
 use Rattle.ssh_rules.specs.Run.{Owes, Turn, Turns, Run, calls_of, steps_of, entries}
 use Rattle.ssh_rules.specs.Run.{wants_commands}
@@ -33,6 +33,7 @@ use Rattle.ssh_session.specs.Serve.{Refines, IsSuited}
 use Rattle.ssh_rules.specs.World.{Settings, World, in_exchange, opening_world}
 use Rattle.ssh_rules.proofs.Lawful.{lawful}
 use Rattle.ssh_rules.proofs.Settled.{stays_set}
+use Rattle.ssh_session.proofs.Handing.{cut_later}
 use Rattle.ssh_session.proofs.Serving.{told_then, told_none, caused_rose}
 
 -- a run that goes on: this many inputs were finished
@@ -123,16 +124,16 @@ pub record Taken {E F : Type 0} (session : Session) (before after : Told E F)
 
 -- an input was finished, and the run goes on
 pub goes_on : {E F : Type 0} (accepts : Acceptance) (settings : Settings) (a b c d : Told E F)
-    (count : ℕ) (session session' : Session)
+    (starved : Type 0) (count : ℕ) (session session' : Session)
     (commands replies : Bool) (input : Input) → Going accepts settings a b count session
     → Taken session b c commands replies input →
     ((w : World) → Refines session w → w.settings ≡ settings
-    → Steps (Owes accepts w input) c d session' (Ok Continue)) →
+    → StepsTo (Owes accepts w input) c d starved session' (Ok Continue)) →
     Going accepts settings a d (count + 1) session'
-goes_on {E} {F} accepts settings a b c d count session session' commands replies input going taken
+goes_on {E} {F} accepts settings a b c d starved count session session' commands replies input going taken
     step =
     let w = going.world in
-    let done = step w going.refines going.set in
+    let done = (step w going.refines going.set).0 in
     let turn : Turn E F = record
     { input = input; commands = commands; replies = replies; events = done.events } in
     let comes = done.comes in
@@ -164,16 +165,15 @@ goes_on {E} {F} accepts settings a b c d count session session' commands replies
     }
 
 -- an input ended the run
-pub ends : {E F : Type 0} (accepts : Acceptance) (settings : Settings) (a b c d : Told E F)
+ended_so : {E F : Type 0} (accepts : Acceptance) (settings : Settings) (a b c d : Told E F)
     (count max : ℕ) (session session' : Session)
     (commands replies : Bool) (input : Input) → Going accepts settings a b count session
     → Taken session b c commands replies input →
     ((w : World) → Refines session w → w.settings ≡ settings
     → Steps (Owes accepts w input) c d session' (Ok Ended)) → count < max
     → Ran accepts settings a d max (Ok tt)
-ends {E} {F} accepts settings a b c d count max session session' commands replies input going taken
-    step
-    room =
+ended_so {E} {F} accepts settings a b c d count max session session' commands replies input going
+    taken step room =
     let w = going.world in
     let done = step w going.refines going.set in
     let turn : Turn E F = record
@@ -198,15 +198,30 @@ ends {E} {F} accepts settings a b c d count max session session' commands replie
           omega (arith, x, y, z);
     }
 
+pub ends : {E F : Type 0} (accepts : Acceptance) (settings : Settings) (a b c d : Told E F)
+    (starved starved' : Type 0) (count max : ℕ) (session session' : Session)
+    (commands replies : Bool) (input : Input) → Going accepts settings a b count session
+    → Taken session b c commands replies input →
+    ((w : World) → Refines session w → w.settings ≡ settings
+    → StepsTo (Owes accepts w input) c d starved session' (Ok Ended)) → count < max
+    → RanTo accepts settings a d starved' max (Ok tt)
+unfolding ended_so
+ends accepts settings a b c d starved starved' count max session session' commands replies input
+    going taken step room = (
+      ended_so accepts settings a b c d count max session session' commands replies input going taken
+          (λ w r set. (step w r set).0) room,
+      tt,
+    )
+
 -- an input was not finished
-pub stopped : {E F : Type 0} (accepts : Acceptance) (settings : Settings) (a b c d : Told E F)
+stopped_so : {E F : Type 0} (accepts : Acceptance) (settings : Settings) (a b c d : Told E F)
     (count max : ℕ) (session session' : Session)
     (commands replies : Bool) (input : Input) (e : RunError E F)
     → Going accepts settings a b count session → Taken session b c commands replies input →
     ((w : World) → Refines session w → w.settings ≡ settings
     → Steps (Owes accepts w input) c d session' (Err e)) → count < max →
     Ran accepts settings a d max (Err e)
-stopped {E} {F} accepts settings a b c d count max session session' commands replies input e going
+stopped_so {E} {F} accepts settings a b c d count max session session' commands replies input e going
     taken step room =
     let w = going.world in
     let done = step w going.refines going.set in
@@ -241,19 +256,36 @@ stopped {E} {F} accepts settings a b c d count max session session' commands rep
           omega (arith, x, y, z);
     }
 
+-- .. and its frames were cut so
+pub stopped : {E F : Type 0} (accepts : Acceptance) (settings : Settings) (a b c d : Told E F)
+    (starved starved' : Type 0) (count max : ℕ) (session session' : Session)
+    (commands replies : Bool) (input : Input) (e : RunError E F)
+    → Going accepts settings a b count session → Taken session b c commands replies input →
+    ((w : World) → Refines session w → w.settings ≡ settings
+    → StepsTo (Owes accepts w input) c d starved session' (Err e)) → count < max →
+    (starved → starved') → RanTo accepts settings a d starved' max (Err e)
+unfolding stopped_so
+stopped accepts settings a b c d starved starved' count max session session' commands replies input
+    e going taken step room later = (
+      stopped_so accepts settings a b c d count max session session' commands replies input e going
+          taken (λ w r set. (step w r set).0) room,
+      (let done = step going.world going.refines going.set in
+          cut_later (cause_of e) starved starved' done.0.plan done.0.events later done.1),
+    )
+
 weakly : {A : Type 0} (stops : Bool) (a b : Option (List A)) (xs : List A) → Adds a b xs
     → ToldBy stops a b xs
 weakly stops a b xs h = subst (ToldBy stops a b) (append-nil xs)
     (told_then stops a b b xs [] h (told_none stops b))
 
 -- no further input was taken
-no_input : {E F : Type 0} (accepts : Acceptance) (settings : Settings) (a b c : Told E F)
+no_input_so : {E F : Type 0} (accepts : Acceptance) (settings : Settings) (a b c : Told E F)
     (count max : ℕ) (session : Session) (e : RunError E F) →
     Going accepts settings a b count session → Adds b.trace c.trace [] → c.calls ≡ b.calls
     → c.steps ≡ b.steps → b.faults ≤ c.faults →
     ((w : World) → Closes accepts w count max None (Rose a.faults c.faults) (Err e))
     → Ran accepts settings a c max (Err e)
-no_input accepts settings a b c count max session e going took uncalled unstepped later closes =
+no_input_so accepts settings a b c count max session e going took uncalled unstepped later closes =
     let stops = may_stop {T = Unit {0}} (Err e) in
     record {
       turns = going.turns;
@@ -277,38 +309,51 @@ no_input accepts settings a b c count max session e going took uncalled unsteppe
       later = let x = going.later in omega (arith, x, later);
     }
 
+no_input : {E F : Type 0} (accepts : Acceptance) (settings : Settings) (a b c : Told E F)
+    (starved : Type 0) (count max : ℕ) (session : Session) (e : RunError E F) →
+    Going accepts settings a b count session → Adds b.trace c.trace [] → c.calls ≡ b.calls
+    → c.steps ≡ b.steps → b.faults ≤ c.faults →
+    ((w : World) → Closes accepts w count max None (Rose a.faults c.faults) (Err e))
+    → RanTo accepts settings a c starved max (Err e)
+unfolding no_input_so
+no_input accepts settings a b c starved count max session e going took uncalled unstepped later
+    closes = (
+      no_input_so accepts settings a b c count max session e going took uncalled unstepped later closes,
+      tt,
+    )
+
 -- the link gave no further input
 pub link_left : {E F : Type 0} (accepts : Acceptance) (settings : Settings) (a b c : Told E F)
-    (count max : ℕ) (session : Session)
+    (starved : Type 0) (count max : ℕ) (session : Session)
     (fault : LinkFault) → Going accepts settings a b count session → Adds b.trace c.trace []
     → c.calls ≡ b.calls → c.steps ≡ b.steps →
     b.faults ≤ c.faults → (fault ≡ Failed → b.faults < c.faults) → count < max →
-    Ran accepts settings a c max (Err (error_of_link fault))
-link_left accepts settings a b c count max session Failed going took uncalled unstepped later cause
+    RanTo accepts settings a c starved max (Err (error_of_link fault))
+link_left accepts settings a b c starved count max session Failed going took uncalled unstepped later cause
     room =
-    no_input accepts settings a b c count max session error.LinkFault going took uncalled unstepped
+    no_input accepts settings a b c starved count max session error.LinkFault going took uncalled unstepped
     later
     (λ w. let rose = cause refl in let more = going.later in (omega (arith, rose, more), room))
-link_left accepts settings a b c count max session NoMemory going took uncalled unstepped later
+link_left accepts settings a b c starved count max session NoMemory going took uncalled unstepped later
     cause room =
-    no_input accepts settings a b c count max session error.NoMemory going took uncalled unstepped
+    no_input accepts settings a b c starved count max session error.NoMemory going took uncalled unstepped
     later
     (λ w. omega (arith, room))
 
 -- as many inputs were finished as there may be
 pub limit_reached : {E F : Type 0} (accepts : Acceptance) (settings : Settings) (a b : Told E F)
-    (count max : ℕ) (session : Session) →
-    Going accepts settings a b count session → count ≡ max → Ran accepts settings a b max
+    (starved : Type 0) (count max : ℕ) (session : Session) →
+    Going accepts settings a b count session → count ≡ max → RanTo accepts settings a b starved max
     (Err error.InputLimit)
-limit_reached accepts settings a b count max session going is =
-    no_input accepts settings a b b count max session error.InputLimit going
+limit_reached accepts settings a b starved count max session going is =
+    no_input accepts settings a b b starved count max session error.InputLimit going
     (adds_nil b.trace) refl refl
     (omega arith) (λ w. is)
 
 -- a run that could not begin
-pub not_begun : (E F : Type 0) (accepts : Acceptance) (settings : Settings) (a : Told E F) (max : ℕ)
+none_begun : (E F : Type 0) (accepts : Acceptance) (settings : Settings) (a : Told E F) (max : ℕ)
     → Ran accepts settings a a max (Err error.NoMemory)
-not_begun E F accepts settings a max = record {
+none_begun E F accepts settings a max = record {
   turns = [];
   world = opening_world settings;
   run = refl;
@@ -320,13 +365,19 @@ not_begun E F accepts settings a max = record {
   later = omega arith;
 }
 
+pub not_begun : (E F : Type 0) (accepts : Acceptance) (settings : Settings) (a : Told E F)
+    (starved : Type 0) (max : ℕ) → RanTo accepts settings a a starved max (Err error.NoMemory)
+unfolding none_begun
+not_begun E F accepts settings a starved max = (none_begun E F accepts settings a max, tt)
+
 -- what was run is lawful
 pub laws_of : {E F : Type 0} (accepts : Acceptance) (settings : Settings) (before after : Told E F)
-    (max : ℕ)
-    (result : Result (Unit {0}) (RunError E F)) → Ran accepts settings before after max result
-    → Laws accepts settings before after max result
-laws_of accepts settings before after max result account = record {
-  run = account;
+    (starved : Type 0) (max : ℕ) (result : Result (Unit {0}) (RunError E F)) →
+    RanTo accepts settings before after starved max result →
+    Laws accepts settings before after starved max result
+laws_of accepts settings before after starved max result account = record {
+  run = account.0;
+  cut = account.1;
   lawful = λ other. lawful accepts settings before after max result other;
 }
 

@@ -10,6 +10,7 @@ use Rattle.ssh_wire.specs.declared.error.WireError.TheVariants as wire
 use Rattle.std.specs.Prelude.{OnOk, IfErr}
 use Rattle.ssh_link.specs.Faults.{Rose}
 use Rattle.ssh_link.specs.Told.{Adds, AddsOne, ToldBy}
+use Rattle.ssh_link.proofs.Counts.{still_counted, counted_same, counted_both}
 use Rattle.ssh_link.proofs.Tellings.{adds_both, adds_nil, adds_weak, adds_then, adds_none}
 use Rattle.ssh_link.specs.declared.kex.KexCall.{KexCall}
 use Rattle.ssh_link.specs.declared.kex.KexFault.{KexFault}
@@ -58,7 +59,7 @@ caused_reached (Refused_by e) plan mid rose xs ys r h = reaches_breaks plan mid 
 caused_reached (Broken_by e) plan mid rose xs ys r h = reaches_breaks plan mid xs ys
     (Exchange_error e) r h
 
-answers_reached : {T E F : Type 0} (plan mid : Plan Outcome) (next : T → World → Plan Outcome)
+pub answers_reached : {T E F : Type 0} (plan mid : Plan Outcome) (next : T → World → Plan Outcome)
     (rose : Type 0)
     (xs ys : List (Event E F)) (session : Session) (result : Result T (RunError E F)) →
     Reaches plan xs mid → Answers mid next rose ys session result → Answers plan next rose
@@ -79,7 +80,7 @@ caused_rose (Faulty fault) plan rose rose' events f h = h
 caused_rose (Refused_by e) plan rose rose' events f h = h
 caused_rose (Broken_by e) plan rose rose' events f h = h
 
-answers_rose : {T E F : Type 0} (plan : Plan Outcome) (next : T → World → Plan Outcome)
+pub answers_rose : {T E F : Type 0} (plan : Plan Outcome) (next : T → World → Plan Outcome)
     (rose rose' : Type 0)
     (events : List (Event E F)) (session : Session) (result : Result T (RunError E F)) →
     (rose → rose') → Answers plan next rose events session result → Answers plan next rose' events
@@ -115,6 +116,7 @@ hears_then stops a b c xs ys h k = record {
   told = subst (Adds a.trace c.trace) (sym (told_in_both xs ys))
       (adds_both a.trace b.trace c.trace (told_in xs) (told_in ys) h.told k.told);
   later = let x = h.later in let y = k.later in omega (arith, x, y);
+  counted = counted_both a.starved b.starved c.starved h.counted k.counted;
   stepped = subst (Adds a.steps c.steps) (sym (steps_in_both xs ys))
       (adds_both a.steps b.steps c.steps (steps_in xs) (steps_in ys) h.stepped k.stepped);
   same = same_both a b c h.same k.same;
@@ -125,6 +127,7 @@ hears_nothing stops a = record {
   called = told_none stops a.calls;
   told = adds_nil a.trace;
   later = omega arith;
+  counted = still_counted a.starved;
   stepped = adds_nil a.steps;
   same = same_as a;
 }
@@ -132,7 +135,7 @@ hears_nothing stops a = record {
 -- ---- one part, and then the next
 
 -- a plan has come to a rest, and from there on it was served
-pub reached : {T E F : Type 0} (plan mid : Plan Outcome) (next : T → World → Plan Outcome)
+unfoldable pub reached : {T E F : Type 0} (plan mid : Plan Outcome) (next : T → World → Plan Outcome)
     (a b c : Heard E F)
     (xs : List (Event E F)) (session : Session) (result : Result T (RunError E F)) →
     Hears false a b xs → Reaches plan xs mid → Serves mid next b c session result
@@ -146,7 +149,7 @@ reached plan mid next a b c xs session result h r k = (
 )
 
 -- one part was served, and then the next
-pub served_both : {T U E F : Type 0} (value : U) (plan : Plan Outcome) (mid : U → World
+unfoldable pub served_both : {T U E F : Type 0} (value : U) (plan : Plan Outcome) (mid : U → World
     → Plan Outcome)
     (next : T → World → Plan Outcome) (a b c : Heard E F) (session session' : Session)
     (result : Result T (RunError E F)) →
@@ -181,7 +184,7 @@ pub serves_nothing : {T E F : Type 0} (value : T) (next : T → World → Plan O
 serves_nothing value next a w session r = ([], hears_nothing false a, (w, refl, r))
 
 -- memory was wanting before anything was told
-pub starves : {T E F : Type 0} (plan : Plan Outcome) (next : T → World → Plan Outcome)
+unfoldable pub starves : {T E F : Type 0} (plan : Plan Outcome) (next : T → World → Plan Outcome)
     (a : Heard E F)
     (session : Session) →
     Serves {T = T} plan next a a session (Err error.NoMemory)
@@ -209,50 +212,56 @@ completes now w a b session result h =
 
 -- ---- the link
 
+-- the link was given this
+pub gives_hears : {E F : Type 0} (entry : TraceEntry) (a b : Heard E F) →
+    Gives {T = Unit {0}} a b entry (Ok tt) → Hears false a b (Told entry ∷ [])
+gives_hears entry a b h = record {
+  called = subst (λ c. Adds a.calls c []) (sym h.0.1) (adds_nil a.calls);
+  told = h.1;
+  later = h.2;
+  counted = h.3;
+  stepped = subst (λ s. Adds a.steps s []) (sym h.0.2) (adds_nil a.steps);
+  same = h.0.0;
+}
+
+-- .. or failed
+pub fails_hears : {E F : Type 0} (entry : TraceEntry) (a b : Heard E F) (fault : LinkFailure) →
+    Gives {T = Unit {0}} a b entry (Err fault) →
+    Hears (may_stop {T = Unit {0}} {E = E} {F = F} (Err (error_of_link fault))) a b []
+fails_hears entry a b link.Failed h = record {
+  called = subst (λ c. Adds a.calls c []) (sym h.0.1) (adds_nil a.calls);
+  told = h.1;
+  later = let x = h.2 in omega (arith, x);
+  counted = h.3;
+  stepped = subst (λ s. Adds a.steps s []) (sym h.0.2) (adds_nil a.steps);
+  same = h.0.0;
+}
+fails_hears entry a b link.NoMemory h = record {
+  called = subst (λ c. Adds a.calls c []) (sym h.0.1) (adds_nil a.calls);
+  told = h.1;
+  later = h.2;
+  counted = h.3;
+  stepped = subst (λ s. Adds a.steps s []) (sym h.0.2) (adds_nil a.steps);
+  same = h.0.0;
+}
+
 -- the link was given what the plan owes
 pub given : {E F : Type 0} (entry : TraceEntry) (next : Plan Outcome) (a b : Heard E F) (w : World)
     (session : Session) →
     Refines session w → Gives {T = Unit {0}} a b entry (Ok tt) →
     Serves (Tell entry next) (λ (_ : Unit {0}) _. next) a b session (Ok tt)
-given entry next a b w session r h = (
-  Told entry ∷ [],
-  record {
-    called = subst (λ c. Adds a.calls c []) (sym h.0.1) (adds_nil a.calls);
-    told = h.1;
-    later = h.2;
-    stepped = subst (λ s. Adds a.steps s []) (sym h.0.2) (adds_nil a.steps);
-    same = h.0.0;
-  },
-  (w, (refl, refl), r),
-)
+given entry next a b w session r h =
+    (Told entry ∷ [], gives_hears entry a b h, (w, (refl, refl), r))
 
 -- .. or failed
 pub not_given : {T E F : Type 0} (entry : TraceEntry) (plan : Plan Outcome) (next : T → World
     → Plan Outcome) (a b : Heard E F)
     (session : Session) (fault : LinkFailure) → Gives {T = Unit {0}} a b entry (Err fault) →
     Serves {T = T} plan next a b session (Err (error_of_link fault))
-not_given entry plan next a b session link.Failed h = (
-  [],
-  record {
-    called = subst (λ c. Adds a.calls c []) (sym h.0.1) (adds_nil a.calls);
-    told = h.1;
-    later = let x = h.2 in omega (arith, x);
-    stepped = subst (λ s. Adds a.steps s []) (sym h.0.2) (adds_nil a.steps);
-    same = h.0.0;
-  },
-  (h.2, (plan, refl)),
-)
-not_given entry plan next a b session link.NoMemory h = (
-  [],
-  record {
-    called = subst (λ c. Adds a.calls c []) (sym h.0.1) (adds_nil a.calls);
-    told = h.1;
-    later = h.2;
-    stepped = subst (λ s. Adds a.steps s []) (sym h.0.2) (adds_nil a.steps);
-    same = h.0.0;
-  },
-  (plan, refl),
-)
+not_given entry plan next a b session link.Failed h =
+    ([], fails_hears entry a b link.Failed h, (h.2, (plan, refl)))
+not_given entry plan next a b session link.NoMemory h =
+    ([], fails_hears entry a b link.NoMemory h, (plan, refl))
 
 -- ---- the handler
 
@@ -267,6 +276,7 @@ asked question answer next a b w session r h = (
     called = h.2.1;
     told = subst (λ t. Adds a.trace t []) (sym h.2.0.2) (adds_nil a.trace);
     later = let x = h.2.0.3 in omega (arith, x);
+    counted = counted_same a.starved b.starved h.2.0.4;
     stepped = subst (λ s. Adds a.steps s []) (sym h.2.0.1) (adds_nil a.steps);
     same = h.2.0.0;
   },
@@ -284,6 +294,7 @@ asked_in_vain question next later a b session e h = (
     called = h.2.1;
     told = subst (λ t. Adds a.trace t []) (sym h.2.0.2) (adds_nil a.trace);
     later = let x = h.2.0.3 in omega (arith, x);
+    counted = counted_same a.starved b.starved h.2.0.4;
     stepped = subst (λ s. Adds a.steps s []) (sym h.2.0.1) (adds_nil a.steps);
     same = h.2.0.0;
   },
@@ -293,7 +304,7 @@ asked_in_vain question next later a b session e h = (
 -- ---- the exchange of keys
 
 -- it was asked what the plan asks
-pub exchange_asked : {E F : Type 0} (question : Question) (answer : Answer question)
+unfoldable pub exchange_asked : {E F : Type 0} (question : Question) (answer : Answer question)
     (next : Answer question → Plan Outcome) (call : KexCall F) (a b : Heard E F) (w : World)
     (session : Session) → Refines session w → AsksExchangeAlone a b →
     AddsOne a.steps b.steps call → Answered {E = E} {F = F} question answer (Stepped call) →
@@ -304,6 +315,7 @@ exchange_asked question answer next call a b w session r alone added is = (
     called = subst (λ c. Adds a.calls c []) (sym alone.1) (adds_nil a.calls);
     told = subst (λ t. Adds a.trace t []) (sym alone.2) (adds_nil a.trace);
     later = let x = alone.3 in omega (arith, x);
+    counted = counted_same a.starved b.starved alone.4;
     stepped = added;
     same = alone.0;
   },
@@ -311,7 +323,7 @@ exchange_asked question answer next call a b w session r alone added is = (
 )
 
 -- .. and answered an error, or had no memory
-pub exchange_failed : {T U E F : Type 0} (question : Question)
+unfoldable pub exchange_failed : {T U E F : Type 0} (question : Question)
     (next : Answer question → Plan Outcome) (later : T → World → Plan Outcome)
     (call : Result U F → KexCall F) (a b : Heard E F) (session : Session) (fault : KexFault F) →
     Exchanges a b call (Err fault) →
@@ -323,6 +335,7 @@ exchange_failed question next later call a b session (kex.Refused e) h refused =
     called = subst (λ c. Adds a.calls c []) (sym h.0.1) (adds_nil a.calls);
     told = subst (λ t. Adds a.trace t []) (sym h.0.2) (adds_nil a.trace);
     later = let x = h.0.3 in omega (arith, x);
+    counted = counted_same a.starved b.starved h.0.4;
     stepped = h.1;
     same = h.0.0;
   },
@@ -334,6 +347,7 @@ exchange_failed question next later call a b session kex.NoMemory h refused = (
     called = subst (λ c. Adds a.calls c []) (sym h.0.1) (adds_nil a.calls);
     told = subst (λ t. Adds a.trace t []) (sym h.0.2) (adds_nil a.trace);
     later = let x = h.0.3 in omega (arith, x);
+    counted = counted_same a.starved b.starved h.0.4;
     stepped = h.1;
     same = h.0.0;
   },

@@ -1,5 +1,5 @@
 -- A step, from what serving its input does.
-use Rattle.std.proofs.Common.{◌≡◌, List, Result, Ok, Err, refl, sym, subst, inl, inr}
+use Rattle.std.proofs.Common.{◌≡◌, ℕ, Option, List, Result, Ok, Err, refl, sym, subst, inl, inr}
 use Rattle.ssh_link.specs.declared.frame.Input.{Input}
 use Rattle.ssh_link.specs.declared.notice.Notice.{Notice}
 use Rattle.ssh_auth.specs.Publickey.{Acceptance}
@@ -9,13 +9,15 @@ use Rattle.ssh_rules.specs.declared.error.Flow.TheVariants.{Continue, Ended}
 use Rattle.ssh_rules.specs.declared.error.RunError.{RunError}
 use Rattle.ssh_session.specs.declared.session.Session.{Session}
 use Rattle.ssh_rules.specs.Account.{Told}
-use Rattle.ssh_session.specs.Steps.{Comes, Steps}
-use Rattle.ssh_session.specs.Between.{OwesBehind, OwesNotices, StepsAfter, TakesBehind}
+use Rattle.ssh_session.specs.Steps.{Comes, Steps, StepsTo}
+use Rattle.ssh_session.specs.Between.{OwesBehind, OwesNotices, StepsAfter, CutsAfter, TakesBehind}
+use Rattle.ssh_session.specs.Handing.{CompletesTo}
+use Rattle.ssh_rules.specs.Cut.{IsCut}
 use Rattle.ssh_rules.specs.Heard.{Heard}
 use Rattle.ssh_rules.specs.Outcome.{Outcome}
 use Rattle.ssh_session.specs.Serve.{Refines, Completes, IsUnchanged}
 use Rattle.ssh_rules.specs.World.{World}
-use Rattle.ssh_link.specs.Faults.{Rose}
+use Rattle.ssh_link.specs.Faults.{Rose, RoseIfKept}
 
 -- what the three of an outside have told
 abbrev pub told_of : {E F : Type 0} → Heard E F → Told E F
@@ -37,12 +39,11 @@ comes_so plan a b session session' (Ok Ended) same h = (h.2.0, h.2.1)
 comes_so plan a b session session' (Err e) same h = h.2
 
 -- what is owed was done, and then the session is spent or goes on
-pub noted : {E F : Type 0} (IsOwed : Plan Outcome → Type 0) (a b : Heard E F)
+noted_step : {E F : Type 0} (IsOwed : Plan Outcome → Type 0) (a b : Heard E F)
     (session session' : Session) (result : Result Flow (RunError E F)) →
-    (result ≡ Ok Continue → IsUnchanged session session') →
-    ((plan : Plan Outcome) × IsOwed plan × Completes plan a b session result) →
-    Steps IsOwed (told_of a) (told_of b) session' result
-noted IsOwed a b session session' result same (plan, owes, h) = record {
+    (result ≡ Ok Continue → IsUnchanged session session') → (plan : Plan Outcome) → IsOwed plan →
+    Completes plan a b session result → Steps IsOwed (told_of a) (told_of b) session' result
+noted_step IsOwed a b session session' result same plan owes h = record {
   plan = plan;
   owes = owes;
   events = h.0;
@@ -52,6 +53,17 @@ noted IsOwed a b session session' result same (plan, owes, h) = record {
   stepped = h.1.stepped;
   comes = comes_so plan a b session session' result same h;
 }
+
+pub noted : {E F : Type 0} (IsOwed : Plan Outcome → Type 0) (a b : Heard E F)
+    (session session' : Session) (result : Result Flow (RunError E F)) →
+    (result ≡ Ok Continue → IsUnchanged session session') →
+    ((plan : Plan Outcome) × IsOwed plan × CompletesTo IsCut plan a b session result) →
+    StepsTo IsOwed (told_of a) (told_of b) (RoseIfKept a.starved b.starved) session' result
+unfolding noted_step
+noted IsOwed a b session session' (Ok flow) same p =
+    (noted_step IsOwed a b session session' (Ok flow) same p.0 p.1 p.2.0, tt)
+noted IsOwed a b session session' (Err e) same p =
+    (noted_step IsOwed a b session session' (Err e) same p.0 p.1 p.2.0, p.2.1)
 
 -- the same session, as far as worlds go
 pub unchanged_by : (session session' : Session) → session' ≡ session → IsUnchanged session session'
@@ -82,6 +94,27 @@ steps_still IsOwed a b session session' result same h = record {
   comes = still_comes h.plan h.events (Rose a.faults b.faults) session session' result same h.comes;
 }
 
+pub steps_to_still : {E F : Type 0} (IsOwed : Plan Outcome → Type 0) (a b : Told E F)
+    (starved : Type 0) (session session' : Session) (result : Result Flow (RunError E F)) →
+    IsUnchanged session session' → StepsTo IsOwed a b starved session result →
+    StepsTo IsOwed a b starved session' result
+unfolding steps_still
+steps_to_still IsOwed a b starved session session' (Ok flow) same h =
+    (steps_still IsOwed a b session session' (Ok flow) same h.0, tt)
+steps_to_still IsOwed a b starved session session' (Err e) same h =
+    (steps_still IsOwed a b session session' (Err e) same h.0, h.1)
+
+-- the same of what was told under other names
+pub steps_known : {E F : Type 0} (IsOwed : Plan Outcome → Type 0) (a a' b b' : Told E F)
+    (p p' q q' : Option ℕ) (session : Session) (result : Result Flow (RunError E F)) → a ≡ a' →
+    b ≡ b' → p ≡ p' → q ≡ q' → StepsTo IsOwed a b (RoseIfKept p q) session result →
+    StepsTo IsOwed a' b' (RoseIfKept p' q') session result
+steps_known IsOwed a a' b b' p p' q q' session result s t c d h =
+    subst (λ x. StepsTo IsOwed x b' (RoseIfKept p' q') session result) s
+    (subst (λ x. StepsTo IsOwed a x (RoseIfKept p' q') session result) t
+    (subst (λ x. StepsTo IsOwed a b (RoseIfKept x q') session result) c
+    (subst (λ x. StepsTo IsOwed a b (RoseIfKept p x) session result) d h)))
+
 -- ---- behind notices
 
 -- what was taken behind notices was done, and then the session is spent or goes on
@@ -89,18 +122,45 @@ pub noted_behind : {E F : Type 0} (notices : List Notice) (accepts : Acceptance)
     (input : Input) (a b : Heard E F) (session session' : Session)
     (result : Result Flow (RunError E F)) → (result ≡ Ok Continue → IsUnchanged session session') →
     TakesBehind notices accepts w input a b session result →
-    StepsAfter notices accepts w input (told_of a) (told_of b) session' result
+    CutsAfter notices accepts w input (told_of a) (told_of b) (RoseIfKept a.starved b.starved)
+    session' result
 noted_behind notices accepts w input a b session session' result same (inl h) =
     inl (noted (OwesBehind notices accepts w input) a b session session' result same h)
 noted_behind notices accepts w input a b session session' result same (inr (e, is, h)) =
     inr (e, is, noted (OwesNotices notices w) a b session session' result same (_, refl, h))
 
-pub still_behind : {E F : Type 0} (notices : List Notice) (accepts : Acceptance) (w : World)
-    (input : Input) (a b : Told E F) (session session' : Session)
+still_cut : {E F : Type 0} (notices : List Notice) (accepts : Acceptance) (w : World)
+    (input : Input) (a b : Told E F) (starved : Type 0) (session session' : Session)
     (result : Result Flow (RunError E F)) → IsUnchanged session session' →
-    StepsAfter notices accepts w input a b session result →
-    StepsAfter notices accepts w input a b session' result
-still_behind notices accepts w input a b session session' result same (inl h) =
-    inl (steps_still (OwesBehind notices accepts w input) a b session session' result same h)
-still_behind notices accepts w input a b session session' result same (inr (e, is, h)) =
-    inr (e, is, steps_still (OwesNotices notices w) a b session session' result same h)
+    CutsAfter notices accepts w input a b starved session result →
+    CutsAfter notices accepts w input a b starved session' result
+still_cut notices accepts w input a b starved session session' result same (inl h) =
+    inl (steps_to_still (OwesBehind notices accepts w input) a b starved session session' result
+    same h)
+still_cut notices accepts w input a b starved session session' result same (inr (e, is, h)) =
+    inr (e, is, steps_to_still (OwesNotices notices w) a b starved session session' result same h)
+
+-- the same of notices, and of what was told, under other names
+pub known_cut : {E F : Type 0} (notices notices' : List Notice) (accepts : Acceptance) (w : World)
+    (input : Input) (a a' b b' : Told E F) (p p' q q' : Option ℕ) (session session' : Session)
+    (result : Result Flow (RunError E F)) → notices ≡ notices' → a ≡ a' → b ≡ b' → p ≡ p' →
+    q ≡ q' → IsUnchanged session session' →
+    CutsAfter notices accepts w input a b (RoseIfKept p q) session result →
+    CutsAfter notices' accepts w input a' b' (RoseIfKept p' q') session' result
+known_cut notices notices' accepts w input a a' b b' p p' q q' session session' result n s t c d same
+    h =
+    subst (λ x. CutsAfter x accepts w input a' b' (RoseIfKept p' q') session' result) n
+    (subst (λ x. CutsAfter notices accepts w input x b' (RoseIfKept p' q') session' result) s
+    (subst (λ x. CutsAfter notices accepts w input a x (RoseIfKept p' q') session' result) t
+    (subst (λ x. CutsAfter notices accepts w input a b (RoseIfKept x q') session' result) c
+    (subst (λ x. CutsAfter notices accepts w input a b (RoseIfKept p x) session' result) d
+    (still_cut notices accepts w input a b (RoseIfKept p q) session session' result same h)))))
+
+-- it was taken, however far its frames were handed on
+pub steps_cut : {E F : Type 0} (notices : List Notice) (accepts : Acceptance) (w : World)
+    (input : Input) (a b : Told E F) (starved : Type 0) (session : Session)
+    (result : Result Flow (RunError E F)) →
+    CutsAfter notices accepts w input a b starved session result →
+    StepsAfter notices accepts w input a b session result
+steps_cut notices accepts w input a b starved session result (inl h) = inl h.0
+steps_cut notices accepts w input a b starved session result (inr (e, is, h)) = inr (e, is, h.0)

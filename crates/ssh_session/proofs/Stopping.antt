@@ -10,19 +10,19 @@ use Rattle.ssh_rules.specs.World.{World}
 use Rattle.ssh_session.proofs.Serving.{hears_nothing}
 
 -- what does not come in an exchange of keys
-pub barred_input : {T E F : Type 0} (next : T → World → Plan Outcome) (a : Heard E F)
+unfoldable pub barred_input : {T E F : Type 0} (next : T → World → Plan Outcome) (a : Heard E F)
     (session : Session) →
     Serves {T = T} {E = E} {F = F} (Finish (Fails Inconsistent)) next a a session
     (Err error.Inconsistent)
 barred_input next a session = ([], hears_nothing false a, refl)
 
-pub late_input : {T E F : Type 0} (next : T → World → Plan Outcome) (a : Heard E F)
+unfoldable pub late_input : {T E F : Type 0} (next : T → World → Plan Outcome) (a : Heard E F)
     (session : Session) →
     Serves {T = T} {E = E} {F = F} (Finish (Fails Pending)) next a a session (Err error.Pending)
 late_input next a session = ([], hears_nothing false a, refl)
 
 -- nothing came from the peer for too long
-pub inactive_input : {T E F : Type 0} (next : T → World → Plan Outcome) (a : Heard E F)
+unfoldable pub inactive_input : {T E F : Type 0} (next : T → World → Plan Outcome) (a : Heard E F)
     (session : Session) →
     Serves {T = T} {E = E} {F = F} (Finish (Fails Inactivity_timeout)) next a a session
     (Err error.InactivityTimeout)

@@ -1,4 +1,5 @@
 pub mod Serve
+pub mod Handing
 pub mod Steps
 pub mod Between
 pub mod KeyExchange

@@ -5,11 +5,13 @@ ghost use Rattle.ssh_link.specs.declared.link.TraceEntry.TheVariants.{Sent};
 ghost use Rattle.ssh_auth.specs.Plan.{Plan};
 ghost use Rattle.ssh_channels.specs.declared.error.TableError.TheVariants.{NoMemory};
 ghost use Rattle.ssh_rules.specs.Acts.{Exchanges, Beginning, Stepping, frames_given, gives};
-ghost use Rattle.ssh_rules.specs.Acts.{steps_on, tell_all};
+ghost use Rattle.ssh_rules.specs.Acts.{tell_all};
+ghost use Rattle.ssh_session.specs.Handing.{lets_out, turns_keys};
 ghost use Rattle.ssh_rules.specs.Heard.{AreSame};
 ghost use Rattle.ssh_rules.specs.Outcome.{Outcome};
 ghost use Rattle.ssh_rules.specs.Run.{passage, begins, is_due};
-ghost use Rattle.ssh_session.specs.Serve.{Refines, Serves, Does, IsSameSession, is_exchanging};
+ghost use Rattle.ssh_session.specs.Handing.{ServesTo, DoesTo, IsCutBefore};
+ghost use Rattle.ssh_session.specs.Serve.{Refines, IsSameSession, is_exchanging};
 ghost use Rattle.ssh_rules.specs.World.{World, in_exchange, is_held};
 
 use crate::finish::send_each;
@@ -69,7 +71,7 @@ impl Session {
         ticked: bool,
     ) -> Result<(), RunError<O::Error, O::KexError>>
         ensures does { (w : World) → Refines self.old w → w.settings.repeatable
-            ≡ (O.heard outside.old).repeats → Does (begins (is_due ticked w)) w
+            ≡ (O.heard outside.old).repeats → DoesTo IsCutBefore (begins (is_due ticked w)) w
             (O.heard outside.old) (O.heard outside.new) self.new result }
         ensures session { IsSameSession self.old self.new }
         ensures same { AreSame (O.heard outside.old) (O.heard outside.new) }
@@ -86,7 +88,8 @@ impl Session {
         outside: &mut O,
     ) -> Result<(), RunError<O::Error, O::KexError>>
         ensures does { (w : World) → Refines self.old w →
-            Does (Exchanges Beginning ∷ []) w (O.heard outside.old) (O.heard outside.new) self.new
+            DoesTo IsCutBefore (Exchanges Beginning ∷ []) w (O.heard outside.old)
+            (O.heard outside.new) self.new
             result }
         ensures session { IsSameSession self.old self.new }
         ensures same { AreSame (O.heard outside.old) (O.heard outside.new) }
@@ -107,14 +110,29 @@ impl Session {
         payload: &[u8],
     ) -> Result<(), RunError<O::Error, O::KexError>>
         ensures does { (w : World) → Refines self.old w →
-            Does (Exchanges (Stepping payload.now) ∷ []) w (O.heard outside.old)
+            DoesTo IsCutBefore (Exchanges (Stepping payload.now) ∷ []) w (O.heard outside.old)
             (O.heard outside.new) self.new result }
         ensures session { IsSameSession self.old self.new }
         ensures same { AreSame (O.heard outside.old) (O.heard outside.new) }
     {
         let step = outside.step_exchange(payload)?;
+        self.let_out(step.done)?;
         self.give_payloads(outside, &step.frames)?;
-        self.move_on(payload, step.done)?;
+        self.move_on(payload, step.done);
+        Ok(())
+    }
+
+    /// Where the new keys are in use, what waits is written: it goes out behind what was held. No
+    /// frame of the exchange was handed on yet, so that none was where memory is wanting.
+    fn let_out(&mut self, done: bool) -> Result<(), TableError>
+        ensures world { OnOk result ((w : World) → Refines self.old w →
+            Refines self.new (lets_out done w)) }
+        ensures memory { IfErr result (λ e. e ≡ NoMemory) }
+        ensures session { IsSameSession self.old self.new }
+    {
+        if done {
+            self.table.flush_all_pending()?;
+        }
         Ok(())
     }
 
@@ -126,7 +144,7 @@ impl Session {
     ) -> Result<(), RunError<O::Error, O::KexError>>
         requires transport { All IsOfTransport payloads.now }
         ensures does { (w : World) → Refines self.old w → (next : Plan Outcome) →
-            Serves (tell_all (map Sent (frames_given payloads.now)) next) (λ _ _. next)
+            ServesTo IsCutBefore (tell_all (map Sent (frames_given payloads.now)) next) (λ _ _. next)
             (O.heard outside.old) (O.heard outside.new) self.new result }
         ensures world { OnOk result ((w : World) → Refines self.old w →
             Refines self.new (gives (frames_given payloads.now) w)) }
@@ -139,18 +157,15 @@ impl Session {
     }
 
     /// The exchange took a payload of the peer's, and the new keys are in use with it, or not yet.
-    fn move_on(&mut self, payload: &[u8], done: bool) -> Result<(), TableError>
-        ensures world { OnOk result ((w : World) → Refines self.old w →
-            Refines self.new (steps_on payload.now done w)) }
-        ensures memory { IfErr result (λ e. e ≡ NoMemory) }
+    fn move_on(&mut self, payload: &[u8], done: bool)
+        ensures world { (w : World) → Refines self.old w →
+            Refines self.new (turns_keys payload.now done w) }
         ensures session { IsSameSession self.old self.new }
     {
         if done {
-            self.table.flush_all_pending()?;
             self.keys = Keys::renewed();
         } else {
             self.keys.exchange.join(payload);
         }
-        Ok(())
     }
 }

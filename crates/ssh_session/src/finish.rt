@@ -7,7 +7,8 @@ ghost use Rattle.ssh_rules.specs.World.{World};
 ghost use Rattle.ssh_rules.specs.Run.{hand_on, handed_on, is_over, goes_unless_ended};
 ghost use Rattle.ssh_rules.specs.Heard.{AreSame};
 ghost use Rattle.ssh_rules.specs.Cause.{ends_by_flow};
-ghost use Rattle.ssh_session.specs.Serve.{Refines, Serves, Completes, TellsEach};
+ghost use Rattle.ssh_session.specs.Handing.{ServesTo, CompletesTo, IsCutBehind, IsCutByLink};
+ghost use Rattle.ssh_session.specs.Serve.{Refines, TellsEach};
 ghost use Rattle.ssh_session.specs.Serve.{IsSameSession};
 
 use crate::outside::Transport;
@@ -56,7 +57,7 @@ impl Session {
         outside: &mut O,
     ) -> Result<(), RunError<O::Error, O::KexError>>
         ensures does { (w : World) → Refines self.old w → (next : World → Plan Outcome) →
-            Serves (hand_on w next) (λ _ _. next (handed_on w)) (O.heard outside.old)
+            ServesTo IsCutByLink (hand_on w next) (λ _ _. next (handed_on w)) (O.heard outside.old)
             (O.heard outside.new) self.new result }
         ensures world { OnOk result ((w : World) → Refines self.old w →
             Refines self.new (handed_on w)) }
@@ -76,7 +77,7 @@ impl Session {
         &mut self,
         outside: &mut O,
     ) -> Result<Flow, RunError<O::Error, O::KexError>>
-        ensures does { (w : World) → Refines self.old w → Completes (hand_on w is_over)
+        ensures does { (w : World) → Refines self.old w → CompletesTo IsCutBehind (hand_on w is_over)
             (O.heard outside.old) (O.heard outside.new) self.new result }
         ensures same { AreSame (O.heard outside.old) (O.heard outside.new) }
     {
@@ -92,7 +93,7 @@ impl Session {
         flow: Flow,
     ) -> Result<Flow, RunError<O::Error, O::KexError>>
         ensures does { (w : World) → Refines self.old w → w.settings.repeatable
-            ≡ (O.heard outside.old).repeats → Completes (hand_on w (ends_by_flow ticked flow))
+            ≡ (O.heard outside.old).repeats → CompletesTo IsCutBehind (hand_on w (ends_by_flow ticked flow))
             (O.heard outside.old) (O.heard outside.new) self.new result }
         ensures same { AreSame (O.heard outside.old) (O.heard outside.new) }
     {
@@ -111,7 +112,7 @@ impl Session {
         ticked: bool,
     ) -> Result<Flow, RunError<O::Error, O::KexError>>
         ensures does { (w : World) → Refines self.old w → w.settings.repeatable
-            ≡ (O.heard outside.old).repeats → Completes (goes_unless_ended ticked w)
+            ≡ (O.heard outside.old).repeats → CompletesTo IsCutBehind (goes_unless_ended ticked w)
             (O.heard outside.old) (O.heard outside.new) self.new result }
         ensures same { AreSame (O.heard outside.old) (O.heard outside.new) }
     {

@@ -1,14 +1,17 @@
 // The end of an input without one, for whoever applied commands between two inputs.
 ghost use Rattle.std.specs.Prelude.{◌≡◌, [], false, true, map, OnOk, OnErr};
 ghost use Rattle.ssh_link.specs.declared.link.TraceEntry.TheVariants.{Noticed};
+ghost use Rattle.ssh_link.specs.Faults.{RoseIfKept};
 ghost use Rattle.ssh_auth.specs.Plan.{Finish};
 ghost use Rattle.ssh_rules.specs.Acts.{tell_all};
-ghost use Rattle.ssh_session.specs.Between.{FlushesBy, told_beneath, flushed, untold};
+ghost use Rattle.ssh_session.specs.Between.{FlushesBy, CutsFlush, told_beneath, flushed, untold};
+ghost use Rattle.ssh_rules.specs.Cut.{IsCut};
 ghost use Rattle.ssh_rules.specs.Failure.{flush_error_of};
 ghost use Rattle.ssh_rules.specs.Heard.{AreSame};
 ghost use Rattle.ssh_rules.specs.Outcome.{Goes};
 ghost use Rattle.ssh_rules.specs.Run.{hand_on};
-ghost use Rattle.ssh_session.specs.Serve.{Refines, Serves, IsSameSession, is_spent};
+ghost use Rattle.ssh_session.specs.Handing.{ServesTo, IsCutBehind};
+ghost use Rattle.ssh_session.specs.Serve.{Refines, IsSameSession, is_spent};
 ghost use Rattle.ssh_rules.specs.World.{World};
 
 use crate::finish::tell_each;
@@ -44,6 +47,10 @@ impl Session {
             ≡ K.repeats kex.old → FlushesBy (untold self.old) w
             (told_beneath K.steps L.trace L.faults) kex.old link.old kex.new link.new self.new
             result }
+        ensures cut { (w : World) → Refines self.old w → w.settings.repeatable
+            ≡ K.repeats kex.old → CutsFlush (untold self.old) w
+            (told_beneath K.steps L.trace L.faults) kex.old link.old kex.new link.new
+            (RoseIfKept (L.starved link.old) (L.starved link.new)) self.new result }
         ensures told { OnOk result (untold self.new ≡ []) }
         ensures repeats { K.repeats kex.new ≡ K.repeats kex.old }
         ensures session { OnOk result (IsSameSession self.old self.new) }
@@ -67,9 +74,10 @@ impl Session {
         ensures same_link { ends.new.link.ghost_name ≡ ends.old.link.ghost_name }
         ensures repeats { K.repeats ends.new.kex.now ≡ K.repeats ends.old.kex.now }
         ensures flushed { (w : World) → Refines self.old w → w.settings.repeatable
-            ≡ K.repeats ends.old.kex.now → FlushesBy notices.old.items w
+            ≡ K.repeats ends.old.kex.now → CutsFlush notices.old.items w
             (told_beneath K.steps L.trace L.faults) ends.old.kex.now ends.old.link.now
-            ends.new.kex.now ends.new.link.now self.new result }
+            ends.new.kex.now ends.new.link.now (RoseIfKept (L.starved ends.old.link.now)
+            (L.starved ends.new.link.now)) self.new result }
         ensures told { OnOk result (notices.new.items ≡ []) }
         ensures session { OnOk result (IsSameSession self.old self.new) }
         ensures spends { OnErr result (is_spent self.new ≡ true) }
@@ -90,7 +98,7 @@ impl Session {
         notices: &mut VecDeque<Notice>,
     ) -> Result<(), RunError<O::Error, O::KexError>>
         ensures does { (w : World) → Refines self.old w → w.settings.repeatable
-            ≡ (O.heard outside.old).repeats → Serves
+            ≡ (O.heard outside.old).repeats → ServesTo IsCut
             (tell_all (map Noticed notices.old.items) (hand_on w flushed))
             (λ _ world. Finish (Goes world)) (O.heard outside.old) (O.heard outside.new) self.new
             result }
@@ -109,8 +117,8 @@ impl Session {
         outside: &mut O,
     ) -> Result<(), RunError<O::Error, O::KexError>>
         ensures does { (w : World) → Refines self.old w → w.settings.repeatable
-            ≡ (O.heard outside.old).repeats → Serves (flushed w) (λ _ world. Finish (Goes world))
-            (O.heard outside.old) (O.heard outside.new) self.new result }
+            ≡ (O.heard outside.old).repeats → ServesTo IsCutBehind (flushed w)
+            (λ _ world. Finish (Goes world)) (O.heard outside.old) (O.heard outside.new) self.new result }
         ensures session { IsSameSession self.old self.new }
         ensures same { AreSame (O.heard outside.old) (O.heard outside.new) }
     {

@@ -164,6 +164,7 @@ impl<'a, H: Handler, K: Kex, L: Link> Transport for Sides<'a, H, K, L> {
       steps = K.steps sides.kex.now;
       trace = L.trace sides.link.now;
       faults = L.faults sides.link.now;
+      starved = L.starved sides.link.now;
       handler = sides.handler.ghost_name;
       kex = sides.kex.ghost_name;
       link = sides.link.ghost_name;
@@ -287,6 +288,7 @@ impl<'a, K: Kex, L: Link> Transport for Ends<'a, K, L> {
       steps = K.steps ends.kex.now;
       trace = L.trace ends.link.now;
       faults = L.faults ends.link.now;
+      starved = L.starved ends.link.now;
       handler = ends.kex.ghost_name;
       kex = ends.kex.ghost_name;
       link = ends.link.ghost_name;

@@ -7,7 +7,7 @@ ghost use Rattle.ssh_channels.specs.Calls as calls;
 ghost use Rattle.ssh_handler.specs.Receiving as receiving;
 ghost use Rattle.ssh_channels.specs.Does.{has};
 ghost use Rattle.ssh_channels.specs.Entry.{more_may_come};
-ghost use Rattle.ssh_rules.specs.World.{World, in_exchange, room_on};
+ghost use Rattle.ssh_rules.specs.World.{World, in_exchange, packet_on, room_on, writable_on};
 ghost use Rattle.ssh_rules.specs.Run.{wants_commands, who};
 ghost use Rattle.ssh_session.specs.Serve.{Refines, lends};
 
@@ -82,7 +82,8 @@ impl Session {
     /// The most bytes of data that the peer may send on the channel in one message now, and 0 where
     /// there is no such channel (RFC 4254 section 5.2).
     pub fn writable_packet_size(&self, channel: &ChannelId) -> u32
-        ensures { result ≡ receiving.takes_at channel.now.0 (lends self.now).table }
+        ensures world { (w : World) → Refines self.now w → result ≡ writable_on channel.now.0 w }
+        ensures lent { result ≡ receiving.takes_at channel.now.0 (lends self.now).table }
     {
         writable_packet_size(&self.table, *channel)
     }
@@ -99,7 +100,8 @@ impl Session {
     /// The most bytes of data that this side takes on the channel in one message, and 0 where there
     /// is no such channel (RFC 4254 section 5.1).
     pub fn max_packet_size(&self, channel: &ChannelId) -> u32
-        ensures { result ≡ receiving.packet_at channel.now.0 (lends self.now).table }
+        ensures world { (w : World) → Refines self.now w → result ≡ packet_on channel.now.0 w }
+        ensures lent { result ≡ receiving.packet_at channel.now.0 (lends self.now).table }
     {
         max_packet_size(&self.table, *channel)
     }

@@ -1,7 +1,8 @@
 // A run: inputs from a link, one after another, until one ends it.
 ghost use Rattle.std.specs.Prelude.{◌≡◌, ◌<◌, ◌^◌, length};
 ghost use Rattle.ssh_rules.specs.World.{Settings, settings_of, opening_world};
-ghost use Rattle.ssh_rules.specs.Account.{told_by, Ran, KeepsLaws};
+ghost use Rattle.ssh_link.specs.Faults.{RoseIfKept};
+ghost use Rattle.ssh_rules.specs.Account.{told_by, RanTo, KeepsLaws};
 ghost use Rattle.ssh_session.specs.Serve.{Refines, BeginsSuited};
 
 use crate::{Flow, RunError, Session};
@@ -28,8 +29,8 @@ pub fn run_stream<H: Handler, V: Verifier, K: Kex, L: Link>(
 ) -> Result<(), RunError<H::Error, K::Error>>
     requires session_id { length session_id.now < 2 ^ 32 }
     requires suits { H.suits config.now remote_sshid.now }
-    ensures laws { KeepsLaws (told_by H.AuthHandler.told K.steps L.trace L.faults) max_inputs result
-        (settings_of config.now session_id.now remote_sshid.now (K.repeats kex.old))
+    ensures laws { KeepsLaws (told_by H.AuthHandler.told K.steps L.trace L.faults) L.starved
+        max_inputs result (settings_of config.now session_id.now remote_sshid.now (K.repeats kex.old))
         (V.accepts verifier.now) handler.old kex.old link.old handler.new kex.new link.new }
 {
     let mut session = Session::new(alloc, config, session_id, remote_sshid)?;
@@ -49,10 +50,10 @@ fn run_inputs<H: Handler, V: Verifier, K: Kex, L: Link>(
 ) -> Result<(), RunError<H::Error, K::Error>>
     requires begins { BeginsSuited H.suits session.old }
     ensures { (settings : Settings) → Refines session.old (opening_world settings) →
-        settings.repeatable ≡ K.repeats kex.old → Ran (V.accepts verifier.now) settings
+        settings.repeatable ≡ K.repeats kex.old → RanTo (V.accepts verifier.now) settings
         (told_by H.AuthHandler.told K.steps L.trace L.faults handler.old kex.old link.old)
         (told_by H.AuthHandler.told K.steps L.trace L.faults handler.new kex.new link.new)
-        max_inputs result }
+        (RoseIfKept (L.starved link.old) (L.starved link.new)) max_inputs result }
 {
     for _ in 0..max_inputs {
         let input = link.next(session.commands_wanted(), session.replies_wanted())?;

@@ -1,5 +1,6 @@
 // One input, taken and finished.
 ghost use Rattle.std.specs.Prelude.{◌≡◌, ◌≢◌, [], Ok, Err, OnOk, true, drop};
+ghost use Rattle.ssh_link.specs.Faults.{NeverFalls, RoseIfKept};
 ghost use Rattle.ssh_auth.specs.Plan.{Plan};
 ghost use Rattle.ssh_rules.specs.Outcome.{Outcome};
 ghost use Rattle.ssh_rules.specs.World.{World, circumstances, hears};
@@ -8,9 +9,12 @@ ghost use Rattle.ssh_rules.specs.Reading.{Said, Says};
 ghost use Rattle.ssh_rules.specs.Rows.{row};
 ghost use Rattle.ssh_rules.specs.Run.{OwesKind, OwesPayload, Owes, asks_for_keys};
 ghost use Rattle.ssh_rules.specs.Heard.{AreSame};
-ghost use Rattle.ssh_session.specs.Between.{StepsBehind, TakesBehind, OwesUnlessEnded, untold};
+ghost use Rattle.ssh_session.specs.Between.{StepsBehind, CutsBehind, TakesBehind, OwesUnlessEnded};
+ghost use Rattle.ssh_session.specs.Between.{untold};
 ghost use Rattle.ssh_rules.specs.Account.{told_by};
-ghost use Rattle.ssh_session.specs.Steps.{Steps, StepsBy};
+ghost use Rattle.ssh_rules.specs.Cut.{IsCut};
+ghost use Rattle.ssh_session.specs.Handing.{CompletesTo, IsCutInRow};
+ghost use Rattle.ssh_session.specs.Steps.{StepsTo, StepsBy};
 ghost use Rattle.ssh_session.specs.Serve.{Refines, Completes, is_spent, IsSuited, IsSameSession};
 
 use crate::finish::tell_each;
@@ -54,6 +58,11 @@ impl Session {
             ≡ K.repeats kex.old → StepsBehind (untold self.old) (V.accepts verifier.now) w input
             (told_by H.AuthHandler.told K.steps L.trace L.faults) handler.old kex.old link.old
             handler.new kex.new link.new self.new result }
+        ensures cut { (w : World) → Refines self.old w → w.settings.repeatable
+            ≡ K.repeats kex.old → CutsBehind (untold self.old) (V.accepts verifier.now) w input
+            (told_by H.AuthHandler.told K.steps L.trace L.faults) handler.old kex.old link.old
+            handler.new kex.new link.new (RoseIfKept (L.starved link.old) (L.starved link.new))
+            self.new result }
         ensures told { OnOk result (untold self.new ≡ []) }
         ensures repeats { K.repeats kex.new ≡ K.repeats kex.old }
         ensures spends { is_spent self.old ≢ true → result ≢ Ok Flow.Continue →
@@ -87,7 +96,10 @@ impl Session {
         ensures taken { (w : World) → Refines self.old w → w.settings.repeatable
             ≡ K.repeats kex.old → StepsBy (Owes (V.accepts verifier.now) w input)
             (told_by H.AuthHandler.told K.steps L.trace L.faults) handler.old kex.old link.old
-            handler.new kex.new link.new self.new result }
+            handler.new kex.new link.new (RoseIfKept (L.starved link.old) (L.starved link.new))
+            self.new result }
+        ensures counted { (w : World) → Refines self.old w → w.settings.repeatable
+            ≡ K.repeats kex.old → NeverFalls (L.starved link.old) (L.starved link.new) }
         ensures repeats { K.repeats kex.new ≡ K.repeats kex.old }
     {
         let mut sides = Sides::new(handler, kex, link);
@@ -109,10 +121,11 @@ impl Session {
         ensures repeats { K.repeats sides.new.kex.now ≡ K.repeats sides.old.kex.now }
         ensures taken { (w : World) → Refines self.old w →
             w.settings.repeatable ≡ K.repeats sides.old.kex.now →
-            StepsBehind notices.old.items (V.accepts verifier.now) w input
+            CutsBehind notices.old.items (V.accepts verifier.now) w input
             (told_by H.AuthHandler.told K.steps L.trace L.faults) sides.old.handler.now
             sides.old.kex.now sides.old.link.now sides.new.handler.now sides.new.kex.now
-            sides.new.link.now self.new result }
+            sides.new.link.now (RoseIfKept (L.starved sides.old.link.now)
+            (L.starved sides.new.link.now)) self.new result }
         ensures told { OnOk result (notices.new.items ≡ []) }
         ensures spends { result ≢ Ok Flow.Continue → is_spent self.new ≡ true }
     {
@@ -158,7 +171,7 @@ impl Session {
             ≡ (O.Transport.heard outside.old).repeats →
             (plan : Plan Outcome) ×
             OwesUnlessEnded w.disconnected (V.accepts verifier.now) w input plan
-            × Completes plan (O.Transport.heard outside.old)
+            × CompletesTo IsCut plan (O.Transport.heard outside.old)
             (O.Transport.heard outside.new) self.new result }
         ensures same { AreSame (O.Transport.heard outside.old) (O.Transport.heard outside.new) }
     {
@@ -182,11 +195,15 @@ impl Session {
         ensures same_link { sides.new.link.ghost_name ≡ sides.old.link.ghost_name }
         ensures repeats { K.repeats sides.new.kex.now ≡ K.repeats sides.old.kex.now }
         ensures taken { (w : World) → Refines self.old w → w.settings.repeatable
-            ≡ K.repeats sides.old.kex.now → Steps (Owes (V.accepts verifier.now) w input)
+            ≡ K.repeats sides.old.kex.now → StepsTo (Owes (V.accepts verifier.now) w input)
             (told_by H.AuthHandler.told K.steps L.trace L.faults sides.old.handler.now
             sides.old.kex.now sides.old.link.now)
             (told_by H.AuthHandler.told K.steps L.trace L.faults sides.new.handler.now
-            sides.new.kex.now sides.new.link.now) self.new result }
+            sides.new.kex.now sides.new.link.now) (RoseIfKept (L.starved sides.old.link.now)
+            (L.starved sides.new.link.now)) self.new result }
+        ensures counted { (w : World) → Refines self.old w → w.settings.repeatable
+            ≡ K.repeats sides.old.kex.now → NeverFalls (L.starved sides.old.link.now)
+            (L.starved sides.new.link.now) }
         ensures spends { result ≢ Ok Flow.Continue → is_spent self.new ≡ true }
     {
         let outcome = self.take(sides, verifier, input);
@@ -216,7 +233,7 @@ impl Session {
         ensures does { (w : World) → Refines self.old w → w.settings.repeatable
             ≡ (O.Transport.heard outside.old).repeats →
             (plan : Plan Outcome) × Owes (V.accepts verifier.now) w input plan
-            × Completes plan (O.Transport.heard outside.old)
+            × CompletesTo IsCut plan (O.Transport.heard outside.old)
             (O.Transport.heard outside.new) self.new result }
         ensures same { AreSame (O.Transport.heard outside.old) (O.Transport.heard outside.new) }
     {
@@ -238,7 +255,7 @@ impl Session {
         requires suits { IsSuited O.suits self.old }
         ensures does { (w : World) → Refines self.old w → (plan : Plan Outcome)
             × OwesKind (V.accepts verifier.now) w moment kind plan
-            × Completes plan (O.Transport.heard outside.old)
+            × CompletesTo IsCutInRow plan (O.Transport.heard outside.old)
             (O.Transport.heard outside.new) self.new result }
         ensures same { AreSame (O.Transport.heard outside.old) (O.Transport.heard outside.new) }
     {
@@ -284,7 +301,7 @@ impl Session {
         requires suits { IsSuited O.suits self.old }
         ensures does { (w : World) → Refines self.old w → (plan : Plan Outcome)
             × OwesPayload (V.accepts verifier.now) w moment payload.now plan
-            × Completes plan (O.Transport.heard outside.old)
+            × CompletesTo IsCutInRow plan (O.Transport.heard outside.old)
             (O.Transport.heard outside.new) self.new result }
         ensures same { AreSame (O.Transport.heard outside.old) (O.Transport.heard outside.new) }
     {

@@ -5,12 +5,12 @@ use ssh_handler::Config;
 use ssh_keys::TableVerifier;
 use ssh_link::{Calls, CommandOutcome, Inputs, MemoryLink, PlainKex};
 use ssh_session::Flow;
-use ssh_stories::Line::{Applies, HandsOn, In, On};
+use ssh_stories::Line::{Applies, Flushes, HandsOn, In, On};
 use ssh_stories::{
     Answering, Line, OPEN_SMALL, PASSWORD, QUIET, SERVICE, SMALL, SMALL_CONFIRMED, Turn, Wish,
     are_sent, command,
 };
-use ssh_wire::WireError;
+use ssh_wire::{ChannelId, WireError};
 use std::alloc::Global;
 use std::test::*;
 
@@ -30,7 +30,7 @@ struct Row {
     lines: Turn,
 }
 
-static MOVES: [Row; 3] = [
+static MOVES: [Row; 4] = [
     Row {
         shows: "data are written by a command, and do not go out with it",
         lines: &[OPEN_SMALL, SMALL_CONFIRMED, HELLO],
@@ -38,6 +38,17 @@ static MOVES: [Row; 3] = [
     Row {
         shows: "handed on, they go out as far as the window goes",
         lines: &[OPEN_SMALL, SMALL_CONFIRMED, HELLO, HandsOn, FIRST],
+    },
+    Row {
+        shows: "a channel lets out nothing beyond the window, and what it wrote before is kept",
+        lines: &[
+            OPEN_SMALL,
+            SMALL_CONFIRMED,
+            HELLO,
+            Flushes(2, 0),
+            HandsOn,
+            FIRST,
+        ],
     },
     Row {
         shows: "and the rest with the peer's grant",
@@ -63,6 +74,7 @@ fn next(alloc: Global, line: Line<'_>) -> Result<Option<Move>, WireError> {
     Ok(Some(match line {
         In(bytes) => payload(alloc, bytes)?,
         Applies(wish, _) => Move::Say(command(alloc, wish)?),
+        Flushes(channel, _) => Move::LetOut(ChannelId(channel)),
         HandsOn => Move::HandOn,
         _ => return Ok(None),
     }))

@@ -32,7 +32,28 @@ fn a_number_is_drawn_once(rt: HostRuntime) {
     }
 }
 
-static OPENED: [Row; 3] = [
+static OPENED: [Row; 4] = [
+    Row {
+        shows: "a channel comes with its frame, and a live number takes neither",
+        calls: &[
+            (Call::Draw, Answer::Number(2)),
+            (Call::InsertWith(2, 7, 1024, 1024), Answer::Is(true)),
+            (Call::InsertWith(2, 7, 1024, 1024), Answer::Is(false)),
+            (
+                Call::Accept(9, 3, 0),
+                Answer::Refused(TableError::Inconsistent),
+            ),
+            (Call::Accept(9, 3, 1024), Answer::Number(3)),
+            (Call::Data(3, Way::Staged, b"hello"), Answer::Is(true)),
+            (Call::Look(3), Answer::Line(8, 0, true, false, false)),
+        ],
+        sink: &[],
+        staged: &[
+            (Some(2), b"\x5b"),
+            (Some(3), b"\x5b"),
+            (Some(3), b"\x5e\0\0\0\x09\0\0\0\x03hel"),
+        ],
+    },
     Row {
         shows: "a packet size of 0 is refused, so neither staged nor direct data go out",
         calls: &[

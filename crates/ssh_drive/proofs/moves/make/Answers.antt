@@ -2,7 +2,7 @@ use Rattle.std.proofs.Common.{◌≡◌, ◌∙◌, ap, Ok, Err}
 use Rattle.std.proofs.lemmas.Result.{err_from_is_err_and}
 use Rattle.ssh_session.specs.Between.{untold}
 use Rattle.ssh_drive.specs.declared.moves.MoveError.TheVariants as error
-use Rattle.ssh_drive.proofs.Moving.{payload_made, command_made, flush_made}
+use Rattle.ssh_drive.proofs.Moving.{payload_made, command_made, let_out_made, flush_made}
 use Rattle.ssh_drive.proofs.moves.make.Goals as goal
 
 pub returns-in_err-step-in-Payload-clause-made : goal.returns-in_err-step-in-Payload-clause-made
@@ -53,3 +53,13 @@ returns-in_ok-flush-in-HandOn-clause-made g c w refines repeats =
     (Ok tt)
     (c.in_ok-flush-in-HandOn.ensures.flushed w refines repeats)
     c.in_ok-flush-in-HandOn.ensures.told)
+
+pub returns-in_ok-flush_pending-in-LetOut-clause-made :
+    goal.returns-in_ok-flush_pending-in-LetOut-clause-made
+returns-in_ok-flush_pending-in-LetOut-clause-made g c w refines repeats =
+    let ensures = c.in_ok-flush_pending-in-LetOut.ensures in
+    rw c.in-LetOut.is
+    (let_out_made g.row.H-Error.Denot g.row.K-Error.Denot
+    (g.V.Verifier.accepts c.args.verifier.now) c.args.moment w c.in-LetOut.channel _
+    c.args.session.now c.flush_pending.new.self (Ok c.in_ok-flush_pending-in-LetOut.field-0)
+    (ensures.framed w refines) (ensures.world w refines) ensures.told)

@@ -1,18 +1,18 @@
-use Rattle.std.proofs.Common.{rules, ◌≡◌, ◌++◌, ◌∷◌, [], Ok, Err, sym, ◌∙◌, ap, subst}
+use Rattle.std.proofs.Common.{rules, ◌≡◌, ◌++◌, ◌∷◌, [], Err, false, sym, ◌∙◌, ap, subst}
 use Rattle.std.proofs.Common.{append_assoc}
 use Rattle.std.proofs.lemmas.List.{append-nil, nil_from_length}
 use Rattle.std.proofs.lemmas.Result.{err_from_is_err_and}
 use Rattle.ssh_link.specs.declared.link.TraceEntry.TheVariants.{Sent}
 use Rattle.ssh_rules.specs.Failure.{error_of_link}
 use Rattle.ssh_session.specs.Serve.{TellsEach}
-use Rattle.ssh_session.proofs.Finishing.{told_more, not_told, none_told}
-use Rattle.ssh_session.proofs.Serving.{same_as, same_both}
+use Rattle.ssh_session.proofs.Finishing.{told_more, not_told}
+use Rattle.ssh_session.proofs.Serving.{hears_nothing, same_as, same_both}
 use Rattle.ssh_session.proofs.finish.send_each.Goals as goal
 
 pub loop-frame-init : goal.loop-frame-init
 loop-frame-init g c = record {
   items = search rules;
-  does = none_told Sent (g.O.Transport.heard c.args.outside.now);
+  does = hears_nothing false (g.O.Transport.heard c.args.outside.now);
   same = same_as (g.O.Transport.heard c.args.outside.now);
 }
 
@@ -37,10 +37,9 @@ returns-in_err-send-clause-does g c =
     (subst (λ l. TellsEach Sent l (g.O.Transport.heard c.args.outside.now)
     (g.O.Transport.heard c.send.new.self) (Err (error_of_link c.in_err-send.field-0.0)))
     c.loop-frame.invariant.items
-    (not_told Sent c.loop-frame.yielded c.loop-frame.frame-iterator.rest.items c.in-Some.frame _ _
-    _ _
-    c.loop-frame.invariant.does
-    c.in_err-send.ensures))
+    (not_told Sent c.loop-frame.yielded c.loop-frame.frame-iterator.rest.items
+    c.next.new.self.rest.items c.in-Some.frame _ _ _ _ c.in-Some.ensures.steps.0
+    c.loop-frame.invariant.does c.in_err-send.ensures))
 
 pub returns-clause-does : goal.returns-clause-does
 returns-clause-does g c =
@@ -48,6 +47,4 @@ returns-clause-does g c =
     nil_from_length c.loop-frame.frame-iterator.rest.items (search rules) in
     let e : c.loop-frame.yielded ≡ c.args.frames.items = sym (append-nil c.loop-frame.yielded)
     ∙ ap (λ l. c.loop-frame.yielded ++ l) (sym none) ∙ c.loop-frame.invariant.items in
-    subst (λ l. TellsEach Sent l (g.O.Transport.heard c.args.outside.now)
-    (g.O.Transport.heard c.loop-frame.outside) (Ok tt)) e
-    c.loop-frame.invariant.does
+    (c.loop-frame.yielded, c.loop-frame.invariant.does, e)

@@ -1,17 +1,17 @@
-use Rattle.std.proofs.Common.{◌≡◌, ◌++◌, ◌∷◌, [], Ok, Err, length, arith, refl, sym, ◌∙◌, ap}
+use Rattle.std.proofs.Common.{◌≡◌, ◌++◌, ◌∷◌, [], Err, false, length, arith, refl, sym, ◌∙◌, ap}
 use Rattle.std.proofs.Common.{subst, append_assoc}
 use Rattle.std.proofs.lemmas.List.{append-nil}
 use Rattle.std.proofs.lemmas.Result.{err_from_is_err_and}
 use Rattle.ssh_link.specs.declared.link.TraceEntry.TheVariants.{Noticed}
 use Rattle.ssh_rules.specs.Failure.{error_of_link}
 use Rattle.ssh_session.specs.Serve.{TellsEach}
-use Rattle.ssh_session.proofs.Finishing.{told_more, not_told, none_told, none_left}
-use Rattle.ssh_session.proofs.Serving.{same_as, same_both}
+use Rattle.ssh_session.proofs.Finishing.{told_more, not_told, none_left}
+use Rattle.ssh_session.proofs.Serving.{hears_nothing, same_as, same_both}
 use Rattle.ssh_session.proofs.finish.tell_each.Goals as goal
 
 pub loop-told-init : goal.loop-told-init
 loop-told-init g c =
-    let none = none_told Noticed (g.O.Transport.heard c.args.outside.now) in
+    let none = hears_nothing false (g.O.Transport.heard c.args.outside.now) in
     ([], refl, omega arith, none, same_as (g.O.Transport.heard c.args.outside.now))
 
 pub loop-told-preserved : goal.loop-told-preserved
@@ -40,8 +40,8 @@ returns-in_err-notice-clause-does g c =
     (subst (λ l. TellsEach Noticed l (g.O.Transport.heard c.args.outside.now)
     (g.O.Transport.heard c.notice.new.self) (Err (error_of_link c.in_err-notice.field-0.0)))
     i.1
-    (not_told Noticed i.0 c.loop-told.notices.items c.in-Some.notice _ _ _ _ i.3
-    c.in_err-notice.ensures))
+    (not_told Noticed i.0 c.loop-told.notices.items c.pop_front.new.self.items c.in-Some.notice _ _
+    _ _ c.in-Some.ensures.items i.3 c.in_err-notice.ensures))
 
 pub returns-clause-does : goal.returns-clause-does
 returns-clause-does g c =
@@ -53,5 +53,4 @@ returns-clause-does g c =
     (omega (arith, count, end, over)) in
     let all : i.0 ≡ c.args.notices.now.items =
     sym (append-nil i.0) ∙ ap (λ l. i.0 ++ l) (sym none) ∙ i.1 in
-    subst (λ l. TellsEach Noticed l (g.O.Transport.heard c.args.outside.now)
-    (g.O.Transport.heard c.loop-told.outside) (Ok tt)) all i.3
+    (i.0, i.3, all)

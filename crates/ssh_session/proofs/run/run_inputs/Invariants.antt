@@ -1,4 +1,5 @@
 use Rattle.std.proofs.Common.{◌≡◌}
+use Rattle.ssh_link.specs.Faults.{NeverFalls}
 use Rattle.ssh_rules.specs.Account.{told_by}
 use Rattle.ssh_session.specs.Serve.{Refines}
 use Rattle.ssh_rules.specs.World.{Settings, opening_world}
@@ -13,3 +14,6 @@ invariant-loop g l = ((settings : Settings) → Refines l.fn.session (opening_wo
     l.fn.link)
     (told_by g.H.AuthHandler.told g.K.Kex.steps g.L.Link.trace g.L.Link.faults l.handler l.kex
     l.link) l.counter l.session) × (g.K.Kex.repeats l.kex ≡ g.K.Kex.repeats l.fn.kex)
+    × ((settings : Settings) → Refines l.fn.session (opening_world settings) →
+    settings.repeatable ≡ g.K.Kex.repeats l.fn.kex →
+    NeverFalls (g.L.Link.starved l.fn.link) (g.L.Link.starved l.link))

@@ -15,12 +15,12 @@ returns-in_err-session g c =
     let is : c.from_residual.result ≡ Err error.NoMemory = p.1
     ∙ ap Err (p.2 ∙ ap run_error_of c.in_err-session.ensures.memory) in
     record {
-      laws = subst (Laws (g.V.Verifier.accepts c.args.verifier.now) settings _ _
+      laws = subst (Laws (g.V.Verifier.accepts c.args.verifier.now) settings _ _ _
           c.args.max_inputs) (sym is)
-          (laws_of (g.V.Verifier.accepts c.args.verifier.now) settings _ _ c.args.max_inputs
+          (laws_of (g.V.Verifier.accepts c.args.verifier.now) settings _ _ _ c.args.max_inputs
           (Err error.NoMemory)
           (not_begun g.row.H-Error.Denot g.row.K-Error.Denot
-          (g.V.Verifier.accepts c.args.verifier.now) settings _
+          (g.V.Verifier.accepts c.args.verifier.now) settings _ _
           c.args.max_inputs));
     }
 
@@ -29,7 +29,7 @@ returns g c =
     let settings = settings_of c.args.config.now c.args.session_id.now c.args.remote_sshid.now
     (g.K.Kex.repeats c.args.kex.now) in
     record {
-      laws = laws_of (g.V.Verifier.accepts c.args.verifier.now) settings _ _
+      laws = laws_of (g.V.Verifier.accepts c.args.verifier.now) settings _ _ _
           c.args.max_inputs c.run_inputs-result.result
           (c.run_inputs-result.ensures settings
           (c.in_ok-session.ensures.opens (g.K.Kex.repeats c.args.kex.now)) refl);

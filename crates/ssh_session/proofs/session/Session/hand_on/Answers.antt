@@ -1,18 +1,15 @@
-use Rattle.std.proofs.Common.{◌≡◌, ◌++◌, ap, ◌∙◌}
+use Rattle.std.proofs.Common.{◌≡◌, ◌++◌, true, false, ap, ◌∙◌}
 use Rattle.ssh_channels.specs.Calls as calls
 use Rattle.ssh_rules.specs.Exchange.{given}
-use Rattle.ssh_rules.specs.Failure.{error_of_table}
 use Rattle.ssh_rules.specs.Run.{going_out, handed_on}
 use Rattle.ssh_session.proofs.Finishing.{told_all}
 use Rattle.ssh_rules.proofs.Results.{in_any_case}
 use Rattle.ssh_session.proofs.Refining.{handed_out, handed_to}
-use Rattle.ssh_session.proofs.Serving.{starved}
 use Rattle.ssh_session.proofs.session.Session.hand_on.Goals as goal
 
 pub returns-in_err-flush-clause-does : goal.returns-in_err-flush-clause-does
-returns-in_err-flush-clause-does g c = λ w r next.
-    starved _ (λ (_ : Unit {0}) _. next (handed_on w)) _ _ _ _ c.from_residual.ensures.1
-    (ap error_of_table c.in_err-flush.ensures.memory)
+returns-in_err-flush-clause-does g c =
+    absurd (let no : false ≡ true = c.in_err-flush.ensures.at_once c.new-sink.ensures in cc)
 
 pub returns-clause-does : goal.returns-clause-does
 returns-clause-does g c = λ w r next.

@@ -1,4 +1,4 @@
-use Rattle.std.proofs.Common.{refl, Ok, Err}
+use Rattle.std.proofs.Common.{refl, inl, Ok, Err}
 use Rattle.ssh_link.specs.declared.command.Command.TheVariants.{Answer}
 use Rattle.ssh_auth.specs.Plan.{Finish}
 use Rattle.ssh_rules.specs.declared.error.Flow.{Flow}
@@ -10,6 +10,9 @@ use Rattle.ssh_rules.specs.Cause.{comes}
 use Rattle.ssh_rules.specs.Ticks.{keepalive_acts, inactivity_acts}
 use Rattle.ssh_rules.specs.World.{hears}
 use Rattle.ssh_session.proofs.Serving.{serves_nothing, completes}
+use Rattle.ssh_rules.proofs.NeverBegun.{command_never, tick_never}
+use Rattle.ssh_rules.proofs.Telling.{acts_given, command_given}
+use Rattle.ssh_session.proofs.Handing.{plain_row}
 use Rattle.ssh_session.proofs.Stopping.{inactive_input}
 use Rattle.ssh_session.proofs.Serving.{goes_on, turned, passed}
 use Rattle.ssh_session.proofs.session.Session.serve.Goals as goal
@@ -25,21 +28,27 @@ pub returns-in-Command-clause-does : goal.returns-in-Command-clause-does
 returns-in-Command-clause-does g c = λ w r. (
   command_row w c.in-Command.ticket c.in-Command.command,
   rw c.in-Command.is refl,
-  c.serve_command.ensures.does w r,
+  plain_row (command_row w c.in-Command.ticket c.in-Command.command) _ _ c.serve_command.new.self _
+      (command_never w c.in-Command.ticket c.in-Command.command)
+      (command_given w c.in-Command.ticket c.in-Command.command) (c.serve_command.ensures.does w r),
 )
 
 pub returns-in-OpenReply-clause-does : goal.returns-in-OpenReply-clause-does
 returns-in-OpenReply-clause-does g c = λ w r. (
   command_row w c.in-OpenReply.ticket (Answer c.in-OpenReply.answer),
   rw c.in-OpenReply.is refl,
-  c.serve_command-in-OpenReply.ensures.does w r,
+  plain_row (command_row w c.in-OpenReply.ticket (Answer c.in-OpenReply.answer)) _ _
+      c.serve_command-in-OpenReply.new.self _
+      (command_never w c.in-OpenReply.ticket (Answer c.in-OpenReply.answer))
+      (command_given w c.in-OpenReply.ticket (Answer c.in-OpenReply.answer))
+      (c.serve_command-in-OpenReply.ensures.does w r),
 )
 
 pub returns-in-End-clause-does : goal.returns-in-End-clause-does
 returns-in-End-clause-does g c = λ w r. (
   Finish (Ends w),
   rw c.in-End.is refl,
-  serves_nothing Ended (λ flow world. Finish (comes flow world)) _ w c.args.self.now r,
+  (serves_nothing Ended (λ flow world. Finish (comes flow world)) _ w c.args.self.now r, tt),
 )
 
 pub returns-in_err-keepalive_tick-in-KeepaliveTick-clause-does :
@@ -51,12 +60,13 @@ returns-in_err-keepalive_tick-in-KeepaliveTick-clause-does g c = λ w r.
     let e = c.in_err-keepalive_tick-in-KeepaliveTick.field-0.0 in (
       plan,
       rw c.in-KeepaliveTick.is refl,
-      passed plan (λ (_ : Unit {0}) world. Finish (Goes world))
+      plain_row plan heard heard session _ (tick_never w) (acts_given (keepalive_acts w) w)
+          (passed plan (λ (_ : Unit {0}) world. Finish (Goes world))
           (λ (flow : Flow) world. Finish (comes flow world)) heard heard session session e _
           c.from_residual.ensures.1
           (completes (keepalive_acts w) w heard heard session (Err e)
           (turned (keepalive_acts w) w heard session (Err e)
-          (c.in_err-keepalive_tick-in-KeepaliveTick.ensures.does w r))),
+          (c.in_err-keepalive_tick-in-KeepaliveTick.ensures.does w r)))),
     )
 
 pub returns-in_ok-keepalive_tick-in-KeepaliveTick-clause-does :
@@ -66,21 +76,25 @@ returns-in_ok-keepalive_tick-in-KeepaliveTick-clause-does g c = λ w r.
     let session = c.keepalive_tick.new.self in (
       acts (keepalive_acts w) w,
       rw c.in-KeepaliveTick.is refl,
-      goes_on (keepalive_acts w) w heard heard session
-          (turned (keepalive_acts w) w heard session (Ok tt)
-          (c.in_ok-keepalive_tick-in-KeepaliveTick.ensures.does w r)),
+      (
+        goes_on (keepalive_acts w) w heard heard session
+            (turned (keepalive_acts w) w heard session (Ok tt)
+            (c.in_ok-keepalive_tick-in-KeepaliveTick.ensures.does w r)),
+        tt,
+      ),
     )
 
 pub returns-in-InactivityTick-clause-does : goal.returns-in-InactivityTick-clause-does
+unfolding inactive_input
 returns-in-InactivityTick-clause-does g c = λ w r. (
   acts inactivity_acts w,
   rw c.in-InactivityTick.is refl,
-  inactive_input (λ (flow : Flow) world. Finish (comes flow world)) _ c.args.self.now,
+  (inactive_input (λ (flow : Flow) world. Finish (comes flow world)) _ c.args.self.now, inl refl),
 )
 
 pub returns-in-RekeyTick-clause-does : goal.returns-in-RekeyTick-clause-does
 returns-in-RekeyTick-clause-does g c = λ w r. (
   Finish (Goes w),
   rw c.in-RekeyTick.is refl,
-  serves_nothing Continue (λ flow world. Finish (comes flow world)) _ w c.args.self.now r,
+  (serves_nothing Continue (λ flow world. Finish (comes flow world)) _ w c.args.self.now r, tt),
 )

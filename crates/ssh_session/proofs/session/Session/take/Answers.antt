@@ -2,9 +2,10 @@ use Rattle.std.proofs.Common.{◌≡◌, ◌∙◌, ap, refl, sym, subst}
 use Rattle.ssh_auth.specs.Plan.{Finish, after}
 use Rattle.ssh_rules.specs.Run.{finish_input}
 use Rattle.ssh_rules.specs.Cause.{comes}
-use Rattle.ssh_session.proofs.Serving.{passed}
+use Rattle.ssh_rules.specs.Cut.{IsCut}
+use Rattle.ssh_session.proofs.Handing.{passed_to}
 use Rattle.ssh_rules.proofs.Settled.{kind_stays_set}
-use Rattle.ssh_session.proofs.Finishing.{unfinished, finished}
+use Rattle.ssh_session.proofs.Finishing.{unfinished_to, finished_to}
 use Rattle.ssh_session.proofs.session.Session.take.Goals as goal
 
 pub returns-in_err-flow-clause-does : goal.returns-in_err-flow-clause-does
@@ -14,10 +15,10 @@ returns-in_err-flow-clause-does g c = λ w r repeats.
     let plan = after s.0 (finish_input ticked) in (
       plan,
       (s.0, s.1, subst (λ t. plan ≡ after s.0 (finish_input t)) c.asks_for_keys-ticked.ensures refl),
-      passed plan (λ flow world. Finish (comes flow world))
+      passed_to IsCut plan (λ flow world. Finish (comes flow world))
           (λ flow world. Finish (comes flow world)) _ _
           c.serve.new.self c.serve.new.self _ _ c.from_residual.ensures.1
-          (unfinished ticked s.0 _ _ c.serve.new.self c.serve.new.self _ s.2),
+          (unfinished_to ticked s.0 _ _ c.serve.new.self c.serve.new.self _ s.2),
     )
 
 pub returns-clause-does : goal.returns-clause-does
@@ -27,11 +28,11 @@ returns-clause-does g c = λ w r repeats.
     let plan = after s.0 (finish_input ticked) in (
       plan,
       (s.0, s.1, subst (λ t. plan ≡ after s.0 (finish_input t)) c.asks_for_keys-ticked.ensures refl),
-      finished ticked c.in_ok-flow.flow s.0 _ _ _ c.serve.new.self c.finish.new.self
-          c.finish.result s.2
+      finished_to ticked c.in_ok-flow.flow s.0 _ _ _ c.serve.new.self c.finish.new.self
+          c.finish.result s.2.0
           (λ v q reached. c.finish.ensures.does v q
           (ap (λ settings. settings.repeatable)
           (kind_stays_set (g.V.Verifier.accepts c.args.verifier.now) w c.args.input.moment
-          c.args.input.kind s.0 s.2.0
+          c.args.input.kind s.0 s.2.0.0
           c.in_ok-flow.flow v s.1 reached) ∙ (repeats ∙ sym c.in_ok-flow.ensures.same.3))),
     )

@@ -8,3 +8,7 @@ returns-clause-taken g c = λ w r repeats.
     c.take-outcome.new.self c.note_end.new.self c.take-outcome.result
     (λ goes. unchanged_by _ _ (c.note_end.ensures.continues goes))
     (c.take-outcome.ensures.does w r repeats)
+
+pub returns-clause-counted : goal.returns-clause-counted
+returns-clause-counted g c = λ w r repeats.
+    (c.take-outcome.ensures.does w r repeats).2.0.1.counted

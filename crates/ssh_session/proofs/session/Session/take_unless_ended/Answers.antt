@@ -1,6 +1,11 @@
 use Rattle.std.proofs.Common.{sym, ◌∙◌, subst, refl}
 use Rattle.ssh_session.specs.Between.{OwesUnlessEnded}
+use Rattle.ssh_auth.specs.Plan.{Finish}
+use Rattle.ssh_rules.specs.Cause.{comes}
+use Rattle.ssh_rules.specs.Cut.{IsCut}
 use Rattle.ssh_rules.specs.Run.{hand_on, is_over}
+use Rattle.ssh_session.specs.Handing.{IsCutBehind}
+use Rattle.ssh_session.proofs.Handing.{behind_cut, to_other}
 use Rattle.ssh_session.proofs.session.Session.take_unless_ended.Goals as goal
 
 pub returns-then-self-clause-does : goal.returns-then-self-clause-does
@@ -9,7 +14,9 @@ returns-then-self-clause-does g c = λ w r repeats. (
   subst (λ b. OwesUnlessEnded b (g.V.Verifier.accepts c.args.verifier.now) w c.args.input
       (hand_on w is_over))
       (sym c.if-self.true ∙ r.disconnected) refl,
-  c.end_run.ensures.does w r,
+  to_other IsCutBehind IsCut (hand_on w is_over) (λ flow world. Finish (comes flow world)) _ _
+      c.end_run.new.self c.end_run.result (c.end_run.ensures.does w r)
+      (λ cause events cut. behind_cut cause _ (hand_on w is_over) events cut),
 )
 
 pub returns-clause-does : goal.returns-clause-does
