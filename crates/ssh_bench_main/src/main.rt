@@ -1,15 +1,18 @@
 //! A program to be timed: `table <workload> <channels> <count>` makes so many calls on a table of
 //! so many channels, `session <workload> <channels> <count>` gives so many inputs to a session with
-//! so many, and `files <workload> 1 <count>` makes so many requests of a file server. It prints what was
-//! done and no time. `bench/run` times it. `half` writes through the half of a channel, for
+//! so many, `files <workload> 1 <count>` makes so many requests of a file server, and `gateway
+//! <workload> <connections> <count>` sends so many pieces of 32 KiB through a gateway. It prints what
+//! was done and no time. `bench/run` times it. `half` writes through the half of a channel, for
 //! `bench/refuse-memory`.
 #![tactic(auto)]
 
 mod files;
+mod forwarded;
 mod half;
 mod served;
 
 use crate::files::{TRANSFERS, Transfer, transfer_named, transfers_done};
+use crate::forwarded::{FORWARDINGS, Forwarding, forward, forwarding_named};
 use crate::half::written_both_ways;
 use crate::served::{Serving, serve, serving_named};
 use bytes::Bytes;
@@ -53,12 +56,13 @@ const WORKLOADS: &str = "copy|copy-small|open|out|out-small|in|grant|flush-all";
 /// The words that name a workload of a session.
 const SERVINGS: &str = "in|out|out-small|grant|exchange";
 
-/// What is done, on a table, on a session or on a file server.
+/// What is done, on a table, on a session, on a file server or through a gateway.
 #[derive(Clone, Copy, PartialEq, Eq)]
 enum Work {
     Table(Workload),
     Session(Serving),
     Files(Transfer),
+    Gateway(Forwarding),
 }
 
 /// What the calls are.
@@ -235,6 +239,7 @@ fn done(alloc: Global, work: Work, channels: u32, count: u32) -> Option<u64> {
         Work::Table(work) => run(alloc, work, channels, count).ok(),
         Work::Session(work) => serve(alloc, work, channels, count).ok(),
         Work::Files(work) => transfers_done(alloc, work, count).ok(),
+        Work::Gateway(work) => forward(alloc, work, channels, count).ok(),
     }
 }
 
@@ -244,6 +249,7 @@ fn work_named(on: &str, name: &str) -> Option<Work> {
         "table" => Some(Work::Table(workload_named(name)?)),
         "session" => Some(Work::Session(serving_named(name)?)),
         "files" => Some(Work::Files(transfer_named(name)?)),
+        "gateway" => Some(Work::Gateway(forwarding_named(name)?)),
         _ => None,
     }
 }
@@ -294,6 +300,7 @@ fn main(rt: HostRuntime) -> ExitCode {
         let _ = eprintln!(rt; "usage: ssh_bench_main table {WORKLOADS} <channels> <count>");
         let _ = eprintln!(rt; "   or: ssh_bench_main session {SERVINGS} <channels> <count>");
         let _ = eprintln!(rt; "   or: ssh_bench_main files {TRANSFERS} 1 <count>");
+        let _ = eprintln!(rt; "   or: ssh_bench_main gateway {FORWARDINGS} <connections> <count>");
         let _ = eprintln!(rt; "   or: ssh_bench_main half");
         return ExitCode::from(USAGE);
     };

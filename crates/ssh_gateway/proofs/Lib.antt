@@ -23,3 +23,4 @@ mod Laws
 mod Going
 mod Attending
 mod Delivering
+pub mod ChosenOnce

@@ -3,3 +3,4 @@ pub mod Telling
 pub mod Giving
 pub mod Exchanging
 pub mod Heads
+pub mod Keeping

@@ -89,7 +89,7 @@ words_once false text a b (inl h) (inr k) = absurd (k.0 h.0)
 words_once false text a b (inr h) (inl k) = absurd (h.0 k.0)
 words_once false text a b (inr h) (inr k) = h.1 ∙ sym k.1
 
-reads_once : (text : List ℕ) (a b : Option Line) → Reads text a → Reads text b → a ≡ b
+pub reads_once : (text : List ℕ) (a b : Option Line) → Reads text a → Reads text b → a ≡ b
 reads_once text a b h k = words_once (is_passed text) text a b h k
 
 module _ {S : Type 0} (takes : Taking S) where

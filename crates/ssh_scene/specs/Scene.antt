@@ -174,6 +174,10 @@ with_line s (Some line.Passed) = Some s
 with_line s (Some (line.Setting one)) = set_in s.stage one s
 with_line s (Some (line.Input one)) = Some (taken s.stage one s)
 
+-- this line makes this of the scene; None where it is bad, or may not stand here
+abbrev pub TakesIn : Scene → (text : List ℕ) → Option Scene → Type 0
+TakesIn s text next = (said : Option Line) × Reads text said × (with_line s said ≡ next)
+
 -- the lines of a text: each ends in a newline, which the last may lack
 abbrev pub onto_first : ℕ → List (List ℕ) → List (List ℕ)
 onto_first byte [] = (byte ∷ []) ∷ []

@@ -53,7 +53,7 @@ pub fn bytes_in(alloc: Global, digits: &str) -> Result<Option<Bytes>, AllocError
 }
 
 /// The text whose bytes the digits write in hex, with `-` for none.
-pub(crate) fn text_in(alloc: Global, digits: &str) -> Result<Option<Text>, AllocError>
+pub fn text_in(alloc: Global, digits: &str) -> Result<Option<Text>, AllocError>
     ensures { IfOk result (IsTextIn digits.now) }
 {
     let Some(bytes) = bytes_in(alloc, digits)? else {

@@ -21,7 +21,7 @@ pub use answers::{
 pub use command_lines::{channel_in, small_in};
 pub use faults::{BadLine, LineFault, bad_line};
 pub use generated::generated_script;
-pub use grammar::{bytes_in, number_in};
+pub use grammar::{bytes_in, number_in, text_in};
 pub use pieces::read_pieces;
 pub use scene::{first_line, read_script};
 pub use script::{Script, Stage};

@@ -5,7 +5,7 @@ ghost use Rattle.ssh_scene.specs.declared.lines.Setting.TheVariants as setting;
 ghost use Rattle.ssh_link.specs.declared.frame.InputKind.TheVariants as kind;
 ghost use Rattle.ssh_scene.specs.Scene.{scene_of, seen, opening_scene, set, with_input};
 ghost use Rattle.ssh_scene.specs.Scene.{with_ticket, after_input, taken, with_line, lines_of};
-ghost use Rattle.ssh_scene.specs.Scene.{Gives};
+ghost use Rattle.ssh_scene.specs.Scene.{TakesIn, Gives};
 
 use crate::answers::{Answers, DataVerdict, ForwardVerdict, OpenVerdict, RequestVerdict, Standing};
 use crate::grammar::read_line;
@@ -19,7 +19,7 @@ use std::alloc::{AllocError, Global};
 
 impl Script {
     /// What no line says.
-    pub(crate) fn new(alloc: Global) -> Result<Script, AllocError>
+    pub fn new(alloc: Global) -> Result<Script, AllocError>
         ensures { IfOk result (λ script. scene_of script ≡ opening_scene) }
     {
         Ok(Script {
@@ -201,6 +201,19 @@ impl Script {
                 self.take(input)?;
                 Ok(true)
             }
+        }
+    }
+}
+
+impl Script {
+    /// Takes in the next line, as its bytes are; false where it is bad, or may not stand here.
+    pub fn read(&mut self, alloc: Global, line: &[u8]) -> Result<bool, AllocError>
+        ensures { IfOk result (λ done. TakesIn (scene_of self.old) line.now
+            (if done then Some (scene_of self.new) else None)) }
+    {
+        match read_line(alloc, line)? {
+            Some(line) => self.add(line),
+            None => Ok(false),
         }
     }
 }

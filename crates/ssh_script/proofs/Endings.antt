@@ -20,6 +20,11 @@ use Rattle.ssh_script.specs.Transcript.{status_of, Shows, longest, Scripted, Tra
 use Rattle.ssh_script.specs.Transcript.{run_words, sftp_words, IsTask, Does, Ends, Shown}
 use Rattle.ssh_script.specs.Transcript.{Unwritten, ShowsBy, ShowsFiles, ScriptedBy, FilesScripted}
 use Rattle.ssh_script.specs.Transcript.{IsRun, line_by_line, IsTold, ShowsEnds, EndsScripted}
+use Rattle.ssh_script.specs.Transcript.{ShowsGateway, GatewayScripted}
+use Rattle.ssh_gateway.specs.declared.error.GatewayError.TheVariants as gateway_error
+use Rattle.ssh_scene_gateway.specs.Forwarding.{Ending, IsForwarded}
+use Rattle.ssh_scene_gateway.specs.Forwarding.{status_of as ending_status}
+use Rattle.ssh_scene_gateway.specs.GatewayScene.{BringsGateway}
 use Rattle.ssh_ends.specs.declared.event.EndEvent.{EndEvent}
 use Rattle.ssh_scene_ends.specs.EventLines.{BringsEvents}
 use Rattle.ssh_script.specs.Files.{IsServed, Written, at_end, unless_refused, served_on}
@@ -102,6 +107,13 @@ told_small : (window packet : ℕ) (events : List EndEvent) (status : ℕ) (text
     → IsTold window packet events status text → status < 3
 told_small window packet events status text h = omega (arith, h.0)
 
+ending_small : (result : Ending) (status : ℕ) → ending_status result ≡ Some status → status < 3
+ending_small (Ok done) status h = some_small 0 status (omega arith) h
+ending_small (Err gateway_error.NoMemory) status h = absurd (let z : None ≡ Some status = h in cc)
+ending_small (Err (gateway_error.Run why)) status h = some_small 1 status (omega arith) h
+ending_small (Err gateway_error.TargetFault) status h = some_small 1 status (omega arith) h
+ending_small (Err gateway_error.TurnLimit) status h = some_small 1 status (omega arith) h
+
 does_small : (asked : Task) (bytes : List ℕ) (status : ℕ) (text : List ℕ)
     → Does asked bytes status text → status < 3
 does_small task.Run bytes status text h =
@@ -112,6 +124,9 @@ does_small task.ServeFiles bytes status text h =
 does_small (task.Generate channels) bytes status text h = status_small h.result status h.status_is
 does_small (task.JoinEnds window packet) bytes status text h =
     scripted_small BringsEvents (IsTold window packet) (told_small window packet) bytes status text h
+does_small task.Forward bytes status text h =
+    scripted_small BringsGateway IsForwarded
+    (λ scene status text done. ending_small done.result status done.status_is) bytes status text h
 does_small task.ShowUsage bytes status text h = omega (arith, h.0)
 does_small task.ShowVersion bytes status text h = omega (arith, h.0)
 does_small task.Refuse bytes status text h = omega (arith, h.0)
@@ -193,3 +208,10 @@ pub owed_told : (window packet : ℕ) (words : List (List ℕ)) (left : Option (
 owed_told window packet words left front status text w f h =
     read_owed BringsEvents (ShowsEnds window packet) (task.JoinEnds window packet) words w
     (λ bytes status text h. h) left front status text f h
+
+pub owed_forwarded : (words : List (List ℕ)) (left : Option (List ℕ)) (front : List ℕ)
+    (status : ℕ) (text : List ℕ) → IsTask task.Forward words → IsFront (longest + 1) left front
+    → GatewayScripted front status text → Owed words left status text
+owed_forwarded words left front status text w f h =
+    read_owed BringsGateway ShowsGateway task.Forward words w (λ bytes status text h. h) left front
+    status text f h

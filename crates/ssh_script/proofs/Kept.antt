@@ -7,10 +7,9 @@ use Rattle.std.proofs.lemmas.List.Concat.{flat_map-append}
 use Rattle.ssh_link.specs.declared.frame.Input.{Input}
 use Rattle.ssh_link.specs.declared.kex.KexCall.{KexCall}
 use Rattle.ssh_link.specs.declared.link.TraceEntry.{TraceEntry}
-use Rattle.ssh_link.specs.declared.link.TraceEntry.TheVariants as entry
-use Rattle.ssh_link.specs.Supply.{Supply, left_until, after_next}
+use Rattle.ssh_link.specs.Supply.{left_until}
 use Rattle.ssh_link.specs.declared.plain_kex.PlainKexError.{PlainKexError}
-use Rattle.ssh_link.specs.Told.{Adds, ToldBy}
+use Rattle.ssh_link.specs.Told.{ToldBy}
 use Rattle.ssh_auth.specs.declared.call.Call.{Call}
 use Rattle.ssh_auth.specs.declared.call.Call.TheVariants as call
 use Rattle.ssh_auth.specs.declared.question.Question.{Question}
@@ -29,8 +28,7 @@ use Rattle.ssh_players.specs.Played.{Failure, banner_answer, interactive_answer,
 use Rattle.ssh_players.specs.Played.{records, grants, listened, answered, after, played, IsAnswered}
 use Rattle.ssh_players.specs.Played.{heading, told_of}
 use Rattle.ssh_players.specs.Exchanged.{IsExchanged}
-use Rattle.ssh_players.specs.Given.{IsGiven, as_given, trace_of}
-use Rattle.ssh_players.specs.Given.{heading as input_heading}
+use Rattle.ssh_players.specs.Given.{as_given, trace_of}
 use Rattle.ssh_transcript.specs.CallLines.{question_line, call_line}
 use Rattle.ssh_transcript.specs.Print.{entry_lines, last_line}
 use Rattle.ssh_transcript.specs.Summary.{summary}
@@ -39,7 +37,8 @@ use Rattle.ssh_script.specs.declared.run.Writing.TheVariants.{LineByLine, InNumb
 use Rattle.ssh_script.specs.Transcript.{status_of, scene_settings, scene_accepts, IsRun}
 use Rattle.ssh_script.specs.Writings.{writing_of, text_in}
 use Rattle.ssh_script.proofs.Faultless.{closes_by}
-use Rattle.ssh_players.proofs.Heads.{heads, input_heads}
+use Rattle.ssh_players.proofs.Heads.{heads}
+use Rattle.ssh_players.proofs.Keeping.{stepped_is, traced_is, given_same}
 
 abbrev done : Unit {0}
 done = tt
@@ -124,15 +123,6 @@ calls_print queues (one ∷ more) =
     ∙ ap (λ t. flat_map call_line (answered queues one) ++ t) (calls_print (after queues one) more)
     ∙ sym (flat_map-append call_line (answered queues one) (played (after queues one) more))
 
--- what a supply gives is given by it
-is_given : (supply : Supply) (all : List TraceEntry) → IsGiven supply (as_given supply all)
-is_given supply [] = tt
-is_given supply (entry.Took commands replies input ∷ all) =
-    (refl, is_given (after_next commands replies supply) all)
-is_given supply (entry.Sent frame ∷ all) = is_given supply all
-is_given supply (entry.Noticed notice ∷ all) = is_given supply all
-is_given supply (entry.Answered ticket outcome ∷ all) = is_given supply all
-
 -- a handler that goes on telling told these calls
 told_some : (may_stop : Bool) (old new calls : List (Call Failure)) → ToldBy may_stop (Some old)
     (Some new) calls → new ≡ old ++ calls
@@ -154,36 +144,6 @@ told_is result false false queues queues' old all calls l m o h =
     let f : heading queues ++ played queues old ≡ heading queues =
     ap (λ x. heading queues ++ played queues x) o ∙ append-nil (heading queues) in
     heads queues' queues (played queues' all) calls (e ∙ ap (λ x. x ++ calls) f)
-
-pub stepped_is : (old all calls : List (KexCall PlainKexError)) → old ≡ []
-    → Adds (Some old) (Some all) calls → all ≡ calls
-stepped_is old all calls o h =
-    let z : Some all ≡ Some (old ++ calls) = h in
-    let e : all ≡ old ++ calls = cc in
-    e ∙ ap (λ x. x ++ calls) o
-
-traced_is : (inputs inputs' : List Input) (moment moment' : ℕ) (old all entries : List TraceEntry)
-    → old ≡ [] →
-    trace_of inputs' moment' all ≡ Some ((input_heading inputs moment ++ old) ++ entries)
-    → (inputs' ≡ inputs) × (moment' ≡ moment) × (all ≡ entries)
-traced_is inputs inputs' moment moment' old all entries o h =
-    let z : Some (input_heading inputs' moment' ++ all) ≡ Some ((input_heading inputs moment ++ old)
-    ++ entries) = h in
-    let e : input_heading inputs' moment' ++ all ≡ (input_heading inputs moment ++ old) ++ entries =
-    cc in
-    let f : input_heading inputs moment ++ old ≡ input_heading inputs moment =
-    ap (λ x. input_heading inputs moment ++ x) o ∙ append-nil (input_heading inputs moment) in
-    input_heads inputs' inputs moment' moment all entries (e ∙ ap (λ x. x ++ entries) f)
-
--- the trace of a link that gives these inputs is given by the script that has them
-given_same : (inputs inputs' : List Input) (moment moment' : ℕ) (all entries : List TraceEntry)
-    → inputs' ≡ inputs → moment' ≡ moment → all ≡ entries →
-    as_given (left_until moment' inputs') all ≡ all → IsGiven (left_until moment inputs) entries
-given_same inputs inputs' moment moment' all entries e f g h =
-    let supply : left_until moment' inputs' ≡ left_until moment inputs =
-    ap (λ m. left_until m inputs') f ∙ ap (left_until moment) e in
-    subst (λ s. IsGiven s entries) supply (subst (IsGiven (left_until moment' inputs')) (h ∙ g)
-    (is_given (left_until moment' inputs') all))
 
 -- no fault of a script's link rises
 not_below : 0 < 0 → ⊥

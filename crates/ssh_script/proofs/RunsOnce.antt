@@ -4,10 +4,8 @@ use Rattle.std.proofs.Common.{Some, None, refl, sym, ◌∙◌, ap, subst}
 use Rattle.std.specs.Prelude.{flat_map, option_to_list}
 use Rattle.ssh_link.specs.declared.kex.KexCall.{KexCall}
 use Rattle.ssh_link.specs.declared.kex.KexCall.TheVariants as kex
-use Rattle.ssh_link.specs.declared.link.TraceEntry.{TraceEntry}
-use Rattle.ssh_link.specs.declared.link.TraceEntry.TheVariants as entry
 use Rattle.ssh_link.specs.declared.plain_kex.PlainKexError.{PlainKexError}
-use Rattle.ssh_link.specs.Supply.{Supply, next_input, after_next}
+use Rattle.ssh_link.specs.Supply.{Supply, next_input}
 use Rattle.ssh_link.specs.Told.{ToldBy}
 use Rattle.ssh_auth.specs.declared.call.Call.{Call}
 use Rattle.ssh_auth.specs.declared.question.Question.{Question}
@@ -31,6 +29,7 @@ use Rattle.ssh_scene.specs.Scene.{Scene}
 use Rattle.ssh_script.specs.Transcript.{status_of, scene_settings, scene_accepts, scene_supply}
 use Rattle.ssh_script.specs.Transcript.{Writing, IsRun}
 use Rattle.ssh_players.proofs.Exchanging.{first_exchanged, rest_exchanged, one_step}
+use Rattle.ssh_players.proofs.Keeping.{given_later}
 use Rattle.ssh_script.proofs.Faultless.{closes_by, no_link_fault}
 
 -- an event of a run of a script, and a turn
@@ -112,15 +111,6 @@ alike_after queues both (Told one ∷ past) xs ys x y question h k a b =
     alike_after queues both past xs ys x y question h k a b
 
 -- ---- the link gives alike
-
-given_later : (supply : Supply) (xs ys : List TraceEntry) → IsGiven supply (xs ++ ys)
-    → IsGiven (left_after supply xs) ys
-given_later supply [] ys h = h
-given_later supply (entry.Took commands replies input ∷ xs) ys h =
-    given_later (after_next commands replies supply) xs ys h.1
-given_later supply (entry.Sent frame ∷ xs) ys h = given_later supply xs ys h
-given_later supply (entry.Noticed notice ∷ xs) ys h = given_later supply xs ys h
-given_later supply (entry.Answered ticket outcome ∷ xs) ys h = given_later supply xs ys h
 
 given_after : (supply : Supply) (past ts us : List ScriptTurn) (t u : ScriptTurn)
     → IsGiven supply (flat_map entries (past ++ t ∷ ts))

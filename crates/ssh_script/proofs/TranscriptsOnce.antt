@@ -23,7 +23,14 @@ use Rattle.ssh_script.specs.Transcript.{ShowsBy, ShowsFiles, ScriptedBy, FilesSc
 use Rattle.ssh_script.specs.Transcript.{IsBadBy, IsBadStream, IsMisused, sftp_words, AskForScript}
 use Rattle.ssh_script.specs.Transcript.{IsTask, Does, IsSize, generate_words, in_numbers}
 use Rattle.ssh_script.specs.Transcript.{line_by_line, IsTold, ShowsEnds, EndsScripted, IsBadTale}
-use Rattle.ssh_script.specs.Transcript.{AreWide, ends_words}
+use Rattle.ssh_script.specs.Transcript.{AreWide, ends_words, gateway_words, ShowsGateway}
+use Rattle.ssh_script.specs.Transcript.{GatewayScripted, IsBadGateway}
+use Rattle.ssh_gateway.specs.declared.error.GatewayError.TheVariants as gateway_error
+use Rattle.ssh_scene_gateway.specs.Forwarding.{Ending, IsForwarded}
+use Rattle.ssh_scene_gateway.specs.Forwarding.{status_of as ending_status}
+use Rattle.ssh_scene_gateway.specs.GatewayScene.{GatewayScene, BringsGateway}
+use Rattle.ssh_scene_gateway.proofs.LinesOnce.{brings_once}
+use Rattle.ssh_scene_gateway.proofs.RoundsOnce.{forwarded_once}
 use Rattle.ssh_ends.specs.declared.event.EndEvent.{EndEvent}
 use Rattle.ssh_scene_ends.specs.EventLines.{BringsEvents}
 use Rattle.ssh_scene_ends.proofs.EventsOnce.{events_once}
@@ -89,6 +96,12 @@ ends_once window packet = scripted_by_once BringsEvents (ShowsEnds window packet
     (λ read m n s t h k. shows_by_once (IsTold window packet) (tale_once window packet) read m n s t
     h k)
 
+-- and what a gateway does once
+gateway_once : (bytes : List ℕ) (m n : ℕ) (s t : List ℕ) → GatewayScripted bytes m s
+    → GatewayScripted bytes n t → (m ≡ n) × (s ≡ t)
+gateway_once = scripted_by_once BringsGateway ShowsGateway brings_once
+    (λ read m n s t h k. shows_by_once IsForwarded forwarded_once read m n s t h k)
+
 -- words ask for one thing
 first_length : List (List ℕ) → ℕ
 first_length [] = 0
@@ -113,6 +126,22 @@ sftp_not_help = λ e. let z : 4 ≡ 6 = ap first_length e in omega (arith, z)
 sftp_not_version : sftp_words ≢ version_words
 unfolding first_length
 sftp_not_version = λ e. let z : 4 ≡ 9 = ap first_length e in omega (arith, z)
+
+not_gateway : run_words ≢ gateway_words
+unfolding first_length
+not_gateway = λ e. let z : 3 ≡ 7 = ap first_length e in omega (arith, z)
+
+sftp_not_gateway : sftp_words ≢ gateway_words
+unfolding first_length
+sftp_not_gateway = λ e. let z : 4 ≡ 7 = ap first_length e in omega (arith, z)
+
+gateway_not_help : gateway_words ≢ help_words
+unfolding first_length
+gateway_not_help = λ e. let z : 7 ≡ 6 = ap first_length e in omega (arith, z)
+
+gateway_not_version : gateway_words ≢ version_words
+unfolding first_length
+gateway_not_version = λ e. let z : 7 ≡ 9 = ap first_length e in omega (arith, z)
 
 not_both : help_words ≢ version_words
 unfolding first_length
@@ -153,6 +182,25 @@ asked_once words task.Run task.ShowUsage h k = absurd (not_help (sym h ∙ k))
 asked_once words task.Run task.ShowVersion h k = absurd (not_version (sym h ∙ k))
 asked_once words task.Run task.Refuse h k = absurd (k.0 h)
 asked_once words task.Run task.ServeFiles h k = absurd (not_sftp (sym h ∙ k))
+asked_once words task.Run task.Forward h k = absurd (not_gateway (sym h ∙ k))
+asked_once words task.Forward task.Run h k = absurd (not_gateway (sym k ∙ h))
+asked_once words task.ServeFiles task.Forward h k = absurd (sftp_not_gateway (sym h ∙ k))
+asked_once words task.Forward task.ServeFiles h k = absurd (sftp_not_gateway (sym k ∙ h))
+asked_once words task.Forward (task.Generate n) h k =
+    absurd (not_generate (codes "gateway") n (sym h ∙ k.1))
+asked_once words (task.Generate m) task.Forward h k =
+    absurd (not_generate (codes "gateway") m (sym k ∙ h.1))
+asked_once words task.Forward (task.JoinEnds w q) h k =
+    absurd (not_ends (codes "gateway") w q (sym h ∙ k.1))
+asked_once words (task.JoinEnds w q) task.Forward h k =
+    absurd (not_ends (codes "gateway") w q (sym k ∙ h.1))
+asked_once words task.Forward task.Forward h k = refl
+asked_once words task.Forward task.ShowUsage h k = absurd (gateway_not_help (sym h ∙ k))
+asked_once words task.ShowUsage task.Forward h k = absurd (gateway_not_help (sym k ∙ h))
+asked_once words task.Forward task.ShowVersion h k = absurd (gateway_not_version (sym h ∙ k))
+asked_once words task.ShowVersion task.Forward h k = absurd (gateway_not_version (sym k ∙ h))
+asked_once words task.Forward task.Refuse h k = absurd (k.6 h)
+asked_once words task.Refuse task.Forward h k = absurd (h.6 k)
 asked_once words task.ServeFiles task.Run h k = absurd (not_sftp (sym k ∙ h))
 asked_once words task.ServeFiles task.ServeFiles h k = refl
 asked_once words task.ServeFiles (task.Generate n) h k =
@@ -222,6 +270,7 @@ reads task.Run = true
 reads task.ServeFiles = true
 reads (task.Generate channels) = false
 reads (task.JoinEnds window packet) = true
+reads task.Forward = true
 reads task.ShowUsage = false
 reads task.ShowVersion = false
 reads task.Refuse = false
@@ -230,8 +279,10 @@ same_words : (asked : Task) (words : List (List ℕ)) → IsTask asked words →
     → reads asked ≡ true
 same_words asked words w (inl k) = ap reads (asked_once words asked task.Run w k)
 same_words asked words w (inr (inl k)) = ap reads (asked_once words asked task.ServeFiles w k)
-same_words asked words w (inr (inr k)) =
+same_words asked words w (inr (inr (inl k))) =
     ap reads (asked_once words asked (task.JoinEnds k.0 k.1) w (k.2, k.3))
+same_words asked words w (inr (inr (inr k))) =
+    ap reads (asked_once words asked task.Forward w k)
 
 -- what is done without a script is not asked for by words that ask for one
 pub ask_for_none : (asked : Task) (words : List (List ℕ)) → IsTask asked words → reads asked ≡ false
@@ -246,6 +297,7 @@ does_once (task.Generate channels) script m n s t h k =
     run_once in_numbers (generated channels) m n s t h k
 does_once (task.JoinEnds window packet) script m n s t h k =
     ends_once window packet script m n s t h k
+does_once task.Forward script m n s t h k = gateway_once script m n s t h k
 does_once task.ShowUsage script m n s t h k = (h.0 ∙ sym k.0, h.1 ∙ sym k.1)
 does_once task.ShowVersion script m n s t h k = (h.0 ∙ sym k.0, h.1 ∙ sym k.1)
 does_once task.Refuse script m n s t h k = (h.0 ∙ sym k.0, h.1 ∙ sym k.1)
@@ -361,6 +413,24 @@ bad_tale : (window packet : ℕ) (script : List ℕ) (m : ℕ) (text : List ℕ)
 bad_tale window packet =
     bad_is_two BringsEvents events_once (IsTold window packet) (never_told window packet)
 
+ending_not_two : (result : Ending) → ending_status result ≡ Some 2 → ⊥
+ending_not_two (Ok done) h = not_two 0 (omega arith) h
+ending_not_two (Err gateway_error.NoMemory) h = absurd (none_is_some 2 h)
+ending_not_two (Err (gateway_error.Run why)) h = not_two 1 (omega arith) h
+ending_not_two (Err gateway_error.TargetFault) h = not_two 1 (omega arith) h
+ending_not_two (Err gateway_error.TurnLimit) h = not_two 1 (omega arith) h
+
+never_forwarded : (scene : GatewayScene) (text : List ℕ) → IsForwarded scene 2 text → ⊥
+never_forwarded scene text h = ending_not_two h.result h.status_is
+
+gateway_bad : (script : List ℕ) (m : ℕ) (text : List ℕ) → GatewayScripted script m text → m ≡ 2
+    → IsBadGateway script
+gateway_bad = two_is_bad BringsGateway brings_once IsForwarded never_forwarded
+
+bad_gateway : (script : List ℕ) (m : ℕ) (text : List ℕ) → GatewayScripted script m text
+    → IsBadGateway script → m ≡ 2
+bad_gateway = bad_is_two BringsGateway brings_once IsForwarded never_forwarded
+
 two_wrong : (asked : Task) (words : List (List ℕ)) (script : List ℕ) (m : ℕ) (text : List ℕ)
     → IsTask asked words → Does asked script m text → m ≡ 2
     → IsUnknown words ⊎ IsMisused words script
@@ -368,14 +438,16 @@ two_wrong task.Run words script m text w h e = inr (inl (w, script_bad script m 
 two_wrong task.ServeFiles words script m text w h e =
     inr (inr (inl (w, stream_bad script m text h e)))
 two_wrong (task.JoinEnds window packet) words script m text w h e =
-    inr (inr (inr ((window, packet, w.0, w.1), tale_bad window packet script m text h e)))
+    inr (inr (inr (inl ((window, packet, w.0, w.1), tale_bad window packet script m text h e))))
+two_wrong task.Forward words script m text w h e =
+    inr (inr (inr (inr (w, gateway_bad script m text h e))))
 two_wrong (task.Generate channels) words script m text w h e =
     absurd (run_not_two h.result (h.status_is ∙ ap Some e))
 two_wrong task.ShowUsage words script m text w h e = absurd (omega (arith, h.0))
 two_wrong task.ShowVersion words script m text w h e = absurd (omega (arith, h.0))
 two_wrong task.Refuse words script m text w h e = inl w
 
--- words that are misused ask for a run, for a file server or for two ends
+-- words that are misused ask for a run, for a file server, for two ends or for a gateway
 misused_two : (asked : Task) (words : List (List ℕ)) (script : List ℕ) (m : ℕ) (text : List ℕ)
     → IsTask asked words → Does asked script m text → IsMisused words script → m ≡ 2
 misused_two asked words script m text w h (inl k) =
@@ -384,7 +456,10 @@ misused_two asked words script m text w h (inl k) =
 misused_two asked words script m text w h (inr (inl k)) =
     let is : asked ≡ task.ServeFiles = asked_once words asked task.ServeFiles w k.0 in
     bad_stream script m text (subst (λ one. Does one script m text) is h) k.1
-misused_two asked words script m text w h (inr (inr ((window, packet, wide, same), k))) =
+misused_two asked words script m text w h (inr (inr (inr k))) =
+    let is : asked ≡ task.Forward = asked_once words asked task.Forward w k.0 in
+    bad_gateway script m text (subst (λ one. Does one script m text) is h) k.1
+misused_two asked words script m text w h (inr (inr (inl ((window, packet, wide, same), k)))) =
     let is : asked ≡ task.JoinEnds window packet =
     asked_once words asked (task.JoinEnds window packet) w (wide, same) in
     bad_tale window packet script m text (subst (λ one. Does one script m text) is h) k
@@ -397,8 +472,8 @@ wrong_two asked words script m text w h (inl k) =
     (subst (λ one. Does one script m text) is h).0
 wrong_two asked words script m text w h (inr k) = misused_two asked words script m text w h k
 
--- status 2 comes exactly with words that ask for nothing, and with a run, a file server or two ends
--- and a script that is too long or has a bad line
+-- status 2 comes exactly with words that ask for nothing, and with a run, a file server, two ends or a
+-- gateway and a script that is too long or has a bad line
 pub two_exactly : (words : List (List ℕ)) (script : List ℕ) (m : ℕ) (text : List ℕ)
     → Transcript words script m text →
     (m ≡ 2) ↔ (IsUnknown words ⊎ IsMisused words script)

@@ -30,6 +30,8 @@ use Rattle.ssh_script.specs.Files.{IsServed}
 use Rattle.ssh_ends.specs.declared.event.EndEvent.{EndEvent}
 use Rattle.ssh_scene_ends.specs.EventLines.{BringsEvents}
 use Rattle.ssh_scene_ends.specs.Telling.{told_text}
+use Rattle.ssh_scene_gateway.specs.Forwarding.{IsForwarded}
+use Rattle.ssh_scene_gateway.specs.GatewayScene.{GatewayScene, BringsGateway}
 use Rattle.ssh_auth.specs.declared.call.Call.{Call}
 use Rattle.ssh_link.specs.declared.link.TraceEntry.{TraceEntry}
 
@@ -104,6 +106,10 @@ IsTold window packet events status text = (status ≡ 0) × (text ≡ told_text 
 abbrev pub ShowsEnds : (window packet : ℕ) → Result (List EndEvent) ℕ → ℕ → List ℕ → Type 0
 ShowsEnds window packet read status text = ShowsBy (IsTold window packet) read status text
 
+-- likewise where its lines bring a gateway this scene
+abbrev pub ShowsGateway : Result GatewayScene ℕ → ℕ → List ℕ → Type 0
+ShowsGateway read status text = ShowsBy IsForwarded read status text
+
 -- the longest script
 abbrev pub longest : ℕ
 longest = 16777216
@@ -134,12 +140,20 @@ abbrev pub EndsScripted : (window packet : ℕ) → List ℕ → ℕ → List �
 EndsScripted window packet bytes status text =
     ScriptedBy BringsEvents (ShowsEnds window packet) bytes status text
 
--- the words that ask for a run, for a file server, for the usage line, and for the version
+-- the same where a gateway is given it
+abbrev pub GatewayScripted : List ℕ → ℕ → List ℕ → Type 0
+GatewayScripted bytes status text = ScriptedBy BringsGateway ShowsGateway bytes status text
+
+-- the words that ask for a run, for a file server, for a gateway, for the usage line, and for the
+-- version
 abbrev pub run_words : List (List ℕ)
 run_words = codes "run" ∷ []
 
 abbrev pub sftp_words : List (List ℕ)
 sftp_words = codes "sftp" ∷ []
+
+abbrev pub gateway_words : List (List ℕ)
+gateway_words = codes "gateway" ∷ []
 
 abbrev pub help_words : List (List ℕ)
 help_words = codes "--help" ∷ []
@@ -168,6 +182,7 @@ IsUnknown words = (words ≢ run_words) × (words ≢ help_words) × (words ≢ 
     × ((channels : ℕ) → IsSize channels → words ≢ generate_words channels)
     × (words ≢ sftp_words)
     × ((window packet : ℕ) → AreWide window packet → words ≢ ends_words window packet)
+    × (words ≢ gateway_words)
 
 -- these words ask for this
 abbrev pub IsTask : Task → List (List ℕ) → Type 0
@@ -176,12 +191,13 @@ IsTask task.ServeFiles words = words ≡ sftp_words
 IsTask (task.Generate channels) words = IsSize channels × (words ≡ generate_words channels)
 IsTask (task.JoinEnds window packet) words =
     AreWide window packet × (words ≡ ends_words window packet)
+IsTask task.Forward words = words ≡ gateway_words
 IsTask task.ShowUsage words = words ≡ help_words
 IsTask task.ShowVersion words = words ≡ version_words
 IsTask task.Refuse words = IsUnknown words
 
 abbrev pub usage : List ℕ
-usage = codes "usage: ssh_script run | generate <n> | threads <n> | sftp | ends <window> <packet>\n"
+usage = codes "usage: ssh_script run | generate <n> | threads <n> | sftp | ends <window> <packet> | gateway\n"
 
 abbrev pub version : List ℕ
 version = codes "ssh_script 0.1.0\n"
@@ -194,6 +210,7 @@ Does (task.Generate channels) bytes status text =
     IsRun in_numbers (generated channels) status text
 Does (task.JoinEnds window packet) bytes status text =
     EndsScripted window packet bytes status text
+Does task.Forward bytes status text = GatewayScripted bytes status text
 Does task.ShowUsage bytes status text = (status ≡ 0) × (text ≡ usage)
 Does task.ShowVersion bytes status text = (status ≡ 0) × (text ≡ version)
 Does task.Refuse bytes status text = (status ≡ 2) × (text ≡ usage)
@@ -208,7 +225,8 @@ abbrev pub IsBadBy : {A : Type 0} → (List (List ℕ) → Result A ℕ → Type
 IsBadBy gives bytes = IsTooLong bytes
     ⊎ ((number : ℕ) × gives (lines_of bytes) (Err number))
 
--- a script that is not run, one that no file server is given, and one that tells of no two ends
+-- a script that is not run, one that no file server is given, one that tells of no two ends, and one
+-- that no gateway is given
 abbrev pub IsBadScript : List ℕ → Type 0
 IsBadScript bytes = IsBadBy (Gives 0 opening_scene) bytes
 
@@ -217,6 +235,9 @@ IsBadStream bytes = IsBadBy BringsPieces bytes
 
 abbrev pub IsBadTale : List ℕ → Type 0
 IsBadTale bytes = IsBadBy BringsEvents bytes
+
+abbrev pub IsBadGateway : List ℕ → Type 0
+IsBadGateway bytes = IsBadBy BringsGateway bytes
 
 -- words that ask for two ends
 abbrev pub AskForEnds : List (List ℕ) → Type 0
@@ -227,6 +248,7 @@ abbrev pub IsMisused : List (List ℕ) → List ℕ → Type 0
 IsMisused words bytes = ((words ≡ run_words) × IsBadScript bytes)
     ⊎ ((words ≡ sftp_words) × IsBadStream bytes)
     ⊎ (AskForEnds words × IsBadTale bytes)
+    ⊎ ((words ≡ gateway_words) × IsBadGateway bytes)
 
 -- the same of the bytes that are left in a source, where it tells them
 abbrev pub Owed : List (List ℕ) → Option (List ℕ) → ℕ → List ℕ → Type 0
@@ -236,10 +258,12 @@ Owed words left status text = (bytes : List ℕ) × IsAll left bytes × Transcri
 -- words that ask for what a script says
 abbrev pub AskForScript : List (List ℕ) → Type 0
 AskForScript words = (words ≡ run_words) ⊎ (words ≡ sftp_words) ⊎ AskForEnds words
+    ⊎ (words ≡ gateway_words)
 
 -- and words that do not
 abbrev pub NoScript : List (List ℕ) → Type 0
 NoScript words = (words ≢ run_words) × (words ≢ sftp_words) × (AskForEnds words → ⊥)
+    × (words ≢ gateway_words)
 
 -- a script was asked for, and its source failed
 abbrev pub IsUnread : List (List ℕ) → ℕ → ℕ → Type 0

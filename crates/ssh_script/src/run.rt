@@ -8,6 +8,7 @@ ghost use Rattle.ssh_scene.specs.Scene.{scene_of};
 ghost use Rattle.ssh_script.specs.Transfer.{IsReadTo, IsReadWithin};
 ghost use Rattle.ssh_script.specs.Transcript.{status_of, IsRun, Scripted, FilesScripted, IsUnknown};
 ghost use Rattle.ssh_script.specs.Transcript.{IsMisused, AskForScript, NoScript, EndsScripted};
+ghost use Rattle.ssh_script.specs.Transcript.{GatewayScripted};
 ghost use Rattle.ssh_script.specs.Files.{IsServed};
 ghost use Rattle.ssh_script.specs.Transcript.{Transcript, Owed, IsUnread, IsCutShort, Ends};
 ghost use Rattle.ssh_script.specs.Transcript.{longest, in_numbers};
@@ -24,6 +25,7 @@ use ssh_link::{PlainKexError, Sink, Source, TraceEntry};
 use ssh_players::{ScriptError, ScriptHandler, ScriptKex, ScriptLink};
 use ssh_scene::{Script, generated_script, read_pieces, read_script};
 use ssh_scene_ends::{read_events, tell_events};
+use ssh_scene_gateway::{Forwarded, forward, read_gateway};
 use ssh_session::{RunError, run_stream};
 use ssh_transcript::{print_number, print_run, print_summary};
 use std::alloc::{AllocError, Global};
@@ -48,7 +50,7 @@ pub const LONGEST: usize = 16_777_216;
 const READ_AT_MOST: usize = LONGEST + 1;
 
 const USAGE: &str =
-    "usage: ssh_script run | generate <n> | threads <n> | sftp | ends <window> <packet>\n";
+    "usage: ssh_script run | generate <n> | threads <n> | sftp | ends <window> <packet> | gateway\n";
 
 const VERSION: &str = "ssh_script 0.1.0\n";
 
@@ -259,6 +261,32 @@ fn show_events(alloc: Global, window: u32, packet: u32, bytes: &[u8]) -> Result<
     }
 }
 
+/// What a gateway comes to that has a script of these bytes.
+fn show_gateway(alloc: Global, bytes: &[u8]) -> Result<Report, AllocError>
+    ensures { IfOk result (λ report. GatewayScripted bytes.now report.status
+        (string_bytes report.text)) }
+{
+    if bytes.len() > LONGEST {
+        return one_line(alloc, REFUSED, "script too long\n");
+    }
+    show_forwarding(alloc, bytes)
+}
+
+/// What a gateway comes to that has a script which is not too long.
+fn show_forwarding(alloc: Global, bytes: &[u8]) -> Result<Report, AllocError>
+    requires { length bytes.now ≤ longest }
+    ensures { IfOk result (λ report. GatewayScripted bytes.now report.status
+        (string_bytes report.text)) }
+{
+    match read_gateway(alloc, bytes)? {
+        Ok(script) => {
+            let Forwarded { status, text } = forward(alloc, script)?;
+            Ok(Report { status, text })
+        }
+        Err(number) => bad_line(alloc, number),
+    }
+}
+
 /// What a session of so many channels comes to.
 fn generate(alloc: Global, channels: u32) -> Result<Report, AllocError>
     requires { channels ≤ 1000 }
@@ -296,6 +324,10 @@ fn transcript<S: Source>(alloc: Global, words: &[&str], source: &mut S) -> Resul
             let bytes = read_front(alloc, source, READ_AT_MOST)?;
             Ok(show_ends(alloc, window, packet, &bytes)?)
         }
+        Task::Forward => {
+            let bytes = read_front(alloc, source, READ_AT_MOST)?;
+            Ok(show_gateway(alloc, &bytes)?)
+        }
         Task::Generate(channels) => Ok(generate(alloc, channels)?),
         Task::ShowUsage => Ok(one_line(alloc, DONE, USAGE)?),
         Task::ShowVersion => Ok(one_line(alloc, DONE, VERSION)?),
@@ -307,7 +339,8 @@ fn transcript<S: Source>(alloc: Global, words: &[&str], source: &mut S) -> Resul
 /// the program: 0 where the run was Ok, and for `--help` and `--version`; 1 where the run ended
 /// or the stream of a client of files ended by an error; 2 for other words, a bad line, or more than
 /// 16777216 bytes; 3 where the source failed, 4 where the sink failed, 5 where there was no memory.
-/// The source is read for the words `run`, `sftp` and `ends` alone: to its end, or to byte 16777217.
+/// The source is read for the words `run`, `sftp`, `ends` and `gateway` alone: to its end, or to
+/// byte 16777217.
 pub fn run_script<S: Source, W: Sink>(
     alloc: Global,
     words: &[&str],
@@ -338,7 +371,8 @@ pub fn run_script<S: Source, W: Sink>(
 }
 
 /// Words and a script owe one status and one text, and the status is 2 exactly with words that
-/// ask for nothing, and with `run`, `sftp` or `ends` and a script that is too long or has a bad line.
+/// ask for nothing, and with `run`, `sftp`, `ends` or `gateway` and a script that is too long or has a
+/// bad line.
 pub fn one_transcript()
     ensures once { (words : List (List ℕ)) (script : List ℕ) (m n : ℕ) (s t : List ℕ)
         → Transcript words script m s → Transcript words script n t → (m ≡ n) × (s ≡ t) }

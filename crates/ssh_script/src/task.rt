@@ -20,6 +20,8 @@ pub(crate) enum Task {
     Generate(u32),
     /// It joins two ends, each of which gives this window and takes this packet size.
     JoinEnds(u32, u32),
+    /// It plays a gateway.
+    Forward,
     /// It writes the usage line.
     ShowUsage,
     /// It writes its name and its version.
@@ -50,6 +52,7 @@ fn lone_task(word: &str) -> Task
     match word {
         "run" => Task::Run,
         "sftp" => Task::ServeFiles,
+        "gateway" => Task::Forward,
         "--help" => Task::ShowUsage,
         "--version" => Task::ShowVersion,
         _ => Task::Refuse,

@@ -16,8 +16,9 @@ use Rattle.ssh_scene.specs.Scene.{Scene}
 use Rattle.ssh_scene.specs.Queues.{Queues}
 use Rattle.ssh_players.specs.Played.{Failure, IsAnswered, played, told_of}
 use Rattle.ssh_players.specs.Exchanged.{IsExchanged}
+use Rattle.ssh_players.proofs.Keeping.{stepped_is}
 use Rattle.ssh_script.specs.Transcript.{scene_accepts}
-use Rattle.ssh_script.proofs.Kept.{is_answered, told_is, stepped_is}
+use Rattle.ssh_script.proofs.Kept.{is_answered, told_is}
 use Rattle.ssh_threads.specs.Sessions.{Outcome, IsFed, FailureTurn, HoldsData, ServesAs, hall_settings}
 use Rattle.ssh_threads.proofs.Silent.{quiet, silent}
 

@@ -76,7 +76,8 @@ one_count n m words few is few' is' =
 pub no_script : (n : ℕ) (words : List (List ℕ)) → words ≡ threads_words n → AskForScript words → ⊥
 no_script n words is (inl asks) = absurd (cc)
 no_script n words is (inr (inl asks)) = absurd (cc)
-no_script n words is (inr (inr asks)) = let same = asks.3 in absurd (cc)
+no_script n words is (inr (inr (inl asks))) = let same = asks.3 in absurd (cc)
+no_script n words is (inr (inr (inr asks))) = absurd (cc)
 
 ended_full : (n : ℕ) (frames : List Frame) (outcome : Outcome) → status_of n frames outcome ≡ 0
     → text_of n frames outcome ≡ full_text n

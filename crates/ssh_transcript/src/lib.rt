@@ -12,6 +12,6 @@ mod print_notice;
 mod summary;
 mod whole_run;
 
-pub use print::{print_hex, print_number};
+pub use print::{print_hex, print_number, print_trace};
 pub use summary::print_summary;
 pub use whole_run::print_run;

@@ -114,7 +114,7 @@ fn print_input(alloc: Global, out: &mut String, number: u64) -> Result<(), Alloc
 }
 
 /// The trace, a line for each call of the link.
-pub(crate) fn print_trace(
+pub fn print_trace(
     alloc: Global,
     out: &mut String,
     entries: &[TraceEntry],

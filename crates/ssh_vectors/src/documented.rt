@@ -389,7 +389,7 @@ fn the_examples_of_the_page_print_what_it_says(rt: HostRuntime) {
 }
 
 const USAGE: &[u8] =
-    b"usage: ssh_script run | generate <n> | threads <n> | sftp | ends <window> <packet>\n";
+    b"usage: ssh_script run | generate <n> | threads <n> | sftp | ends <window> <packet> | gateway\n";
 
 // Words, the status, and what is written for them.
 static WORDS: [(&[&str], u8, &[u8]); 20] = [

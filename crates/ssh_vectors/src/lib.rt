@@ -15,6 +15,8 @@ mod failing;
 #[cfg(test)]
 mod files;
 #[cfg(test)]
+mod gateways;
+#[cfg(test)]
 mod hostile;
 #[cfg(test)]
 mod keys;

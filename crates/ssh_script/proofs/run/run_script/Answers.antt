@@ -26,3 +26,6 @@ returns-clause-ends g c = Unwritten refl c.in-Err-write_all.ensures.cause read_f
 
 pub returns-in-Ok-clause-whole : goal.returns-in-Ok-clause-whole
 returns-in-Ok-clause-whole g c = λ asks. inl (c.in-Ok.ensures.whole asks)
+
+pub returns-in-Ok-write_all-clause-whole : goal.returns-in-Ok-write_all-clause-whole
+returns-in-Ok-write_all-clause-whole g c = λ asks. inl (c.in-Ok.ensures.whole asks)

@@ -1,6 +1,7 @@
 use Rattle.std.proofs.Common.{rules, map, refl}
 use Rattle.ssh_script.specs.declared.task.Task.TheVariants as task
-use Rattle.ssh_script.proofs.Endings.{owed_read, owed_served, owed_told, owed_alone}
+use Rattle.ssh_script.proofs.Endings.{owed_read, owed_served, owed_told, owed_forwarded}
+use Rattle.ssh_script.proofs.Endings.{owed_alone}
 use Rattle.ssh_script.proofs.TranscriptsOnce.{ask_for_none}
 use Rattle.ssh_script.proofs.run.transcript.Goals as goal
 
@@ -24,6 +25,13 @@ returns-in_ok-show_ends-in-JoinEnds-clause-owed g c =
     c.in_ok-bytes-in-JoinEnds.bytes.items _ _ (search rules)
     c.in_ok-bytes-in-JoinEnds.ensures.front
     (rw c.deref-in-JoinEnds.ensures.value at c.in_ok-show_ends-in-JoinEnds.ensures)
+
+pub returns-in_ok-show_gateway-in-Forward-clause-owed :
+    goal.returns-in_ok-show_gateway-in-Forward-clause-owed
+returns-in_ok-show_gateway-in-Forward-clause-owed g c =
+    owed_forwarded _ _ c.in_ok-bytes-in-Forward.bytes.items _ _ (search rules)
+    c.in_ok-bytes-in-Forward.ensures.front
+    (rw c.deref-in-Forward.ensures.value at c.in_ok-show_gateway-in-Forward.ensures)
 
 pub returns-in_ok-generate-in-Generate-clause-owed :
     goal.returns-in_ok-generate-in-Generate-clause-owed
