@@ -1,17 +1,16 @@
 // What calls of a handle and of a channel come to over a session, whose peer answers by payloads.
-ghost use Rattle.std.specs.Prelude.{◌≡◌, None, IfOk};
+ghost use Rattle.std.specs.Prelude.{◌≡◌, IfOk};
 ghost use Rattle.std.specs.Arc.{arc_value};
 ghost use Rattle.ssh_hub.specs.Words.{IsSeatOf};
-ghost use Rattle.ssh_hub_link.specs.Feeds.{IsOfFeed};
 ghost use Rattle.ssh_handles.specs.Handles.{handle_hub, writer_hub};
 
-use bytes::Bytes;
-use ssh_handler::Config;
+use crate::planned_feed::{PlannedFeed, Step};
+use crate::scene::hub;
 use ssh_handles::{ChannelWriteHalf, Handle};
-use ssh_hub::{Config2, HandleError, HubLock, Seat};
-use ssh_hub_link::{Feed, HubLink};
-use ssh_link::{ChannelMsg, Frame, Input, InputKind, Link, LinkFault, Refusal};
-use ssh_threads::{GrantingPeer, serve_over};
+use ssh_hub::{HandleError, HubLock, Seat};
+use ssh_hub_link::HubLink;
+use ssh_link::{ChannelMsg, Link, Refusal};
+use ssh_threads::serve_over;
 use ssh_wire::message::{CHANNEL_OPEN, CHANNEL_REQUEST, GLOBAL_REQUEST};
 use ssh_wire::{ChannelOpenFailure, Text};
 use std::alloc::Global;
@@ -19,155 +18,93 @@ use std::sync::{Arc, Wait};
 use std::test::*;
 use std::thread::{Threads, join};
 
-// What the peer answers, and to which message.
-#[derive(Clone, Copy)]
-struct Answer {
-    to: u8,
-    payload: &'static [u8],
+// The peer asks for authentication, and to be let in as alice by the method none (RFC 4253 section 10
+// and RFC 4252 section 5).
+const SERVICE: Step = Step::Payload(b"\x05\0\0\0\x0cssh-userauth");
+
+const USER: Step = Step::Payload(b"\x32\0\0\0\x05alice\0\0\0\x0essh-connection\0\0\0\x04none");
+
+// What the application asks for, how the peer answers, and what the application gets.
+struct Row {
+    call: Call,
+    steps: &'static [Step],
+    wanted: Result<Told, HandleError>,
 }
 
-// CHANNEL_OPEN_FAILURE for channel 2 with reason code 9, which is none of the standard (RFC 4254
-// section 5.1).
-static FAILED_OPEN: [Answer; 1] = [Answer {
-    to: CHANNEL_OPEN,
-    payload: b"\x5c\0\0\0\x02\0\0\0\x09\0\0\0\x02no\0\0\0\x02en",
-}];
-
-// The same with reason code 2.
-static FAILED_CONNECT: [Answer; 1] = [Answer {
-    to: CHANNEL_OPEN,
-    payload: b"\x5c\0\0\0\x02\0\0\0\x02\0\0\0\x02no\0\0\0\x02en",
-}];
-
-// REQUEST_FAILURE (RFC 4254 section 4).
-static DENIED: [Answer; 1] = [Answer {
-    to: GLOBAL_REQUEST,
-    payload: b"\x52",
-}];
-
-// REQUEST_SUCCESS with port 4022 (RFC 4254 section 7.1).
-static GRANTED: [Answer; 1] = [Answer {
-    to: GLOBAL_REQUEST,
-    payload: b"\x51\0\0\x0f\xb6",
-}];
-
-// CHANNEL_OPEN_CONFIRMATION for channel 2; then CHANNEL_FAILURE and CHANNEL_EOF on it (RFC 4254
-// sections 5.1, 5.4 and 5.3).
-static FAILED_REQUEST: [Answer; 3] = [
-    Answer {
-        to: CHANNEL_OPEN,
-        payload: b"\x5b\0\0\0\x02\0\0\0\x07\0\0\x80\0\0\0\x80\0",
+static ROWS: [Row; 5] = [
+    // CHANNEL_OPEN_FAILURE for channel 2 with reason code 9, which is none of the standard (RFC
+    // 4254 section 5.1).
+    Row {
+        call: Call::Session,
+        steps: &[
+            SERVICE,
+            USER,
+            Step::Answer(
+                CHANNEL_OPEN,
+                b"\x5c\0\0\0\x02\0\0\0\x09\0\0\0\x02no\0\0\0\x02en",
+            ),
+            Step::End,
+        ],
+        wanted: Err(HandleError::OpenFailed(ChannelOpenFailure::AdministrativelyProhibited)),
     },
-    Answer {
-        to: CHANNEL_REQUEST,
-        payload: b"\x64\0\0\0\x02",
+    // The same with reason code 2.
+    Row {
+        call: Call::Session,
+        steps: &[
+            SERVICE,
+            USER,
+            Step::Answer(
+                CHANNEL_OPEN,
+                b"\x5c\0\0\0\x02\0\0\0\x02\0\0\0\x02no\0\0\0\x02en",
+            ),
+            Step::End,
+        ],
+        wanted: Err(HandleError::OpenFailed(ChannelOpenFailure::ConnectFailed)),
     },
-    Answer {
-        to: CHANNEL_REQUEST,
-        payload: b"\x60\0\0\0\x02",
+    // REQUEST_FAILURE (RFC 4254 section 4).
+    Row {
+        call: Call::Forward,
+        steps: &[
+            SERVICE,
+            USER,
+            Step::Answer(GLOBAL_REQUEST, b"\x52"),
+            Step::End,
+        ],
+        wanted: Err(HandleError::Denied),
+    },
+    // REQUEST_SUCCESS with port 4022 (RFC 4254 section 7.1).
+    Row {
+        call: Call::Forward,
+        steps: &[
+            SERVICE,
+            USER,
+            Step::Answer(GLOBAL_REQUEST, b"\x51\0\0\x0f\xb6"),
+            Step::End,
+        ],
+        wanted: Ok(Told::Port(4022)),
+    },
+    // CHANNEL_OPEN_CONFIRMATION for channel 2; then CHANNEL_FAILURE and CHANNEL_EOF on it (RFC 4254
+    // sections 5.1, 5.4 and 5.3). A shell is asked for by clients alone, so that a session of a
+    // server sends no such request, and the peer's failure answers none.
+    Row {
+        call: Call::Shell,
+        steps: &[
+            SERVICE,
+            USER,
+            Step::Answer(
+                CHANNEL_OPEN,
+                b"\x5b\0\0\0\x02\0\0\0\x07\0\0\x80\0\0\0\x80\0",
+            ),
+            Step::Answer(CHANNEL_REQUEST, b"\x64\0\0\0\x02"),
+            Step::Answer(CHANNEL_REQUEST, b"\x60\0\0\0\x02"),
+            Step::End,
+        ],
+        wanted: Ok(Told::Asked {
+            is_refused: true,
+            is_eof: true,
+        }),
     },
 ];
-
-// What the peer does next.
-#[derive(Clone, Copy)]
-enum Turn {
-    Answers(&'static [u8]),
-    Leaves,
-}
-
-// A peer that lets herself in as alice, answers so, one after another, and is gone.
-#[derive(Drop)]
-struct AnsweringPeer {
-    login: GrantingPeer,
-    // How many inputs of the login were given.
-    begun: u32,
-    answers: &'static [Answer],
-    next: usize,
-    // The number of the newest message that she was sent.
-    heard: u8,
-}
-
-impl AnsweringPeer {
-    fn new(alloc: Global, answers: &'static [Answer]) -> AnsweringPeer {
-        AnsweringPeer {
-            login: GrantingPeer::new(alloc),
-            begun: 0,
-            answers,
-            next: 0,
-            heard: 0,
-        }
-    }
-
-    // What she does behind the login; none where she waits for the message that she answers.
-    fn turn(&mut self) -> Option<Turn> {
-        let Some(answer) = self.answers.get(self.next) else {
-            return Some(Turn::Leaves);
-        };
-        if answer.to != self.heard {
-            return None;
-        }
-        self.next = self.next.saturating_add(1);
-        Some(Turn::Answers(answer.payload))
-    }
-}
-
-fn input_of(turn: Turn) -> Input
-    ensures { IsOfFeed result.kind }
-{
-    let kind = match turn {
-        Turn::Answers(payload) => InputKind::Payload(Bytes::from_static(payload)),
-        Turn::Leaves => InputKind::End,
-    };
-    Input { moment: 0, kind }
-}
-
-// The number of the message of a frame.
-fn number_of(frame: &Frame) -> u8 {
-    frame.head().first().copied().unwrap_or(0)
-}
-
-impl Feed for AnsweringPeer {
-    ghost inputs = { λ _. None };
-
-    ghost frames = { λ _. None };
-
-    ghost faults = { λ _. 0 };
-
-    ghost identity = { λ _. 0 };
-
-    ghost polls = { λ _ _ _. Unit {0} };
-
-    ghost waits = { λ _ _ _. Unit {0} };
-
-    // SERVICE_REQUEST and USERAUTH_REQUEST come first.
-    fn poll(&mut self) -> Result<Option<Input>, LinkFault> {
-        if self.begun < 2 {
-            self.begun += 1;
-            return match self.login.poll() {
-                Ok(input) => Ok(input),
-                Err(_) => Err(LinkFault::NoMemory),
-            };
-        }
-        match self.turn() {
-            Some(turn) => Ok(Some(input_of(turn))),
-            None => Ok(None),
-        }
-    }
-
-    fn wait(&mut self) -> Result<Input, LinkFault> {
-        Ok(input_of(Turn::Leaves))
-    }
-
-    fn send(&mut self, frame: Frame) -> Result<(), LinkFault> {
-        self.heard = number_of(&frame);
-        drop(frame);
-        Ok(())
-    }
-
-    fn nudged(&self) -> bool {
-        true
-    }
-}
 
 // Whether a session over the link comes to its end.
 fn runs<L: Link>(alloc: Global, link: &mut L) -> bool {
@@ -190,14 +127,14 @@ fn serves<R: Wait + Clone + Drop>(
     rt: &R,
     alloc: Global,
     side: Side,
-    answers: &'static [Answer],
+    steps: &'static [Step],
 ) -> bool {
     let Side { lock, mut seat } = side;
     let Ok(own) = rt.clone() else {
         lock.end(rt, &mut seat);
         return false;
     };
-    let peer = AnsweringPeer::new(alloc, answers);
+    let peer = PlannedFeed::new(steps, u64::MAX, true);
     let mut link = HubLink::new(own, alloc, lock, seat, peer, false);
     let has_run = runs(alloc, &mut link);
     drop(link.finish());
@@ -298,27 +235,12 @@ fn calls<R: Wait>(
     }
 }
 
-// A hub with the sizes of the standard config.
-fn hub(alloc: Global) -> Result<(Arc<HubLock>, Seat), HandleError>
-    ensures { IfOk result (λ made. IsSeatOf (arc_value made.0) made.1) }
-{
-    let config = Config::standard();
-    let sizes = Config2 {
-        channel_buffer_size: config.channel_buffer_size,
-        event_buffer_size: config.event_buffer_size,
-    };
-    let (lock, seat) = HubLock::new(alloc, &sizes)?;
-    let lock = Arc::new(alloc, lock)?;
-    Ok((lock, seat))
-}
-
 // The session's side of a hub, and a handle on it.
-fn sides<R: Wait>(rt: &R, lock: &Arc<HubLock>, seat: Seat) -> Result<(Side, Handle), HandleError>
-    requires { IsSeatOf (arc_value lock.now) seat }
+fn sides(lock: &Arc<HubLock>, seat: Seat, other: Seat) -> Result<(Side, Handle), HandleError>
+    requires own { IsSeatOf (arc_value lock.now) seat }
+    requires other { IsSeatOf (arc_value lock.now) other }
     ensures { IfOk result (λ made. handle_hub made.1 ≡ arc_value lock.now) }
 {
-    let mut seat = seat;
-    let other = lock.split(rt, &mut seat)?;
     let handle = Handle::new(Arc::try_clone(lock)?, other);
     let lock = Arc::try_clone(lock)?;
     Ok((Side { lock, seat }, handle))
@@ -329,15 +251,15 @@ fn comes_to<R: Threads + Wait + Clone + Drop + Sync>(
     rt: &R,
     alloc: Global,
     call: Call,
-    answers: &'static [Answer],
+    steps: &'static [Step],
 ) -> Result<Told, HandleError> {
-    let (lock, seat) = hub(alloc)?;
-    let (side, handle) = sides(rt, &lock, seat)?;
+    let (lock, seat, other) = hub(rt, alloc)?;
+    let (side, handle) = sides(&lock, seat, other)?;
     let lock_ref: &HubLock = &lock;
     let (told, has_run) = join(
         rt,
         || calls(rt, alloc, lock_ref, handle, call),
-        || serves(rt, alloc, side, answers),
+        || serves(rt, alloc, side, steps),
     );
     if !has_run {
         return Err(HandleError::Inconsistent);
@@ -345,33 +267,22 @@ fn comes_to<R: Threads + Wait + Clone + Drop + Sync>(
     told
 }
 
-#[test]
-fn an_open_is_refused_for_the_reason_of_its_code(rt: HostRuntime) {
-    let alloc = rt.alloc();
-    let unknown = Err(HandleError::OpenFailed(ChannelOpenFailure::AdministrativelyProhibited));
-    let connect = Err(HandleError::OpenFailed(ChannelOpenFailure::ConnectFailed));
-    assert!(rt;
-        comes_to(&rt, alloc, Call::Session, &FAILED_OPEN) == unknown
-            && comes_to(&rt, alloc, Call::Session, &FAILED_CONNECT) == connect
-    );
+fn first_that_fails<R: Threads + Wait + Clone + Drop + Sync>(
+    rt: &R,
+    alloc: Global,
+) -> Option<usize> {
+    let mut at: usize = 0;
+    for row in &ROWS {
+        if comes_to(rt, alloc, row.call, row.steps) != row.wanted {
+            return Some(at);
+        }
+        at = at.saturating_add(1);
+    }
+    None
 }
 
 #[test]
-fn a_forward_is_denied_or_gets_its_port(rt: HostRuntime) {
-    let alloc = rt.alloc();
-    assert!(rt;
-        comes_to(&rt, alloc, Call::Forward, &DENIED) == Err(HandleError::Denied)
-            && comes_to(&rt, alloc, Call::Forward, &GRANTED) == Ok(Told::Port(4022))
-    );
-}
-
-// A shell is asked for by clients alone, so that a session of a server sends no such request, and
-// the peer's failure answers none.
-#[test]
-fn a_failure_of_the_peer_is_not_told(rt: HostRuntime) {
-    let told = Told::Asked {
-        is_refused: true,
-        is_eof: true,
-    };
-    assert!(rt; comes_to(&rt, rt.alloc(), Call::Shell, &FAILED_REQUEST) == Ok(told));
+fn an_open_a_forward_and_a_request_come_to_what_the_peer_answers(rt: HostRuntime) {
+    let failing = first_that_fails(&rt, rt.alloc());
+    assert!(rt; failing.is_none(), "row {failing:?}");
 }

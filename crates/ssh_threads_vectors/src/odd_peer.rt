@@ -1,7 +1,8 @@
 // Peers that do otherwise than the program's own.
-ghost use Rattle.std.specs.Prelude.{◌≡◌, ◌<◌, ◌≤◌, None, true};
+ghost use Rattle.std.specs.Prelude.{None};
 
 use crate::meeting::Flags;
+use crate::scene::fails;
 use ssh_hub_link::Feed;
 use ssh_link::{Frame, Input, InputKind, LinkFault};
 use ssh_threads::{GrantingPeer, Peer};
@@ -53,18 +54,6 @@ impl<'a> OddPeer<'a> {
     fn is_gone(&self) -> bool {
         matches!(self.odd, Odd::Leaves) && self.given > 3
     }
-}
-
-// Counts one fault more, where the count has room.
-fn fails(faults: &mut u64) -> bool
-    ensures rose { result ≡ true → faults.old < faults.new }
-    ensures later { faults.old ≤ faults.new }
-{
-    if *faults == u64::MAX {
-        return false;
-    }
-    *faults += 1;
-    true
 }
 
 impl<'a> Feed for OddPeer<'a> {

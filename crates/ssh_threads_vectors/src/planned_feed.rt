@@ -1,7 +1,8 @@
 // A feed in memory that does as planned.
-ghost use Rattle.std.specs.Prelude.{◌≡◌, ◌<◌, ◌≤◌, ℕ, None, true};
+ghost use Rattle.std.specs.Prelude.{◌≡◌, None};
 ghost use Rattle.ssh_hub_link.specs.Feeds.{IsOfFeed};
 
+use crate::scene::fails;
 use bytes::Bytes;
 use ssh_hub_link::Feed;
 use ssh_link::{Frame, Input, InputKind, LinkFault};
@@ -10,6 +11,9 @@ use ssh_link::{Frame, Input, InputKind, LinkFault};
 #[derive(Clone, Copy)]
 pub enum Step {
     Payload(&'static [u8]),
+    // The payload that answers a message of this number: while another was heard last, nothing is
+    // there.
+    Answer(u8, &'static [u8]),
     Keepalive,
     End,
     // Nothing is there, and whoever waits goes on to the next step.
@@ -28,6 +32,8 @@ pub struct PlannedFeed {
     pub polls: u64,
     pub waits: u64,
     pub faults: u64,
+    // The number of the newest message that was sent.
+    pub heard: u8,
 }
 
 impl PlannedFeed {
@@ -40,6 +46,7 @@ impl PlannedFeed {
             polls: 0,
             waits: 0,
             faults: 0,
+            heard: 0,
         }
     }
 
@@ -47,8 +54,13 @@ impl PlannedFeed {
         ensures { self.new.faults ≡ self.old.faults }
     {
         let step = self.steps.get(self.next).copied();
-        self.next = self.next.saturating_add(1);
-        step
+        match step {
+            Some(Step::Answer(message, _)) if message != self.heard => Some(Step::Nothing),
+            _ => {
+                self.next = self.next.saturating_add(1);
+                step
+            }
+        }
     }
 }
 
@@ -67,41 +79,32 @@ impl Feed for PlannedFeed {
 
     fn poll(&mut self) -> Result<Option<Input>, LinkFault> {
         self.polls = self.polls.saturating_add(1);
-        match self.step() {
-            None | Some(Step::Nothing) => Ok(None),
-            Some(Step::Fails) => {
-                if fails(&mut self.faults) {
-                    return Err(LinkFault::Failed);
-                }
-                Ok(None)
-            }
-            Some(step) => Ok(Some(input_of(step, self.polls))),
+        let step = self.step().unwrap_or(Step::Nothing);
+        if matches!(step, Step::Nothing) {
+            return Ok(None);
         }
+        if matches!(step, Step::Fails) && fails(&mut self.faults) {
+            return Err(LinkFault::Failed);
+        }
+        Ok(Some(input_of(step, self.polls)))
     }
 
     fn wait(&mut self) -> Result<Input, LinkFault> {
         self.waits = self.waits.saturating_add(1);
-        match self.step() {
-            Some(Step::Fails) => {
-                if fails(&mut self.faults) {
-                    return Err(LinkFault::Failed);
-                }
-                Ok(input_of(Step::End, self.polls))
-            }
-            Some(step) => Ok(input_of(step, self.polls)),
-            None => Ok(input_of(Step::End, self.polls)),
+        let step = self.step().unwrap_or(Step::End);
+        if matches!(step, Step::Fails) && fails(&mut self.faults) {
+            return Err(LinkFault::Failed);
         }
+        Ok(input_of(step, self.polls))
     }
 
     fn send(&mut self, frame: Frame) -> Result<(), LinkFault> {
+        self.heard = frame.head().first().copied().unwrap_or(0);
         drop(frame);
-        if self.room == 0 {
-            if fails(&mut self.faults) {
-                return Err(LinkFault::Failed);
-            }
-            return Ok(());
+        if self.room == 0 && fails(&mut self.faults) {
+            return Err(LinkFault::Failed);
         }
-        self.room -= 1;
+        self.room = self.room.saturating_sub(1);
         Ok(())
     }
 
@@ -110,23 +113,13 @@ impl Feed for PlannedFeed {
     }
 }
 
-// Counts one fault more, where the count has room.
-fn fails(faults: &mut u64) -> bool
-    ensures rose { result ≡ true → faults.old < faults.new }
-    ensures later { faults.old ≤ faults.new }
-{
-    if *faults == u64::MAX {
-        return false;
-    }
-    *faults += 1;
-    true
-}
-
 fn input_of(step: Step, moment: u64) -> Input
     ensures { IsOfFeed result.kind }
 {
     let kind = match step {
-        Step::Payload(bytes) => InputKind::Payload(Bytes::from_static(bytes)),
+        Step::Payload(bytes) | Step::Answer(_, bytes) => {
+            InputKind::Payload(Bytes::from_static(bytes))
+        }
         Step::Keepalive => InputKind::KeepaliveTick,
         _ => InputKind::End,
     };
