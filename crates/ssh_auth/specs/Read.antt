@@ -4,8 +4,8 @@ use Rattle.ssh_wire.specs.Messages.{userauth_request}
 use Rattle.ssh_keys.specs.declared.error.KeyError.TheVariants.{Blob}
 use Rattle.ssh_auth.specs.declared.error.AuthError.{AuthError}
 use Rattle.ssh_auth.specs.declared.error.AuthError.TheVariants as error
-use Rattle.ssh_auth.specs.declared.message.PasswordRequest.{PasswordRequest}
-use Rattle.ssh_auth.specs.declared.message.PasswordRequest.TheVariants.{Password, Change}
+use Rattle.ssh_auth.specs.declared.request.PasswordRequest.{PasswordRequest}
+use Rattle.ssh_auth.specs.declared.request.PasswordRequest.TheVariants.{Password, Change}
 use Rattle.ssh_auth.specs.declared.request.Request.{Request}
 use Rattle.ssh_auth.specs.Publickey.{Acceptance, Circumstances, MisfitsSignature, HoldsNoSignature}
 use Rattle.ssh_auth.specs.Requested.{Method, Password_method, Change_method}

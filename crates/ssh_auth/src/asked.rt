@@ -17,14 +17,12 @@ ghost use Rattle.ssh_auth.specs.Requested.{SaysMethod, SaysNone, SaysPassword, S
 ghost use Rattle.ssh_auth.specs.Requested.{SaysInteractive, Method, named_by};
 ghost use Rattle.ssh_auth.specs.Serve.{IsNumbered};
 
+use crate::interactive::{read_interactive, read_responses};
 use crate::key_request::{
     Offer, OfferFields, SignedRequest, read_offer, read_offer_fields, read_signature,
     signed_message,
 };
-use crate::message::{
-    PasswordRequest, read_interactive, read_none, read_password, read_request_head, read_responses,
-};
-use crate::request::Request;
+use crate::request::{PasswordRequest, Request, read_none, read_password, read_request_head};
 use crate::{AuthError, AuthRequest};
 use bytes::Bytes;
 use ssh_keys::{Algorithm, KeyError, PublicKey, Verifier};

@@ -2,7 +2,7 @@
 ghost use Rattle.std.specs.Prelude.{◌≡◌, Some, None, true, false, not, IfOk, IfErr, OnOk, OnErr};
 ghost use Rattle.ssh_wire.specs.declared.error.WireError.TheVariants.{NoMemory};
 ghost use Rattle.ssh_auth.specs.Request.{server_request, client_request, principal_of, pair_of};
-ghost use Rattle.ssh_auth.specs.Request.{initial_of, is_bound, bound_to, bound_anew, is_probed, prompt_of};
+ghost use Rattle.ssh_auth.specs.Request.{initial_of, is_bound, bound_to, is_probed, prompt_of};
 ghost use Rattle.ssh_auth.specs.Request.{begun, count_after};
 ghost use Rattle.ssh_auth.specs.declared.auth_request.CurrentRequest.TheVariants.{KeyboardInteractive};
 
@@ -18,24 +18,6 @@ pub struct Principal {
     pub user: Text,
     /// The service that is to start once the user is authenticated.
     pub service: Text,
-}
-
-impl Principal {
-    /// This user and this service. `NoMemory` is the only error.
-    fn new(alloc: Global, user: &str, service: &str) -> Result<Principal, WireError>
-        ensures ok { IfOk result (λ principal. (principal.user ≡ user.now)
-            × (principal.service ≡ service.now)) }
-        ensures memory { IfErr result (λ e. e ≡ NoMemory) }
-    {
-        let user = Text::new(alloc, user)?;
-        match Text::new(alloc, service) {
-            Ok(service) => Ok(Principal { user, service }),
-            Err(e) => {
-                drop(user);
-                Err(e)
-            }
-        }
-    }
 }
 
 /// What was begun and is gone on with by a later request.
@@ -150,22 +132,24 @@ impl AuthRequest {
         ensures memory { IfErr result (λ e. e ≡ NoMemory) }
         ensures err { OnErr result (self.new ≡ self.old) }
     {
-        if self.is_bound(user, service) {
-            return Ok(false);
+        if let Some(bound) = &self.bound {
+            if bound.user.as_str() == user && bound.service.as_str() == service {
+                return Ok(false);
+            }
         }
-        let principal = Principal::new(alloc, user, service)?;
-        self.bind(principal);
-        Ok(true)
-    }
-
-    /// Binds them in place of the old ones, and begins anew.
-    fn bind(&mut self, principal: Principal)
-        ensures { self.new ≡ bound_anew self.old principal.user principal.service }
-    {
-        self.bound = Some(principal);
+        let user = Text::new(alloc, user)?;
+        let service = match Text::new(alloc, service) {
+            Ok(service) => service,
+            Err(e) => {
+                drop(user);
+                return Err(e);
+            }
+        };
+        self.bound = Some(Principal { user, service });
         self.methods = self.initial;
         self.partial_success = false;
         self.current = None;
+        Ok(true)
     }
 
     /// A round of prompts begins, with these submethods.
@@ -196,7 +180,14 @@ impl AuthRequest {
         ensures { result
             ≡ is_probed (begun self.now user.now service.now).current name.now blob.now }
     {
-        self.is_bound(user, service) && self.is_probed(name, blob)
+        match &self.bound {
+            Some(bound) => {
+                bound.user.as_str() == user
+                    && bound.service.as_str() == service
+                    && self.is_probed(name, blob)
+            }
+            None => false,
+        }
     }
 
     /// The user whom prompts wait for, and the submethods of their round.
@@ -208,18 +199,6 @@ impl AuthRequest {
                 Some((principal.user.as_str(), submethods.as_str()))
             }
             _ => None,
-        }
-    }
-
-    /// Whether these are the bound user and service.
-    fn is_bound(&self, user: &str, service: &str) -> bool
-        ensures { result ≡ is_bound self.now.bound user.now service.now }
-    {
-        match &self.bound {
-            Some(principal) => {
-                principal.user.as_str() == user && principal.service.as_str() == service
-            }
-            None => false,
         }
     }
 }

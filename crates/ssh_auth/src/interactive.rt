@@ -1,19 +1,20 @@
 // Requests by keyboard-interactive, and the responses to prompts.
-ghost use Rattle.std.specs.Prelude.{drop};
+ghost use Rattle.std.specs.Prelude.{◌≡◌, ◌⊎◌, drop, map, MatchResult};
 ghost use Rattle.ssh_wire.specs.Messages.{userauth_info_response};
-ghost use Rattle.ssh_auth.specs.Response.{Responded, SaysResponses};
-ghost use Rattle.ssh_auth.specs.Requested.{SaysInteractive, Interactive_method};
-ghost use Rattle.ssh_auth.specs.Verdict.{method_verdict, response_verdict};
+ghost use Rattle.ssh_wire.specs.declared.error.WireError.TheVariants.{NoMemory};
+ghost use Rattle.ssh_auth.specs.Response.{Responded, Responses, Unfit_responses, SaysResponses};
+ghost use Rattle.ssh_auth.specs.Requested.{SaysInteractive, Interactive_method, Unfit_method};
+ghost use Rattle.ssh_auth.specs.Verdict.{response_verdict};
 ghost use Rattle.ssh_auth.specs.Proven.{IsPromptCall, AllAdded};
 ghost use Rattle.ssh_auth.specs.Serve.{IsNumbered, CarriesOut, CarriesOutMethod};
 
-use crate::message::{read_interactive, read_responses};
 use crate::reply::{answer_prompted, refuse};
-use crate::{AuthError, AuthHandler, AuthRequest, AuthStep, CurrentRequest, Response};
-use ssh_wire::{Text, fields_of};
+use crate::{AuthError, AuthHandler, AuthRequest, AuthStep, Response};
+use ssh_wire::{Reader, Text, WireError, fields_of};
 use std::alloc::Global;
 
-/// A request of method keyboard-interactive (RFC 4256 section 3.1).
+/// A request of method keyboard-interactive (RFC 4256 section 3.1): a round begins, and the handler
+/// is asked what to prompt for.
 pub(crate) fn serve_interactive<H: AuthHandler>(
     alloc: Global,
     auth: &mut AuthRequest,
@@ -25,20 +26,6 @@ pub(crate) fn serve_interactive<H: AuthHandler>(
         (H.told handler.new) auth.new result }
 {
     let submethods = read_interactive(fields)?;
-    begin_round(alloc, auth, handler, user, submethods)
-}
-
-/// A round begins: the handler is asked what to prompt for.
-fn begin_round<H: AuthHandler>(
-    alloc: Global,
-    auth: &mut AuthRequest,
-    handler: &mut H,
-    user: &str,
-    submethods: &str,
-) -> Result<AuthStep, AuthError<H::Error>>
-    ensures { CarriesOut (method_verdict auth.old user.now (Interactive_method submethods.now))
-        (H.told handler.old) (H.told handler.new) auth.new result }
-{
     let submethods_kept = Text::new(alloc, submethods)?;
     auth.begin_prompts(submethods_kept);
     match handler.auth_keyboard_interactive(user, submethods, None) {
@@ -82,4 +69,34 @@ pub fn serve_response<H: AuthHandler>(
         }
         Err(e) => Err(AuthError::Handler(e)),
     }
+}
+
+/// The submethods of a request of method keyboard-interactive; its language is not looked at (RFC
+/// 4256 section 3.1).
+pub(crate) fn read_interactive(fields: &[u8]) -> Result<&str, WireError>
+    ensures { MatchResult result
+        (λ submethods. SaysInteractive fields.now (Interactive_method submethods.now))
+        (λ why. SaysInteractive fields.now (Unfit_method why)) }
+{
+    let mut reader = Reader::new(fields);
+    reader.text()?;
+    let submethods = reader.text()?;
+    reader.end()?;
+    Ok(submethods)
+}
+
+/// The responses of a USERAUTH_INFO_RESPONSE, as many as it announces (RFC 4256 section 3.4).
+pub(crate) fn read_responses(alloc: Global, fields: &[u8]) -> Result<Vec<&[u8]>, WireError>
+    ensures { MatchResult result
+        (λ responses. SaysResponses fields.now (Responses (map (λ text. text.now) responses.items)))
+        (λ why. (why ≡ NoMemory) ⊎ SaysResponses fields.now (Unfit_responses why)) }
+{
+    let mut reader = Reader::new(fields);
+    let count = reader.u32()?;
+    let mut responses = Vec::new(alloc);
+    for _ in 0..count {
+        responses.push(reader.bytes()?)?;
+    }
+    reader.end()?;
+    Ok(responses)
 }

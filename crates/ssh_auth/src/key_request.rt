@@ -11,7 +11,7 @@ ghost use Rattle.ssh_auth.specs.Publickey.{IsOffered, IsUsable, OffersNothing, o
 ghost use Rattle.ssh_auth.specs.Read.{SignatureFails};
 
 use crate::AuthError;
-use crate::message::read_flag;
+use crate::request::read_flag;
 use ssh_keys::{Algorithm, KeyError, PublicKeyOrCertificate, Signature, Verifier};
 use ssh_wire::{Reader, WireError, put_bytes};
 use std::alloc::Global;

@@ -18,7 +18,6 @@ mod gssapi;
 mod handler;
 mod interactive;
 mod key_request;
-mod message;
 mod method;
 mod offer;
 mod prompts;

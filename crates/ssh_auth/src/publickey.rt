@@ -17,9 +17,8 @@ ghost use Rattle.ssh_auth.specs.Serve.{CarriesOut, CarriesOutMethod};
 use crate::key_request::{
     Offer, OfferFields, SignedRequest, is_accepted, read_offer, read_offer_fields, read_signature,
 };
-use crate::message::read_none;
 use crate::reply::{answer_offer, answer_proof, refuse};
-use crate::request::Request;
+use crate::request::{Request, read_none};
 use crate::{
     Auth, AuthError, AuthHandler, AuthRequest, AuthStep, PublicKeyOffer, VerifiedPublicKey,
 };

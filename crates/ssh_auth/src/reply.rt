@@ -4,7 +4,7 @@ ghost use Rattle.std.specs.Prelude.{IfOk, IfErr};
 ghost use Rattle.ssh_wire.specs.declared.error.WireError.TheVariants.{NoMemory, TooLong};
 ghost use Rattle.ssh_wire.specs.Methods.{without};
 ghost use Rattle.ssh_wire.specs.Methods.{names_text};
-ghost use Rattle.ssh_auth.specs.Layout.{failure_naming, failure, success, pk_ok};
+ghost use Rattle.ssh_auth.specs.Layout.{failure_naming, failure, pk_ok};
 ghost use Rattle.ssh_auth.specs.Layout.{prompts_fields, info_request};
 ghost use Rattle.ssh_auth.specs.Plan.{Finish};
 ghost use Rattle.ssh_auth.specs.Serve.{Concludes};
@@ -76,16 +76,6 @@ fn fitting(payload: Vec<u8>) -> Result<Bytes, WireError>
         drop(payload);
         return Err(WireError::TooLong);
     }
-    Ok(Bytes::from_vec(payload)?)
-}
-
-/// USERAUTH_SUCCESS (RFC 4252 section 5.1).
-fn success_payload(alloc: Global) -> Result<Bytes, WireError>
-    ensures ok { IfOk result (λ payload. payload ≡ success) }
-    ensures memory { IfErr result (λ e. e ≡ NoMemory) }
-{
-    let mut payload = Vec::new(alloc);
-    put_u8(&mut payload, USERAUTH_SUCCESS)?;
     Ok(Bytes::from_vec(payload)?)
 }
 
@@ -264,7 +254,7 @@ pub(crate) fn answer_proof(
 {
     match answer {
         Auth::Accept => Ok(AuthStep {
-            reply: success_payload(alloc)?,
+            reply: Bytes::copy_from_slice(alloc, &[USERAUTH_SUCCESS])?,
             verdict: AuthVerdict::Accepted,
         }),
         Auth::Reject {
@@ -325,7 +315,7 @@ pub(crate) fn answer(
 {
     match answer {
         Auth::Accept => Ok(AuthStep {
-            reply: success_payload(alloc)?,
+            reply: Bytes::copy_from_slice(alloc, &[USERAUTH_SUCCESS])?,
             verdict: AuthVerdict::Accepted,
         }),
         Auth::Reject {
@@ -416,14 +406,7 @@ pub(crate) fn answer_prompted<E>(
     ensures { Concludes (Finish (after_prompts auth.old answer.now)) [] auth.new result }
 {
     match answer {
-        Auth::Accept => Ok(AuthStep {
-            reply: success_payload(alloc)?,
-            verdict: AuthVerdict::Accepted,
-        }),
-        Auth::Reject {
-            proceed_with_methods,
-            partial_success,
-        } => Ok(refuse_naming(alloc, auth, *proceed_with_methods, *partial_success)?),
+        Auth::Accept | Auth::Reject { .. } => Ok(answer_proof(alloc, auth, answer)?),
         Auth::UnsupportedMethod => Err(AuthError::UnsupportedAuthMethod),
         Auth::Partial {
             name,

@@ -1,20 +1,21 @@
 // One request of authentication, from its payload to its verdict.
-ghost use Rattle.std.specs.Prelude.{◌≡◌, ◌<◌, ◌^◌, length, drop};
+ghost use Rattle.std.specs.Prelude.{◌≡◌, ◌<◌, ◌^◌, [], length, drop, MatchResult, IfOk, IfErr};
+ghost use Rattle.ssh_wire.specs.Field.{Flag, SpellsAll, Misfits, MisfitsAll, MisfitsWhole};
 ghost use Rattle.ssh_wire.specs.Messages.{userauth_request};
-ghost use Rattle.ssh_auth.specs.Requested.{Requested, SaysRequest, None_method, Password_method};
+ghost use Rattle.ssh_wire.specs.Reading.{Reads};
+ghost use Rattle.ssh_auth.specs.Requested.{Requested, SaysRequest, Unfit_method, head_fields};
 ghost use Rattle.ssh_auth.specs.Requested.{SaysMethod, SaysNone, SaysPassword, named_by};
-ghost use Rattle.ssh_auth.specs.Verdict.{verdict, method_verdict};
+ghost use Rattle.ssh_auth.specs.Verdict.{verdict};
 ghost use Rattle.ssh_auth.specs.Proven.{IsProvenCall, AllAdded};
 ghost use Rattle.ssh_auth.specs.Serve.{IsNumbered, CarriesOut, CarriesOutMethod};
 ghost use Rattle.ssh_auth.specs.Read.{password_method, circumstances, all_fields, IsWhole};
 
 use crate::interactive::serve_interactive;
-use crate::message::{PasswordRequest, read_none, read_password, read_request_head};
 use crate::publickey::serve_publickey;
 use crate::reply::{answer, refuse, take_away};
 use crate::{AuthError, AuthHandler, AuthRequest, AuthStep};
 use ssh_keys::Verifier;
-use ssh_wire::{MethodKind, fields_of};
+use ssh_wire::{MethodKind, Reader, WireError, fields_of};
 use std::alloc::Global;
 
 /// A request, once its user is known.
@@ -30,6 +31,33 @@ pub(crate) struct Request<'a> {
     pub user: &'a str,
     /// The fields of the method, which end the payload.
     pub fields: &'a [u8],
+}
+
+/// The fields that each USERAUTH_REQUEST begins with (RFC 4252 section 5), and what follows them.
+#[derive(Clone, Copy)]
+pub(crate) struct RequestHead<'a> {
+    /// The user's name.
+    pub user: &'a str,
+    /// The service that is to start once the user is authenticated.
+    pub service: &'a str,
+    /// The name of the method.
+    pub method: &'a str,
+    /// The fields of the method, unread.
+    pub rest: &'a [u8],
+}
+
+/// What a request of method password asks for (RFC 4252 section 8).
+#[derive(Clone, Copy)]
+pub(crate) enum PasswordRequest<'a> {
+    /// To be let in by this password.
+    Password {
+        password: &'a str,
+    },
+    /// To have it changed to a new one.
+    Change {
+        password: &'a str,
+        new_password: &'a str,
+    },
 }
 
 /// Serves a USERAUTH_REQUEST (RFC 4252 section 5): makes the calls that it owes, and gives its
@@ -103,7 +131,8 @@ fn serve_method<H: AuthHandler, V: Verifier>(
     Ok(refuse(alloc, auth)?)
 }
 
-/// A request of method none (RFC 4252 section 5.2).
+/// A request of method none (RFC 4252 section 5.2): asks whether the user is let in without a
+/// proof.
 fn serve_none<H: AuthHandler>(
     alloc: Global,
     auth: &mut AuthRequest,
@@ -115,19 +144,6 @@ fn serve_none<H: AuthHandler>(
         (H.told handler.new) auth.new result }
 {
     read_none(fields)?;
-    ask_none(alloc, auth, handler, user)
-}
-
-/// Asks whether the user is let in without a proof.
-fn ask_none<H: AuthHandler>(
-    alloc: Global,
-    auth: &mut AuthRequest,
-    handler: &mut H,
-    user: &str,
-) -> Result<AuthStep, AuthError<H::Error>>
-    ensures { CarriesOut (method_verdict auth.old user.now None_method) (H.told handler.old)
-        (H.told handler.new) auth.new result }
-{
     match handler.auth_none(user) {
         Ok(verdict) => {
             let answered = answer(alloc, auth, MethodKind::None, &verdict);
@@ -138,7 +154,8 @@ fn ask_none<H: AuthHandler>(
     }
 }
 
-/// A request of method password (RFC 4252 section 8).
+/// A request of method password (RFC 4252 section 8): asks whether the user is let in by it. A
+/// change of it is not served: the method is taken away.
 fn serve_password<H: AuthHandler>(
     alloc: Global,
     auth: &mut AuthRequest,
@@ -149,40 +166,12 @@ fn serve_password<H: AuthHandler>(
     ensures { CarriesOutMethod (SaysPassword fields.now) auth.old user.now (H.told handler.old)
         (H.told handler.new) auth.new result }
 {
-    let asked = read_password(fields)?;
-    serve_password_request(alloc, auth, handler, user, asked)
-}
-
-/// A password, or a change of it, which is not served: the method is taken away.
-fn serve_password_request<H: AuthHandler>(
-    alloc: Global,
-    auth: &mut AuthRequest,
-    handler: &mut H,
-    user: &str,
-    asked: PasswordRequest<'_>,
-) -> Result<AuthStep, AuthError<H::Error>>
-    ensures { CarriesOut (method_verdict auth.old user.now (password_method asked.entry))
-        (H.told handler.old) (H.told handler.new) auth.new result }
-{
-    match asked {
-        PasswordRequest::Password { password } => {
-            ask_password(alloc, auth, handler, user, password)
+    let password = match read_password(fields)? {
+        PasswordRequest::Password { password } => password,
+        PasswordRequest::Change { .. } => {
+            return Ok(take_away(alloc, auth, MethodKind::Password)?);
         }
-        PasswordRequest::Change { .. } => Ok(take_away(alloc, auth, MethodKind::Password)?),
-    }
-}
-
-/// Asks whether the user is let in by the password.
-fn ask_password<H: AuthHandler>(
-    alloc: Global,
-    auth: &mut AuthRequest,
-    handler: &mut H,
-    user: &str,
-    password: &str,
-) -> Result<AuthStep, AuthError<H::Error>>
-    ensures { CarriesOut (method_verdict auth.old user.now (Password_method password.now))
-        (H.told handler.old) (H.told handler.new) auth.new result }
-{
+    };
     match handler.auth_password(user, password) {
         Ok(verdict) => {
             let answered = answer(alloc, auth, MethodKind::Password, &verdict);
@@ -191,4 +180,61 @@ fn ask_password<H: AuthHandler>(
         }
         Err(e) => Err(AuthError::Handler(e)),
     }
+}
+
+/// The head of a USERAUTH_REQUEST (RFC 4252 section 5).
+pub(crate) fn read_request_head(fields: &[u8]) -> Result<RequestHead<'_>, WireError>
+    ensures { MatchResult result
+        (λ head. SpellsAll head_fields (head.user.now, (head.service.now, (head.method.now, tt)))
+        fields.now head.rest.now)
+        (λ why. MisfitsAll head_fields fields.now why) }
+{
+    let mut reader = Reader::new(fields);
+    let user = reader.text()?;
+    let service = reader.text()?;
+    let method = reader.text()?;
+    let rest = reader.rest();
+    Ok(RequestHead {
+        user,
+        service,
+        method,
+        rest,
+    })
+}
+
+/// The fields of the method none, of which there are none (RFC 4252 section 5.2).
+pub(crate) fn read_none(fields: &[u8]) -> Result<(), WireError>
+    ensures { MatchResult result (λ _. fields.now ≡ []) (λ why. MisfitsWhole [] fields.now why) }
+{
+    Reader::new(fields).end()
+}
+
+/// A boolean, which is false exactly at 0 (RFC 4251 section 5).
+pub(crate) fn read_flag(reader: &mut Reader<'_>) -> Result<bool, WireError>
+    ensures ok { IfOk result (Reads Flag reader.old reader.new) }
+    ensures misfit { IfErr result (Misfits Flag reader.old.left) }
+{
+    let byte = reader.u8()?;
+    Ok(byte != 0)
+}
+
+/// The fields of the method password (RFC 4252 section 8).
+pub(crate) fn read_password(fields: &[u8]) -> Result<PasswordRequest<'_>, WireError>
+    ensures { MatchResult result
+        (λ asked. SaysPassword fields.now (password_method asked))
+        (λ why. SaysPassword fields.now (Unfit_method why)) }
+{
+    let mut reader = Reader::new(fields);
+    let is_change = read_flag(&mut reader)?;
+    let password = reader.text()?;
+    if is_change {
+        let new_password = reader.text()?;
+        reader.end()?;
+        return Ok(PasswordRequest::Change {
+            password,
+            new_password,
+        });
+    }
+    reader.end()?;
+    Ok(PasswordRequest::Password { password })
 }

@@ -1,7 +1,7 @@
 use Rattle.std.proofs.Common.{◌≡◌, length, map}
 use Rattle.ssh_wire.specs.Field.{SpellsAll}
 use Rattle.ssh_auth.specs.Response.{strings, values}
-use Rattle.ssh_auth.proofs.message.read_responses.Given as goal
+use Rattle.ssh_auth.proofs.interactive.read_responses.Given as goal
 
 -- so many strings were read, one after another
 abbrev pub invariant-loop : goal.invariant-loop

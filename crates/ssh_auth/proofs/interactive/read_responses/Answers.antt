@@ -4,7 +4,7 @@ use Rattle.ssh_wire.specs.Field.{Number, Bytes}
 use Rattle.ssh_wire.proofs.Outcomes.{not_so}
 use Rattle.ssh_auth.proofs.Responses.{reads_more, misfits_next, misfits_end, fails_as}
 use Rattle.ssh_auth.proofs.Signatures.{field_first}
-use Rattle.ssh_auth.proofs.message.read_responses.Goals as goal
+use Rattle.ssh_auth.proofs.interactive.read_responses.Goals as goal
 
 pub returns-in_err-bytes : goal.returns-in_err-bytes
 returns-in_err-bytes c =
