@@ -9,6 +9,7 @@ pub mod Ascending
 pub mod Quiet
 pub mod Anywhere
 pub mod Moves
+pub mod Adjusting
 pub mod Agreeing
 pub mod Joined
 pub mod Entries

@@ -11,10 +11,7 @@ use Rattle.std.proofs.lemmas.Map.{lookup-set_value, lookup-remove_entry}
 use Rattle.std.proofs.lemmas.Map.Keys.{IsDistinct-from_sorted}
 use Rattle.std.proofs.lemmas.Map.Steps.{set_value_same}
 use Rattle.ssh_channels.specs.declared.params.ChannelParams.{ChannelParams}
-use Rattle.ssh_channels.specs.declared.adjusted.Adjusted.{Adjusted}
-use Rattle.ssh_channels.specs.declared.adjusted.Adjusted.TheVariants.{Dropped, Kept, Granted}
 use Rattle.ssh_channels.specs.Line.{something_waits}
-use Rattle.ssh_channels.specs.Window.{room_after}
 use Rattle.ssh_channels.specs.Table.{is_one, AreWaiting}
 
 abbrev pub is_member : ℕ → List ℕ → Bool
@@ -137,13 +134,6 @@ pub gone_waiting : (n : ℕ) (lines lines' : List (ℕ × ChannelParams)) (numbe
     AreWaiting numbers' lines'
 gone_waiting n lines lines' numbers numbers' k a m =
     noted n numbers numbers' lines lines' false None m k refl a
-
--- what comes in changes nothing of what waits
-pub room_waits : (a : Adjusted) (count target : ℕ) (l : ChannelParams) →
-    something_waits (room_after a count target l) ≡ something_waits l
-room_waits Dropped count target l = refl
-room_waits Kept count target l = refl
-room_waits (Granted amount) count target l = refl
 
 -- one more came, on which nothing waits
 none_at : (n q : ℕ) (numbers : List ℕ) (lines : List (ℕ × ChannelParams)) → AreWaiting numbers lines

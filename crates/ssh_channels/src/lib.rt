@@ -10,21 +10,17 @@ mod adjusted;
 mod chunk;
 mod closing;
 mod error;
-mod flushing;
 mod frames;
 mod laws;
 mod ledger;
-mod noted;
 mod opens;
 mod params;
 mod paths;
 mod replies;
 mod requests;
 mod sending;
-mod sink;
 mod table;
 mod waiting;
-mod windows;
 mod with_frames;
 mod writers;
 
@@ -38,5 +34,5 @@ pub use ledger::{
 pub use params::ChannelParams;
 pub use paths::both_paths_agree;
 pub use replies::Reply;
-pub use sink::FrameSink;
+pub use sending::FrameSink;
 pub use table::Encrypted;

@@ -1,15 +1,14 @@
 // A channel of a table.
-ghost use Rattle.std.specs.Prelude.{◌≡◌, ◌&&◌, ◌++◌, ◌∷◌, [], true, not, length, IfOk};
+ghost use Rattle.std.specs.Prelude.{◌≡◌, ◌&&◌, ◌++◌, true, not, IfOk};
 ghost use Rattle.std.specs.Prelude.{IfErr, OnOk, OnErr};
 ghost use Rattle.ssh_channels.specs.declared.error.TableError.TheVariants.{NoMemory};
-ghost use Rattle.ssh_channels.specs.Layout as layout;
 ghost use Rattle.ssh_channels.specs.Line as line;
 ghost use Rattle.ssh_channels.specs.Window as window;
 
-use crate::frames::{Recipient, adjust_frame, close_frame, data_frame, eof_frame};
+use crate::frames::{Recipient, close_frame, data_frame, eof_frame};
 use crate::replies::Replies;
 use crate::waiting::{Waiting, longest_piece};
-use crate::{Adjusted, Chunk, TableError};
+use crate::{Chunk, TableError};
 use bytes::Bytes;
 use ssh_link::Frame;
 use ssh_wire::ChannelId;
@@ -102,17 +101,11 @@ impl ChannelParams {
         }
     }
 
-    pub(crate) fn nothing_waits(&self) -> bool
-        ensures { result ≡ line.nothing_waits self.now }
-    {
-        self.waiting.is_empty()
-    }
-
     /// Whether data wait, or an EOF or a CLOSE behind them.
     pub(crate) fn something_waits(&self) -> bool
         ensures { result ≡ line.something_waits self.now }
     {
-        !self.nothing_waits() || self.pending_eof || self.pending_close
+        !self.waiting.is_empty() || self.pending_eof || self.pending_close
     }
 
     /// Whether something waits still, where the channel is not gone.
@@ -129,8 +122,8 @@ impl ChannelParams {
         if self.pending_eof || self.pending_close {
             return true;
         }
-        if is_rekeying || !self.nothing_waits() {
-            return !self.nothing_waits() || !chunk.bytes.is_empty();
+        if is_rekeying || !self.waiting.is_empty() {
+            return !self.waiting.is_empty() || !chunk.bytes.is_empty();
         }
         chunk.bytes.len() > self.recipient_window_size as usize
     }
@@ -148,7 +141,7 @@ impl ChannelParams {
     }
 
     /// Whether the channel is established and has room for so many bytes of the peer's.
-    fn fits(&self, count: usize) -> bool
+    pub(crate) fn fits(&self, count: usize) -> bool
         ensures { result ≡ window.fits count self.now }
     {
         self.confirmed && count <= self.sender_window_size as usize
@@ -162,28 +155,6 @@ impl ChannelParams {
         count > 0
             && count <= self.recipient_window_size as usize
             && count <= longest_piece(self.recipient_maximum_packet_size)
-    }
-
-    /// Data that one message takes go out, with no list of pieces. Where there is no memory, all is
-    /// as before.
-    fn push_whole(
-        &mut self,
-        own: ChannelId,
-        chunk: Chunk,
-        staged: &mut VecDeque<Frame>,
-    ) -> Result<(), TableError>
-        requires whole { line.takes_whole chunk.bytes self.old ≡ true }
-        ensures line { OnOk result (self.new ≡ line.spent (length chunk.bytes) self.old) }
-        ensures staged { OnOk result (staged.new.items
-            ≡ staged.old.items ++ layout.data_frame own.0 self.old.recipient_channel chunk ∷ []) }
-        ensures unchanged { OnErr result (self.new ≡ self.old) }
-        ensures kept { OnErr result (staged.new.items ≡ staged.old.items) }
-        ensures memory { IfErr result (λ e. e ≡ NoMemory) }
-    {
-        let count = chunk.bytes.len() as u32;
-        staged.push_back(data_frame(self.recipient(own), chunk.kind, chunk.bytes))?;
-        self.recipient_window_size -= count;
-        Ok(())
     }
 
     /// What waits goes out, as far as the credit goes. Where there is no memory, all is as before.
@@ -310,7 +281,7 @@ impl ChannelParams {
         ensures kept { OnErr result (staged.new.items ≡ staged.old.items) }
         ensures memory { IfErr result (λ e. e ≡ NoMemory) }
     {
-        if self.nothing_waits() {
+        if self.waiting.is_empty() {
             staged.push_back(eof_frame(self.recipient(own)))?;
             self.pending_eof = false;
         } else {
@@ -336,14 +307,18 @@ impl ChannelParams {
         ensures kept { OnErr result (staged.new.items ≡ staged.old.items) }
         ensures memory { IfErr result (λ e. e ≡ NoMemory) }
     {
-        if is_rekeying || !self.nothing_waits() {
+        if is_rekeying || !self.waiting.is_empty() {
             if !chunk.bytes.is_empty() {
                 self.waiting.push(chunk)?;
             }
             return Ok(());
         }
         if self.takes_whole(&chunk.bytes) {
-            return self.push_whole(own, chunk, staged);
+            // They need no list of pieces.
+            let count = chunk.bytes.len() as u32;
+            staged.push_back(data_frame(self.recipient(own), chunk.kind, chunk.bytes))?;
+            self.recipient_window_size -= count;
+            return Ok(());
         }
         self.waiting.push(chunk)?;
         match self.flush(alloc, own, staged) {
@@ -353,38 +328,6 @@ impl ChannelParams {
                 Err(why)
             }
         }
-    }
-
-    /// So many bytes came in, and the room is to be kept at `target`, in bytes. Where there is no
-    /// memory, all is as before.
-    pub(crate) fn adjust(
-        &mut self,
-        own: ChannelId,
-        count: usize,
-        target: u32,
-        staged: &mut VecDeque<Frame>,
-    ) -> Result<Adjusted, TableError>
-        ensures answer { IfOk result (λ r. r ≡ window.adjusting count target self.old) }
-        ensures waiting { self.new.waiting ≡ self.old.waiting }
-        ensures line { IfOk result (λ r. self.new ≡ window.room_after r count target self.old) }
-        ensures staged { IfOk result (λ r. staged.new.items
-            ≡ staged.old.items ++ window.adjust_frames r own.0 self.old) }
-        ensures unchanged { OnErr result (self.new ≡ self.old) }
-        ensures kept { OnErr result (staged.new.items ≡ staged.old.items) }
-        ensures memory { IfErr result (λ e. e ≡ NoMemory) }
-    {
-        if !self.fits(count) {
-            return Ok(Adjusted::Dropped);
-        }
-        let room = self.sender_window_size - count as u32;
-        if room < target / 2 {
-            let amount = target - room;
-            staged.push_back(adjust_frame(self.recipient(own), amount))?;
-            self.sender_window_size = target;
-            return Ok(Adjusted::Granted(amount));
-        }
-        self.sender_window_size = room;
-        Ok(Adjusted::Kept)
     }
 
     /// A request wants a reply. Answers how many were wanted before it. Where there is no memory,

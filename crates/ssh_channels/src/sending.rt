@@ -1,18 +1,84 @@
-// What this side sends on a channel.
-ghost use Rattle.std.specs.Prelude.{◌≡◌, IfOk, IfErr, OnOk, OnErr};
+// What this side sends on a channel, and how it is handed on.
+ghost use Rattle.std.specs.Prelude.{◌≡◌, ◌==◌, [], ◌∷◌, ◌++◌, length, option_to_list, IfNone};
+ghost use Rattle.std.specs.Prelude.{IfOk, IfErr, IsOk, OnOk, OnErr};
+ghost use Rattle.ssh_wire.specs.declared.error.WireError.TheVariants as wire;
 ghost use Rattle.ssh_channels.specs.declared.error.TableError.TheVariants.{NoMemory};
 ghost use Rattle.ssh_channels.specs.declared.chunk.DataKind.TheVariants.{Plain, Extended};
 ghost use Rattle.ssh_channels.specs.Layout.{chunk as chunk_of};
 ghost use Rattle.ssh_channels.specs.Line as line;
 ghost use Rattle.ssh_channels.specs.Table as table;
 ghost use Rattle.ssh_channels.specs.Calls as calls;
+ghost use Rattle.ssh_channels.specs.Paths as paths;
 
 use crate::frames::bare_frame;
-use crate::noted::{keep_if, note};
+use crate::waiting::{keep_if, note};
 use crate::{Chunk, DataKind, Encrypted, TableError};
 use bytes::Bytes;
 use ssh_link::Frame;
-use ssh_wire::ChannelId;
+use ssh_wire::{ChannelId, WireError};
+use std::alloc::Global;
+use std::collections::VecDeque;
+use std::marker::Model;
+use std::mem;
+
+/// Frames that are to be handed on, in order. A clause sees the list.
+#[derive(Debug, Drop)]
+pub struct FrameSink {
+    pub(crate) frames: VecDeque<Frame>,
+}
+
+impl Model for FrameSink {
+    ghost use Rattle.std.specs.Prelude.{List};
+    ghost use Rattle.ssh_link.specs.Frames.{Frame};
+
+    ghost Value = { List Frame };
+
+    ghost view = { λ sink. sink.frames.items };
+}
+
+impl FrameSink {
+    /// No frame.
+    pub fn new(alloc: Global) -> FrameSink
+        ensures { result ≡ [] }
+    {
+        FrameSink {
+            frames: VecDeque::new(alloc),
+        }
+    }
+
+    /// Adds a frame at the end. `NoMemory` is the only error, and leaves the list as it was.
+    pub fn push(&mut self, frame: Frame) -> Result<(), WireError>
+        ensures ok { OnOk result (self.new ≡ self.old ++ frame ∷ []) }
+        ensures err { OnErr result (self.new ≡ self.old) }
+        ensures memory { IfErr result (λ e. e ≡ wire.NoMemory) }
+    {
+        self.frames.push_back(frame)?;
+        Ok(())
+    }
+
+    /// Whether there is no frame.
+    pub fn is_empty(&self) -> bool
+        ensures { result ≡ (length self.now == 0) }
+    {
+        self.frames.is_empty()
+    }
+
+    /// Takes the first frame, and none exactly where there is no frame. The others stay where they
+    /// are.
+    pub fn pop_front(&mut self) -> Option<Frame>
+        ensures first { self.old ≡ option_to_list result ++ self.new }
+        ensures none { IfNone result (self.old ≡ []) }
+    {
+        self.frames.pop_front()
+    }
+
+    /// The frames in order, to hand on.
+    pub fn into_vec(self) -> Vec<Frame>
+        ensures { result.items ≡ self }
+    {
+        self.frames.into_vec()
+    }
+}
 
 impl Encrypted {
     /// What one data command brings goes out, or waits.
@@ -128,6 +194,69 @@ impl Encrypted {
         ensures memory { IfErr result (λ e. e ≡ NoMemory) }
     {
         self.staged.push_back(frame)?;
+        Ok(())
+    }
+
+    /// What waits on the channel goes out as far as the credit goes, and then the EOF and the CLOSE
+    /// that waited behind it; with the CLOSE the channel is gone. Answers how many bytes of data
+    /// went out.
+    pub fn flush_pending(&mut self, channel: ChannelId) -> Result<usize, TableError>
+        ensures answer { IfOk result (λ r. r ≡ calls.framed_at channel.0 self.old) }
+        ensures table { OnOk result (self.new ≡ calls.flush_line channel.0 self.old) }
+        ensures unchanged { OnErr result (self.new ≡ self.old) }
+        ensures memory { IfErr result (λ e. e ≡ NoMemory) }
+    {
+        let Some(line) = self.lines.get_mut(&channel.0) else {
+            return Ok(0);
+        };
+        let credit = line.recipient_window_size;
+        let gone = line.go_on(self.alloc, channel, &mut self.staged)?;
+        let framed = credit - line.recipient_window_size;
+        let waits = line.waits_on(gone);
+        keep_if(&mut self.waiting, channel.0, waits);
+        if gone {
+            let _ = self.lines.remove(&channel.0);
+        }
+        Ok(framed as usize)
+    }
+
+    /// `flush_pending` of each channel, in ascending order. Where there is no memory, the first few
+    /// channels were flushed. It costs the same however many channels there are on which nothing
+    /// waits.
+    pub fn flush_all_pending(&mut self) -> Result<(), TableError>
+        ensures table { OnOk result (self.new ≡ calls.flush_all self.old) }
+        ensures part { OnErr result (paths.IsPart self.old self.new) }
+        ensures memory { IfErr result (λ e. e ≡ NoMemory) }
+    {
+        // From their count it is known that the channels stand in ascending order.
+        let _channels = self.lines.len();
+        let numbers: Vec<u32> = self.waiting.iter().copied().collect(self.alloc)?;
+        for number in numbers {
+            self.flush_pending(ChannelId(number))?;
+        }
+        Ok(())
+    }
+
+    /// The staged frames are handed on to the sink, and nothing is where an exchange runs. A sink
+    /// without frames takes them over, which needs no memory.
+    pub fn flush(&mut self, sink: &mut FrameSink, is_rekeying: bool) -> Result<(), TableError>
+        ensures table { OnOk result (self.new ≡ calls.hand_on is_rekeying self.old) }
+        ensures sink { OnOk result (sink.new ≡ sink.old ++ calls.handed is_rekeying self.old) }
+        ensures out { OnOk result (paths.put_out (record { table = self.new; sink = sink.new })
+            ≡ paths.put_out (record { table = self.old; sink = sink.old })) }
+        ensures unchanged { OnErr result (self.new ≡ self.old) }
+        ensures kept { OnErr result (sink.new ≡ sink.old) }
+        ensures memory { IfErr result (λ e. e ≡ NoMemory) }
+        ensures at_once { sink.old ≡ [] → IsOk result }
+    {
+        if is_rekeying {
+            return Ok(());
+        }
+        if sink.frames.is_empty() {
+            mem::swap(&mut sink.frames, &mut self.staged);
+            return Ok(());
+        }
+        sink.frames.append(&mut self.staged)?;
         Ok(())
     }
 }
