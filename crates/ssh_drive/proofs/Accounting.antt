@@ -4,9 +4,9 @@ use Rattle.std.specs.Prelude.{flat_map, true}
 use Rattle.ssh_auth.specs.Publickey.{Acceptance}
 use Rattle.ssh_rules.specs.Ledger.{SentAll}
 use Rattle.ssh_rules.specs.World.{Settings}
-use Rattle.ssh_rules.proofs.Books.{nothing_kept}
-use Rattle.ssh_rules.proofs.Keeping.{Kept}
-use Rattle.ssh_rules.proofs.Sums.{sent_so, sent_all}
+use Rattle.ssh_rules.proofs.Ledger.Inputs.{nothing_kept}
+use Rattle.ssh_rules.proofs.Ledger.Commands.{Kept}
+use Rattle.ssh_rules.proofs.Ledger.Sums.{sent_so, sent_all}
 use Rattle.ssh_drive.specs.Driven.{Accounted, IsOutside, hands_on}
 use Rattle.ssh_drive.specs.Moves.{Place, Made, Leads, Drives, opening_place, told_of}
 use Rattle.ssh_drive.proofs.Keeping.{drive_kept}

@@ -14,10 +14,10 @@ use Rattle.ssh_rules.specs.Outcome.{Outcome, Goes, Ends}
 use Rattle.ssh_rules.specs.Run.{Turn}
 use Rattle.ssh_rules.specs.Cause.{cause_of}
 use Rattle.ssh_rules.specs.World.{Settings, World, circumstances}
-use Rattle.ssh_rules.proofs.Accepting.{caused_walks, clear_more}
-use Rattle.ssh_rules.proofs.Emptied.{nothing_left}
-use Rattle.ssh_rules.proofs.Guards.{IsClear, Guarded, Walks, either}
-use Rattle.ssh_rules.proofs.Guards.{walks_guarded, follows_guarded, follows_walks}
+use Rattle.ssh_rules.proofs.Authorised.Run.{caused_walks, clear_more}
+use Rattle.ssh_rules.proofs.Plans.Emptied.{nothing_left}
+use Rattle.ssh_rules.proofs.Authorised.Guards.{IsClear, Guarded, Walks, either}
+use Rattle.ssh_rules.proofs.Authorised.Guards.{walks_guarded, follows_guarded, follows_walks}
 use Rattle.ssh_drive.specs.declared.moves.MoveError.{MoveError}
 use Rattle.ssh_drive.specs.declared.moves.MoveError.TheVariants as error
 use Rattle.ssh_drive.specs.Authorised.{turn_of, served_in, NeedsUserBehind}

@@ -11,10 +11,10 @@ use Rattle.ssh_session.specs.Between.{OwesUnlessEnded, flushed}
 use Rattle.ssh_rules.specs.Outcome.{Outcome, Goes, Ends}
 use Rattle.ssh_rules.specs.Run.{Owes, begins, going_out, hand_on, handed_on, is_due, is_over}
 use Rattle.ssh_rules.specs.World.{Settings, World}
-use Rattle.ssh_rules.proofs.Acting.{PlanComes}
-use Rattle.ssh_rules.proofs.Emptied.{told_comes, comes_of}
-use Rattle.ssh_rules.proofs.Passing.{moved_so}
-use Rattle.ssh_rules.proofs.Settled.{Anything, ComesSet}
+use Rattle.ssh_rules.proofs.Plans.Acting.{PlanComes}
+use Rattle.ssh_rules.proofs.Plans.Emptied.{told_comes, comes_of}
+use Rattle.ssh_rules.proofs.Plans.Passing.{moved_so}
+use Rattle.ssh_rules.proofs.Plans.Settled.{Anything, ComesSet}
 
 -- these were told, and then the rest
 pub told_first : {E F : Type 0} (entries : List TraceEntry) (next : Plan Outcome)

@@ -5,8 +5,8 @@ use Rattle.ssh_auth.specs.Publickey.{Acceptance}
 use Rattle.ssh_rules.specs.Authorised.{IsRequestOf, LastNamed, SomeoneIsIn}
 use Rattle.ssh_rules.specs.Run.{Turn}
 use Rattle.ssh_rules.specs.World.{Settings, World, circumstances}
-use Rattle.ssh_rules.proofs.Accepting.{before_weak, someone_earlier, some_split}
-use Rattle.ssh_rules.proofs.Guards.{IsClear, NamesLast, SomeAccepts}
+use Rattle.ssh_rules.proofs.Authorised.Run.{before_weak, someone_earlier, some_split}
+use Rattle.ssh_rules.proofs.Authorised.Guards.{IsClear, NamesLast, SomeAccepts}
 
 -- ---- who was named last
 

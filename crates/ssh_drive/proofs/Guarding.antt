@@ -16,17 +16,17 @@ use Rattle.ssh_auth.specs.Was.{Was, Admitted_so, was}
 use Rattle.ssh_rules.specs.Acts.{acts, done, tell_all}
 use Rattle.ssh_rules.specs.Authorised.{IsAdmitted, IsAcceptingSo, NeedsUser}
 use Rattle.ssh_session.specs.Between.{OwesBehind, OwesUnlessEnded, flushed}
-use Rattle.ssh_rules.specs.Effect.{Does, effect}
+use Rattle.ssh_rules.specs.Effect.{Brings, effect}
 use Rattle.ssh_rules.specs.Outcome.{Outcome, Goes, Ends}
 use Rattle.ssh_rules.specs.Run.{begins, command_row, going_out, hand_on, handed_on, is_due}
 use Rattle.ssh_rules.specs.World.{World, circumstances, is_held, lined}
 use Rattle.ssh_channels.specs.Entry.{flush_out, flushed as flushed_entry}
 use Rattle.ssh_channels.specs.Lines.{Lines, find, goes_on, settles, where_found}
-use Rattle.ssh_rules.proofs.Admitted.{noted_guarded, owed_guarded}
-use Rattle.ssh_rules.proofs.Admitting.{unnamed}
-use Rattle.ssh_rules.proofs.Guards.{IsClear, NamesLast, Guarded, SomeAccepts, Walks}
-use Rattle.ssh_rules.proofs.Guards.{plan_accepted, low_told, handed_low, handed_clear}
-use Rattle.ssh_rules.proofs.Guards.{begins_guarded, input_guarded}
+use Rattle.ssh_rules.proofs.Authorised.Commands.{noted_guarded, owed_guarded}
+use Rattle.ssh_rules.proofs.Authorised.Rows.{unnamed}
+use Rattle.ssh_rules.proofs.Authorised.Guards.{IsClear, NamesLast, Guarded, SomeAccepts, Walks}
+use Rattle.ssh_rules.proofs.Authorised.Guards.{plan_accepted, low_told, handed_low, handed_clear}
+use Rattle.ssh_rules.proofs.Authorised.Guards.{begins_guarded, input_guarded}
 use Rattle.ssh_drive.specs.Moves.{coming}
 use Rattle.ssh_drive.proofs.Entering.{clear_stays}
 
@@ -86,7 +86,7 @@ behind_guarded accepts named a w moment payload notices plan (later, owes, is) h
 
 command_clear : (accepts : Acceptance) (named : List ℕ → Type 0) (w : World) (command : Command)
     (notices : List Notice) (outcome : CommandOutcome) (world : World)
-    → effect w command ≡ Does notices outcome world → IsClear named w
+    → effect w command ≡ Brings notices outcome world → IsClear named w
     → ⊥ ⊎ IsClear (NamesLast named (input.Command 0 command)) world
 command_clear accepts named w command notices outcome world is clear =
     let kind = input.Command 0 command in
@@ -102,7 +102,7 @@ command_clear accepts named w command notices outcome world is clear =
 -- before a user is let in a command opens nothing and says nothing on a channel
 pub command_stays : (accepts : Acceptance) (named : List ℕ → Type 0) (a : Type 0) (w : World)
     (command : Command) (notices : List Notice) (outcome : CommandOutcome) (world : World)
-    → effect w command ≡ Does notices outcome world → a ⊎ IsClear named w
+    → effect w command ≡ Brings notices outcome world → a ⊎ IsClear named w
     → a ⊎ IsClear named world
 command_stays accepts named a w command notices outcome world is (inl x) = inl x
 command_stays accepts named a w command notices outcome world is (inr clear) =

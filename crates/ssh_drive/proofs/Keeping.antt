@@ -17,16 +17,16 @@ use Rattle.ssh_channels.specs.Sent.{IsKept, IsQuiet, since}
 use Rattle.ssh_channels.proofs.Traces.{since_both}
 use Rattle.ssh_rules.specs.Acts.{Beginning, acts, exchanged, frames_given, moved, tell_all}
 use Rattle.ssh_session.specs.Between.{OwesBehind, flushed}
-use Rattle.ssh_rules.specs.Effect.{Does, effect}
+use Rattle.ssh_rules.specs.Effect.{Brings, effect}
 use Rattle.ssh_rules.specs.Outcome.{Outcome, Goes}
 use Rattle.ssh_rules.specs.Run.{Turn, Owes, begins, going_out, hand_on, handed_on, is_due}
 use Rattle.ssh_rules.specs.World.{World, lined}
-use Rattle.ssh_rules.proofs.Absent.{goes_on_absent}
-use Rattle.ssh_rules.proofs.Pending.{goes_on_pends}
-use Rattle.ssh_rules.proofs.Acting.{EffectComes}
-use Rattle.ssh_rules.proofs.Books.{given_quiet, all_quiet, handed_kept, owed_kept}
-use Rattle.ssh_rules.proofs.Keeping.{Kept, call_on, effect_on, keyed_on, renewed_on}
-use Rattle.ssh_rules.proofs.Passing.{moved_on}
+use Rattle.ssh_rules.proofs.Ledger.Absent.{goes_on_absent}
+use Rattle.ssh_rules.proofs.Ledger.Pending.{goes_on_pends}
+use Rattle.ssh_rules.proofs.Plans.Acting.{EffectComes}
+use Rattle.ssh_rules.proofs.Ledger.Inputs.{given_quiet, all_quiet, handed_kept, owed_kept}
+use Rattle.ssh_rules.proofs.Ledger.Commands.{Kept, call_on, effect_on, keyed_on, renewed_on}
+use Rattle.ssh_rules.proofs.Plans.Passing.{moved_on}
 use Rattle.ssh_drive.specs.Moves.{Place, Made, Served, Said, Let_out, Handed_on, Leads, Drives}
 use Rattle.ssh_drive.specs.Moves.{coming, told_of}
 use Rattle.ssh_drive.proofs.Behind.{told_first, owes_live}
@@ -100,7 +100,7 @@ served_kept accepts past w notices input plan events world (later, owes, is) fol
 -- ---- a command
 
 said_kept : (past : List TraceEntry) (w : World) (command : Command) (notices : List Notice)
-    (outcome : CommandOutcome) (world : World) → effect w command ≡ Does notices outcome world
+    (outcome : CommandOutcome) (world : World) → effect w command ≡ Brings notices outcome world
     → Kept past w → Kept (past ++ []) world
 said_kept past w command notices outcome world is k =
     subst (λ t. Kept t world) (sym (append-nil past))

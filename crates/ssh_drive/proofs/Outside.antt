@@ -16,13 +16,13 @@ use Rattle.ssh_rules.specs.Outcome.{Outcome, Goes, Ends, Fails}
 use Rattle.ssh_rules.specs.Run.{Turn, Owes, OwesKind, OwesPassed, passage, finish_input}
 use Rattle.ssh_rules.specs.Run.{going_out, goes_unless_ended, hand_on, handed_on, is_due, is_over}
 use Rattle.ssh_rules.specs.World.{World, hears, in_exchange}
-use Rattle.ssh_rules.proofs.Acting.{PlanComes}
-use Rattle.ssh_rules.proofs.Books.{kind_kept}
-use Rattle.ssh_rules.proofs.Emptied.{IsUnheld, told_comes, comes_of, owed_emptied, unheld}
-use Rattle.ssh_rules.proofs.Idling.{ComesIdle, ComesSettled, IsSettled, row_idle, passes_of}
-use Rattle.ssh_rules.proofs.Idling.{still_idle, ended_settled, handed_settled, owed_renewed}
-use Rattle.ssh_rules.proofs.Keeping.{Kept, ComesKept}
-use Rattle.ssh_rules.proofs.Settled.{Anything}
+use Rattle.ssh_rules.proofs.Plans.Acting.{PlanComes}
+use Rattle.ssh_rules.proofs.Ledger.Inputs.{kind_kept}
+use Rattle.ssh_rules.proofs.Plans.Emptied.{IsUnheld, told_comes, comes_of, owed_emptied, unheld}
+use Rattle.ssh_rules.proofs.Ledger.Idling.{ComesIdle, ComesSettled, IsSettled, row_idle, passes_of}
+use Rattle.ssh_rules.proofs.Ledger.Idling.{still_idle, ended_settled, handed_settled, owed_renewed}
+use Rattle.ssh_rules.proofs.Ledger.Commands.{Kept, ComesKept}
+use Rattle.ssh_rules.proofs.Plans.Settled.{Anything}
 use Rattle.ssh_drive.specs.Driven.{IsOutside, hands_on}
 use Rattle.ssh_drive.specs.Moves.{Place, Made, Served, Said, Let_out, Handed_on, Leads, coming}
 use Rattle.ssh_drive.proofs.Behind.{told_first, owes_live, flush_comes}

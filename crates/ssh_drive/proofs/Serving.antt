@@ -31,19 +31,19 @@ use Rattle.ssh_rules.specs.Cause.{Refused_by, Broken_by}
 use Rattle.ssh_rules.specs.Cause.{IsCaused, cause_of, may_stop}
 use Rattle.ssh_session.specs.Serve.{Refines, IsSuited}
 use Rattle.ssh_rules.specs.World.{Settings, World, in_exchange, opening_world}
-use Rattle.ssh_rules.proofs.Accepting.{authorised}
-use Rattle.ssh_rules.proofs.Answered.{answered}
-use Rattle.ssh_rules.proofs.Sums.{ledgered}
-use Rattle.ssh_rules.proofs.Ended.{IsLive, run_live}
-use Rattle.ssh_rules.proofs.Exchanged.{exchanged, last_exchanged}
-use Rattle.ssh_rules.proofs.GlobalReplied.{globally_replied}
-use Rattle.ssh_rules.proofs.InOrder.{in_order}
-use Rattle.ssh_rules.proofs.LastLedger.{last_ledgered}
-use Rattle.ssh_rules.proofs.LastWord.{last_word}
-use Rattle.ssh_rules.proofs.Received.{received}
-use Rattle.ssh_rules.proofs.Replied.{replied}
+use Rattle.ssh_rules.proofs.Authorised.Run.{authorised}
+use Rattle.ssh_rules.proofs.Answered.Run.{answered}
+use Rattle.ssh_rules.proofs.Ledger.Sums.{ledgered}
+use Rattle.ssh_rules.proofs.Ended.Run.{IsLive, run_live}
+use Rattle.ssh_rules.proofs.Exchanged.Run.{exchanged, last_exchanged}
+use Rattle.ssh_rules.proofs.Replied.GlobalRun.{globally_replied}
+use Rattle.ssh_rules.proofs.InOrder.Run.{in_order}
+use Rattle.ssh_rules.proofs.Ledger.LastInput.{last_ledgered}
+use Rattle.ssh_rules.proofs.LastWord.Run.{last_word}
+use Rattle.ssh_rules.proofs.Received.Run.{received}
+use Rattle.ssh_rules.proofs.Replied.Run.{replied}
 use Rattle.ssh_session.proofs.Serving.{told_none, caused_rose}
-use Rattle.ssh_rules.proofs.Settled.{stays_set}
+use Rattle.ssh_rules.proofs.Plans.Settled.{stays_set}
 use Rattle.ssh_drive.specs.Served.{kind_of, told_of, EndsSo, Served}
 use Rattle.ssh_drive.proofs.Going.{told_both, rises, suits_yet}
 

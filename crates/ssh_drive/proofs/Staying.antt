@@ -8,8 +8,8 @@ use Rattle.ssh_rules.specs.Outcome.{Goes}
 use Rattle.ssh_rules.specs.Run.{hand_on}
 use Rattle.ssh_rules.specs.World.{Settings, World, lined}
 use Rattle.ssh_channels.specs.Lines.{goes_on}
-use Rattle.ssh_rules.proofs.Acting.{EffectComes}
-use Rattle.ssh_rules.proofs.Settled.{IsSet, effect_set, stays_set}
+use Rattle.ssh_rules.proofs.Plans.Acting.{EffectComes}
+use Rattle.ssh_rules.proofs.Plans.Settled.{IsSet, effect_set, stays_set}
 use Rattle.ssh_drive.specs.Moves.{Place, Made, Served, Said, Let_out, Handed_on, Leads, coming}
 use Rattle.ssh_drive.proofs.Behind.{told_first, owes_live, flush_set}
 

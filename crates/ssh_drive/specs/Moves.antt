@@ -19,7 +19,7 @@ use Rattle.ssh_rules.specs.declared.error.FlushError.TheVariants as flush
 use Rattle.ssh_rules.specs.declared.error.Flow.{Flow}
 use Rattle.ssh_rules.specs.declared.error.Flow.TheVariants.{Continue, Ended}
 use Rattle.ssh_session.specs.Between.{OwesBehind, OwesNotices, OwesFlush, goes_out_unless_ended}
-use Rattle.ssh_rules.specs.Effect.{Does, effect}
+use Rattle.ssh_rules.specs.Effect.{Brings, effect}
 use Rattle.ssh_rules.specs.Outcome.{Outcome, Goes, Ends}
 use Rattle.ssh_rules.specs.Cause.{Cause, Wants_memory, Link_failed, Broken_by, IsCaused}
 use Rattle.ssh_rules.specs.Cause.{cause_of, is_refused}
@@ -86,7 +86,7 @@ Leads accepts moment before (Served payload events) after = (plan : Plan Outcome
     × OwesBehind before.untold accepts before.world (coming moment payload) plan
     × Follows plan events (Goes after.world) × (after.untold ≡ [])
 Leads accepts moment before (Said command outcome) after = (notices : List Notice)
-    × (effect before.world command ≡ Does notices outcome after.world)
+    × (effect before.world command ≡ Brings notices outcome after.world)
     × (after.untold ≡ before.untold ++ notices)
 Leads accepts moment before (Let_out channel count) after =
     (count ≡ goes_out_unless_ended before.world channel.0)

@@ -9,8 +9,8 @@ use Rattle.ssh_rules.specs.declared.error.Flow.TheVariants.{Continue, Ended}
 use Rattle.ssh_rules.specs.Cause.{cause_of}
 use Rattle.ssh_rules.specs.Outcome.{Outcome, Goes, Ends}
 use Rattle.ssh_rules.specs.World.{Settings, World, opening_world}
-use Rattle.ssh_rules.proofs.Accepting.{caused_walks}
-use Rattle.ssh_rules.proofs.Guards.{Walks, follows_walks}
+use Rattle.ssh_rules.proofs.Authorised.Run.{caused_walks}
+use Rattle.ssh_rules.proofs.Authorised.Guards.{Walks, follows_walks}
 use Rattle.ssh_session.specs.Between.{OwesBehind, OwesNotices, OwesUnlessEnded, StepsAfter, untold}
 use Rattle.ssh_session.specs.Steps.{Comes, Steps}
 use Rattle.ssh_embed.specs.declared.connection.Connection.{Connection}

@@ -11,12 +11,12 @@ use Rattle.ssh_rules.specs.Authorised.{LastNamed}
 use Rattle.ssh_rules.specs.Outcome.{Outcome, Goes, Ends, Fails}
 use Rattle.ssh_rules.specs.Run.{going_out, hand_on, handed_on, is_over, asks_for_keys}
 use Rattle.ssh_rules.specs.World.{Settings, World, circumstances, opening_world}
-use Rattle.ssh_rules.proofs.Accepting.{clear_more, some_split}
-use Rattle.ssh_rules.proofs.Admitted.{owed_guarded}
-use Rattle.ssh_rules.proofs.Emptied.{told_comes, comes_of}
-use Rattle.ssh_rules.proofs.Guards.{IsClear, NamesLast, Guarded, SomeAccepts, Walks}
-use Rattle.ssh_rules.proofs.Guards.{plan_accepted, input_guarded, walks_guarded, follows_guarded}
-use Rattle.ssh_rules.proofs.Settled.{stays_set}
+use Rattle.ssh_rules.proofs.Authorised.Run.{clear_more, some_split}
+use Rattle.ssh_rules.proofs.Authorised.Commands.{owed_guarded}
+use Rattle.ssh_rules.proofs.Plans.Emptied.{told_comes, comes_of}
+use Rattle.ssh_rules.proofs.Authorised.Guards.{IsClear, NamesLast, Guarded, SomeAccepts, Walks}
+use Rattle.ssh_rules.proofs.Authorised.Guards.{plan_accepted, input_guarded, walks_guarded, follows_guarded}
+use Rattle.ssh_rules.proofs.Plans.Settled.{stays_set}
 use Rattle.ssh_session.specs.Between.{OwesUnlessEnded}
 use Rattle.ssh_embed.specs.Story.{Happening, Round, turns_of, cut, Leads, SomeoneIsIn}
 use Rattle.ssh_embed.specs.Story.{IsAuthorised}

@@ -31,31 +31,31 @@ use Rattle.ssh_channels.specs.Entry.{Entry}
 use Rattle.ssh_channels.specs.Lines.{Lines, find, hands_on, next_number, peer_closes}
 use Rattle.ssh_rules.specs.declared.messages.Spoken.{Spoken}
 use Rattle.ssh_rules.specs.declared.messages.Spoken.TheVariants as spoken
-use Rattle.ssh_rules.specs.declared.opens.Handling.{Handling}
-use Rattle.ssh_rules.specs.declared.opens.Handling.TheVariants.{Asks, GivenUp, Unsupported, Unknown}
+use Rattle.ssh_rules.specs.declared.handling.Handling.{Handling}
+use Rattle.ssh_rules.specs.declared.handling.Handling.TheVariants.{Asks, GivenUp, Unsupported, Unknown}
 use Rattle.ssh_rules.specs.declared.request.ChannelRequest.{ChannelRequest}
 use Rattle.ssh_rules.specs.declared.state.EncryptedState.{EncryptedState}
 use Rattle.ssh_rules.specs.declared.state.EncryptedState.TheVariants.{WaitingAuthRequest}
 use Rattle.ssh_rules.specs.Acts.{Act, Notes, Calls, Judges_by, Listens_by, Adjusts_by, Turns}
 use Rattle.ssh_rules.specs.Acts.{Exchanges, Is_over, Stops, acts}
-use Rattle.ssh_rules.specs.Effect.{answers, decides, done_by, effect, effect_at, failure_of}
+use Rattle.ssh_rules.specs.Effect.{decides_open, decides, done_by, effect, effect_at, failure_of}
 use Rattle.ssh_rules.specs.Effect.{fails_open, is_too_long, refused_for}
 use Rattle.ssh_rules.specs.Opening.{Opening}
 use Rattle.ssh_rules.specs.Opens.{opening_of}
 use Rattle.ssh_rules.specs.Outcome.{Outcome, Goes, Ends, Fails}
 use Rattle.ssh_rules.specs.Reading.{Said, Service, Request, Response, Open}
 use Rattle.ssh_rules.specs.Reading as read
-use Rattle.ssh_rules.specs.Rows.{row, owed, greets, is_short, replied, concluded, asked_of}
+use Rattle.ssh_rules.specs.Rows.{row, owed, greets, is_short, replied, concluded, where_waiting}
 use Rattle.ssh_rules.specs.Rows.{on_entry, on_confirmed, open_acts, told}
 use Rattle.ssh_rules.specs.Run.{OwesKind, finish_input}
 use Rattle.ssh_rules.specs.Ticks.{keepalive_acts}
 use Rattle.ssh_rules.specs.Types.{handling}
 use Rattle.ssh_rules.specs.World.{World, hears, is_held, lined, settles_for, waits_for}
-use Rattle.ssh_rules.proofs.Acting.{ActsCome, AllBuilt, EffectComes, IsPassedOn, Law, PlanComes}
-use Rattle.ssh_rules.proofs.Acting.{acts_come, comes_then, exchange_comes, input_comes, one_comes}
-use Rattle.ssh_rules.proofs.Apart.{refused_comes, tick_comes}
-use Rattle.ssh_rules.proofs.Passing.{payload_so}
-use Rattle.ssh_rules.proofs.Requested.{for_kept}
+use Rattle.ssh_rules.proofs.Plans.Acting.{ActsCome, AllBuilt, EffectComes, IsPassedOn, Law, PlanComes}
+use Rattle.ssh_rules.proofs.Plans.Acting.{acts_come, comes_then, exchange_comes, input_comes, one_comes}
+use Rattle.ssh_rules.proofs.Plans.Apart.{refused_comes, tick_comes}
+use Rattle.ssh_rules.proofs.Plans.Passing.{payload_so}
+use Rattle.ssh_rules.proofs.Plans.Requested.{for_kept}
 use Rattle.ssh_run_laws.specs.Channels.{Stands, bytes_on}
 use Rattle.ssh_run_laws.specs.Deeds.{given_by}
 use Rattle.ssh_run_laws.proofs.Calms.{AreCalm}
@@ -158,7 +158,7 @@ module _ (n : ℕ) (ended : Bool) (held : List (DataKind × ℕ))
 
     answers_carried : (w : World) (answer : OpenAnswer) (opening : Option Opening)
         (reason : ChannelOpenFailure) → answer.rejection ≡ Some reason → Holds w
-        → EffectComes Holds (answers answer opening w)
+        → EffectComes Holds (decides_open answer opening w)
     answers_carried w answer None reason is h = h
     answers_carried w answer (Some opening) reason is h =
         decided_carried w answer.channel.0 opening answer.texts answer.rejection reason is h
@@ -287,7 +287,7 @@ module _ (n : ℕ) (ended : Bool) (held : List (DataKind × ℕ))
 
     asked_come : (state : EncryptedState) (next : AuthRequest → Plan AuthOutcome) (w : World)
         (moment : ℕ) (requested : Bool) → Holds w
-        → Comes (asked_of state (λ auth. after (next auth) (concluded w moment requested))
+        → Comes (where_waiting state (λ auth. after (next auth) (concluded w moment requested))
         (acts [] w))
     asked_come (WaitingAuthRequest auth) next w moment requested h =
         comes_then (Denies n) (ComesCarried n ended held) (next auth) (concluded w moment requested)

@@ -22,7 +22,7 @@ use Rattle.ssh_auth.specs.Was.{Was, Banner_so, Admitted_so, Lent_so, Judged_so, 
 use Rattle.ssh_auth.specs.Was.{question_of}
 use Rattle.ssh_auth.proofs.Back.{lent_back, judged_back}
 use Rattle.ssh_handler.specs.OwnCalls.{is_own, own_calls}
-use Rattle.ssh_rules.proofs.Acting.{AllBuilt}
+use Rattle.ssh_rules.proofs.Plans.Acting.{AllBuilt}
 use Rattle.ssh_gateway.specs.Answering.{answered, opened, records, replied}
 use Rattle.ssh_gateway.proofs.Carrying.{AreDenied, DeniedSo, IsDenial, closes}
 use Rattle.ssh_gateway.proofs.Waiting.{AreFree, Next, next_of}

@@ -52,19 +52,19 @@ use Rattle.ssh_rules.specs.declared.exchange.Passage.{Passage}
 use Rattle.ssh_rules.specs.declared.exchange.Passage.TheVariants as passage
 use Rattle.ssh_rules.specs.declared.messages.Spoken.{Spoken}
 use Rattle.ssh_rules.specs.declared.messages.Spoken.TheVariants as spoken
-use Rattle.ssh_rules.specs.declared.opens.Handling.{Handling}
-use Rattle.ssh_rules.specs.declared.opens.Handling.TheVariants.{Asks, Unsupported, Unknown, GivenUp}
+use Rattle.ssh_rules.specs.declared.handling.Handling.{Handling}
+use Rattle.ssh_rules.specs.declared.handling.Handling.TheVariants.{Asks, Unsupported, Unknown, GivenUp}
 use Rattle.ssh_rules.specs.declared.state.EncryptedState.{EncryptedState}
 use Rattle.ssh_rules.specs.declared.state.EncryptedState.TheVariants.{WaitingAuthRequest}
 use Rattle.ssh_rules.specs.Acts.{Act, Notes, Calls, Adjusts_by, Turns, Is_over, Stops, tell_all}
 use Rattle.ssh_rules.specs.Acts.{tell_done, done, done_all, acts, Judges_by, Listens_by}
 use Rattle.ssh_rules.specs.Acts.{Exchanges, Beginning, Stepping, payloads_given, frames_given}
 use Rattle.ssh_rules.specs.Acts.{moved}
-use Rattle.ssh_rules.specs.Effect.{Effect, Does, effect, effect_at}
+use Rattle.ssh_rules.specs.Effect.{Effect, Brings, effect, effect_at}
 use Rattle.ssh_rules.specs.Outcome.{Outcome, Goes, Ends as Over, Fails}
 use Rattle.ssh_rules.specs.Reading.{Said, Service, Request, Response, Open, Connection, Agreed}
 use Rattle.ssh_rules.specs.Rows.{row, owed, spoken_acts, open_acts, greets, is_short}
-use Rattle.ssh_rules.specs.Rows.{replied, concluded, asked_of as asked_at, data_told, on_entry}
+use Rattle.ssh_rules.specs.Rows.{replied, concluded, where_waiting as asked_at, data_told, on_entry}
 use Rattle.ssh_rules.specs.Rows.{on_confirmed, failure_acts, confirmation_acts, exchange_acts}
 use Rattle.ssh_rules.specs.Run.{OwesKind, OwesPassed, Owes, command_row, going_out}
 use Rattle.ssh_rules.specs.Run.{handed_on, finish_input, goes_unless_ended, begins, is_due}
@@ -130,7 +130,7 @@ few_outcome may place (Refused why) next h = λ answer. h
 few_done : (may : Bool) (does : Effect) (next : CommandOutcome → World → Plan Outcome)
     → ((outcome : CommandOutcome) (world : World) → Few may (next outcome world))
     → Few may (done does next)
-few_done may (Does notices outcome world) next k =
+few_done may (Brings notices outcome world) next k =
     few_told may (map Noticed notices) (next outcome world) (k outcome world)
 
 few_commands : (may : Bool) (at : Option ChannelRequest) (place : ℕ) (commands : List Command)
@@ -240,12 +240,12 @@ few_spoken w (spoken.Close channel) =
 few_spoken w (spoken.Failed channel reason) =
     few_failure (has (λ e. e.confirmed) channel.0 w.channels.lines)
     (has (λ e. not e.confirmed) channel.0 w.channels.lines) channel reason
-few_spoken w (spoken.Asks channel wanted message happening) = one_end _
-few_spoken w (spoken.AsksForAgent channel wanted) = tt
-few_spoken w (spoken.AsksUnknown channel wanted) = tt
-few_spoken w (spoken.AsksToForward wanted address port) = tt
-few_spoken w (spoken.AsksGlobally wanted judged) = tt
-few_spoken w (spoken.AsksGloballyUnknown wanted) = tt
+few_spoken w (spoken.Requests channel wanted message happening) = one_end _
+few_spoken w (spoken.RequestsAgent channel wanted) = tt
+few_spoken w (spoken.RequestsUnknown channel wanted) = tt
+few_spoken w (spoken.RequestsForward wanted address port) = tt
+few_spoken w (spoken.RequestsGlobally wanted judged) = tt
+few_spoken w (spoken.RequestsGloballyUnknown wanted) = tt
 few_spoken w (spoken.GivesUpSessions wanted) = tt
 few_spoken w (spoken.Settles None) = tt
 few_spoken w (spoken.Settles (Some notice)) = tt

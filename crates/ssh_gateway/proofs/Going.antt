@@ -20,8 +20,8 @@ use Rattle.ssh_rules.specs.Outcome.{Outcome, Goes, Ends, Fails}
 use Rattle.ssh_rules.specs.Run.{Run, steps_of}
 use Rattle.ssh_rules.specs.Valid.{IsValid}
 use Rattle.ssh_rules.specs.World.{Settings, World, opening_world}
-use Rattle.ssh_rules.proofs.Ended.{run_live}
-use Rattle.ssh_rules.proofs.Settled.{stays_set}
+use Rattle.ssh_rules.proofs.Ended.Run.{run_live}
+use Rattle.ssh_rules.proofs.Plans.Settled.{stays_set}
 use Rattle.ssh_session.specs.Between.{untold}
 use Rattle.ssh_session.specs.Serve.{Refines}
 use Rattle.ssh_session.specs.declared.session.Session.{Session}

@@ -11,8 +11,8 @@ use Rattle.ssh_link.specs.declared.frame.InputKind.TheVariants.{OpenReply}
 use Rattle.ssh_rules.specs.Outcome.{Goes}
 use Rattle.ssh_rules.specs.Run.{Run, Turns, calls_of, entries, who}
 use Rattle.ssh_rules.specs.World.{Settings, World, opening_world}
-use Rattle.ssh_rules.proofs.Books.{nothing_kept, run_kept}
-use Rattle.ssh_rules.proofs.Ended.{run_live}
+use Rattle.ssh_rules.proofs.Ledger.Inputs.{nothing_kept, run_kept}
+use Rattle.ssh_rules.proofs.Ended.Run.{run_live}
 use Rattle.ssh_run_laws.specs.Channels.{Waits as StillWaits, accepted_on, waits_on}
 use Rattle.ssh_run_laws.specs.Deeds.{deeds}
 use Rattle.ssh_run_laws.specs.Users.{first_user}

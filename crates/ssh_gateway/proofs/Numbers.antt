@@ -11,9 +11,9 @@ use Rattle.ssh_channels.specs.Layout.{chunk}
 use Rattle.ssh_channels.specs.Lines.{Lines, find}
 use Rattle.ssh_channels.proofs.Listed.{one_number}
 use Rattle.ssh_rules.specs.World.{World}
-use Rattle.ssh_rules.proofs.Keeping.{Kept}
-use Rattle.ssh_rules.proofs.Pending.{IsReserved}
-use Rattle.ssh_rules.proofs.Waiting.{found_waiting}
+use Rattle.ssh_rules.proofs.Ledger.Commands.{Kept}
+use Rattle.ssh_rules.proofs.Ledger.Pending.{IsReserved}
+use Rattle.ssh_rules.proofs.Ledger.Waiting.{found_waiting}
 use Rattle.ssh_run_laws.specs.Channels.{Stands, Waits as StillWaits}
 use Rattle.ssh_gateway.specs.declared.switchboard.Connection.{Connection}
 use Rattle.ssh_gateway.specs.Bytes.{sent_by, outgoing}

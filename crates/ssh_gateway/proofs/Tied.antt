@@ -17,9 +17,9 @@ use Rattle.ssh_rules.specs.Effect.{accepts as does, done_by, effect, refused_for
 use Rattle.ssh_rules.specs.Outcome.{Goes}
 use Rattle.ssh_rules.specs.Run.{asks_for_keys, wants_commands}
 use Rattle.ssh_rules.specs.World.{World, in_exchange, lined}
-use Rattle.ssh_rules.proofs.Acting.{EffectComes}
-use Rattle.ssh_rules.proofs.Apart.{refused_comes}
-use Rattle.ssh_rules.proofs.Keeping.{Kept}
+use Rattle.ssh_rules.proofs.Plans.Acting.{EffectComes}
+use Rattle.ssh_rules.proofs.Plans.Apart.{refused_comes}
+use Rattle.ssh_rules.proofs.Ledger.Commands.{Kept}
 use Rattle.ssh_run_laws.specs.Channels.{Stands, Waits as StillWaits, bytes_on}
 use Rattle.ssh_run_laws.specs.Deeds.{Commanded, deeds, given_by}
 use Rattle.ssh_run_laws.proofs.Chains.{Chain, chain_bytes, chain_stands}

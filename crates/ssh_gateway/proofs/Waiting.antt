@@ -28,8 +28,8 @@ use Rattle.ssh_rules.specs.Answered.{how_many, is_open, open_asked, open_returne
 use Rattle.ssh_rules.specs.Outcome.{Goes}
 use Rattle.ssh_rules.specs.Valid.{recorded_so}
 use Rattle.ssh_rules.specs.World.{World, in_exchange}
-use Rattle.ssh_rules.proofs.Called.{turn_called}
-use Rattle.ssh_rules.proofs.Guards.{follows_walks}
+use Rattle.ssh_rules.proofs.Answered.CallbackEvents.{turn_called}
+use Rattle.ssh_rules.proofs.Authorised.Guards.{follows_walks}
 use Rattle.ssh_run_laws.specs.Channels.{answers_by, waits_on}
 use Rattle.ssh_run_laws.specs.Deeds.{Deed, Commanded, Asked, Closed_by_peer, asked_by, deeds}
 use Rattle.ssh_run_laws.specs.Deeds.{deeds_from, deeds_in, given_by, told_by}

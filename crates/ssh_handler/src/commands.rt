@@ -1,5 +1,5 @@
 // What a callback may ask of its session.
-ghost use Rattle.std.specs.Prelude.{◌≡◌, [], Some, None, IfOk, IfErr};
+ghost use Rattle.std.specs.Prelude.{◌≡◌, [], None, IfOk, IfErr};
 ghost use Rattle.std.specs.Option.{option_copied};
 ghost use Rattle.ssh_wire.specs.declared.error.WireError.TheVariants.{NoMemory};
 ghost use Rattle.ssh_link.specs.declared.command.Command.TheVariants as command;
@@ -67,18 +67,18 @@ impl<'a> Commands<'a> {
         ensures replies_wanted { result.replies_wanted ≡ replies_wanted }
         ensures user { result.user ≡ None }
     {
-        Commands {
-            recorded: CommandList::new(alloc),
+        Commands::for_user(
+            alloc,
             table,
             config,
             remote_sshid,
             commands_wanted,
             replies_wanted,
-            user: None,
-        }
+            None,
+        )
     }
 
-    /// For a session: lends the same, and the name of the user who was let in.
+    /// For a session: lends the same, and the name of the user, where one was let in.
     pub fn for_user(
         alloc: Global,
         table: &'a Encrypted,
@@ -86,7 +86,7 @@ impl<'a> Commands<'a> {
         remote_sshid: &'a [u8],
         commands_wanted: bool,
         replies_wanted: bool,
-        user: &'a str,
+        user: Option<&'a str>,
     ) -> Commands<'a>
         ensures recorded { result.recorded ≡ [] }
         ensures table { result.table ≡ table.now }
@@ -94,19 +94,16 @@ impl<'a> Commands<'a> {
         ensures remote_sshid { result.remote_sshid ≡ remote_sshid.now }
         ensures commands_wanted { result.commands_wanted ≡ commands_wanted }
         ensures replies_wanted { result.replies_wanted ≡ replies_wanted }
-        ensures user { result.user ≡ Some user.now }
+        ensures user { result.user ≡ option_copied user.entry }
     {
-        let lent = Commands::new(
-            alloc,
+        Commands {
+            recorded: CommandList::new(alloc),
             table,
             config,
             remote_sshid,
             commands_wanted,
             replies_wanted,
-        );
-        Commands {
-            user: Some(user),
-            ..lent
+            user,
         }
     }
 

@@ -47,7 +47,7 @@ impl Lender {
             b"SSH-2.0-test",
             true,
             true,
-            user,
+            Some(user),
         )
     }
 }

@@ -1,19 +1,25 @@
 // Requests of the peer on a channel, as they are read (RFC 4254 section 6).
-ghost use Rattle.std.specs.Prelude.{◌≡◌, Some, IfOk, IfErr};
+ghost use Rattle.std.specs.Prelude.{◌≡◌, ℕ, Bool, Some, IfOk, IfErr};
 ghost use Rattle.ssh_wire.specs.declared.error.WireError.TheVariants.{NoMemory};
 ghost use Rattle.ssh_link.specs.declared.notice.ChannelMsg.TheVariants as msg;
 ghost use Rattle.ssh_auth.specs.declared.question.Happening.TheVariants as what;
+ghost use Rattle.ssh_channels.specs.Line.{is_established};
+ghost use Rattle.ssh_channels.specs.Table.{has};
 ghost use Rattle.ssh_rules.specs.Spelling.{IsRead};
-ghost use Rattle.ssh_rules.specs.ChannelRequests.{asked_by, request_named, signal_named};
-ghost use Rattle.ssh_rules.specs.ChannelRequests.{to_the_end, terminal_asked, asks_so};
+ghost use Rattle.ssh_rules.specs.Messages.{request};
+ghost use Rattle.ssh_rules.specs.ChannelRequests.{request_layout, request_named, signal_named};
+ghost use Rattle.ssh_rules.specs.ChannelRequests.{to_the_end, terminal_request, request_said};
 ghost use Rattle.ssh_rules.specs.ChannelRequests as known;
 
 use crate::message::{
-    Terminal, read_data, read_end, read_size, read_terminal, read_text, read_texts, read_x11,
+    Terminal, read_data, read_end, read_request, read_size, read_terminal, read_text, read_texts,
+    read_x11,
 };
+use crate::spoken::is_there;
 use crate::terminal::read_modes;
 use bytes::Bytes;
 use ssh_auth::Happening;
+use ssh_channels::Encrypted;
 use ssh_link::ChannelMsg;
 use ssh_rules::Spoken;
 use ssh_wire::{ChannelId, Modes, Sig, Text, WireError};
@@ -21,24 +27,24 @@ use std::alloc::Global;
 
 /// A request as far as all are alike: its channel, and whether a reply is wanted.
 #[derive(Clone, Copy)]
-pub struct Asking {
+struct ChannelRequestHead {
     /// Where memory is taken.
-    pub alloc: Global,
+    alloc: Global,
     /// This side's number of the channel.
-    pub channel: ChannelId,
+    channel: ChannelId,
     /// Whether a reply is wanted.
-    pub wanted: bool,
+    wanted: bool,
 }
 
 /// What the user of the channel and the handler are told of a request.
 type Told = (ChannelMsg, Happening);
 
 /// The request says what is told of it, where there was memory for that.
-fn asks(asking: Asking, told: Result<Told, WireError>) -> Result<Spoken, WireError>
-    ensures { result ≡ asks_so asking.channel asking.wanted told }
+fn requests(asking: ChannelRequestHead, told: Result<Told, WireError>) -> Result<Spoken, WireError>
+    ensures { result ≡ request_said asking.channel asking.wanted told }
 {
     match told {
-        Ok((message, happening)) => Ok(Spoken::Asks(
+        Ok((message, happening)) => Ok(Spoken::Requests(
             asking.channel,
             asking.wanted,
             message,
@@ -49,7 +55,11 @@ fn asks(asking: Asking, told: Result<Told, WireError>) -> Result<Spoken, WireErr
 }
 
 /// A terminal is asked for (section 6.2).
-fn terminal_told(asking: Asking, terminal: Terminal<'_>, modes: Modes) -> Result<Told, WireError>
+fn terminal_told(
+    asking: ChannelRequestHead,
+    terminal: Terminal<'_>,
+    modes: Modes,
+) -> Result<Told, WireError>
     ensures ok { IfOk result (λ told. told ≡ (
       msg.RequestPty asking.wanted terminal.entry.term.now terminal.entry.col_width
           terminal.entry.row_height terminal.entry.pix_width terminal.entry.pix_height modes,
@@ -81,7 +91,7 @@ fn terminal_told(asking: Asking, terminal: Terminal<'_>, modes: Modes) -> Result
 
 /// X11 is to be forwarded (section 6.3.1).
 fn x11_told(
-    asking: Asking,
+    asking: ChannelRequestHead,
     single: bool,
     protocol: &str,
     cookie: &str,
@@ -112,7 +122,7 @@ fn x11_told(
 }
 
 /// A variable of the environment is set (section 6.4).
-fn environment_told(asking: Asking, name: &str, value: &str) -> Result<Told, WireError>
+fn environment_told(asking: ChannelRequestHead, name: &str, value: &str) -> Result<Told, WireError>
     ensures ok { IfOk result (λ told. told ≡ (
       msg.SetEnv asking.wanted name.now value.now,
       what.EnvRequest name.now value.now,
@@ -134,7 +144,7 @@ fn environment_told(asking: Asking, name: &str, value: &str) -> Result<Told, Wir
 }
 
 /// A program is to be run (section 6.5).
-fn exec_told(asking: Asking, command: &[u8]) -> Result<Told, WireError>
+fn exec_told(asking: ChannelRequestHead, command: &[u8]) -> Result<Told, WireError>
     ensures ok { IfOk result (λ told. told
         ≡ (msg.Exec asking.wanted command.now, what.ExecRequest command.now)) }
     ensures memory { IfErr result (λ e. e ≡ NoMemory) }
@@ -148,7 +158,7 @@ fn exec_told(asking: Asking, command: &[u8]) -> Result<Told, WireError>
 }
 
 /// A subsystem is asked for (section 6.5).
-fn subsystem_told(asking: Asking, name: &str) -> Result<Told, WireError>
+fn subsystem_told(asking: ChannelRequestHead, name: &str) -> Result<Told, WireError>
     ensures ok { IfOk result (λ told. told
         ≡ (msg.RequestSubsystem asking.wanted name.now, what.SubsystemRequest name.now)) }
     ensures memory { IfErr result (λ e. e ≡ NoMemory) }
@@ -174,12 +184,12 @@ fn signal_told(alloc: Global, name: &str) -> Result<Told, WireError>
     Ok((message, Happening::Signal { signal }))
 }
 
-fn ask_terminal(asking: Asking, rest: &[u8]) -> Result<Spoken, WireError>
-    ensures { IsRead (asked_by (Some known.terminal) asking.channel asking.wanted) rest.now result }
+fn request_terminal(asking: ChannelRequestHead, rest: &[u8]) -> Result<Spoken, WireError>
+    ensures { IsRead (request_layout (Some known.terminal) asking.channel asking.wanted) rest.now result }
 {
     match read_terminal(rest) {
         Ok((terminal, after)) => match read_modes(asking.alloc, terminal.modes) {
-            Ok(modes) => ask_with_modes(asking, terminal, modes, after),
+            Ok(modes) => request_with_modes(asking, terminal, modes, after),
             Err(e) => Err(e),
         },
         Err(e) => Err(e),
@@ -187,34 +197,34 @@ fn ask_terminal(asking: Asking, rest: &[u8]) -> Result<Spoken, WireError>
 }
 
 /// Modes that are none are found before the end of the message is.
-fn ask_with_modes(
-    asking: Asking,
+fn request_with_modes(
+    asking: ChannelRequestHead,
     terminal: Terminal<'_>,
     modes: Option<Modes>,
     after: &[u8],
 ) -> Result<Spoken, WireError>
-    ensures { IsRead (to_the_end (terminal_asked asking.channel asking.wanted
+    ensures { IsRead (to_the_end (terminal_request asking.channel asking.wanted
         terminal.entry.term.now terminal.entry.col_width terminal.entry.row_height
         terminal.entry.pix_width terminal.entry.pix_height modes)) after.now result }
 {
     match modes {
-        Some(modes) => ask_at_end(asking, terminal, modes, after),
+        Some(modes) => request_at_end(asking, terminal, modes, after),
         None => Ok(Spoken::Inconsistent),
     }
 }
 
-fn ask_at_end(
-    asking: Asking,
+fn request_at_end(
+    asking: ChannelRequestHead,
     terminal: Terminal<'_>,
     modes: Modes,
     after: &[u8],
 ) -> Result<Spoken, WireError>
-    ensures { IsRead (to_the_end (terminal_asked asking.channel asking.wanted
+    ensures { IsRead (to_the_end (terminal_request asking.channel asking.wanted
         terminal.entry.term.now terminal.entry.col_width terminal.entry.row_height
         terminal.entry.pix_width terminal.entry.pix_height (Some modes))) after.now result }
 {
     match read_end(after) {
-        Ok(()) => asks(asking, terminal_told(asking, terminal, modes)),
+        Ok(()) => requests(asking, terminal_told(asking, terminal, modes)),
         Err(e) => {
             drop(modes);
             Err(e)
@@ -222,35 +232,35 @@ fn ask_at_end(
     }
 }
 
-fn ask_x11(asking: Asking, rest: &[u8]) -> Result<Spoken, WireError>
-    ensures { IsRead (asked_by (Some known.x11) asking.channel asking.wanted) rest.now result }
+fn request_x11(asking: ChannelRequestHead, rest: &[u8]) -> Result<Spoken, WireError>
+    ensures { IsRead (request_layout (Some known.x11) asking.channel asking.wanted) rest.now result }
 {
     match read_x11(rest) {
         Ok((single, protocol, cookie, screen)) => {
-            asks(asking, x11_told(asking, single, protocol, cookie, screen))
+            requests(asking, x11_told(asking, single, protocol, cookie, screen))
         }
         Err(e) => Err(e),
     }
 }
 
-fn ask_environment(asking: Asking, rest: &[u8]) -> Result<Spoken, WireError>
-    ensures { IsRead (asked_by (Some known.environment) asking.channel asking.wanted) rest.now
+fn request_environment(asking: ChannelRequestHead, rest: &[u8]) -> Result<Spoken, WireError>
+    ensures { IsRead (request_layout (Some known.environment) asking.channel asking.wanted) rest.now
         result }
 {
     match read_texts(rest) {
-        Ok((name, value)) => asks(asking, environment_told(asking, name, value)),
+        Ok((name, value)) => requests(asking, environment_told(asking, name, value)),
         Err(e) => Err(e),
     }
 }
 
-fn ask_shell(asking: Asking, rest: &[u8]) -> Result<Spoken, WireError>
-    ensures { IsRead (asked_by (Some known.shell) asking.channel asking.wanted) rest.now result }
+fn request_shell(asking: ChannelRequestHead, rest: &[u8]) -> Result<Spoken, WireError>
+    ensures { IsRead (request_layout (Some known.shell) asking.channel asking.wanted) rest.now result }
 {
     let message = ChannelMsg::RequestShell {
         want_reply: asking.wanted,
     };
     match read_end(rest) {
-        Ok(()) => asks(asking, Ok((message, Happening::ShellRequest))),
+        Ok(()) => requests(asking, Ok((message, Happening::ShellRequest))),
         Err(e) => {
             drop(message);
             Err(e)
@@ -258,27 +268,27 @@ fn ask_shell(asking: Asking, rest: &[u8]) -> Result<Spoken, WireError>
     }
 }
 
-fn ask_exec(asking: Asking, rest: &[u8]) -> Result<Spoken, WireError>
-    ensures { IsRead (asked_by (Some known.exec) asking.channel asking.wanted) rest.now result }
+fn request_exec(asking: ChannelRequestHead, rest: &[u8]) -> Result<Spoken, WireError>
+    ensures { IsRead (request_layout (Some known.exec) asking.channel asking.wanted) rest.now result }
 {
     match read_data(rest) {
-        Ok(command) => asks(asking, exec_told(asking, command)),
+        Ok(command) => requests(asking, exec_told(asking, command)),
         Err(e) => Err(e),
     }
 }
 
-fn ask_subsystem(asking: Asking, rest: &[u8]) -> Result<Spoken, WireError>
-    ensures { IsRead (asked_by (Some known.subsystem) asking.channel asking.wanted) rest.now
+fn request_subsystem(asking: ChannelRequestHead, rest: &[u8]) -> Result<Spoken, WireError>
+    ensures { IsRead (request_layout (Some known.subsystem) asking.channel asking.wanted) rest.now
         result }
 {
     match read_text(rest) {
-        Ok(name) => asks(asking, subsystem_told(asking, name)),
+        Ok(name) => requests(asking, subsystem_told(asking, name)),
         Err(e) => Err(e),
     }
 }
 
-fn ask_window_change(asking: Asking, rest: &[u8]) -> Result<Spoken, WireError>
-    ensures { IsRead (asked_by (Some known.window_change) asking.channel asking.wanted) rest.now
+fn request_window_change(asking: ChannelRequestHead, rest: &[u8]) -> Result<Spoken, WireError>
+    ensures { IsRead (request_layout (Some known.window_change) asking.channel asking.wanted) rest.now
         result }
 {
     match read_size(rest) {
@@ -295,45 +305,62 @@ fn ask_window_change(asking: Asking, rest: &[u8]) -> Result<Spoken, WireError>
                 pix_width,
                 pix_height,
             };
-            asks(asking, Ok((message, happening)))
+            requests(asking, Ok((message, happening)))
         }
         Err(e) => Err(e),
     }
 }
 
-fn ask_signal(asking: Asking, rest: &[u8]) -> Result<Spoken, WireError>
-    ensures { IsRead (asked_by (Some known.signal) asking.channel asking.wanted) rest.now result }
+fn request_signal(asking: ChannelRequestHead, rest: &[u8]) -> Result<Spoken, WireError>
+    ensures { IsRead (request_layout (Some known.signal) asking.channel asking.wanted) rest.now result }
 {
     match read_text(rest) {
-        Ok(name) => asks(asking, signal_told(asking.alloc, name)),
+        Ok(name) => requests(asking, signal_told(asking.alloc, name)),
         Err(e) => Err(e),
     }
 }
 
-fn ask_agent(asking: Asking, rest: &[u8]) -> Result<Spoken, WireError>
-    ensures { IsRead (asked_by (Some known.agent) asking.channel asking.wanted) rest.now result }
+fn request_agent(asking: ChannelRequestHead, rest: &[u8]) -> Result<Spoken, WireError>
+    ensures { IsRead (request_layout (Some known.agent) asking.channel asking.wanted) rest.now result }
 {
     match read_end(rest) {
-        Ok(()) => Ok(Spoken::AsksForAgent(asking.channel, asking.wanted)),
+        Ok(()) => Ok(Spoken::RequestsAgent(asking.channel, asking.wanted)),
         Err(e) => Err(e),
     }
 }
 
 /// What a request of this name says: one line a request. Of one that is not known nothing is read.
-pub fn ask(asking: Asking, name: &str, rest: &[u8]) -> Result<Spoken, WireError>
-    ensures { IsRead (asked_by (request_named name.now) asking.channel asking.wanted) rest.now
+fn channel_request(asking: ChannelRequestHead, name: &str, rest: &[u8]) -> Result<Spoken, WireError>
+    ensures { IsRead (request_layout (request_named name.now) asking.channel asking.wanted) rest.now
         result }
 {
     match name {
-        "pty-req" => ask_terminal(asking, rest),
-        "x11-req" => ask_x11(asking, rest),
-        "env" => ask_environment(asking, rest),
-        "shell" => ask_shell(asking, rest),
-        "exec" => ask_exec(asking, rest),
-        "subsystem" => ask_subsystem(asking, rest),
-        "window-change" => ask_window_change(asking, rest),
-        "signal" => ask_signal(asking, rest),
-        "auth-agent-req@openssh.com" => ask_agent(asking, rest),
-        _ => Ok(Spoken::AsksUnknown(asking.channel, asking.wanted)),
+        "pty-req" => request_terminal(asking, rest),
+        "x11-req" => request_x11(asking, rest),
+        "env" => request_environment(asking, rest),
+        "shell" => request_shell(asking, rest),
+        "exec" => request_exec(asking, rest),
+        "subsystem" => request_subsystem(asking, rest),
+        "window-change" => request_window_change(asking, rest),
+        "signal" => request_signal(asking, rest),
+        "auth-agent-req@openssh.com" => request_agent(asking, rest),
+        _ => Ok(Spoken::RequestsUnknown(asking.channel, asking.wanted)),
     }
+}
+
+/// CHANNEL_REQUEST (section 5.4). On no channel nothing behind its flag is read.
+pub fn request_message(alloc: Global, table: &Encrypted, fields: &[u8]) -> Result<Spoken, WireError>
+    ensures { (there : ℕ → Bool) → ((n : ℕ) → has is_established n table.now ≡ there n) →
+        IsRead (request there) fields.now result }
+{
+    let asked = read_request(fields)?;
+    let asking = ChannelRequestHead {
+        alloc,
+        channel: asked.channel,
+        wanted: asked.wanted,
+    };
+    if !is_there(table, asked.channel) {
+        return Ok(Spoken::Nothing);
+    }
+    channel_request(asking, asked.name, asked.rest)
 }

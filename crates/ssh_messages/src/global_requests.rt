@@ -2,11 +2,11 @@
 // section 4).
 ghost use Rattle.std.specs.Prelude.{◌≡◌, Some};
 ghost use Rattle.ssh_rules.specs.Spelling.{IsRead};
-ghost use Rattle.ssh_rules.specs.Globals.{globally_asked_by, global_named};
-ghost use Rattle.ssh_rules.specs.Globals.{port_told, success};
+ghost use Rattle.ssh_rules.specs.Globals.{global_layout, global_named};
+ghost use Rattle.ssh_rules.specs.Globals.{port_told, global_request_message, success, denial};
 ghost use Rattle.ssh_rules.specs.Globals as known;
 
-use crate::message::{read_address, read_end, read_text};
+use crate::message::{read_address, read_end, read_global_request, read_text};
 use ssh_auth::Judged;
 use ssh_link::Notice;
 use ssh_rules::{Outstanding, Spoken};
@@ -15,58 +15,58 @@ use std::alloc::Global;
 
 /// A request as far as all are alike: whether a reply is wanted.
 #[derive(Clone, Copy)]
-pub struct AskingGlobally {
+struct GlobalRequestHead {
     /// Where memory is taken.
-    pub alloc: Global,
+    alloc: Global,
     /// Whether a reply is wanted.
-    pub wanted: bool,
+    wanted: bool,
 }
 
 /// Connections to an address are to be forwarded (section 7.1).
-fn ask_forward(asking: AskingGlobally, rest: &[u8]) -> Result<Spoken, WireError>
-    ensures { IsRead (globally_asked_by (Some known.forward) asking.wanted) rest.now result }
+fn request_forward(asking: GlobalRequestHead, rest: &[u8]) -> Result<Spoken, WireError>
+    ensures { IsRead (global_layout (Some known.forward) asking.wanted) rest.now result }
 {
     let (address, port) = read_address(rest)?;
     let address = Text::new(asking.alloc, address)?;
-    Ok(Spoken::AsksToForward(asking.wanted, address, port))
+    Ok(Spoken::RequestsForward(asking.wanted, address, port))
 }
 
 /// They are to be forwarded no longer (section 7.1).
-fn ask_cancel(asking: AskingGlobally, rest: &[u8]) -> Result<Spoken, WireError>
-    ensures { IsRead (globally_asked_by (Some known.cancel_forward) asking.wanted) rest.now
+fn request_cancel(asking: GlobalRequestHead, rest: &[u8]) -> Result<Spoken, WireError>
+    ensures { IsRead (global_layout (Some known.cancel_forward) asking.wanted) rest.now
         result }
 {
     let (address, port) = read_address(rest)?;
     let address = Text::new(asking.alloc, address)?;
     let judged = Judged::CancelTcpipForward { address, port };
-    Ok(Spoken::AsksGlobally(asking.wanted, judged))
+    Ok(Spoken::RequestsGlobally(asking.wanted, judged))
 }
 
 /// Connections to a socket are to be forwarded (OpenSSH PROTOCOL section 2.4).
-fn ask_forward_socket(asking: AskingGlobally, rest: &[u8]) -> Result<Spoken, WireError>
-    ensures { IsRead (globally_asked_by (Some known.forward_socket) asking.wanted) rest.now
+fn request_forward_socket(asking: GlobalRequestHead, rest: &[u8]) -> Result<Spoken, WireError>
+    ensures { IsRead (global_layout (Some known.forward_socket) asking.wanted) rest.now
         result }
 {
     let path = read_text(rest)?;
     let socket_path = Text::new(asking.alloc, path)?;
     let judged = Judged::StreamlocalForward { socket_path };
-    Ok(Spoken::AsksGlobally(asking.wanted, judged))
+    Ok(Spoken::RequestsGlobally(asking.wanted, judged))
 }
 
 /// They are to be forwarded no longer (OpenSSH PROTOCOL section 2.4).
-fn ask_cancel_socket(asking: AskingGlobally, rest: &[u8]) -> Result<Spoken, WireError>
-    ensures { IsRead (globally_asked_by (Some known.cancel_socket) asking.wanted) rest.now
+fn request_cancel_socket(asking: GlobalRequestHead, rest: &[u8]) -> Result<Spoken, WireError>
+    ensures { IsRead (global_layout (Some known.cancel_socket) asking.wanted) rest.now
         result }
 {
     let path = read_text(rest)?;
     let socket_path = Text::new(asking.alloc, path)?;
     let judged = Judged::CancelStreamlocalForward { socket_path };
-    Ok(Spoken::AsksGlobally(asking.wanted, judged))
+    Ok(Spoken::RequestsGlobally(asking.wanted, judged))
 }
 
 /// The peer will open no more sessions (OpenSSH PROTOCOL section 2.2).
-fn give_up_sessions(asking: AskingGlobally, rest: &[u8]) -> Result<Spoken, WireError>
-    ensures { IsRead (globally_asked_by (Some known.no_more_sessions) asking.wanted) rest.now
+fn give_up_sessions(asking: GlobalRequestHead, rest: &[u8]) -> Result<Spoken, WireError>
+    ensures { IsRead (global_layout (Some known.no_more_sessions) asking.wanted) rest.now
         result }
 {
     read_end(rest)?;
@@ -74,16 +74,16 @@ fn give_up_sessions(asking: AskingGlobally, rest: &[u8]) -> Result<Spoken, WireE
 }
 
 /// What a request of this name says: one line a request. Of one that is not known nothing is read.
-pub fn ask_globally(asking: AskingGlobally, name: &str, rest: &[u8]) -> Result<Spoken, WireError>
-    ensures { IsRead (globally_asked_by (global_named name.now) asking.wanted) rest.now result }
+fn global_request(asking: GlobalRequestHead, name: &str, rest: &[u8]) -> Result<Spoken, WireError>
+    ensures { IsRead (global_layout (global_named name.now) asking.wanted) rest.now result }
 {
     match name {
-        "tcpip-forward" => ask_forward(asking, rest),
-        "cancel-tcpip-forward" => ask_cancel(asking, rest),
-        "streamlocal-forward@openssh.com" => ask_forward_socket(asking, rest),
-        "cancel-streamlocal-forward@openssh.com" => ask_cancel_socket(asking, rest),
+        "tcpip-forward" => request_forward(asking, rest),
+        "cancel-tcpip-forward" => request_cancel(asking, rest),
+        "streamlocal-forward@openssh.com" => request_forward_socket(asking, rest),
+        "cancel-streamlocal-forward@openssh.com" => request_cancel_socket(asking, rest),
         "no-more-sessions@openssh.com" => give_up_sessions(asking, rest),
-        _ => Ok(Spoken::AsksGloballyUnknown(asking.wanted)),
+        _ => Ok(Spoken::RequestsGloballyUnknown(asking.wanted)),
     }
 }
 
@@ -99,35 +99,47 @@ fn port_told(rest: &[u8]) -> Option<u32>
     }
 }
 
-/// What REQUEST_SUCCESS says where this request waits for it.
-pub fn granted(outstanding: Outstanding, fields: &[u8]) -> Result<Spoken, WireError>
-    ensures { IsRead (success (Some outstanding)) fields.now result }
+/// GLOBAL_REQUEST.
+pub fn global_request_message(alloc: Global, fields: &[u8]) -> Result<Spoken, WireError>
+    ensures { IsRead global_request_message fields.now result }
 {
-    let told = match outstanding {
-        Outstanding::Forward { slot } => {
+    let asked = read_global_request(fields)?;
+    let asking = GlobalRequestHead {
+        alloc,
+        wanted: asked.wanted,
+    };
+    global_request(asking, asked.name, asked.rest)
+}
+
+/// REQUEST_SUCCESS, by the oldest request of this side that waits. It is not read where none does.
+pub fn success_message(oldest: Option<Outstanding>, fields: &[u8]) -> Result<Spoken, WireError>
+    ensures { IsRead (success oldest) fields.now result }
+{
+    let told = match oldest {
+        None => return Ok(Spoken::Nothing),
+        Some(Outstanding::Forward { slot }) => {
             let port = port_told(fields);
             return Ok(Spoken::Settles(Some(Notice::Forwarded { slot, port })));
         }
-        Outstanding::Cancel { slot } => Some(Notice::Cancelled { slot, ok: true }),
-        Outstanding::Ping { slot } => Some(Notice::Pong { slot }),
-        Outstanding::Keepalive => None,
+        Some(Outstanding::Cancel { slot }) => Some(Notice::Cancelled { slot, ok: true }),
+        Some(Outstanding::Ping { slot }) => Some(Notice::Pong { slot }),
+        Some(Outstanding::Keepalive) => None,
     };
     read_end(fields)?;
     Ok(Spoken::Settles(told))
 }
 
-/// What REQUEST_FAILURE says where this request waits for it.
-pub fn denied(outstanding: Outstanding) -> Spoken
-    ensures { result ≡ known.denied (Some outstanding) }
+/// REQUEST_FAILURE, by the oldest request of this side that waits.
+pub fn failure_message(oldest: Option<Outstanding>, fields: &[u8]) -> Result<Spoken, WireError>
+    ensures { IsRead (denial oldest) fields.now result }
 {
-    match outstanding {
-        Outstanding::Forward { slot } => {
-            Spoken::Settles(Some(Notice::Forwarded { slot, port: None }))
-        }
-        Outstanding::Cancel { slot } => {
-            Spoken::Settles(Some(Notice::Cancelled { slot, ok: false }))
-        }
-        Outstanding::Ping { slot } => Spoken::Settles(Some(Notice::Pong { slot })),
-        Outstanding::Keepalive => Spoken::Settles(None),
-    }
+    read_end(fields)?;
+    let told = match oldest {
+        None => return Ok(Spoken::Nothing),
+        Some(Outstanding::Forward { slot }) => Some(Notice::Forwarded { slot, port: None }),
+        Some(Outstanding::Cancel { slot }) => Some(Notice::Cancelled { slot, ok: false }),
+        Some(Outstanding::Ping { slot }) => Some(Notice::Pong { slot }),
+        Some(Outstanding::Keepalive) => None,
+    };
+    Ok(Spoken::Settles(told))
 }

@@ -18,7 +18,7 @@ use Rattle.ssh_channels.specs.Lines.{all_go_on}
 use Rattle.ssh_rules.specs.Exchange.{is_of_transport, given, begun, joined, renewed}
 use Rattle.ssh_rules.specs.Layout.{at_once}
 use Rattle.ssh_rules.specs.World.{World, ChannelRequest, keyed, lined}
-use Rattle.ssh_rules.specs.Effect.{Effect, Does, effect_at}
+use Rattle.ssh_rules.specs.Effect.{Effect, Brings, effect_at}
 use Rattle.ssh_rules.specs.Outcome.{Fault, Outcome, Goes, Ends, Fails}
 
 -- what the exchange of keys is asked: to begin, or to take a payload of the peer's
@@ -65,7 +65,7 @@ tell_done place (Refused why) next = Ask (Done place (Refused why)) (λ _. next)
 
 -- what a command does, and what follows
 abbrev pub done : Effect → (CommandOutcome → World → Plan Outcome) → Plan Outcome
-done (Does notices outcome world) next = tell_all (map Noticed notices) (next outcome world)
+done (Brings notices outcome world) next = tell_all (map Noticed notices) (next outcome world)
 
 -- what a callback recorded is done in order, and then this follows
 abbrev pub done_all : (at : Option ChannelRequest) → (place : ℕ) → List Command → World

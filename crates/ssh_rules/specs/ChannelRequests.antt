@@ -28,10 +28,10 @@ pub record KnownRequest : Type 0 where
 
 -- string terminal type, uint32 width and height in characters, uint32 width and height in pixels,
 -- string modes, of which there are 130 at most (section 6.2)
-abbrev pub terminal_asked : (channel : ChannelId) → (wanted : Bool) → (term : List ℕ)
+abbrev pub terminal_request : (channel : ChannelId) → (wanted : Bool) → (term : List ℕ)
     → (columns rows width height : ℕ) → Option (List (Pty × ℕ)) → Spoken
-terminal_asked channel wanted term columns rows width height None = spoken.Inconsistent
-terminal_asked channel wanted term columns rows width height (Some modes) = spoken.Asks channel
+terminal_request channel wanted term columns rows width height None = spoken.Inconsistent
+terminal_request channel wanted term columns rows width height (Some modes) = spoken.Requests channel
     wanted (msg.RequestPty wanted term columns rows width height modes)
     (what.PtyRequest term columns rows width height modes)
 
@@ -40,7 +40,7 @@ terminal = record {
   name = codes "pty-req";
   fields = Text ∷ Number ∷ Number ∷ Number ∷ Number ∷ Bytes ∷ [];
   says = λ channel wanted (term, (columns, (rows, (width, (height, (modes, _)))))).
-      terminal_asked channel wanted term columns rows width height (modes_of 130 modes);
+      terminal_request channel wanted term columns rows width height (modes_of 130 modes);
 }
 
 -- boolean single connection, string authentication protocol, string cookie, uint32 screen (section
@@ -50,7 +50,7 @@ x11 = record {
   name = codes "x11-req";
   fields = Flag ∷ Text ∷ Text ∷ Number ∷ [];
   says = λ channel wanted (single, (protocol, (cookie, (screen, _)))).
-      spoken.Asks channel wanted (msg.RequestX11 wanted single protocol cookie screen)
+      spoken.Requests channel wanted (msg.RequestX11 wanted single protocol cookie screen)
       (what.X11Request single protocol cookie screen);
 }
 
@@ -60,7 +60,7 @@ environment = record {
   name = codes "env";
   fields = Text ∷ Text ∷ [];
   says = λ channel wanted (name, (value, _)).
-      spoken.Asks channel wanted (msg.SetEnv wanted name value) (what.EnvRequest name value);
+      spoken.Requests channel wanted (msg.SetEnv wanted name value) (what.EnvRequest name value);
 }
 
 -- nothing (section 6.5)
@@ -68,7 +68,7 @@ abbrev pub shell : KnownRequest
 shell = record {
   name = codes "shell";
   fields = [];
-  says = λ channel wanted _. spoken.Asks channel wanted (msg.RequestShell wanted)
+  says = λ channel wanted _. spoken.Requests channel wanted (msg.RequestShell wanted)
       what.ShellRequest;
 }
 
@@ -78,7 +78,7 @@ exec = record {
   name = codes "exec";
   fields = Bytes ∷ [];
   says = λ channel wanted (command, _).
-      spoken.Asks channel wanted (msg.Exec wanted command) (what.ExecRequest command);
+      spoken.Requests channel wanted (msg.Exec wanted command) (what.ExecRequest command);
 }
 
 -- string subsystem name (section 6.5)
@@ -87,7 +87,7 @@ subsystem = record {
   name = codes "subsystem";
   fields = Text ∷ [];
   says = λ channel wanted (name, _).
-      spoken.Asks channel wanted (msg.RequestSubsystem wanted name) (what.SubsystemRequest name);
+      spoken.Requests channel wanted (msg.RequestSubsystem wanted name) (what.SubsystemRequest name);
 }
 
 -- uint32 width and height in characters, uint32 width and height in pixels (section 6.7)
@@ -96,7 +96,7 @@ window_change = record {
   name = codes "window-change";
   fields = Number ∷ Number ∷ Number ∷ Number ∷ [];
   says = λ channel wanted (columns, (rows, (width, (height, _)))).
-      spoken.Asks channel wanted (msg.WindowChange columns rows width height)
+      spoken.Requests channel wanted (msg.WindowChange columns rows width height)
       (what.WindowChangeRequest columns rows width height);
 }
 
@@ -120,7 +120,7 @@ signal = record {
   name = codes "signal";
   fields = Text ∷ [];
   says = λ channel wanted (name, _).
-      spoken.Asks channel wanted (msg.Signal (signal_named name))
+      spoken.Requests channel wanted (msg.Signal (signal_named name))
       (what.Signal (signal_named name));
 }
 
@@ -129,16 +129,18 @@ abbrev pub agent : KnownRequest
 agent = record {
   name = codes "auth-agent-req@openssh.com";
   fields = [];
-  says = λ channel wanted _. spoken.AsksForAgent channel wanted;
+  says = λ channel wanted _. spoken.RequestsAgent channel wanted;
 }
 
 -- ---- the table
 
+abbrev pub known_requests : List KnownRequest
+known_requests =
+    terminal ∷ x11 ∷ environment ∷ shell ∷ exec ∷ subsystem ∷ window_change ∷ signal ∷ agent ∷ []
+
 -- the known request of this name
 abbrev pub request_named : List ℕ → Option KnownRequest
-request_named name =
-    find (λ known. bytes_eq known.name name)
-    (terminal ∷ x11 ∷ environment ∷ shell ∷ exec ∷ subsystem ∷ window_change ∷ signal ∷ agent ∷ [])
+request_named name = find (λ known. bytes_eq known.name name) known_requests
 
 -- modes that are none are found where they stand, and nothing behind them is read; else the request
 -- ends with its fields
@@ -147,13 +149,13 @@ to_the_end spoken.Inconsistent = Leaves spoken.Inconsistent
 to_the_end said = Whole [] (λ _. said)
 
 -- how a request is read behind its flag; of an unknown one nothing is
-abbrev pub asked_by : Option KnownRequest → (channel : ChannelId) → (wanted : Bool) → Layout Spoken
-asked_by None channel wanted = Leaves (spoken.AsksUnknown channel wanted)
-asked_by (Some known) channel wanted =
+abbrev pub request_layout : Option KnownRequest → (channel : ChannelId) → (wanted : Bool) → Layout Spoken
+request_layout None channel wanted = Leaves (spoken.RequestsUnknown channel wanted)
+request_layout (Some known) channel wanted =
     Fields known.fields (λ values. to_the_end (known.says channel wanted values))
 
 -- a request says this, where what is told of it was kept
-abbrev pub asks_so : (channel : ChannelId) → (wanted : Bool)
+abbrev pub request_said : (channel : ChannelId) → (wanted : Bool)
     → Result (ChannelMsg × Happening) WireError → Result Spoken WireError
-asks_so channel wanted (Ok told) = Ok (spoken.Asks channel wanted told.0 told.1)
-asks_so channel wanted (Err why) = Err why
+request_said channel wanted (Ok told) = Ok (spoken.Requests channel wanted told.0 told.1)
+request_said channel wanted (Err why) = Err why

@@ -27,14 +27,14 @@ use Rattle.ssh_channels.specs.Lines.{asks_next, next_number}
 use Rattle.ssh_rules.specs.declared.state.EncryptedState.{EncryptedState}
 use Rattle.ssh_rules.specs.declared.state.EncryptedState.TheVariants.{InitCompression}
 use Rattle.ssh_rules.specs.declared.state.EncryptedState.TheVariants.{Authenticated}
-use Rattle.ssh_rules.specs.OwnOpens.{OwnOpen, asking, open_payload, open_frame}
+use Rattle.ssh_rules.specs.OwnOpens.{OwnOpen, own_open_of, open_payload, open_frame}
 use Rattle.ssh_rules.specs.Opening.{Opening}
-use Rattle.ssh_rules.specs.Opens.{opening_of, answered, confirmation_frame, failure_frame}
+use Rattle.ssh_rules.specs.Opens.{opening_of, decided, confirmation_frame, failure_frame}
 use Rattle.ssh_rules.specs.OwnRequests.{OwnRequest, request_payload, xon_xoff, exit_status}
 use Rattle.ssh_rules.specs.OwnRequests.{exit_signal}
 use Rattle.ssh_rules.specs.Layout.{at_once}
-use Rattle.ssh_rules.specs.OwnMessages.{OwnMessage, forward, cancel, keepalive, ping, debug}
-use Rattle.ssh_rules.specs.OwnMessages.{disconnect}
+use Rattle.ssh_rules.specs.OwnMessages.{OwnMessage, forward_request, cancel, keepalive, ping, debug}
+use Rattle.ssh_rules.specs.OwnMessages.{disconnect_message}
 use Rattle.ssh_rules.specs.World.{World, ChannelRequest, in_exchange, lined, writes, awaits}
 use Rattle.ssh_rules.specs.World.{ends_by, settles_for, settles_global}
 
@@ -48,23 +48,23 @@ pub data Need : Type 0 where
   -- an open of the peer's that waits for its answer (section 5.1)
   Opening_of : (channel : ChannelId) → Need
   -- a user who was let in (RFC 4252 section 6)
-  User : Need
+  Needs_user : Need
   -- that this side is a client, which it is not
   Client : Need
   -- nothing
-  Nothing : Need
+  Needs_nothing : Need
 
 -- a command that opens a channel needs a user
 abbrev pub opens_need : Option OwnOpen → Need
-opens_need None = Nothing
-opens_need (Some asked) = User
+opens_need None = Needs_nothing
+opens_need (Some asked) = Needs_user
 
 -- a command that concerns no channel that is there: one line a command
 abbrev pub apart_needs : Command → Need
-apart_needs (command.TcpipForward address port reply) = User
-apart_needs (command.CancelTcpipForward address port reply) = User
+apart_needs (command.TcpipForward address port reply) = Needs_user
+apart_needs (command.CancelTcpipForward address port reply) = Needs_user
 apart_needs (command.ClientOnly channel message) = Client
-apart_needs other = opens_need (asking other)
+apart_needs other = opens_need (own_open_of other)
 
 -- one line a command
 abbrev pub needs : Command → Need
@@ -115,9 +115,9 @@ lacks w (Sending channel) = no_sending (find channel.0 w.channels.lines.entries)
 lacks w (Closing channel) = no_closing (find channel.0 w.channels.lines.entries)
 lacks w (Established channel) = no_established (find channel.0 w.channels.lines.entries)
 lacks w (Opening_of channel) = no_open (opening_of channel.0 w)
-lacks w User = no_user w.user.state
+lacks w Needs_user = no_user w.user.state
 lacks w Client = Some ClientOnly
-lacks w Nothing = None
+lacks w Needs_nothing = None
 
 -- the description of a refusal and its language: those of the answer, or that of its reason in
 -- English
@@ -141,44 +141,44 @@ is_too_long payload = nat_le (2 ^ 32) (length payload)
 
 -- these notices are given, this is the answer, and this is the world from then on
 pub data Effect : Type 0 where
-  Does : (notices : List Notice) → (outcome : CommandOutcome) → (world : World) → Effect
+  Brings : (notices : List Notice) → (outcome : CommandOutcome) → (world : World) → Effect
 
 abbrev pub accepts : World → Effect
-accepts w = Does [] Accepted w
+accepts w = Brings [] Accepted w
 
 abbrev pub refuses : Refusal → World → Effect
-refuses why w = Does [] (Refused why) w
+refuses why w = Brings [] (Refused why) w
 
 -- the open becomes a channel (section 5.1)
 abbrev pub confirms : (number : ℕ) → Opening → World → Effect
-confirms number opening w = Does
+confirms number opening w = Brings
     (Ready (record { 0 = number }) opening.window opening.packet ∷ [])
     Accepted
     (lined (adds_with (confirmation_frame number opening.peer w.settings.config.window_size
     w.settings.config.maximum_packet_size)
     (opened number opening.peer opening.window w.settings.config.window_size opening.packet
-    w.settings.config.maximum_packet_size)) (answered number w))
+    w.settings.config.maximum_packet_size)) (decided number w))
 
 -- the open is refused (section 5.1)
 abbrev pub fails_open : (number : ℕ) → (payload : List ℕ) → World → Effect
 fails_open number payload w = if is_too_long payload
     then refuses TooLong w
     else accepts (writes (failure_frame number payload ∷ [])
-    (lined (drops_pending number) (answered number w)))
+    (lined (drops_pending number) (decided number w)))
 
 abbrev pub decides : (number : ℕ) → Opening → Option ChannelOpenFailure → Option (List ℕ × List ℕ)
     → World → Effect
 decides number opening None texts w = confirms number opening w
 decides number opening (Some reason) texts w = fails_open number (failure_of opening reason texts) w
 
-abbrev pub answers : OpenAnswer → Option Opening → World → Effect
-answers answer None w = accepts w
-answers answer (Some opening) w = decides answer.channel.0 opening answer.rejection answer.texts w
+abbrev pub decides_open : OpenAnswer → Option Opening → World → Effect
+decides_open answer None w = accepts w
+decides_open answer (Some opening) w = decides answer.channel.0 opening answer.rejection answer.texts w
 
 -- this side's open draws the next number and is written (section 5.1)
 abbrev pub opens_at : (number : Option ℕ) → OwnOpen → World → Effect
 opens_at None asked w = refuses NumbersFull w
-opens_at (Some number) asked w = Does [] (Opened (record { 0 = number }))
+opens_at (Some number) asked w = Brings [] (Opened (record { 0 = number }))
     (writes (open_frame asked number w.settings.config.window_size
     w.settings.config.maximum_packet_size ∷ [])
     (lined (asks_next w.settings.config.window_size w.settings.config.maximum_packet_size) w))
@@ -216,7 +216,7 @@ sends message w = if is_too_long message.payload then refuses TooLong w else acc
 -- a command that concerns no channel that is there, and lacks nothing: one line a command; what a
 -- client alone may say is never done
 abbrev pub done_apart : World → Command → Effect
-done_apart w (command.TcpipForward address port reply) = sends (forward address port reply) w
+done_apart w (command.TcpipForward address port reply) = sends (forward_request address port reply) w
 done_apart w (command.CancelTcpipForward address port reply) = sends (cancel address port reply) w
 done_apart w command.Keepalive = sends keepalive w
 done_apart w (command.Ping slot) = sends (ping slot) w
@@ -224,8 +224,8 @@ done_apart w command.RequestSuccess = accepts (settles_global (written request_s
 done_apart w command.RequestFailure = accepts (settles_global (written request_failure tt) w)
 done_apart w (command.Debug always message language) = sends (debug always message language) w
 done_apart w (command.Disconnect reason description language) =
-    sends (disconnect reason description language) w
-done_apart w other = opens_or_not (asking other) w
+    sends (disconnect_message reason description language) w
+done_apart w other = opens_or_not (own_open_of other) w
 
 -- a command that lacks nothing is done: one line a command; it was recorded in the callback of the
 -- request at, where there is one
@@ -244,7 +244,7 @@ done_by at w (command.XonXoff channel client_can_do) = requests channel (xon_xof
 done_by at w (command.ExitStatus channel status) = requests channel (exit_status status) w
 done_by at w (command.ExitSignal channel signal core message language) =
     requests channel (exit_signal signal core message language) w
-done_by at w (command.Answer answer) = answers answer (opening_of answer.channel.0 w) w
+done_by at w (command.Answer answer) = decides_open answer (opening_of answer.channel.0 w) w
 done_by at w other = done_apart w other
 
 -- a command that is refused does nothing

@@ -69,29 +69,31 @@ no_more_sessions = record {
   asks = λ _. Gives_up_sessions;
 }
 
+abbrev pub known_globals : List KnownGlobal
+known_globals =
+    forward ∷ cancel_forward ∷ forward_socket ∷ cancel_socket ∷ no_more_sessions ∷ []
+
 -- the known request of this name
 abbrev pub global_named : List ℕ → Option KnownGlobal
-global_named name =
-    find (λ known. bytes_eq known.name name)
-    (forward ∷ cancel_forward ∷ forward_socket ∷ cancel_socket ∷ no_more_sessions ∷ [])
+global_named name = find (λ known. bytes_eq known.name name) known_globals
 
 -- what a request says that asks this, where a reply is wanted or not
-abbrev pub says_so : (wanted : Bool) → Globally → Spoken
-says_so wanted (Listens address port) = spoken.AsksToForward wanted address port
-says_so wanted (Judges judged) = spoken.AsksGlobally wanted judged
-says_so wanted Gives_up_sessions = spoken.GivesUpSessions wanted
+abbrev pub global_request_said : (wanted : Bool) → Globally → Spoken
+global_request_said wanted (Listens address port) = spoken.RequestsForward wanted address port
+global_request_said wanted (Judges judged) = spoken.RequestsGlobally wanted judged
+global_request_said wanted Gives_up_sessions = spoken.GivesUpSessions wanted
 
 -- how a request is read behind its flag; of an unknown one nothing is
-abbrev pub globally_asked_by : Option KnownGlobal → (wanted : Bool) → Layout Spoken
-globally_asked_by None wanted = Leaves (spoken.AsksGloballyUnknown wanted)
-globally_asked_by (Some known) wanted =
-    Whole known.fields (λ values. says_so wanted (known.asks values))
+abbrev pub global_layout : Option KnownGlobal → (wanted : Bool) → Layout Spoken
+global_layout None wanted = Leaves (spoken.RequestsGloballyUnknown wanted)
+global_layout (Some known) wanted =
+    Whole known.fields (λ values. global_request_said wanted (known.asks values))
 
 -- GLOBAL_REQUEST: string request name, boolean want reply, and then the request's own fields
 -- (section 4)
-abbrev pub asks_globally : Layout Spoken
-asks_globally = Fields global_request.fields (λ (name, (wanted, _)).
-    globally_asked_by (global_named name) wanted)
+abbrev pub global_request_message : Layout Spoken
+global_request_message = Fields global_request.fields (λ (name, (wanted, _)).
+    global_layout (global_named name) wanted)
 
 -- ---- replies to this side's requests, which come in the order of the requests (section 4)
 

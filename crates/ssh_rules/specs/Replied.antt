@@ -12,7 +12,7 @@ use Rattle.ssh_channels.specs.Entry.{Entry}
 use Rattle.ssh_channels.specs.Lines.{find}
 use Rattle.ssh_channels.specs.Replies.{held}
 use Rattle.ssh_channels.specs.Sent.{is_reply, is_tagged, message_of}
-use Rattle.ssh_rules.specs.Answered.{how_many, sends}
+use Rattle.ssh_rules.specs.Answered.{how_many, sends_answer}
 use Rattle.ssh_rules.specs.Run.{Turn, Run}
 use Rattle.ssh_rules.specs.World.{Settings, World, opening_world}
 
@@ -63,7 +63,7 @@ pub record IsRepaid {E F : Type 0} (accepts : Acceptance) (settings : Settings)
     (before span : List (Turn E F)) : Type 0 where
   pub world : World
   pub run : Run accepts (opening_world settings) before world
-  pub within : (number : ℕ) → how_many (sends (is_reply_on number)) (events_of span)
+  pub within : (number : ℕ) → how_many (sends_answer (is_reply_on number)) (events_of span)
       ≤ replies_left number world + how_many (wants_on number) span
 
 pub record Replied {E F : Type 0} (accepts : Acceptance) (settings : Settings)
@@ -71,7 +71,7 @@ pub record Replied {E F : Type 0} (accepts : Acceptance) (settings : Settings)
   -- after each input, and so at every moment, no more replies were sent on a number than requests
   -- on it have come that want one
   pub never_more : (past more : List (Turn E F)) → turns ≡ past ++ more → (number : ℕ)
-      → how_many (sends (is_reply_on number)) (events_of past) ≤ how_many (wants_on number) past
+      → how_many (sends_answer (is_reply_on number)) (events_of past) ≤ how_many (wants_on number) past
   -- and from each input on no more than were left before it, and than have come since
   pub since : (before span more : List (Turn E F)) (turn : Turn E F)
       → turns ≡ before ++ turn ∷ (span ++ more) → IsRepaid accepts settings before (turn ∷ span)

@@ -1,7 +1,7 @@
 -- The reply table: what each input owes, row by row.
 use Rattle.std.specs.Prelude.{ℕ, ◌+◌, ◌-◌, ◌^◌, ◌==◌, ◌&&◌, min, nat_lt, List, [], ◌∷◌, length}
 use Rattle.std.specs.Prelude.{Bool, true, false, not, Option, Some, None, unwrap_or, if◌then◌else◌}
-use Rattle.std.specs.Prelude.{bytes_eq, codes}
+use Rattle.std.specs.Prelude.{◌++◌, bytes_eq, codes}
 use Rattle.ssh_wire.specs.declared.error.WireError.TheVariants.{TooLong}
 use Rattle.ssh_wire.specs.Messages.{written, request_success, forward_success, request_failure}
 use Rattle.ssh_wire.specs.declared.channel_id.ChannelId.{ChannelId}
@@ -48,9 +48,9 @@ use Rattle.ssh_rules.specs.Opening.{Opening}
 use Rattle.ssh_rules.specs.declared.state.EncryptedState.{EncryptedState}
 use Rattle.ssh_rules.specs.declared.state.EncryptedState.TheVariants.{WaitingAuthRequest}
 use Rattle.ssh_rules.specs.declared.state.EncryptedState.TheVariants.{InitCompression}
-use Rattle.ssh_rules.specs.declared.opens.Handling.{Handling}
-use Rattle.ssh_rules.specs.declared.opens.Handling.TheVariants.{Asks, GivenUp, Unsupported}
-use Rattle.ssh_rules.specs.declared.opens.Handling.TheVariants.{Unknown}
+use Rattle.ssh_rules.specs.declared.handling.Handling.{Handling}
+use Rattle.ssh_rules.specs.declared.handling.Handling.TheVariants.{Asks, GivenUp, Unsupported}
+use Rattle.ssh_rules.specs.declared.handling.Handling.TheVariants.{Unknown}
 use Rattle.ssh_rules.specs.declared.messages.Spoken.{Spoken}
 use Rattle.ssh_rules.specs.declared.messages.Spoken.TheVariants as spoken
 use Rattle.ssh_rules.specs.Layout.{service_accept, banner, too_many_attempts, at_once, held}
@@ -60,7 +60,7 @@ use Rattle.ssh_rules.specs.Outcome.{Fault, Encoding, Inconsistent, Key, Unsuppor
 use Rattle.ssh_rules.specs.Outcome.{Channels_full, Pending, Outcome}
 use Rattle.ssh_rules.specs.Reading.{Said, Disconnect, Over_cap, Service, Request, Response, Open}
 use Rattle.ssh_rules.specs.Reading.{Agreed, Connection, Unread, Unfit, Without_packets}
-use Rattle.ssh_rules.specs.World.{World, ChannelRequest, asked_on, wants_if, settles_one, target_on}
+use Rattle.ssh_rules.specs.World.{World, ChannelRequest, request_at, wants_if, settles_one, target_on}
 use Rattle.ssh_rules.specs.World.{waits_for, lined, writes, wants_global}
 use Rattle.ssh_rules.specs.World.{settles_global, settled_first, unless_ended}
 use Rattle.ssh_rules.specs.Acts.{Act, Notes, Calls, Judges_by, Listens_by, Adjusts_by, Turns}
@@ -156,19 +156,19 @@ concluded w moment requested (Replies reply verdict state) =
 concluded w moment requested (auth.Fails fault) = acts (Stops (fault_of fault) ∷ []) w
 
 -- where requests are waited for
-abbrev pub asked_of : EncryptedState → (AuthRequest → Plan Outcome) → Plan Outcome → Plan Outcome
-asked_of (WaitingAuthRequest state) next other = next state
-asked_of _ next other = other
+abbrev pub where_waiting : EncryptedState → (AuthRequest → Plan Outcome) → Plan Outcome → Plan Outcome
+where_waiting (WaitingAuthRequest state) next other = next state
+where_waiting _ next other = other
 
 abbrev pub request_row : World → (moment : ℕ) → Asked → Plan Outcome
 request_row w moment asked =
-    asked_of w.user.state (λ state. after (verdict_on state asked) (concluded w moment true))
+    where_waiting w.user.state (λ state. after (verdict_on state asked) (concluded w moment true))
     (acts [] w)
 
 -- a response to prompts is no request
 abbrev pub response_row : World → (moment : ℕ) → Responded → Plan Outcome
 response_row w moment responded =
-    asked_of w.user.state (λ state. after (response_verdict state responded)
+    where_waiting w.user.state (λ state. after (response_verdict state responded)
     (concluded w moment w.user.requested)) (acts [] w)
 
 -- ---- channels (RFC 4254 section 5)
@@ -181,6 +181,23 @@ told_at at channel message happening = Notes (notice.Channel channel message)
 
 abbrev pub told : ChannelId → ChannelMsg → Happening → List Act
 told channel message happening = told_at None channel message happening
+
+-- the window that the channel's room is filled up to from now on: 0 leaves it as it is
+abbrev pub aims_at : ChannelId → (window : ℕ) → World → World
+aims_at channel window w =
+    if window == 0 then w else lined (aims channel.0 (as_uint32 window)) w
+
+-- .. for which the handler is asked where the room was filled up to this many bytes
+abbrev pub aims_if : ChannelId → (filled : Option ℕ) → List Act
+aims_if channel None = []
+aims_if channel (Some target) = Adjusts_by channel target (aims_at channel) ∷ []
+
+-- a message of a channel is told twice, and between both the next window is asked for, where the
+-- room was filled up
+abbrev pub told_and_aimed : (at : Option ChannelRequest) → ChannelId → (filled : Option ℕ)
+    → ChannelMsg → Happening → List Act
+told_and_aimed at channel filled message happening = Notes (notice.Channel channel message)
+    ∷ aims_if channel filled ++ Calls at (Happened channel happening) ∷ []
 
 -- on a channel that both sides agreed to, and nothing on another
 abbrev pub on_confirmed : Bool → List Act → List Act
@@ -214,23 +231,18 @@ abbrev pub data_happening : DataKind → List ℕ → Happening
 data_happening Plain bytes = what.Data bytes
 data_happening (Extended code) bytes = what.ExtendedData code bytes
 
--- the window that the channel's room is filled up to from now on: 0 leaves it as it is
-abbrev pub aims_at : ChannelId → (window : ℕ) → World → World
-aims_at channel window w =
-    if window == 0 then w else lined (aims channel.0 (as_uint32 window)) w
-
 -- both are told of data, and the handler is asked for the next window where the room was filled up
-abbrev pub noted : ChannelId → Chunk → Act
-noted channel piece = Notes (notice.Channel channel (data_notice piece.kind piece.bytes))
+abbrev pub data_note : ChannelId → Chunk → Act
+data_note channel piece = Notes (notice.Channel channel (data_notice piece.kind piece.bytes))
 
-abbrev pub called : ChannelId → Chunk → Act
-called channel piece = Calls None (Happened channel (data_happening piece.kind piece.bytes))
+abbrev pub data_call : ChannelId → Chunk → Act
+data_call channel piece = Calls None (Happened channel (data_happening piece.kind piece.bytes))
 
 abbrev pub data_told : Adjusted → ChannelId → Chunk → (target : ℕ) → List Act
 data_told Dropped channel piece target = []
-data_told Kept channel piece target = noted channel piece ∷ called channel piece ∷ []
+data_told Kept channel piece target = data_note channel piece ∷ data_call channel piece ∷ []
 data_told (Filled amount) channel piece target =
-    noted channel piece ∷ Adjusts_by channel target (aims_at channel) ∷ called channel piece ∷ []
+    data_note channel piece ∷ Adjusts_by channel target (aims_at channel) ∷ data_call channel piece ∷ []
 
 -- data come in; those that are larger than the room are dropped (section 5.2)
 abbrev pub data_acts : Adjusted → ChannelId → Chunk → (target : ℕ) → List Act
@@ -304,8 +316,8 @@ abbrev pub request_acts : ChannelRequest → (wanted : Bool) → List Act → Li
 request_acts asked wanted owes = Turns (lined (wants_if wanted asked.channel.0)) ∷ owes
 
 -- both are told of it
-abbrev pub asking_acts : ChannelRequest → (wanted : Bool) → ChannelMsg → Happening → List Act
-asking_acts asked wanted message happening =
+abbrev pub told_request_acts : ChannelRequest → (wanted : Bool) → ChannelMsg → Happening → List Act
+told_request_acts asked wanted message happening =
     request_acts asked wanted (told_at (Some asked) asked.channel message happening)
 
 -- whether the peer's agent may be reached is for the handler to say, which is the reply where it is
@@ -327,12 +339,12 @@ refusal_acts asked wanted = request_acts asked wanted
 abbrev pub bound_to : (asked bound : ℕ) → Option ℕ
 bound_to asked bound = if (asked == 0) && not (bound == 0) then Some bound else None
 
-abbrev pub granted_on : (port : Option ℕ) → List ℕ
-granted_on None = written request_success tt
-granted_on (Some port) = written forward_success (port, tt)
+abbrev pub success_payload : (port : Option ℕ) → List ℕ
+success_payload None = written request_success tt
+success_payload (Some port) = written forward_success (port, tt)
 
 abbrev pub global_reply : (granted : Bool) → (port : Option ℕ) → List ℕ
-global_reply true port = granted_on port
+global_reply true port = success_payload port
 global_reply false port = written request_failure tt
 
 -- the users are told what came of this side's request, where it has a slot
@@ -361,20 +373,20 @@ spoken_acts w (spoken.Tells channel message happening) =
     on channel.0 w (λ e. told channel message happening)
 spoken_acts w (spoken.Close channel) = on channel.0 w (λ e.
     Turns (lined (peer_closes channel.0)) ∷ told channel msg.Close what.Close)
-spoken_acts w (spoken.Asks channel wanted message happening) =
-    asking_acts (asked_on channel wanted w) wanted message happening
-spoken_acts w (spoken.AsksForAgent channel wanted) = agent_acts (asked_on channel wanted w) wanted
-spoken_acts w (spoken.AsksUnknown channel wanted) = refusal_acts (asked_on channel wanted w) wanted
+spoken_acts w (spoken.Requests channel wanted message happening) =
+    told_request_acts (request_at channel wanted w) wanted message happening
+spoken_acts w (spoken.RequestsAgent channel wanted) = agent_acts (request_at channel wanted w) wanted
+spoken_acts w (spoken.RequestsUnknown channel wanted) = refusal_acts (request_at channel wanted w) wanted
 -- the handler says whether connections are forwarded, which is the reply where one is still wanted
-spoken_acts w (spoken.AsksToForward wanted address port) =
+spoken_acts w (spoken.RequestsForward wanted address port) =
     Turns (wants_global wanted)
     ∷ Listens_by address port (λ granted bound.
     unless_ended (settles_global (global_reply granted (bound_to port bound)))) ∷ []
-spoken_acts w (spoken.AsksGlobally wanted judged) =
+spoken_acts w (spoken.RequestsGlobally wanted judged) =
     Turns (wants_global wanted)
     ∷ Judges_by None judged
     (λ granted. unless_ended (settles_global (global_reply granted None))) ∷ []
-spoken_acts w (spoken.AsksGloballyUnknown wanted) =
+spoken_acts w (spoken.RequestsGloballyUnknown wanted) =
     Turns (wants_global wanted) ∷ Turns (settles_global (global_reply false None)) ∷ []
 spoken_acts w (spoken.GivesUpSessions wanted) =
     Turns gives_up_sessions ∷ Turns (wants_global wanted)

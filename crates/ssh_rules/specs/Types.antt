@@ -8,9 +8,9 @@ use Rattle.ssh_wire.specs.declared.open_failure.ChannelOpenFailure.TheVariants a
 use Rattle.ssh_wire.specs.Open.{open_failure}
 use Rattle.ssh_wire.specs.OpenFailures.{open_failure_code}
 use Rattle.ssh_auth.specs.declared.question.OpenType.TheVariants as opens
-use Rattle.ssh_rules.specs.declared.opens.Handling.{Handling}
-use Rattle.ssh_rules.specs.declared.opens.Handling.TheVariants.{Asks, GivenUp, Unsupported}
-use Rattle.ssh_rules.specs.declared.opens.Handling.TheVariants.{Unknown}
+use Rattle.ssh_rules.specs.declared.handling.Handling.{Handling}
+use Rattle.ssh_rules.specs.declared.handling.Handling.TheVariants.{Asks, GivenUp, Unsupported}
+use Rattle.ssh_rules.specs.declared.handling.Handling.TheVariants.{Unknown}
 use Rattle.ssh_rules.specs.Opening.{Opening}
 
 -- one line a type: the handler is asked, or the open is refused at once; that of a session is once

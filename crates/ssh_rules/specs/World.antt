@@ -122,8 +122,8 @@ next_place number w = place_of (find number w.channels.lines.entries)
 
 -- the request that comes now, as the commands of its callback know it: its channel, and the place of
 -- its reply among those of the channel, where it wants one
-abbrev pub asked_on : ChannelId → (wanted : Bool) → World → ChannelRequest
-asked_on channel wanted w = record {
+abbrev pub request_at : ChannelId → (wanted : Bool) → World → ChannelRequest
+request_at channel wanted w = record {
   channel = channel;
   place = cond wanted (next_place channel.0 w) None;
 }

@@ -1,14 +1,8 @@
 // Messages of the connection protocol, and what each says (RFC 4254).
-ghost use Rattle.std.specs.Prelude.{◌≡◌};
-ghost use Rattle.ssh_rules.specs.Messages.{connection_message};
 
 use ssh_auth::{Happening, Judged};
 use ssh_channels::Chunk;
 use ssh_link::{ChannelMsg, Notice};
-use ssh_wire::message::{
-    CHANNEL_CLOSE, CHANNEL_DATA, CHANNEL_EOF, CHANNEL_EXTENDED_DATA, CHANNEL_OPEN_FAILURE,
-    CHANNEL_REQUEST, CHANNEL_WINDOW_ADJUST, GLOBAL_REQUEST, REQUEST_FAILURE, REQUEST_SUCCESS,
-};
 use ssh_wire::{ChannelId, ChannelOpenFailure, Text};
 
 /// A message of the connection protocol that is read, but for opens and their confirmations.
@@ -38,25 +32,6 @@ pub enum ConnectionMessage {
     Request,
 }
 
-/// The message of this number, where it is one of these.
-pub(crate) fn connection_message(number: u8) -> Option<ConnectionMessage>
-    ensures { result ≡ connection_message number }
-{
-    match number {
-        GLOBAL_REQUEST => Some(ConnectionMessage::GlobalRequest),
-        REQUEST_SUCCESS => Some(ConnectionMessage::RequestSuccess),
-        REQUEST_FAILURE => Some(ConnectionMessage::RequestFailure),
-        CHANNEL_OPEN_FAILURE => Some(ConnectionMessage::OpenFailure),
-        CHANNEL_WINDOW_ADJUST => Some(ConnectionMessage::WindowAdjust),
-        CHANNEL_DATA => Some(ConnectionMessage::Data),
-        CHANNEL_EXTENDED_DATA => Some(ConnectionMessage::ExtendedData),
-        CHANNEL_EOF => Some(ConnectionMessage::Eof),
-        CHANNEL_CLOSE => Some(ConnectionMessage::Close),
-        CHANNEL_REQUEST => Some(ConnectionMessage::Request),
-        _ => None,
-    }
-}
-
 /// What a message of the connection protocol says.
 #[derive(Debug, Drop)]
 pub enum Spoken {
@@ -74,17 +49,17 @@ pub enum Spoken {
     Close(ChannelId),
     /// A request on the channel, whether it wants a reply, and what the user of the channel and the
     /// handler are told of it.
-    Asks(ChannelId, bool, ChannelMsg, Happening),
+    Requests(ChannelId, bool, ChannelMsg, Happening),
     /// A request to reach the peer's agent, and whether it wants a reply.
-    AsksForAgent(ChannelId, bool),
+    RequestsAgent(ChannelId, bool),
     /// A request that is not known, and whether it wants a reply.
-    AsksUnknown(ChannelId, bool),
+    RequestsUnknown(ChannelId, bool),
     /// Connections to this address and port are to be forwarded, and whether a reply is wanted.
-    AsksToForward(bool, Text, u32),
+    RequestsForward(bool, Text, u32),
     /// Another global request, and whether it wants a reply.
-    AsksGlobally(bool, Judged),
+    RequestsGlobally(bool, Judged),
     /// A global request that is not known, and whether it wants a reply.
-    AsksGloballyUnknown(bool),
+    RequestsGloballyUnknown(bool),
     /// The peer will open no more sessions, and whether it wants a reply (OpenSSH PROTOCOL section
     /// 2.2).
     GivesUpSessions(bool),

@@ -15,8 +15,8 @@ use Rattle.ssh_rules.specs.Ledger.{IsLedgered, outgoing, told_with}
 use Rattle.ssh_rules.specs.Outcome.{Outcome}
 use Rattle.ssh_rules.specs.Run.{Turn, Run, entries}
 use Rattle.ssh_rules.specs.World.{Settings, World, opening_world}
-use Rattle.ssh_rules.proofs.Books.{nothing_kept, run_front, run_kept}
-use Rattle.ssh_rules.proofs.LastLedger.{next_ledgered}
+use Rattle.ssh_rules.proofs.Ledger.Inputs.{nothing_kept, run_front, run_kept}
+use Rattle.ssh_rules.proofs.Ledger.LastInput.{next_ledgered}
 use Rattle.ssh_run_laws.specs.Accepted.{HoldFirst, IsAccepted, IsNextAccepted}
 use Rattle.ssh_run_laws.specs.Channels.{accepted_from, accepted_on, after_deed, bytes_on}
 use Rattle.ssh_run_laws.specs.Deeds.{Deed, deeds}

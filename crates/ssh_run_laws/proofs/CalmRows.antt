@@ -36,8 +36,8 @@ use Rattle.ssh_rules.specs.Rows.{spoken_acts, on_entry, on_confirmed, data_told,
 use Rattle.ssh_rules.specs.Rows.{failure_acts, confirmation_acts, global_reply}
 use Rattle.ssh_rules.specs.Rows.{bound_to, aims_at, exchange_acts, notes}
 use Rattle.ssh_rules.specs.World.{World, lined, settles_global, unless_ended}
-use Rattle.ssh_rules.specs.World.{is_there, is_waiting, target_on, asked_on, settles_one, wants_if}
-use Rattle.ssh_rules.proofs.Requested.{one_kept, wants_kept}
+use Rattle.ssh_rules.specs.World.{is_there, is_waiting, target_on, request_at, settles_one, wants_if}
+use Rattle.ssh_rules.proofs.Plans.Requested.{one_kept, wants_kept}
 use Rattle.ssh_run_laws.specs.Channels.{Waits, bytes_of}
 use Rattle.ssh_run_laws.specs.Deeds.{Asked}
 use Rattle.ssh_run_laws.proofs.Calms.{AreCalm, IsCalmTurn}
@@ -147,28 +147,28 @@ module _ (n : ℕ)
     spoken_calm w (spoken.Close channel) is = absurd is
     spoken_calm w (spoken.Failed channel reason) is =
         failure_calm (is_there w channel.0) (is_waiting w channel.0) channel reason
-    spoken_calm w (spoken.Asks channel wanted message happening) is =
+    spoken_calm w (spoken.Requests channel wanted message happening) is =
         (wanted_calm wanted channel.0, (refl, refl))
-    spoken_calm w (spoken.AsksForAgent channel wanted) is = (
+    spoken_calm w (spoken.RequestsAgent channel wanted) is = (
       wanted_calm wanted channel.0,
       (
         λ granted v. either_calm n v.disconnected v
-            (lined (settles_one (asked_on channel wanted w).place channel.0 granted) v)
-            (settled_one (asked_on channel wanted w).place channel.0 granted v),
+            (lined (settles_one (request_at channel wanted w).place channel.0 granted) v)
+            (settled_one (request_at channel wanted w).place channel.0 granted v),
         refl,
       ),
     )
-    spoken_calm w (spoken.AsksUnknown channel wanted) is = (
+    spoken_calm w (spoken.RequestsUnknown channel wanted) is = (
       wanted_calm wanted channel.0,
-      (settled_one (asked_on channel wanted w).place channel.0 false, tt),
+      (settled_one (request_at channel wanted w).place channel.0 false, tt),
     )
-    spoken_calm w (spoken.AsksToForward wanted address port) is = (
+    spoken_calm w (spoken.RequestsForward wanted address port) is = (
       beside _ (λ v. refl),
       (λ granted bound. ended_calm (global_reply granted (bound_to port bound)), refl),
     )
-    spoken_calm w (spoken.AsksGlobally wanted judged) is =
+    spoken_calm w (spoken.RequestsGlobally wanted judged) is =
         (beside _ (λ v. refl), (λ granted. ended_calm (global_reply granted None), refl))
-    spoken_calm w (spoken.AsksGloballyUnknown wanted) is =
+    spoken_calm w (spoken.RequestsGloballyUnknown wanted) is =
         (beside _ (λ v. refl), (λ v. settled_calm n v (global_reply false None), tt))
     spoken_calm w (spoken.GivesUpSessions wanted) is = (
       λ v. record { bytes = refl; waits = λ h. h; stands = λ ended s. s },

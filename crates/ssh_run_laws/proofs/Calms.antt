@@ -28,10 +28,10 @@ use Rattle.ssh_rules.specs.Run.{is_due, is_over}
 use Rattle.ssh_rules.specs.Valid.{recorded_so}
 use Rattle.ssh_rules.specs.declared.request.ChannelRequest.{ChannelRequest}
 use Rattle.ssh_rules.specs.World.{World, is_held}
-use Rattle.ssh_rules.proofs.Acting.{ActsCome}
-use Rattle.ssh_rules.proofs.Keeping.{Kept}
-use Rattle.ssh_rules.proofs.Ledger.{law}
-use Rattle.ssh_rules.proofs.Passing.{moved_on, moved_so}
+use Rattle.ssh_rules.proofs.Plans.Acting.{ActsCome}
+use Rattle.ssh_rules.proofs.Ledger.Commands.{Kept}
+use Rattle.ssh_rules.proofs.Ledger.Acts.{law}
+use Rattle.ssh_rules.proofs.Plans.Passing.{moved_on, moved_so}
 use Rattle.ssh_run_laws.specs.Channels.{Stands, bytes_on}
 use Rattle.ssh_run_laws.specs.Deeds.{Closed_by_peer, Deed, asked_by, deeds_from, deeds_in}
 use Rattle.ssh_run_laws.specs.Deeds.{done_at, noted_by}

@@ -24,25 +24,25 @@ use Rattle.ssh_channels.specs.Layout.{chunk}
 use Rattle.ssh_channels.specs.Lines.{added, asks, joins, find, next_number, takes_data}
 use Rattle.ssh_channels.proofs.Booked.{next_absent}
 use Rattle.ssh_channels.proofs.Listed.{find_new, one_number}
-use Rattle.ssh_rules.specs.Effect.{Does, Effect, accepts, answers, decides, done_apart, done_by}
+use Rattle.ssh_rules.specs.Effect.{Brings, Effect, accepts, decides_open, decides, done_apart, done_by}
 use Rattle.ssh_rules.specs.Effect.{effect_at, failure_of, fails_open, is_too_long, lacks, needs}
 use Rattle.ssh_rules.specs.Effect.{no_sending, no_open, not_usable, opens, opens_at, opens_or_not}
 use Rattle.ssh_rules.specs.Effect.{refused_for, refused_or, refuses, requests_on, said}
 use Rattle.ssh_rules.specs.Opening.{Opening}
 use Rattle.ssh_rules.specs.Opens.{opening_of}
-use Rattle.ssh_rules.specs.OwnMessages.{OwnMessage, cancel, debug, disconnect, forward, keepalive}
+use Rattle.ssh_rules.specs.OwnMessages.{OwnMessage, cancel, debug, disconnect_message, forward_request, keepalive}
 use Rattle.ssh_rules.specs.OwnMessages.{ping}
-use Rattle.ssh_rules.specs.OwnOpens.{OwnOpen, asking, open_payload}
+use Rattle.ssh_rules.specs.OwnOpens.{OwnOpen, own_open_of, open_payload}
 use Rattle.ssh_rules.specs.OwnRequests.{OwnRequest, exit_signal, exit_status, request_payload}
 use Rattle.ssh_rules.specs.OwnRequests.{xon_xoff}
 use Rattle.ssh_rules.specs.declared.request.ChannelRequest.{ChannelRequest}
 use Rattle.ssh_rules.specs.World.{World, in_exchange, lined, settles_for}
 use Rattle.ssh_rules.specs.World.{settles_global, wants_global, writes}
 use Rattle.ssh_rules.specs.Layout.{at_once}
-use Rattle.ssh_rules.proofs.Keeping.{Kept}
-use Rattle.ssh_rules.proofs.Pending.{IsReserved}
-use Rattle.ssh_rules.proofs.Requested.{for_kept}
-use Rattle.ssh_rules.proofs.Waiting.{found_waiting}
+use Rattle.ssh_rules.proofs.Ledger.Commands.{Kept}
+use Rattle.ssh_rules.proofs.Ledger.Pending.{IsReserved}
+use Rattle.ssh_rules.proofs.Plans.Requested.{for_kept}
+use Rattle.ssh_rules.proofs.Ledger.Waiting.{found_waiting}
 use Rattle.ssh_run_laws.specs.Channels.{Waits, after_accepted, after_deed, answers_by}
 use Rattle.ssh_run_laws.specs.Channels.{after_answer, bytes_on, is_accepting, opens_by, touches}
 use Rattle.ssh_run_laws.specs.Deeds.{Commanded, noted_by}
@@ -59,7 +59,7 @@ AllNoted (notice ∷ notices) = (noted_by notice ≡ []) × AllNoted notices
 
 -- with such notices, and with what came of this command, it leads so
 abbrev pub EffectLeads : (n : ℕ) → World → Command → Effect → Type 0
-EffectLeads n w one (Does notices outcome v) =
+EffectLeads n w one (Brings notices outcome v) =
     AllNoted notices × Leads n (Commanded one outcome) w v
 
 -- a refused one does nothing
@@ -141,8 +141,8 @@ or_not_leads n w one (Some open_asked) beside = asked_leads n w one open_asked
 apart_leads : (n : ℕ) (w : World) (one : Command) → IsBeside n one
     → EffectLeads n w one (done_apart w one)
 apart_leads n w (command.TcpipForward address port reply) beside =
-    sent_leads n w (command.TcpipForward address port reply) (forward address port reply)
-    (is_too_long (forward address port reply).payload) beside
+    sent_leads n w (command.TcpipForward address port reply) (forward_request address port reply)
+    (is_too_long (forward_request address port reply).payload) beside
 apart_leads n w (command.CancelTcpipForward address port reply) beside =
     sent_leads n w (command.CancelTcpipForward address port reply) (cancel address port reply)
     (is_too_long (cancel address port reply).payload) beside
@@ -165,9 +165,9 @@ apart_leads n w (command.Debug always message language) beside =
     (is_too_long (debug always message language).payload) beside
 apart_leads n w (command.Disconnect reason description language) beside =
     sent_leads n w (command.Disconnect reason description language)
-    (disconnect reason description language)
-    (is_too_long (disconnect reason description language).payload) beside
-apart_leads n w other beside = or_not_leads n w other (asking other) beside
+    (disconnect_message reason description language)
+    (is_too_long (disconnect_message reason description language).payload) beside
+apart_leads n w other beside = or_not_leads n w other (own_open_of other) beside
 
 -- ---- commands of a channel
 
@@ -323,7 +323,7 @@ decided_leads n past w answer opening (Some reason) kept is rejects =
 
 answered_leads : (n : ℕ) (past : List TraceEntry) (w : World) (answer : OpenAnswer)
     (opening : Option Opening) → Kept past w → opening_of answer.channel.0 w ≡ opening
-    → no_open opening ≡ None → EffectLeads n w (command.Answer answer) (answers answer opening w)
+    → no_open opening ≡ None → EffectLeads n w (command.Answer answer) (decides_open answer opening w)
 answered_leads n past w answer None kept is none = absurd (cc)
 answered_leads n past w answer (Some opening) kept is none =
     decided_leads n past w answer opening answer.rejection kept is refl
@@ -333,9 +333,9 @@ answered_leads n past w answer (Some opening) kept is none =
 neutral : (n : ℕ) (one : Command)
     → ((held : List (DataKind × ℕ)) → after_accepted n held one ≡ held)
     → answers_by n one ≡ false → opens_by n one ≡ false → IsBeside n one
-neutral n one bytes answers opens = record {
+neutral n one bytes decides_open opens = record {
   bytes = bytes;
-  waits = λ waits. ap (λ b. cond b false waits) answers;
+  waits = λ waits. ap (λ b. cond b false waits) decides_open;
   opens = opens;
   asks = refl;
 }

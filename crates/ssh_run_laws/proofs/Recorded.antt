@@ -13,12 +13,12 @@ use Rattle.ssh_link.specs.declared.outcome.CommandOutcome.{CommandOutcome}
 use Rattle.ssh_link.specs.declared.outcome.CommandOutcome.TheVariants.{Accepted, Opened, Refused}
 use Rattle.ssh_auth.specs.Plan.{Plan, Event, Told, Follows}
 use Rattle.ssh_rules.specs.Acts.{tell_all, tell_done, done, done_all}
-use Rattle.ssh_rules.specs.Effect.{Effect, Does, effect_at}
+use Rattle.ssh_rules.specs.Effect.{Effect, Brings, effect_at}
 use Rattle.ssh_rules.specs.Outcome.{Outcome}
 use Rattle.ssh_rules.specs.declared.request.ChannelRequest.{ChannelRequest}
 use Rattle.ssh_rules.specs.World.{World}
-use Rattle.ssh_rules.proofs.Acting.{EffectComes}
-use Rattle.ssh_rules.proofs.Keeping.{Kept, effect_on}
+use Rattle.ssh_rules.proofs.Plans.Acting.{EffectComes}
+use Rattle.ssh_rules.proofs.Ledger.Commands.{Kept, effect_on}
 use Rattle.ssh_run_laws.specs.Deeds.{Commanded, deeds_from, deeds_in, done_at}
 use Rattle.ssh_run_laws.specs.Deeds.{outcome_at, told_done_in}
 use Rattle.ssh_run_laws.proofs.Chains.{Chain, chain_more}
@@ -215,7 +215,7 @@ module _ {E F : Type 0} (n : ℕ) (past : List TraceEntry) (next : World → Pla
         → Follows (done_all at (place + 1) commands v next) rest outcome
         → Did (place + 1) commands v rest)
         → Did place (one ∷ commands) w events
-    effect_did at place one commands w (Does notices came v) events leads kept f k =
+    effect_did at place one commands w (Brings notices came v) events leads kept f k =
         did_noticed place (one ∷ commands) w notices
         (tell_done place came (done_all at (place + 1) commands v next)) events leads.0 f
         (λ rest g. told_did at place one commands w v came rest leads.1 g (λ more h. k v more kept h))

@@ -22,8 +22,8 @@ use Rattle.ssh_channels.specs.Entry.{Entry}
 use Rattle.ssh_channels.specs.Lines.{find, next_number, peer_closes}
 use Rattle.ssh_rules.specs.declared.messages.Spoken.{Spoken}
 use Rattle.ssh_rules.specs.declared.messages.Spoken.TheVariants as spoken
-use Rattle.ssh_rules.specs.declared.opens.Handling.{Handling}
-use Rattle.ssh_rules.specs.declared.opens.Handling.TheVariants.{Asks, GivenUp, Unsupported, Unknown}
+use Rattle.ssh_rules.specs.declared.handling.Handling.{Handling}
+use Rattle.ssh_rules.specs.declared.handling.Handling.TheVariants.{Asks, GivenUp, Unsupported, Unknown}
 use Rattle.ssh_rules.specs.declared.state.EncryptedState.{EncryptedState}
 use Rattle.ssh_rules.specs.declared.state.EncryptedState.TheVariants.{WaitingAuthRequest}
 use Rattle.ssh_rules.specs.Acts.{Act, Calls, Stops, Turns, acts}
@@ -34,19 +34,19 @@ use Rattle.ssh_rules.specs.Opens.{own}
 use Rattle.ssh_rules.specs.Outcome.{Outcome, Goes, Ends, Fails}
 use Rattle.ssh_rules.specs.Reading.{Said, Service, Request, Response, Open}
 use Rattle.ssh_rules.specs.Reading as read
-use Rattle.ssh_rules.specs.Rows.{row, owed, greets, is_short, replied, concluded, asked_of, told}
+use Rattle.ssh_rules.specs.Rows.{row, owed, greets, is_short, replied, concluded, where_waiting, told}
 use Rattle.ssh_rules.specs.Rows.{on_entry, on_confirmed, open_acts, fault_of, waits}
 use Rattle.ssh_rules.specs.Rows.{finishes, greeting, lets_in, moment_after, rejection_hold, served}
 use Rattle.ssh_rules.specs.Rows.{turns_first}
 use Rattle.ssh_rules.specs.Types.{handling, opening_by, given_up, unsupported, unknown}
 use Rattle.ssh_rules.specs.Valid.{recorded_so}
 use Rattle.ssh_rules.specs.World.{World, waits_for, lined}
-use Rattle.ssh_rules.proofs.Acting.{ActsCome}
-use Rattle.ssh_rules.proofs.Keeping.{ArePlain, Kept, beside_on, plain_kept}
-use Rattle.ssh_rules.proofs.Ledger.{IsFairSaid, law, owed_on}
-use Rattle.ssh_rules.proofs.Pending.{IsReserved, next_apart}
-use Rattle.ssh_rules.proofs.Replying.{EndsSo, IsBeside, verdict_beside, response_beside}
-use Rattle.ssh_rules.proofs.Waiting.{found_waiting}
+use Rattle.ssh_rules.proofs.Plans.Acting.{ActsCome}
+use Rattle.ssh_rules.proofs.Ledger.Commands.{ArePlain, Kept, beside_on, plain_kept}
+use Rattle.ssh_rules.proofs.Ledger.Acts.{IsFairSaid, law, owed_on}
+use Rattle.ssh_rules.proofs.Ledger.Pending.{IsReserved, next_apart}
+use Rattle.ssh_rules.proofs.Plans.Verdicts.{EndsSo, IsBeside, verdict_beside, response_beside}
+use Rattle.ssh_rules.proofs.Ledger.Waiting.{found_waiting}
 use Rattle.ssh_run_laws.specs.Channels.{Waits}
 use Rattle.ssh_run_laws.specs.Deeds.{Asked, Closed_by_peer, Deed, asked_by, deeds_from, deeds_in}
 use Rattle.ssh_run_laws.specs.Deeds.{done_at}
@@ -244,7 +244,7 @@ module _ {E F : Type 0} (n : ℕ) (past : List TraceEntry)
     asked_comes : (state : EncryptedState) (next : AuthRequest → Plan AuthOutcome) (w : World)
         (moment : ℕ) (requested : Bool) (events : List (Event E F)) (outcome : Outcome)
         → ((auth : AuthRequest) → EndsSo IsBeside (next auth)) → Kept past w
-        → Follows (asked_of state (λ auth. after (next auth) (concluded w moment requested))
+        → Follows (where_waiting state (λ auth. after (next auth) (concluded w moment requested))
         (acts [] w)) events outcome → ComesBy n w (deeds_in None events) outcome
     asked_comes (WaitingAuthRequest auth) next w moment requested events outcome e kept f =
         verdict_comes w (next auth) (concluded w moment requested) events outcome (e auth)

@@ -16,7 +16,7 @@ use Rattle.ssh_auth.specs.Publickey.{Acceptance}
 use Rattle.ssh_auth.specs.Was.{asked_of, was}
 use Rattle.ssh_rules.specs.Acts.{Is_over, Stops, Turns, done, tell_all}
 use Rattle.ssh_rules.specs.Answered.{open_asked}
-use Rattle.ssh_rules.specs.Effect.{Does, Effect, effect, said}
+use Rattle.ssh_rules.specs.Effect.{Brings, Effect, effect, said}
 use Rattle.ssh_rules.specs.Gate.{gate_of}
 use Rattle.ssh_rules.specs.Outcome.{Outcome, Goes, Keepalive_timeout}
 use Rattle.ssh_rules.specs.OwnMessages.{keepalive}
@@ -26,13 +26,13 @@ use Rattle.ssh_rules.specs.Run.{command_row, entries, finish_input}
 use Rattle.ssh_rules.specs.Ticks.{inactivity_acts, is_too_many, keepalive_acts, one_more, ticked}
 use Rattle.ssh_rules.specs.Valid.{recorded_so}
 use Rattle.ssh_rules.specs.World.{World, circumstances, hears}
-use Rattle.ssh_rules.proofs.Acting.{ActsCome}
-use Rattle.ssh_rules.proofs.Apart.{tick_comes}
-use Rattle.ssh_rules.proofs.Books.{early_runs, fair_at, owed_kept}
-use Rattle.ssh_rules.proofs.Keeping.{Kept, beside_on, said_on}
-use Rattle.ssh_rules.proofs.Ledger.{exchanged_on, law}
-use Rattle.ssh_rules.proofs.Passing.{payload_so}
-use Rattle.ssh_rules.proofs.Settling.{parts_of}
+use Rattle.ssh_rules.proofs.Plans.Acting.{ActsCome}
+use Rattle.ssh_rules.proofs.Plans.Apart.{tick_comes}
+use Rattle.ssh_rules.proofs.Ledger.Inputs.{early_runs, fair_at, owed_kept}
+use Rattle.ssh_rules.proofs.Ledger.Commands.{Kept, beside_on, said_on}
+use Rattle.ssh_rules.proofs.Ledger.Acts.{exchanged_on, law}
+use Rattle.ssh_rules.proofs.Plans.Passing.{payload_so}
+use Rattle.ssh_rules.proofs.InOrder.Inputs.{parts_of}
 use Rattle.ssh_rules.specs.declared.exchange.Passage.{Passage}
 use Rattle.ssh_rules.specs.declared.exchange.Passage.TheVariants.{Begins, Steps, Barred, Late}
 use Rattle.ssh_rules.specs.declared.exchange.Passage.TheVariants.{Passes}
@@ -120,7 +120,7 @@ module _ {E F : Type 0} (n : ℕ) (past : List TraceEntry)
         (events : List (Event E F)) (outcome : Outcome) → EffectLeads n w one does
         → Follows (done does (λ came v. Tell (Answered ticket came) (Finish (Goes v)))) events
         outcome → ComesBy n w (deeds_in (Some one) events) outcome
-    effect_comes w ticket one (Does notices came v) events outcome leads f =
+    effect_comes w ticket one (Brings notices came v) events outcome leads f =
         noticed_comes w one notices (Tell (Answered ticket came) (Finish (Goes v))) events outcome
         leads.0 f (λ rest g. answered_comes w v ticket one came rest outcome leads.1 g)
 

@@ -17,15 +17,15 @@ use Rattle.ssh_auth.specs.Plan.{Finish, Tell, Event, Follows}
 use Rattle.ssh_auth.specs.Publickey.{Acceptance}
 use Rattle.ssh_channels.specs.Lines.{last_left}
 use Rattle.ssh_rules.specs.Acts.{done}
-use Rattle.ssh_rules.specs.Effect.{answers as answering, confirms, decides, done_by, effect}
+use Rattle.ssh_rules.specs.Effect.{decides_open as answering, confirms, decides, done_by, effect}
 use Rattle.ssh_rules.specs.Effect.{no_open, refused_for, refused_or}
 use Rattle.ssh_rules.specs.Opening.{Opening}
 use Rattle.ssh_rules.specs.Opens.{opening_of}
 use Rattle.ssh_rules.specs.Outcome.{Outcome, Goes}
 use Rattle.ssh_rules.specs.Run.{OwesKind, entries}
 use Rattle.ssh_rules.specs.World.{World, opening_world}
-use Rattle.ssh_rules.proofs.Books.{nothing_kept, run_kept}
-use Rattle.ssh_rules.proofs.Ended.{run_live}
+use Rattle.ssh_rules.proofs.Ledger.Inputs.{nothing_kept, run_kept}
+use Rattle.ssh_rules.proofs.Ended.Run.{run_live}
 use Rattle.ssh_run_laws.specs.Channels.{Stands, answers, bytes_of, is_accepting, opens}
 use Rattle.ssh_run_laws.specs.Channels.{waits_from, waits_then}
 use Rattle.ssh_run_laws.specs.Deeds.{Asked, Closed_by_peer, Commanded, Deed, deeds, deeds_in}

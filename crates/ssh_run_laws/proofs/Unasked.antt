@@ -19,7 +19,7 @@ use Rattle.ssh_rules.specs.Acts.{Act, Notes, Calls, Judges_by, Listens_by, Adjus
 use Rattle.ssh_rules.specs.Acts.{Is_over, Stops, Exchanges, Exchanging, Beginning, Stepping}
 use Rattle.ssh_rules.specs.Acts.{acts, done, done_all, exchange_question, frames_given, moved}
 use Rattle.ssh_rules.specs.Acts.{payloads_given, tell_all, tell_done}
-use Rattle.ssh_rules.specs.Effect.{Does, Effect, effect_at}
+use Rattle.ssh_rules.specs.Effect.{Brings, Effect, effect_at}
 use Rattle.ssh_rules.specs.Outcome.{Outcome, Goes, Ends, Fails}
 use Rattle.ssh_rules.specs.Run.{finish_input, begins, going_out, goes_unless_ended, handed_on}
 use Rattle.ssh_rules.specs.Run.{is_due}
@@ -75,7 +75,7 @@ done_else place (Refused why) next h = (tt, λ _. h)
 
 pub one_else : (does : Effect) (next : CommandOutcome → World → Plan Outcome)
     → ((came : CommandOutcome) (v : World) → AsksElse (next came v)) → AsksElse (done does next)
-one_else (Does notices came v) next h =
+one_else (Brings notices came v) next h =
     told_else (map Noticed notices) (next came v) (h came v)
 
 pub all_else : (at : Option ChannelRequest) (place : ℕ) (commands : List Command) (w : World)

@@ -26,19 +26,19 @@ use Rattle.ssh_rules.specs.Acts.{Act, Notes, Calls, Judges_by, Listens_by, Adjus
 use Rattle.ssh_rules.specs.Acts.{Is_over, Stops, Exchanges}
 use Rattle.ssh_rules.specs.Acts.{acts, done, done_all, frames_given}
 use Rattle.ssh_rules.specs.Acts.{moved, payloads_given, tell_all, tell_done}
-use Rattle.ssh_rules.specs.Effect.{Does, Effect, effect, effect_at}
+use Rattle.ssh_rules.specs.Effect.{Brings, Effect, effect, effect_at}
 use Rattle.ssh_rules.specs.Outcome.{Outcome, Goes, Ends, Fails}
 use Rattle.ssh_rules.specs.Reading.{Said, Service, Request, Response}
-use Rattle.ssh_rules.specs.Rows.{asked_of, concluded, exchange_acts, greets, owed}
+use Rattle.ssh_rules.specs.Rows.{where_waiting, concluded, exchange_acts, greets, owed}
 use Rattle.ssh_rules.specs.Rows.{replied, row}
 use Rattle.ssh_rules.specs.Run.{Owes, OwesKind, asks_for_keys, begins, command_row, finish_input}
 use Rattle.ssh_rules.specs.Run.{going_out, goes_unless_ended, handed_on, is_due}
 use Rattle.ssh_rules.specs.Ticks.{keepalive_acts}
 use Rattle.ssh_rules.specs.declared.request.ChannelRequest.{ChannelRequest}
 use Rattle.ssh_rules.specs.World.{World, hears, waits_for}
-use Rattle.ssh_rules.proofs.Books.{never_told}
-use Rattle.ssh_rules.proofs.Passing.{payload_so}
-use Rattle.ssh_rules.proofs.Replying.{EndsSo, IsBeside, verdict_beside, response_beside}
+use Rattle.ssh_rules.proofs.Ledger.Inputs.{never_told}
+use Rattle.ssh_rules.proofs.Plans.Passing.{payload_so}
+use Rattle.ssh_rules.proofs.Plans.Verdicts.{EndsSo, IsBeside, verdict_beside, response_beside}
 
 abbrev pub IsUntaken : TraceEntry → Type 0
 IsUntaken (Took commands replies taken) = ⊥
@@ -72,7 +72,7 @@ told_none place (Refused why) next h = λ _. h
 
 one_none : (does : Effect) (next : CommandOutcome → World → Plan Outcome)
     → ((came : CommandOutcome) (v : World) → TakesNone (next came v)) → TakesNone (done does next)
-one_none (Does notices came v) next h = notices_none notices (next came v) (h came v)
+one_none (Brings notices came v) next h = notices_none notices (next came v) (h came v)
 
 all_none : (at : Option ChannelRequest) (place : ℕ) (commands : List Command) (w : World)
     (next : World → Plan Outcome) → ((v : World) → TakesNone (next v))
@@ -122,7 +122,7 @@ concluded_none w moment requested (auth.Fails fault) = tt
 
 asked_none : (state : EncryptedState) (next : AuthRequest → Plan AuthOutcome) (w : World)
     (moment : ℕ) (requested : Bool) → ((auth : AuthRequest) → EndsSo IsBeside (next auth))
-    → TakesNone (asked_of state (λ auth. after (next auth) (concluded w moment requested))
+    → TakesNone (where_waiting state (λ auth. after (next auth) (concluded w moment requested))
     (acts [] w))
 asked_none (WaitingAuthRequest auth) next w moment requested e =
     verdict_none (next auth) (concluded w moment requested) (e auth)

@@ -13,14 +13,14 @@ use Rattle.ssh_channels.specs.declared.adjusted.Adjusted.{Adjusted}
 use Rattle.ssh_channels.specs.declared.adjusted.Adjusted.TheVariants.{Dropped, Kept, Granted}
 use Rattle.ssh_channels.specs.declared.chunk.Chunk.{Chunk}
 use Rattle.ssh_wire.specs.declared.channel_id.ChannelId.{ChannelId}
-use Rattle.ssh_rules.specs.Effect.{done_by, done_apart, answers}
+use Rattle.ssh_rules.specs.Effect.{done_by, done_apart, decides_open}
 use Rattle.ssh_rules.specs.Effect.{decides, fails_open, failure_of, is_too_long, opens_at}
 use Rattle.ssh_rules.specs.Effect.{opens, opens_or_not, requests_on, refuses}
 use Rattle.ssh_rules.specs.OwnOpens.{OwnOpen, open_payload}
 use Rattle.ssh_rules.specs.Opening.{Opening}
 use Rattle.ssh_rules.specs.Types.{handling}
-use Rattle.ssh_rules.specs.declared.opens.Handling.{Handling}
-use Rattle.ssh_rules.specs.declared.opens.Handling.TheVariants.{Asks, Unsupported, Unknown, GivenUp}
+use Rattle.ssh_rules.specs.declared.handling.Handling.{Handling}
+use Rattle.ssh_rules.specs.declared.handling.Handling.TheVariants.{Asks, Unsupported, Unknown, GivenUp}
 use Rattle.ssh_wire.specs.declared.open.OpenChannelMessage.{OpenChannelMessage}
 use Rattle.ssh_wire.specs.declared.open.ChannelOpenConfirmation.{ChannelOpenConfirmation}
 use Rattle.ssh_rules.specs.Opens.{opening_of}
@@ -38,15 +38,15 @@ use Rattle.ssh_rules.specs.Layout.{at_once}
 use Rattle.ssh_rules.specs.World.{World, lined, writes, is_there, is_waiting}
 use Rattle.ssh_rules.specs.World.{wants_global, settles_global, target_on}
 use Rattle.ssh_rules.specs.declared.request.ChannelRequest.{ChannelRequest}
-use Rattle.ssh_rules.specs.World.{asked_on, settles_one}
-use Rattle.ssh_rules.proofs.Acting.{EffectComes, Law, ActsCome}
-use Rattle.ssh_rules.proofs.Apart.{either, forward_comes, asked_comes}
-use Rattle.ssh_rules.proofs.Apart.{unknown_comes, settles_comes, given_up_comes}
+use Rattle.ssh_rules.specs.World.{request_at, settles_one}
+use Rattle.ssh_rules.proofs.Plans.Acting.{EffectComes, Law, ActsCome}
+use Rattle.ssh_rules.proofs.Plans.Apart.{either, forward_comes, asked_comes}
+use Rattle.ssh_rules.proofs.Plans.Apart.{unknown_comes, settles_comes, given_up_comes}
 use Rattle.ssh_rules.specs.OwnRequests.{OwnRequest, request_payload, xon_xoff, exit_status}
 use Rattle.ssh_rules.specs.OwnRequests.{exit_signal}
 use Rattle.ssh_link.specs.declared.outcome.Refusal.TheVariants.{TooLong}
 use Rattle.ssh_channels.specs.Layout.{as_uint32}
-use Rattle.ssh_rules.proofs.Beside.{on_come}
+use Rattle.ssh_rules.proofs.Plans.Beside.{on_come}
 
 -- what is said ends no run
 abbrev pub IsOther : Said → Type 0
@@ -75,7 +75,7 @@ module _ (holds : World → Type 0)
         (is_too_long (failure_of opening reason texts)) refl h
 
     answers_kept : (answer : OpenAnswer) (opening : Option Opening) (w : World) → holds w
-        → EffectComes holds (answers answer opening w)
+        → EffectComes holds (decides_open answer opening w)
     answers_kept answer None w h = h
     answers_kept answer (Some opening) w h =
         decides_kept answer.channel.0 opening answer.rejection answer.texts w h
@@ -196,26 +196,26 @@ module _ (law : Law)
         (λ e. (same w _ refl h, λ world k. tt))
     spoken_kept w (spoken.Failed channel reason) h =
         failure_kept w (is_there w channel.0) (is_waiting w channel.0) channel reason h
-    spoken_kept w (spoken.Asks channel wanted message happening) h =
+    spoken_kept w (spoken.Requests channel wanted message happening) h =
         (same w _ refl h, λ world k. tt)
-    spoken_kept w (spoken.AsksForAgent channel wanted) h = (
+    spoken_kept w (spoken.RequestsAgent channel wanted) h = (
       same w _ refl h,
       λ granted world k. (
         either law.holds world.disconnected world
-            (lined (settles_one (asked_on channel wanted w).place channel.0 granted) world) k
+            (lined (settles_one (request_at channel wanted w).place channel.0 granted) world) k
             (same world _ refl k),
         tt,
       ),
     )
-    spoken_kept w (spoken.AsksUnknown channel wanted) h =
+    spoken_kept w (spoken.RequestsUnknown channel wanted) h =
         (same w _ refl h, (same w _ refl h, tt))
-    spoken_kept w (spoken.AsksToForward wanted address port) h =
+    spoken_kept w (spoken.RequestsForward wanted address port) h =
         forward_comes law (λ b v k. same v _ refl k) (settles_kept law.holds same)
         (λ v k. same v _ refl k) w wanted address port h
-    spoken_kept w (spoken.AsksGlobally wanted judged) h =
+    spoken_kept w (spoken.RequestsGlobally wanted judged) h =
         asked_comes law (λ b v k. same v _ refl k) (settles_kept law.holds same)
         (λ v k. same v _ refl k) w wanted judged h
-    spoken_kept w (spoken.AsksGloballyUnknown wanted) h =
+    spoken_kept w (spoken.RequestsGloballyUnknown wanted) h =
         unknown_comes law (λ b v k. same v _ refl k) (settles_kept law.holds same)
         (λ v k. same v _ refl k) w wanted h
     spoken_kept w (spoken.GivesUpSessions wanted) h =

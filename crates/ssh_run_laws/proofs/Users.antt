@@ -45,7 +45,7 @@ use Rattle.ssh_rules.specs.Layout.{at_once, held}
 use Rattle.ssh_rules.specs.Outcome.{Encoding, Outcome, Goes, Ends, Fails}
 use Rattle.ssh_rules.specs.Reading.{Said, Disconnect, Over_cap, Says, Service, Request, Response}
 use Rattle.ssh_rules.specs.Reading.{Connection, said_of}
-use Rattle.ssh_rules.specs.Rows.{asked_of, concluded, exchange_acts, finishes, greets, is_short}
+use Rattle.ssh_rules.specs.Rows.{where_waiting, concluded, exchange_acts, finishes, greets, is_short}
 use Rattle.ssh_rules.specs.Rows.{fault_of, greeting, lets_in, moment_after, owed, rejection_hold}
 use Rattle.ssh_rules.specs.Rows.{row, served}
 use Rattle.ssh_rules.specs.Run.{Owes, OwesKind, Run, Turn, asks_for_keys, calls_of, command_row}
@@ -55,12 +55,12 @@ use Rattle.ssh_rules.specs.Ticks.{keepalive_acts}
 use Rattle.ssh_rules.specs.declared.request.ChannelRequest.{ChannelRequest}
 use Rattle.ssh_rules.specs.World.{User, World, circumstances, hears, opening_world}
 use Rattle.ssh_rules.specs.World.{waits_for, writes}
-use Rattle.ssh_rules.proofs.Acting.{EffectComes, Law, PlanComes, acts_come, exchange_comes}
-use Rattle.ssh_rules.proofs.Acting.{input_comes, one_comes}
-use Rattle.ssh_rules.proofs.Apart.{apart_comes, refused_comes, tick_comes}
-use Rattle.ssh_rules.proofs.Passing.{payload_so}
-use Rattle.ssh_rules.proofs.Settled.{Any_command, Anything, any_built}
-use Rattle.ssh_rules.proofs.Settling.{parts_of}
+use Rattle.ssh_rules.proofs.Plans.Acting.{EffectComes, Law, PlanComes, acts_come, exchange_comes}
+use Rattle.ssh_rules.proofs.Plans.Acting.{input_comes, one_comes}
+use Rattle.ssh_rules.proofs.Plans.Apart.{apart_comes, refused_comes, tick_comes}
+use Rattle.ssh_rules.proofs.Plans.Passing.{payload_so}
+use Rattle.ssh_rules.proofs.Plans.Settled.{Any_command, Anything, any_built}
+use Rattle.ssh_rules.proofs.InOrder.Inputs.{parts_of}
 use Rattle.ssh_run_laws.specs.Users.{UserStays, UserIsFirst, first_of, first_user, user_so}
 use Rattle.ssh_run_laws.proofs.UserKept.{IsOther, done_kept, opens_or_not_kept, owed_kept, settles_kept}
 use Rattle.ssh_run_laws.proofs.Verdicts.{IsOfUser, LetsIn, response_lets, user_answered, verdict_lets}
@@ -229,7 +229,7 @@ nothing_plain w = record { comes = refl; asks = tt }
 asked_who : {E F : Type 0} (state : EncryptedState) (next : AuthRequest → Plan AuthOutcome)
     (w : World) (moment : ℕ) (requested : Bool) (events : List (Event E F)) (outcome : Outcome)
     → w.user.state ≡ state → ((auth : AuthRequest) → LetsIn None (next auth))
-    → Follows (asked_of state (λ auth. after (next auth) (concluded w moment requested))
+    → Follows (where_waiting state (λ auth. after (next auth) (concluded w moment requested))
     (acts [] w)) events outcome
     → ComesWho (first_of (who w.user) (first_user (calls_in events))) outcome
 asked_who (WaitingAuthRequest auth) next w moment requested events outcome is lets f =

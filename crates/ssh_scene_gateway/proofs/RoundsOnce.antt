@@ -22,7 +22,7 @@ use Rattle.ssh_rules.specs.Run.{calls_of, steps_of}
 use Rattle.ssh_rules.specs.World.{World, opening_world}
 use Rattle.ssh_rules.specs.declared.error.RunError.{RunError}
 use Rattle.ssh_rules.specs.declared.error.RunError.TheVariants as run
-use Rattle.ssh_rules.proofs.RunsOnce.{Ended, came, gone_not_last, last_once, turn_once}
+use Rattle.ssh_rules.proofs.Determined.Runs.{Ended, came, gone_not_last, last_once, turn_once}
 use Rattle.ssh_gateway.specs.declared.error.GatewayError.TheVariants as error
 use Rattle.ssh_gateway.specs.declared.targets.TargetCall.{TargetCall}
 use Rattle.ssh_gateway.specs.Admitting.{admission, admissions}

@@ -19,7 +19,7 @@ use Rattle.ssh_rules.specs.Once.{AreAnsweredAlike, AreTakenAlike, IsDetermined}
 use Rattle.ssh_rules.specs.Replied.{events_of}
 use Rattle.ssh_rules.specs.Run.{Turn, calls_of, steps_of, entries}
 use Rattle.ssh_rules.specs.Cause.{may_stop}
-use Rattle.ssh_rules.proofs.RunsOnce.{outside_once}
+use Rattle.ssh_rules.proofs.Determined.Runs.{outside_once}
 use Rattle.ssh_players.specs.Exchanged.{IsExchanged}
 use Rattle.ssh_players.specs.Exchanged.{after as after_step}
 use Rattle.ssh_players.specs.Given.{IsGiven, left_after}

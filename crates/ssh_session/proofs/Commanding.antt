@@ -7,12 +7,12 @@ use Rattle.ssh_link.specs.declared.outcome.CommandOutcome.TheVariants.{Accepted,
 use Rattle.ssh_auth.specs.declared.call.Call.TheVariants.{CommandDone}
 use Rattle.ssh_auth.specs.declared.question.Question.TheVariants.{Done}
 use Rattle.ssh_auth.specs.Plan.{Plan}
-use Rattle.ssh_session.specs.declared.apply.Done.{Done as Made}
+use Rattle.ssh_session.specs.declared.commands.Done.{Done as Made}
 use Rattle.ssh_rules.specs.declared.error.RunError.{RunError}
 use Rattle.ssh_rules.specs.declared.error.RunError.TheVariants as error
 use Rattle.ssh_session.specs.declared.session.Session.{Session}
 use Rattle.ssh_rules.specs.World.{World}
-use Rattle.ssh_rules.specs.Heard.{Heard, Calls}
+use Rattle.ssh_rules.specs.Heard.{Heard, IsCalled}
 use Rattle.ssh_rules.specs.Outcome.{Outcome}
 use Rattle.ssh_rules.specs.Effect.{Effect}
 use Rattle.ssh_rules.specs.Acts.{done, tell_all, tell_done}
@@ -48,7 +48,7 @@ told_in_vain place (Refused why) next a b session e n h =
 pub told_so : {E F : Type 0} (place : ℕ) (outcome : CommandOutcome) (next : Plan Outcome)
     (a b : Heard E F) (w : World)
     (session : Session) → (outcome ≡ Accepted → ⊥) → Refines session w →
-    Calls {T = Unit {0}} a b (Ok tt) (CommandDone place outcome (Ok tt)) →
+    IsCalled {T = Unit {0}} a b (Ok tt) (CommandDone place outcome (Ok tt)) →
     Serves (tell_done place outcome next) (λ (_ : Unit {0}) _. next) a b session (Ok tt)
 told_so place outcome next a b w session n r h =
     told_done place outcome next a b w session n r (CommandDone place outcome (Ok tt), refl, h)
@@ -56,7 +56,7 @@ told_so place outcome next a b w session n r h =
 pub not_told_so : {E F : Type 0} (place : ℕ) (outcome : CommandOutcome) (next : Plan Outcome)
     (a b : Heard E F)
     (session : Session) (e : E) → (outcome ≡ Accepted → ⊥) →
-    Calls {T = Unit {0}} a b (Err e) (CommandDone place outcome (Err e)) →
+    IsCalled {T = Unit {0}} a b (Err e) (CommandDone place outcome (Err e)) →
     Serves (tell_done place outcome next) (λ (_ : Unit {0}) _. next) a b session
     (Err (error.Handler e))
 not_told_so place outcome next a b session e n h =

@@ -2,54 +2,58 @@
 use Rattle.std.proofs.Common.{◌≡◌, ◌≤◌, ◌<◌, ◌∷◌, ℕ, List, [], length, true, false, Option, None}
 use Rattle.std.proofs.Common.{Bool, Result, Ok, Err, rules, refl, sym}
 use Rattle.std.proofs.Common.{◌∙◌, ap, subst, arith, inl}
-use Rattle.std.specs.Prelude.{◌^◌, option_to_list, IfOk, IfErr}
+use Rattle.std.specs.Prelude.{◌^◌, cond, option_to_list, IfOk, IfErr}
+use mir.Val.{bool_byte}
 use Rattle.ssh_wire.specs.declared.error.WireError.{WireError}
 use Rattle.ssh_wire.specs.declared.error.WireError.TheVariants as wire
 use Rattle.std.specs.Result.{IsErrAnd}
 use Rattle.std.proofs.lemmas.Result.{err_from_is_err_and}
 use Rattle.ssh_wire.specs.declared.channel_id.ChannelId.{ChannelId}
 use Rattle.ssh_wire.specs.declared.sig.Sig.{Sig}
-use Rattle.ssh_wire.specs.declared.disconnect.Disconnect.{Disconnect}
 use Rattle.ssh_link.specs.declared.notice.ChannelMsg.{ChannelMsg}
 use Rattle.ssh_link.specs.declared.command.Command.{Command}
 use Rattle.ssh_link.specs.declared.command.Command.TheVariants as command
 use Rattle.ssh_link.specs.declared.open_answer.OpenAnswer.{OpenAnswer}
+use Rattle.ssh_link.specs.declared.outcome.CommandOutcome.{CommandOutcome}
 use Rattle.ssh_link.specs.declared.outcome.CommandOutcome.TheVariants.{Accepted, Refused}
 use Rattle.ssh_link.specs.declared.outcome.Refusal.{Refusal}
 use Rattle.ssh_link.specs.declared.outcome.Refusal.TheVariants.{TooLong}
 use Rattle.ssh_channels.specs.Lines.{drops_pending}
-use Rattle.ssh_session.specs.declared.apply.Done.{Done}
+use Rattle.ssh_session.specs.declared.commands.Done.{Done}
 use Rattle.ssh_rules.specs.declared.error.RunError.{RunError}
 use Rattle.ssh_rules.specs.declared.error.RunError.TheVariants.{NoMemory}
 use Rattle.ssh_session.specs.declared.session.Session.{Session}
-use Rattle.ssh_rules.specs.Effect.{Effect, Does, effect_at, lacks, needs, done_by, accepts}
+use Rattle.ssh_rules.specs.Effect.{Effect, Brings, effect_at, lacks, needs, done_by, accepts}
 use Rattle.ssh_rules.specs.Effect.{refuses, refused_or, fails_open, is_too_long, opens_need}
-use Rattle.ssh_rules.specs.Effect.{opens_or_not, apart_needs, done_apart, refused_for, said}
+use Rattle.ssh_rules.specs.Effect.{apart_needs, done_apart, refused_for, said}
 use Rattle.ssh_rules.specs.Effect.{sends}
 use Rattle.ssh_rules.specs.OwnMessages.{OwnMessage, IsUnbuilt}
-use Rattle.ssh_rules.specs.OwnOpens.{asking}
-use Rattle.ssh_rules.specs.Opens.{answered, failure_frame}
+use Rattle.ssh_rules.specs.OwnOpens.{own_open_of}
+use Rattle.ssh_rules.specs.Opens.{decided, failure_frame}
 use Rattle.ssh_session.specs.Serve.{Refines, HasEffect}
 use Rattle.ssh_rules.specs.declared.request.ChannelRequest.{ChannelRequest}
 use Rattle.ssh_rules.specs.World.{World, lined, writes}
 
--- a command that was done, and gives no notice
-pub accepted : (E F : Type 0) (does : Effect) (world : World) (session : Session) (made : Done)
-    → does
-    ≡ accepts world →
-    made ≡ record { notice = None; outcome = Accepted } → Refines session world
+-- what came of a command that gives no notice
+pub quiet : (E F : Type 0) (does : Effect) (outcome : CommandOutcome) (world : World)
+    (session : Session) (made : Done) → does ≡ Brings [] outcome world →
+    made ≡ record { notice = None; outcome = outcome } → Refines session world
     → HasEffect {E = E} {F = F} does session (Ok made)
-accepted E F does world session made d m r =
-    (world, d ∙ ap (λ (x : Done). Does (option_to_list x.notice) x.outcome world) (sym m), r)
+quiet E F does outcome world session made d m r =
+    (world, d ∙ ap (λ (x : Done). Brings (option_to_list x.notice) x.outcome world) (sym m), r)
 
--- .. or was refused
+-- .. that was done
+pub accepted : (E F : Type 0) (does : Effect) (world : World) (session : Session) (made : Done) →
+    does ≡ accepts world → made ≡ record { notice = None; outcome = Accepted } →
+    Refines session world → HasEffect {E = E} {F = F} does session (Ok made)
+accepted E F does world session made d m r = quiet E F does Accepted world session made d m r
+
+-- .. or refused
 pub refused : (E F : Type 0) (does : Effect) (world : World) (why : Refusal) (session : Session)
-    (made : Done) →
-    does ≡ refuses why world → made ≡ record { notice = None; outcome = Refused why }
-    → Refines session world →
+    (made : Done) → does ≡ refuses why world →
+    made ≡ record { notice = None; outcome = Refused why } → Refines session world →
     HasEffect {E = E} {F = F} does session (Ok made)
-refused E F does world why session made d m r =
-    (world, d ∙ ap (λ (x : Done). Does (option_to_list x.notice) x.outcome world) (sym m), r)
+refused E F does world why session made d m r = quiet E F does (Refused why) world session made d m r
 
 -- memory was wanting
 pub starved_effect : {E F : Type 0} (does : Effect) (session : Session) (e : RunError E F)
@@ -131,37 +135,17 @@ module _ (w : World) where
       ≡ command.CancelTcpipForward address port reply → ⊥) →
       ((channel : ChannelId) (message : ChannelMsg) → one ≡ command.ClientOnly channel message
       → ⊥) →
-      lacks w (apart_needs one) ≡ lacks w (opens_need (asking one))
+      lacks w (apart_needs one) ≡ lacks w (opens_need (own_open_of one))
   needs_open (command.TcpipForward address port reply) a b c = absurd (a address port reply refl)
   needs_open (command.CancelTcpipForward address port reply) a b c =
       absurd (b address port reply refl)
   needs_open (command.ClientOnly channel message) a b c = absurd (c channel message refl)
   needs_open _ a b c = refl
 
-  pub done_open : (one : Command) → ((address : List ℕ) (port : ℕ) (reply : Option ℕ) → one
-      ≡ command.TcpipForward address port reply → ⊥) →
-      ((address : List ℕ) (port : ℕ) (reply : Option ℕ) → one
-      ≡ command.CancelTcpipForward address port reply → ⊥) → (one ≡ command.Keepalive → ⊥) →
-      ((slot : ℕ) → one ≡ command.Ping slot → ⊥) → (one ≡ command.RequestSuccess → ⊥) →
-      (one ≡ command.RequestFailure → ⊥) →
-      ((always : Bool) (message language : List ℕ) → one ≡ command.Debug always message language
-      → ⊥) →
-      ((reason : Disconnect) (description language : List ℕ) → one
-      ≡ command.Disconnect reason description language → ⊥) →
-      done_apart w one ≡ opens_or_not (asking one) w
-  done_open (command.TcpipForward address port reply) a b c d e f g h =
-      absurd (a address port reply refl)
-  done_open (command.CancelTcpipForward address port reply) a b c d e f g h =
-      absurd (b address port reply refl)
-  done_open command.Keepalive a b c d e f g h = absurd (c refl)
-  done_open (command.Ping slot) a b c d e f g h = absurd (d slot refl)
-  done_open command.RequestSuccess a b c d e f g h = absurd (e refl)
-  done_open command.RequestFailure a b c d e f g h = absurd (f refl)
-  done_open (command.Debug always message language) a b c d e f g h =
-      absurd (g always message language refl)
-  done_open (command.Disconnect reason description language) a b c d e f g h =
-      absurd (h reason description language refl)
-  done_open _ a b c d e f g h = refl
+-- a flag is one byte
+pub flag_byte : (flag : Bool) → bool_byte flag ≡ cond flag 1 0
+flag_byte true = refl
+flag_byte false = refl
 
 -- a payload that is too long is not sent
 pub too_long : (number : ℕ) (payload : List ℕ) (w : World) → 2 ^ 32 ≤ length payload →
@@ -171,7 +155,7 @@ too_long number payload w h = let t : is_too_long payload ≡ true = search rule
 pub short : (number : ℕ) (payload : List ℕ) (w : World) → (2 ^ 32 ≤ length payload → ⊥) →
     fails_open number payload w
     ≡ accepts (writes (failure_frame number payload ∷ [])
-    (lined (drops_pending number) (answered number w)))
+    (lined (drops_pending number) (decided number w)))
 short number payload w h =
     let k : length payload < 2 ^ 32 = omega arith in
     let t : is_too_long payload ≡ false = search rules in

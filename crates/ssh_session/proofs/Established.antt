@@ -1,8 +1,8 @@
 -- What the table has of a channel, where something is said on it (RFC 4254 section 5.4).
-use Rattle.std.proofs.Common.{◌≡◌, ◌≤◌, ◌<◌, ◌+◌, ◌&&◌, ◌∷◌, ◌++◌, ◌∙◌, ℕ, List, [], false}
+use Rattle.std.proofs.Common.{◌≡◌, ◌≤◌, ◌<◌, ◌+◌, ◌∷◌, ◌++◌, ◌∙◌, ℕ, List, [], false}
 use Rattle.std.proofs.Common.{true}
 use Rattle.std.proofs.Common.{Option, Some, None, length, rules, refl, sym, ap, arith}
-use Rattle.std.specs.Prelude.{◌^◌, if◌then◌else◌, cond}
+use Rattle.std.specs.Prelude.{◌^◌, if◌then◌else◌}
 use Rattle.std.proofs.lemmas.List.{length-append}
 use Rattle.ssh_wire.specs.declared.channel_id.ChannelId.{ChannelId}
 use Rattle.ssh_link.specs.declared.outcome.Refusal.{Refusal}

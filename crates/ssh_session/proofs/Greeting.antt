@@ -11,7 +11,7 @@ use Rattle.ssh_rules.specs.Acts.{Act, acts}
 use Rattle.ssh_rules.specs.Failure.{run_error_of}
 use Rattle.ssh_rules.specs.Layout.{banner}
 use Rattle.ssh_rules.specs.Rows.{greets, greeting, is_short, served}
-use Rattle.ssh_session.specs.Serve.{Refines, Answers}
+use Rattle.ssh_session.specs.Serve.{Refines, ComesTo}
 use Rattle.ssh_rules.specs.World.{World, writes}
 
 -- frames one after another
@@ -33,7 +33,7 @@ greeted message w later h = let t : is_short (Some message) ≡ true = search ru
 pub not_greeted : (E F : Type 0) (message : List ℕ) (w : World) (later : List Act) (why : WireError)
     (session : Session) →
     (why ≡ NoMemory) ⊎ ((why ≡ TooLong) × (2 ^ 32 ≤ length (banner message))) →
-    Answers {T = Unit {0}} {E = E} {F = F} (acts (greets (Some message) ++ later) w)
+    ComesTo {T = Unit {0}} {E = E} {F = F} (acts (greets (Some message) ++ later) w)
     (λ (_ : Unit {0}).
     acts later) ⊥ [] session
     (Err (run_error_of why))

@@ -31,12 +31,12 @@ use Rattle.ssh_rules.specs.Cause.{Refused_by, Broken_by, Hears, cause_of}
 use Rattle.ssh_rules.specs.Cut.{IsAtFrame, IsBehindAll, IsBehindKexinit, IsCut, OwesNoFrame}
 use Rattle.ssh_rules.specs.Cut.{RefusesAsLink, RefusesInside, frames_in}
 use Rattle.ssh_rules.specs.Failure.{error_of_exchange}
-use Rattle.ssh_rules.specs.Heard.{Heard, AsksExchangeAlone, Exchanges as Asks_exchange}
+use Rattle.ssh_rules.specs.Heard.{Heard, AsksExchangeAlone, IsExchanged as Asks_exchange}
 use Rattle.ssh_rules.specs.Outcome.{Outcome, Goes}
 use Rattle.ssh_rules.specs.World.{World}
-use Rattle.ssh_rules.proofs.Frameless.{frames_both, frames_later, frames_nowhere, none_caused}
-use Rattle.ssh_rules.proofs.NeverBegun.{NeverExchanges}
-use Rattle.ssh_rules.proofs.Telling.{SendsGiven}
+use Rattle.ssh_rules.proofs.Plans.Frameless.{frames_both, frames_later, frames_nowhere, none_caused}
+use Rattle.ssh_rules.proofs.Begins.Rows.{NeverExchanges}
+use Rattle.ssh_rules.proofs.Plans.Telling.{SendsGiven}
 use Rattle.ssh_session.specs.declared.session.Session.{Session}
 use Rattle.ssh_session.specs.Handing.{IsCutByLink, IsCutBefore, IsCutBehind, IsCutInRow, ServesTo}
 use Rattle.ssh_session.specs.Handing.{CompletesTo, DoesTo}

@@ -22,7 +22,7 @@ use Rattle.ssh_rules.specs.Opens.{failure_frame}
 use Rattle.ssh_rules.specs.Rows.{turns_away}
 use Rattle.ssh_rules.specs.World.{World, lined}
 use Rattle.ssh_session.proofs.Refining.{called}
-use Rattle.ssh_rules.proofs.Misread.{full_packet}
+use Rattle.ssh_rules.proofs.Read.Misread.{full_packet}
 use Rattle.ssh_session.proofs.Rows.{confirms_as}
 
 -- the table and the opens that wait changed alone

@@ -1,6 +1,6 @@
 -- What the code reads of a message is what its layout says.
 use Rattle.std.proofs.Common.{◌≡◌, ◌∙◌, ℕ, List, [], false, refl, sym, ap, subst, inl, inr}
-use Rattle.std.proofs.Common.{length}
+use Rattle.std.proofs.Common.{length, drop}
 use Rattle.std.specs.Prelude.{IsErrAnd, Result, Err}
 use Rattle.std.proofs.lemmas.Result.{err_from_is_err_and}
 use Rattle.ssh_wire.specs.declared.error.WireError.{WireError}
@@ -10,20 +10,29 @@ use Rattle.ssh_wire.specs.declared.error.LayoutError.TheVariants as layout
 use Rattle.ssh_wire.specs.declared.open.ChannelOpenConfirmation.{ChannelOpenConfirmation}
 use Rattle.ssh_wire.specs.Open.{SpellsConfirmation, MisfitsConfirmation}
 use Rattle.ssh_auth.specs.Plan.{Plan, Finish}
+use Rattle.ssh_auth.specs.Publickey.{Acceptance}
 use Rattle.ssh_rules.specs.declared.error.Flow.{Flow}
 use Rattle.ssh_rules.specs.declared.error.RunError.{RunError}
+use Rattle.ssh_rules.specs.declared.exchange.Passage.TheVariants.{Passes}
+use Rattle.ssh_rules.specs.declared.gate.Gate.{Gate}
 use Rattle.ssh_rules.specs.declared.messages.Spoken.{Spoken}
 use Rattle.ssh_session.specs.declared.session.Session.{Session}
 use Rattle.ssh_rules.specs.Failure.{run_error_of, error_of_layout}
 use Rattle.ssh_rules.specs.Heard.{Heard}
 use Rattle.ssh_rules.specs.Outcome.{Outcome}
 use Rattle.ssh_rules.specs.Reading.{Said, said_of, Connection, Unfit, Agreed, Without_packets}
-use Rattle.ssh_rules.specs.Reading.{SaysConfirmation}
+use Rattle.ssh_rules.specs.Reading.{Says, SaysConfirmation}
+use Rattle.ssh_rules.specs.Gate.{gate_of}
+use Rattle.ssh_rules.specs.Run.{OwesPassed, OwesPayload, passage}
 use Rattle.ssh_rules.specs.Rows.{row}
 use Rattle.ssh_rules.specs.Cause.{comes}
 use Rattle.ssh_session.specs.Serve.{Completes}
 use Rattle.ssh_rules.specs.Spelling.{Layout, Spells, IsRead}
-use Rattle.ssh_rules.specs.World.{World}
+use Rattle.ssh_rules.specs.World.{World, circumstances}
+use Rattle.ssh_rules.proofs.Begins.Rows.{row_never}
+use Rattle.ssh_rules.proofs.Plans.Telling.{row_given}
+use Rattle.ssh_session.specs.Handing.{CompletesTo, IsCutInRow}
+use Rattle.ssh_session.proofs.Handing.{plain_row}
 use Rattle.ssh_session.proofs.Serving.{starves, unfit, hears_nothing}
 
 abbrev pub finish : Flow → World → Plan Outcome
@@ -84,3 +93,23 @@ unfit_confirmation w moment fields left layout.Inconsistent a session e h = (
   subst (λ l. MisfitsConfirmation l layout.Inconsistent) e h,
   ([], hears_nothing false a, refl),
 )
+
+-- a payload that is read by its number owes the row of what it says
+pub read_row : {E F : Type 0} (accepts : Acceptance) (w : World) (moment : ℕ) (payload : List ℕ)
+    (gate : Gate) (said : Said) (a b : Heard E F) (session : Session)
+    (result : Result Flow (RunError E F)) → Passes ≡ passage w payload → gate ≡ gate_of w payload →
+    Says (circumstances accepts w.settings moment) w gate (drop 1 payload) said →
+    Completes (row w moment said) a b session result →
+    (plan : Plan Outcome) × OwesPayload accepts w moment payload plan
+    × CompletesTo IsCutInRow plan a b session result
+read_row accepts w moment payload gate said a b session result passes is says h =
+    let plan = row w moment said in (
+      plan,
+      subst (λ at. OwesPassed at accepts w moment payload plan) passes (
+        said,
+        subst (λ at. Says (circumstances accepts w.settings moment) w at (drop 1 payload) said) is
+            says,
+        refl,
+      ),
+      plain_row plan a b session result (row_never w moment said) (row_given w moment said) h,
+    )

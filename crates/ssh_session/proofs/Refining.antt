@@ -10,10 +10,11 @@ use Rattle.ssh_link.specs.declared.outcome.Refusal.{Refusal}
 use Rattle.ssh_link.specs.declared.outcome.Refusal.TheVariants.{UnknownChannel}
 use Rattle.ssh_channels.specs.declared.params.ChannelParams.{ChannelParams}
 use Rattle.ssh_channels.specs.Line.{is_established, data_waits, may_send}
-use Rattle.ssh_channels.specs.Table.{Table, line_at, has, is_one, some_wait}
+use Rattle.ssh_channels.specs.Table.{Table, line_at, has, some_wait}
 use Rattle.ssh_channels.specs.Numbers as numbers
+use Rattle.ssh_channels.specs.declared.adjusted.Adjusted.{Adjusted}
 use Rattle.ssh_channels.specs.declared.chunk.Chunk.{Chunk}
-use Rattle.ssh_channels.specs.Calls.{Send}
+use Rattle.ssh_channels.specs.Calls.{Send, Stage}
 use Rattle.ssh_channels.specs.Calls.{Op, Eof, Request, Byte, Flush_all, Flush_line, Grant, Adjust, Draw, op, adjust}
 use Rattle.ssh_channels.specs.Calls.{credit_after, adjusting_at, framed_at}
 use Rattle.ssh_channels.specs.Calls as calls
@@ -31,13 +32,16 @@ use Rattle.ssh_session.specs.declared.session.Session.{Session}
 use Rattle.ssh_rules.specs.Effect.{not_usable, no_sending, no_closing}
 use Rattle.ssh_rules.specs.declared.exchange.Keys.{Keys}
 use Rattle.ssh_rules.specs.Acts.{gives, steps_on}
-use Rattle.ssh_rules.specs.Exchange.{given, heard}
-use Rattle.ssh_rules.specs.Run.{nothing_waits, going_out, handed_on}
+use Rattle.ssh_rules.specs.declared.exchange.Passage.{Passage}
+use Rattle.ssh_rules.specs.declared.gate.Gate.{Gate}
+use Rattle.ssh_rules.specs.Exchange.{given, heard, is_running, passage_of}
+use Rattle.ssh_rules.specs.Gate.{gate_of, payload_gate}
+use Rattle.ssh_rules.specs.Run.{nothing_waits, going_out, handed_on, passage}
 use Rattle.ssh_session.specs.Handing.{lets_out, turns_keys}
 use Rattle.ssh_session.specs.Serve.{Refines}
 use Rattle.ssh_rules.specs.World.{World, hears, in_exchange, is_empty, is_held, keyed, lined}
 use Rattle.ssh_rules.specs.World.{is_there, next_place, room_of, room_on, target_of, target_on}
-use Rattle.ssh_rules.specs.World.{packet_of, packet_on}
+use Rattle.ssh_rules.specs.World.{packet_of, packet_on, writes}
 use Rattle.ssh_handler.specs.Receiving as receiving
 
 -- ---- the table
@@ -74,6 +78,15 @@ called o session table fits w m e r =
     tabled session table fits w (does o) r
     (subst (λ t. Stands t (does o w.channels.lines)) (sym e)
     (op_stands o session.table w.channels.lines m r.table))
+
+-- a frame was written
+pub staged : (frame other : Frame) (session : Session) (table : Table)
+    (fits : length session.session_id < 2 ^ 32) (w : World) → frame ≡ other →
+    table ≡ calls.stage frame session.table → Refines session w →
+    Refines (record session { table = table; session_id_fits = fits }) (writes (other ∷ []) w)
+staged frame other session table fits w is e r =
+    subst (λ f. Refines (record session { table = table; session_id_fits = fits })
+    (writes (f ∷ []) w)) is (called (Stage frame) session table fits w tt e r)
 
 -- data were accepted, which wait in an exchange of keys
 pub data_taken : (n : ℕ) (piece : Chunk) (rekeying : Bool) (session : Session) (table : Table)
@@ -112,11 +125,6 @@ pub there_same : (n : ℕ) (session : Session) (w : World) → Refines session w
     session.table ≡ is_there w n
 there_same n session w r = let e = op_answers session.table w.channels.lines r.table (Byte n 0) in
     cc
-
-pub there : (n : ℕ) (session : Session) (w : World) (line : Option ChannelParams)
-    → Refines session w →
-    line ≡ line_at n session.table → is_one is_established line ≡ is_there w n
-there n session w line r e = ap (is_one is_established) e ∙ there_same n session w r
 
 -- ---- why a channel cannot be used
 
@@ -179,6 +187,11 @@ not_not : (b : Bool) → not (not b) ≡ b
 not_not true = refl
 not_not false = refl
 
+-- an exchange of keys runs in both or in neither
+pub runs : (session : Session) (w : World) → Refines session w →
+    is_running session.keys.exchange ≡ in_exchange w
+runs session w r = ap (λ keys. is_running keys.exchange) r.keys
+
 pub asks : (session : Session) (w : World) → Refines session w → not (some_wait session.table)
     ≡ nothing_waits w
 asks session w r =
@@ -229,17 +242,30 @@ pub may_send_same : (n : ℕ) (session : Session) (w : World) → Refines sessio
 may_send_same n session w r =
     let e = op_answers session.table w.channels.lines r.table (Eof n) in cc
 
--- data came in, up to the channel's target
-pub taken_in : (n count target : ℕ) (session : Session) (table : Table)
+-- data came in, up to the channel's target: what the table answers ..
+pub came_in : (n target : ℕ) (sent bytes : List ℕ) (adjusted : Adjusted) (session : Session)
+    (w : World) → target ≡ calls.target_at n session.table → sent ≡ bytes →
+    adjusted ≡ adjusting_at n (length sent) target session.table → Refines session w →
+    adjusted ≡ standard.coming_of (length bytes) (target_on n w)
+    (find n w.channels.lines.entries)
+came_in n target sent bytes adjusted session w is same e r =
+    e ∙ ap (λ l. adjusting_at n (length l) target session.table) same
+    ∙ ap (λ k. adjusting_at n (length bytes) k session.table) (is ∙ target_same n session w r)
+    ∙ coming_same n (length bytes) (target_on n w) session w r
+
+-- .. and the world behind them
+pub taken_in : (n target : ℕ) (sent bytes : List ℕ) (session : Session) (table : Table)
     (fits : length session.session_id < 2 ^ 32) (w : World) →
-    target ≡ calls.target_at n session.table → table ≡ adjust n count target session.table →
-    Refines session w →
+    target ≡ calls.target_at n session.table → sent ≡ bytes →
+    table ≡ adjust n (length sent) target session.table → Refines session w →
     Refines (record session { table = table; session_id_fits = fits })
-    (lined (takes_in n count (target_on n w)) w)
-taken_in n count target session table fits w is e r =
+    (lined (takes_in n (length bytes) (target_on n w)) w)
+taken_in n target sent bytes session table fits w is same e r =
+    let count = length bytes in
     subst (λ k. Refines (record session { table = table; session_id_fits = fits })
     (lined (takes_in n count k) w)) (is ∙ target_same n session w r)
-    (called (Adjust n count target) session table fits w tt e r)
+    (called (Adjust n count target) session table fits w tt
+    (e ∙ ap (λ l. adjust n (length l) target session.table) same) r)
 
 -- the place that the next reply has that is wanted on a channel
 pub place_same : (n : ℕ) (session : Session) (w : World) → Refines session w →
@@ -295,6 +321,23 @@ heard_by session keepalives keys fits w payload ticks is r = record {
   keys = is ∙ ap (heard payload) r.keys;
   live = r.live;
 }
+
+-- where a payload goes
+pub passage_same : (session : Session) (w : World) (payload : List ℕ) (at : Passage) →
+    Refines session w →
+    at ≡ passage_of session.keys.exchange session.common.config.window_size payload →
+    at ≡ passage w payload
+passage_same session w payload at r is =
+    is ∙ (ap (λ keys. passage_of keys.exchange session.common.config.window_size payload) r.keys
+    ∙ ap (λ config. passage_of w.keys.exchange config.window_size payload) r.config)
+
+-- .. and what it is to the session
+pub gate_same : (session : Session) (w : World) (payload : List ℕ) (gate : Gate) →
+    Refines session w → gate ≡ payload_gate session.common.config session.state payload →
+    gate ≡ gate_of w payload
+gate_same session w payload gate r is =
+    is ∙ (ap (λ config. payload_gate config session.state payload) r.config
+    ∙ ap (λ state. payload_gate w.settings.config state payload) r.state)
 
 -- what waited goes on
 pub let_out_to : (session : Session) (table : Table) (fits : length session.session_id < 2 ^ 32)

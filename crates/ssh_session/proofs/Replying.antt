@@ -1,5 +1,6 @@
 -- Requests of the peer on a channel, and the replies to them (RFC 4254 section 5.4).
-use Rattle.std.proofs.Common.{◌≡◌, ◌<◌, ◌∙◌, ◌∷◌, ℕ, Bool, true, false, List, Option, Some, None, ap}
+use Rattle.std.proofs.Common.{◌≡◌, ◌<◌, ◌∙◌, ◌∷◌, [], ◌++◌, ℕ, Bool, true, false, List, Option}
+use Rattle.std.proofs.Common.{Some, None, ap}
 use Rattle.std.proofs.Common.{arith, length, refl, subst, sym}
 use Rattle.std.proofs.Math.Nat.{min-eq_left}
 use Rattle.std.specs.Prelude.{◌^◌, ◌==◌, if◌then◌else◌, cond}
@@ -17,9 +18,9 @@ use Rattle.ssh_channels.specs.Lines.{aims}
 use Rattle.ssh_channels.specs.Table.{Table}
 use Rattle.ssh_rules.specs.Acts.{Act, acts, done_all}
 use Rattle.ssh_rules.specs.Outcome.{Outcome}
-use Rattle.ssh_rules.specs.Rows.{aims_at, gives_up_sessions}
+use Rattle.ssh_rules.specs.Rows.{aims_at, aims_if, gives_up_sessions}
 use Rattle.ssh_rules.specs.declared.request.ChannelRequest.{ChannelRequest}
-use Rattle.ssh_rules.specs.World.{World, asked_on, lined, next_place, settles_for}
+use Rattle.ssh_rules.specs.World.{World, request_at, lined, next_place, settles_for}
 use Rattle.ssh_rules.specs.World.{settles_one, unless_ended}
 use Rattle.ssh_session.specs.Serve.{Refines}
 use Rattle.ssh_session.specs.declared.session.Session.{Session}
@@ -31,7 +32,7 @@ asked_with channel place = record { channel = channel; place = place }
 
 pub asked_so : (channel : ChannelId) (wanted : Bool) (place : Option ℕ) (w : World)
     → wanted ≡ true → place ≡ next_place channel.0 w
-    → asked_with channel place ≡ asked_on channel wanted w
+    → asked_with channel place ≡ request_at channel wanted w
 asked_so channel wanted place w is h =
     ap (asked_with channel) (h ∙ sym (ap (λ b. cond b (next_place channel.0 w) None) is))
 
@@ -62,6 +63,17 @@ aimed channel window session table fits w small some e r =
     let to = called (Set_target channel.0 window) session table fits w small e r in
     rw some (subst (λ k. Refines (record session { table = table; session_id_fits = fits })
     (lined (aims channel.0 k) w)) (sym whole) to)
+
+-- .. and 0 leaves it as it is
+pub unaimed : (channel : ChannelId) (window : ℕ) (session : Session) (w : World)
+    → (window == 0) ≡ true → Refines session w → Refines session (aims_at channel window w)
+unaimed channel window session w zero r = rw zero r
+
+-- the next window is asked for before this is done
+pub aims_then : (channel : ChannelId) (filled : Option ℕ) (now : Act) (later : List Act)
+    → (aims_if channel filled ++ now ∷ []) ++ later ≡ aims_if channel filled ++ now ∷ later
+aims_then channel None now later = refl
+aims_then channel (Some target) now later = refl
 
 -- the peer gave up opening sessions
 pub given_up : (session : Session) (fits : length session.session_id < 2 ^ 32) (w : World)

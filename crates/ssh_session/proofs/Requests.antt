@@ -29,13 +29,13 @@ use Rattle.ssh_rules.specs.Acts.{acts}
 use Rattle.ssh_rules.specs.Failure.{error_of_auth}
 use Rattle.ssh_rules.specs.Heard.{Heard, CallsAlone, AnswersRequest, AnswersResponse}
 use Rattle.ssh_rules.specs.Outcome.{Outcome, Goes, Fails, Key}
-use Rattle.ssh_rules.specs.Rows.{replied, reply_row, concluded, fault_of, asked_of, request_row}
+use Rattle.ssh_rules.specs.Rows.{replied, reply_row, concluded, fault_of, where_waiting, request_row}
 use Rattle.ssh_rules.specs.Rows.{response_row, user_of, lets_in, finishes}
 use Rattle.ssh_rules.specs.Cause.{IsCaused, cause_of, may_stop, Hears}
 use Rattle.ssh_session.specs.Serve.{Refines, Serves, Does}
 use Rattle.ssh_rules.specs.World.{World, circumstances, waits_for}
-use Rattle.ssh_rules.proofs.CallsAlone.{calls_beside, reaches_beside, begins_beside}
-use Rattle.ssh_rules.proofs.CallsAlone.{breaks_beside}
+use Rattle.ssh_rules.proofs.Plans.CallsAlone.{calls_beside, reaches_beside, begins_beside}
+use Rattle.ssh_rules.proofs.Plans.CallsAlone.{breaks_beside}
 use Rattle.ssh_session.proofs.Serving.{reached, completes}
 
 -- the handler alone was asked
@@ -161,7 +161,7 @@ pub requested_row : (w : World) (moment : ℕ) (asked : Asked) (state : AuthRequ
     ≡ WaitingAuthRequest state →
     request_row w moment asked ≡ after (verdict state asked) (concluded w moment true)
 requested_row w moment asked state h =
-    ap (λ s. asked_of s (λ state. after (verdict state asked) (concluded w moment true))
+    ap (λ s. where_waiting s (λ state. after (verdict state asked) (concluded w moment true))
     (acts [] w)) h
 
 pub responded_row : (w : World) (moment : ℕ) (responded : Responded) (state : AuthRequest)
@@ -169,7 +169,7 @@ pub responded_row : (w : World) (moment : ℕ) (responded : Responded) (state : 
     response_row w moment responded ≡ after (response_verdict state responded)
     (concluded w moment w.user.requested)
 responded_row w moment responded state h =
-    ap (λ s. asked_of s (λ state. after (response_verdict state responded)
+    ap (λ s. where_waiting s (λ state. after (response_verdict state responded)
     (concluded w moment w.user.requested)) (acts [] w)) h
 
 -- the state of authentication changed

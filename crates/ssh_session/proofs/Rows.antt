@@ -16,7 +16,7 @@ use Rattle.ssh_channels.specs.declared.adjusted.Adjusted.{Adjusted}
 use Rattle.ssh_channels.specs.declared.chunk.Chunk.{Chunk}
 use Rattle.ssh_channels.specs.Does.{credit_after, coming_of, is_one, does}
 use Rattle.ssh_channels.specs.Entry.{Entry}
-use Rattle.ssh_channels.specs.Lines.{Lines, find, where_found, takes_grant, peer_closes}
+use Rattle.ssh_channels.specs.Lines.{Lines, find, where_found, takes_grant, takes_in, peer_closes}
 use Rattle.ssh_channels.specs.Lines.{fails, confirms}
 use Rattle.ssh_channels.specs.Line.{is_opening}
 use Rattle.ssh_channels.specs.Table.{has}
@@ -38,10 +38,10 @@ use Rattle.ssh_rules.specs.Outcome.{Outcome, Fails, Channels_full}
 use Rattle.ssh_rules.specs.declared.messages.Spoken.TheVariants.{Data, Failed}
 use Rattle.ssh_rules.specs.Reading.{Said, Open, Unread, Unfit, Without_packets, SaysOpen}
 use Rattle.ssh_rules.specs.Rows.{on, on_entry, on_confirmed, grant_acts, credit_left, data_acts}
-use Rattle.ssh_rules.specs.Rows.{spoken_acts, failure_acts, row, notes}
-use Rattle.ssh_rules.proofs.Misread.{full_packet}
+use Rattle.ssh_rules.specs.Rows.{spoken_acts, failure_acts, row, notes, data_told}
+use Rattle.ssh_rules.proofs.Read.Misread.{full_packet}
 use Rattle.ssh_rules.specs.Cause.{comes}
-use Rattle.ssh_session.specs.Serve.{Refines, Answers, Completes}
+use Rattle.ssh_session.specs.Serve.{Refines, ComesTo, Completes, Serves}
 use Rattle.ssh_rules.specs.World.{World, lined, is_there, is_waiting, target_on}
 use Rattle.ssh_session.proofs.Serving.{unfit, starves, hears_nothing}
 
@@ -155,7 +155,7 @@ full_row owes number later w h is =
 pub not_drawn : (E F : Type 0) (w : World) (owes : Option ℕ → List Act) (e : TableError)
     (later : List Act) (session : Session) → IsFull owes → (e ≡ table.Inconsistent → ⊥)
     → (e ≡ table.Full → next_number w.channels.lines ≡ None) →
-    Answers {T = Unit {0}} {E = E} {F = F} (acts (owes (next_number w.channels.lines) ++ later) w)
+    ComesTo {T = Unit {0}} {E = E} {F = F} (acts (owes (next_number w.channels.lines) ++ later) w)
     (λ _. acts later) ⊥ [] session (Err (error_of_table e))
 not_drawn E F w owes table.NoMemory later session h n f =
     (acts (owes (next_number w.channels.lines) ++ later) w, refl)
@@ -168,21 +168,35 @@ pub undrawn : {E F : Type 0} (w : World) (owes : Option ℕ → List Act) (e : T
     (result : Result (Unit {0}) (RunError E F)) → IsErrAnd result (λ x. x ≡ error)
     → error ≡ error_of_table e → IsFull owes → (e ≡ table.Inconsistent → ⊥)
     → (e ≡ table.Full → next_number w.channels.lines ≡ None) →
-    Answers (acts (owes (next_number w.channels.lines) ++ later) w)
+    ComesTo (acts (owes (next_number w.channels.lines) ++ later) w)
     (λ _. acts later) ⊥ [] session result
 undrawn {E} {F} w owes e later session error result i is h n f =
     let p = err_from_is_err_and result i in
-    subst (λ r. Answers {T = Unit {0}} {E = E} {F = F}
+    subst (λ r. ComesTo {T = Unit {0}} {E = E} {F = F}
     (acts (owes (next_number w.channels.lines) ++ later) w)
     (λ _. acts later) ⊥ [] session r) (sym (p.1 ∙ ap Err (p.2 ∙ is)))
     (not_drawn E F w owes e later session h n f)
 
 -- ---- data that come in
 
-pub arrives : (n : ℕ) (w : World) (piece : Chunk) (adjusted : Adjusted) →
+arrives : (n : ℕ) (w : World) (piece : Chunk) (adjusted : Adjusted) →
     coming_of (length piece.bytes) (target_on n w) (find n w.channels.lines.entries) ≡ adjusted →
     spoken_acts w (Data (own n) piece) ≡ data_acts adjusted (own n) piece (target_on n w)
 arrives n w piece adjusted h = ap (λ a. data_acts a (own n) piece (target_on n w)) h
+
+-- data come in: what follows their taking, by the table's answer
+pub arrived : {E F : Type 0} (n : ℕ) (w : World) (piece : Chunk) (adjusted : Adjusted)
+    (later : List Act) (a b : Heard E F) (session : Session)
+    (result : Result (Unit {0}) (RunError E F)) →
+    coming_of (length piece.bytes) (target_on n w) (find n w.channels.lines.entries) ≡ adjusted →
+    Serves (acts (data_told adjusted (own n) piece (target_on n w) ++ later)
+    (lined (takes_in n (length piece.bytes) (target_on n w)) w)) (λ (_ : Unit {0}). acts later) a b
+    session result →
+    Serves (acts (spoken_acts w (Data (own n) piece) ++ later) w) (λ (_ : Unit {0}). acts later) a b
+    session result
+arrived n w piece adjusted later a b session result h k =
+    subst (λ l. Serves (acts (l ++ later) w) (λ (_ : Unit {0}). acts later) a b session result)
+    (sym (arrives n w piece adjusted h)) k
 
 pub not_inconsistent : (e : TableError) → (e ≡ table.NoMemory) ⊎ (e ≡ table.Full) → e
     ≡ table.Inconsistent → ⊥

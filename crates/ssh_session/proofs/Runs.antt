@@ -6,7 +6,7 @@ use Rattle.std.specs.Prelude.{flat_map}
 use Rattle.std.proofs.lemmas.List.{append-nil, length-append}
 use Rattle.std.proofs.lemmas.List.Concat.{flat_map-append}
 use Rattle.ssh_link.specs.Asked.{IsAsked}
-use Rattle.ssh_link.specs.Faults.{Rose}
+use Rattle.ssh_link.specs.Faults.{Rose, RoseIfKept}
 use Rattle.ssh_link.specs.Told.{Adds, ToldBy}
 use Rattle.ssh_link.proofs.Tellings.{adds_nil, adds_both}
 use Rattle.ssh_link.specs.declared.frame.Input.{Input}
@@ -32,7 +32,7 @@ use Rattle.ssh_rules.specs.Cause.{cause_of, may_stop}
 use Rattle.ssh_session.specs.Serve.{Refines, IsSuited}
 use Rattle.ssh_rules.specs.World.{Settings, World, in_exchange, opening_world}
 use Rattle.ssh_rules.proofs.Lawful.{lawful}
-use Rattle.ssh_rules.proofs.Settled.{stays_set}
+use Rattle.ssh_rules.proofs.Plans.Settled.{stays_set}
 use Rattle.ssh_session.proofs.Handing.{cut_later}
 use Rattle.ssh_session.proofs.Serving.{told_then, told_none, caused_rose}
 
@@ -349,6 +349,18 @@ limit_reached accepts settings a b starved count max session going is =
     no_input accepts settings a b b starved count max session error.InputLimit going
     (adds_nil b.trace) refl refl
     (omega arith) (λ w. is)
+
+-- the same of what was told under other names
+pub ran_known : {E F : Type 0} (accepts : Acceptance) (settings : Settings)
+    (a a' b b' : Told E F) (p p' q q' : Option ℕ) (max : ℕ)
+    (result : Result (Unit {0}) (RunError E F)) → a ≡ a' → b ≡ b' → p ≡ p' → q ≡ q' →
+    RanTo accepts settings a b (RoseIfKept p q) max result →
+    RanTo accepts settings a' b' (RoseIfKept p' q') max result
+ran_known accepts settings a a' b b' p p' q q' max result s t c d h =
+    subst (λ x. RanTo accepts settings x b' (RoseIfKept p' q') max result) s
+    (subst (λ x. RanTo accepts settings a x (RoseIfKept p' q') max result) t
+    (subst (λ x. RanTo accepts settings a b (RoseIfKept x q') max result) c
+    (subst (λ x. RanTo accepts settings a b (RoseIfKept p x) max result) d h)))
 
 -- a run that could not begin
 none_begun : (E F : Type 0) (accepts : Acceptance) (settings : Settings) (a : Told E F) (max : ℕ)

@@ -33,14 +33,14 @@ use Rattle.ssh_rules.specs.declared.error.RunError.TheVariants as error
 use Rattle.ssh_session.specs.declared.session.Session.{Session}
 use Rattle.ssh_rules.specs.World.{World}
 use Rattle.ssh_rules.specs.Failure.{run_error_of, error_of_exchange, error_of_link}
-use Rattle.ssh_rules.specs.Heard.{Heard, AreSame, AsksExchangeAlone, Exchanges, Gives}
+use Rattle.ssh_rules.specs.Heard.{Heard, AreSame, AsksExchangeAlone, IsExchanged, Gives}
 use Rattle.ssh_rules.specs.Outcome.{Outcome, Goes, Fails, Encoding}
 use Rattle.ssh_rules.specs.Acts.{Act, acts}
 use Rattle.ssh_rules.specs.Cause.{Cause, Wants_memory, Link_failed, Limit_reached}
 use Rattle.ssh_session.specs.Serve.{Refines}
 use Rattle.ssh_rules.specs.Cause.{Faulty, Refused_by, Broken_by, cause_of}
 use Rattle.ssh_rules.specs.Cause.{IsCaused, may_stop, Hears, Puts}
-use Rattle.ssh_session.specs.Serve.{Answers, Serves, Does, Turned}
+use Rattle.ssh_session.specs.Serve.{ComesTo, Serves, Does, Turned}
 use Rattle.ssh_session.specs.Serve.{Completes}
 
 -- ---- parts of plans
@@ -62,7 +62,7 @@ caused_reached (Broken_by e) plan mid rose xs ys r h = reaches_breaks plan mid x
 pub answers_reached : {T E F : Type 0} (plan mid : Plan Outcome) (next : T → World → Plan Outcome)
     (rose : Type 0)
     (xs ys : List (Event E F)) (session : Session) (result : Result T (RunError E F)) →
-    Reaches plan xs mid → Answers mid next rose ys session result → Answers plan next rose
+    Reaches plan xs mid → ComesTo mid next rose ys session result → ComesTo plan next rose
     (xs ++ ys) session result
 answers_reached plan mid next rose xs ys session (Ok value) r h =
     (h.0, reaches_both plan mid (next value h.0) xs ys r h.1, h.2)
@@ -83,7 +83,7 @@ caused_rose (Broken_by e) plan rose rose' events f h = h
 pub answers_rose : {T E F : Type 0} (plan : Plan Outcome) (next : T → World → Plan Outcome)
     (rose rose' : Type 0)
     (events : List (Event E F)) (session : Session) (result : Result T (RunError E F)) →
-    (rose → rose') → Answers plan next rose events session result → Answers plan next rose' events
+    (rose → rose') → ComesTo plan next rose events session result → ComesTo plan next rose' events
     session result
 answers_rose plan next rose rose' events session (Ok value) f h = h
 answers_rose plan next rose rose' events session (Err e) f h = caused_rose (cause_of e) plan rose
@@ -193,7 +193,7 @@ starves plan next a session = ([], hears_nothing false a, (plan, refl))
 -- what nobody was told or asked of
 pub quiet : {T E F : Type 0} (plan : Plan Outcome) (next : T → World → Plan Outcome) (a : Heard E F)
     (session : Session)
-    (result : Result T (RunError E F)) → Answers plan next ⊥ [] session result
+    (result : Result T (RunError E F)) → ComesTo plan next ⊥ [] session result
     → Serves plan next a a
     session result
 quiet plan next a session result h = (
@@ -326,7 +326,7 @@ exchange_asked question answer next call a b w session r alone added is = (
 unfoldable pub exchange_failed : {T U E F : Type 0} (question : Question)
     (next : Answer question → Plan Outcome) (later : T → World → Plan Outcome)
     (call : Result U F → KexCall F) (a b : Heard E F) (session : Session) (fault : KexFault F) →
-    Exchanges a b call (Err fault) →
+    IsExchanged a b call (Err fault) →
     ((e : F) → Refuses {E = E} {F = F} question (Exchange_error e) (Stepped (call (Err e)))) →
     Serves {T = T} (Ask question next) later a b session (Err (error_of_exchange fault))
 exchange_failed question next later call a b session (kex.Refused e) h refused = (
@@ -389,7 +389,7 @@ unfit wire.TooLong next a session = ([], hears_nothing false a, refl)
 -- .. and nobody was told or asked anything
 unfit_at : {T : Type 0} (E F : Type 0) (why : WireError) (next : T → World → Plan Outcome)
     (session : Session) →
-    Answers {T = T} {E = E} {F = F} (Finish (Fails (Encoding why))) next ⊥ [] session
+    ComesTo {T = T} {E = E} {F = F} (Finish (Fails (Encoding why))) next ⊥ [] session
     (Err (run_error_of why))
 unfit_at E F wire.NoMemory next session = (Finish (Fails (Encoding wire.NoMemory)), refl)
 unfit_at E F wire.Short next session = refl
@@ -400,10 +400,10 @@ unfit_at E F wire.TooLong next session = refl
 pub unfit_quietly : {T E F : Type 0} (why : WireError) (next : T → World → Plan Outcome)
     (session : Session) (e : RunError E F) (result : Result T (RunError E F)) →
     IsErrAnd result (λ x. x ≡ e) → e ≡ run_error_of why →
-    Answers {T = T} (Finish (Fails (Encoding why))) next ⊥ [] session result
+    ComesTo {T = T} (Finish (Fails (Encoding why))) next ⊥ [] session result
 unfit_quietly {T} {E} {F} why next session e result h is =
     let p = err_from_is_err_and result h in
-    subst (λ r. Answers {T = T} (Finish (Fails (Encoding why))) next ⊥ [] session r)
+    subst (λ r. ComesTo {T = T} (Finish (Fails (Encoding why))) next ⊥ [] session r)
     (sym (p.1 ∙ ap Err (p.2 ∙ is))) (unfit_at E F why next session)
 
 -- nobody was told or asked anything
@@ -479,10 +479,10 @@ starved {T} plan next a session e result h is =
 pub turned_quietly : {E F : Type 0} (later : World → Plan Outcome) (world : World)
     (session : Session) (result : Result (Unit {0}) (RunError E F)) →
     OnOk result (Refines session world) → IfErr result (λ e. e ≡ error.NoMemory) →
-    Answers (later world) (λ (_ : Unit {0}). later) ⊥ [] session result
+    ComesTo (later world) (λ (_ : Unit {0}). later) ⊥ [] session result
 turned_quietly later world session (Ok tt) r memory = (world, refl, r)
 turned_quietly {E} {F} later world session (Err e) r memory =
-    subst (λ x. Answers {E = E} {F = F} (later world)
+    subst (λ x. ComesTo {E = E} {F = F} (later world)
     (λ (_ : Unit {0}). later) ⊥ [] session (Err x))
     (sym memory) (later world, refl)
 
@@ -498,10 +498,10 @@ turns_quietly later world a session result r memory =
 pub starved_quietly : {T E F : Type 0} (plan : Plan Outcome) (next : T → World → Plan Outcome)
     (session : Session) (e : RunError E F)
     (result : Result T (RunError E F)) → IsErrAnd result (λ x. x ≡ e) → e ≡ error.NoMemory →
-    Answers {T = T} plan next ⊥ [] session result
+    ComesTo {T = T} plan next ⊥ [] session result
 starved_quietly {T} plan next session e result h is =
     let p = err_from_is_err_and result h in
-    subst (λ r. Answers {T = T} plan next ⊥ [] session r) (sym (p.1 ∙ ap Err (p.2 ∙ is))) (
+    subst (λ r. ComesTo {T = T} plan next ⊥ [] session r) (sym (p.1 ∙ ap Err (p.2 ∙ is))) (
       plan,
       refl,
     )

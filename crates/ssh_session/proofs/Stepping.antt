@@ -104,17 +104,6 @@ steps_to_still IsOwed a b starved session session' (Ok flow) same h =
 steps_to_still IsOwed a b starved session session' (Err e) same h =
     (steps_still IsOwed a b session session' (Err e) same h.0, h.1)
 
--- the same of what was told under other names
-pub steps_known : {E F : Type 0} (IsOwed : Plan Outcome → Type 0) (a a' b b' : Told E F)
-    (p p' q q' : Option ℕ) (session : Session) (result : Result Flow (RunError E F)) → a ≡ a' →
-    b ≡ b' → p ≡ p' → q ≡ q' → StepsTo IsOwed a b (RoseIfKept p q) session result →
-    StepsTo IsOwed a' b' (RoseIfKept p' q') session result
-steps_known IsOwed a a' b b' p p' q q' session result s t c d h =
-    subst (λ x. StepsTo IsOwed x b' (RoseIfKept p' q') session result) s
-    (subst (λ x. StepsTo IsOwed a x (RoseIfKept p' q') session result) t
-    (subst (λ x. StepsTo IsOwed a b (RoseIfKept x q') session result) c
-    (subst (λ x. StepsTo IsOwed a b (RoseIfKept p x) session result) d h)))
-
 -- ---- behind notices
 
 -- what was taken behind notices was done, and then the session is spent or goes on

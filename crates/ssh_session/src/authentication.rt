@@ -11,7 +11,7 @@ ghost use Rattle.ssh_rules.specs.Acts.{Turns};
 ghost use Rattle.ssh_rules.specs.Rows.{row, replied, rejection_hold, finishes, user_of};
 ghost use Rattle.ssh_rules.specs.Gate.{IsRequesting};
 ghost use Rattle.ssh_rules.specs.Heard.{AreSame};
-ghost use Rattle.ssh_session.specs.Serve.{Refines, Answers, Does, Completes, Turned, IsSuited};
+ghost use Rattle.ssh_session.specs.Serve.{Refines, ComesTo, Does, Completes, Turned, IsSuited};
 ghost use Rattle.ssh_rules.specs.Cause.{comes};
 
 use crate::outside::Outside;
@@ -130,7 +130,7 @@ impl Session {
             { payload = payload; hold_until = hold_until; channel = None } ∷ [])
             (finishes requested v)) ∷ []) w self.new result }
     {
-        self.write(Frame::new(payload, hold_until, None))?;
+        self.table.stage(Frame::new(payload, hold_until, None))?;
         self.requested = requested;
         Ok(())
     }
@@ -165,7 +165,7 @@ impl Session {
         ensures same { AreSame (O.Transport.heard outside.old) (O.Transport.heard outside.new) }
     {
         let user = self.requested_user()?;
-        self.write(Frame::new(reply, None, None))?;
+        self.table.stage(Frame::new(reply, None, None))?;
         self.common.auth_user = user;
         self.state = EncryptedState::InitCompression;
         self.requested = requested;
@@ -174,11 +174,11 @@ impl Session {
 
     /// A request after as many rejected ones as are allowed: it is not read, and ends the run.
     pub(crate) fn serve_over_cap<E, F>(&mut self) -> Result<Flow, RunError<E, F>>
-        ensures { (w : World) (moment : ℕ) → Refines self.old w → Answers (row w moment Over_cap)
+        ensures { (w : World) (moment : ℕ) → Refines self.old w → ComesTo (row w moment Over_cap)
             (λ flow world. Finish (comes flow world)) ⊥ [] self.new result }
     {
         let disconnect = too_many_attempts_frame(self.alloc)?;
-        self.write(disconnect)?;
+        self.table.stage(disconnect)?;
         Ok(Flow::Ended)
     }
 }

@@ -4,12 +4,12 @@ ghost use Rattle.std.specs.Prelude.{option_to_list};
 ghost use Rattle.std.specs.VecDeque.{deque_len, deque_capacity};
 ghost use Rattle.ssh_wire.specs.declared.error.WireError.TheVariants.{NoMemory};
 ghost use Rattle.ssh_session.specs.Between.{Applies, untold};
-ghost use Rattle.ssh_rules.specs.Effect.{effect, Does};
+ghost use Rattle.ssh_rules.specs.Effect.{effect, Brings};
 ghost use Rattle.ssh_session.specs.Serve.{Refines, IsSameSession, IsUnchanged, is_spent};
 ghost use Rattle.ssh_rules.specs.World.{World};
 
 use crate::Session;
-use crate::apply::Done;
+use crate::commands::Done;
 use ssh_link::{Command, CommandOutcome, Notice};
 use ssh_wire::WireError;
 use std::collections::VecDeque;
@@ -49,7 +49,7 @@ impl Session {
     ) -> Result<CommandOutcome, WireError>
         ensures does { (w : World) → Refines self.old w → IfOk result (λ outcome.
             (given : Option Notice) × (world : World)
-            × (effect w command ≡ Does (option_to_list given) outcome world)
+            × (effect w command ≡ Brings (option_to_list given) outcome world)
             × Refines self.new world
             × (notices.new.items ≡ notices.old.items ++ option_to_list given)) }
         ensures memory { IfErr result (λ e. e ≡ NoMemory) }

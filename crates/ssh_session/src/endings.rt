@@ -24,10 +24,17 @@ impl Session {
             (O.Transport.heard outside.new) self.new result }
         ensures same { AreSame (O.Transport.heard outside.old) (O.Transport.heard outside.new) }
     {
-        let there = self.take_peer_close(channel)?;
+        let there = self.table.peer_close(channel)?;
         if !there {
             return Ok(());
         }
-        self.tell(outside, None, channel, ChannelMsg::Close, Happening::Close)
+        self.tell(
+            outside,
+            None,
+            channel,
+            None,
+            ChannelMsg::Close,
+            Happening::Close,
+        )
     }
 }

@@ -1,10 +1,14 @@
-// The end of an input without one, for whoever applied commands between two inputs.
-ghost use Rattle.std.specs.Prelude.{◌≡◌, [], false, true, map, OnOk, OnErr};
+// The end of an input without one, and what waits on a channel, for whoever applied commands between
+// two inputs.
+ghost use Rattle.std.specs.Prelude.{◌≡◌, [], false, true, map, OnOk, OnErr, IfOk, IfErr};
 ghost use Rattle.ssh_link.specs.declared.link.TraceEntry.TheVariants.{Noticed};
 ghost use Rattle.ssh_link.specs.Faults.{RoseIfKept};
 ghost use Rattle.ssh_auth.specs.Plan.{Finish};
+ghost use Rattle.ssh_channels.specs.declared.error.TableError.TheVariants.{NoMemory};
+ghost use Rattle.ssh_channels.specs.Lines.{goes_on};
 ghost use Rattle.ssh_rules.specs.Acts.{tell_all};
 ghost use Rattle.ssh_session.specs.Between.{FlushesBy, CutsFlush, told_beneath, flushed, untold};
+ghost use Rattle.ssh_session.specs.Between.{goes_out_unless_ended};
 ghost use Rattle.ssh_rules.specs.Cut.{IsCut};
 ghost use Rattle.ssh_rules.specs.Failure.{flush_error_of};
 ghost use Rattle.ssh_rules.specs.Heard.{AreSame};
@@ -12,12 +16,14 @@ ghost use Rattle.ssh_rules.specs.Outcome.{Goes};
 ghost use Rattle.ssh_rules.specs.Run.{hand_on};
 ghost use Rattle.ssh_session.specs.Handing.{ServesTo, IsCutBehind};
 ghost use Rattle.ssh_session.specs.Serve.{Refines, IsSameSession, is_spent};
-ghost use Rattle.ssh_rules.specs.World.{World};
+ghost use Rattle.ssh_rules.specs.World.{World, lined, unless_ended};
 
-use crate::finish::tell_each;
-use crate::outside::{Ends, Transport};
+use crate::outside::{Transport, tell_each};
+use crate::sides::Ends;
 use crate::{FlushError, RunError, Session};
+use ssh_channels::TableError;
 use ssh_link::{Kex, Link, Notice};
+use ssh_wire::ChannelId;
 use std::collections::VecDeque;
 
 /// The error that it is where no input was taken.
@@ -126,5 +132,29 @@ impl Session {
             return Ok(());
         }
         self.begin_where_due(outside, false)
+    }
+
+    /// What waits on the channel is written as far as the credit goes, and then the EOF and the
+    /// CLOSE that waited behind it; with the CLOSE the channel is gone (RFC 4254 sections 5.2 and
+    /// 5.3). Answers how many bytes of data were written, and 0 where there is no such channel.
+    /// Behind a DISCONNECT nothing is written, and the answer is 0. `NoMemory` is the only error,
+    /// and leaves the session as it was. What is written is handed on at the end of the next input,
+    /// or by `flush`, and in an exchange of keys not before it ends; notices that are to be told are
+    /// kept. The session must not be spent.
+    pub fn flush_pending(&mut self, channel: ChannelId) -> Result<usize, TableError>
+        requires live { is_spent self.old ≡ false }
+        ensures framed { (w : World) → Refines self.old w →
+            IfOk result (λ count. count ≡ goes_out_unless_ended w channel.0) }
+        ensures world { OnOk result ((w : World) → Refines self.old w →
+            Refines self.new (unless_ended (lined (goes_on channel.0)) w)) }
+        ensures told { untold self.new ≡ untold self.old }
+        ensures unchanged { OnErr result (self.new ≡ self.old) }
+        ensures memory { IfErr result (λ e. e ≡ NoMemory) }
+        ensures session { IsSameSession self.old self.new }
+    {
+        if self.common.disconnected {
+            return Ok(0);
+        }
+        self.table.flush_pending(channel)
     }
 }

@@ -2,9 +2,9 @@
 // section 4).
 ghost use Rattle.std.specs.Prelude.{◌≡◌, OnOk, OnErr, IfErr};
 ghost use Rattle.ssh_rules.specs.declared.error.RunError.TheVariants.{NoMemory};
-ghost use Rattle.ssh_rules.specs.declared.messages.Spoken.TheVariants.{AsksToForward};
-ghost use Rattle.ssh_rules.specs.declared.messages.Spoken.TheVariants.{AsksGlobally};
-ghost use Rattle.ssh_rules.specs.declared.messages.Spoken.TheVariants.{AsksGloballyUnknown};
+ghost use Rattle.ssh_rules.specs.declared.messages.Spoken.TheVariants.{RequestsForward};
+ghost use Rattle.ssh_rules.specs.declared.messages.Spoken.TheVariants.{RequestsGlobally};
+ghost use Rattle.ssh_rules.specs.declared.messages.Spoken.TheVariants.{RequestsGloballyUnknown};
 ghost use Rattle.ssh_rules.specs.declared.messages.Spoken.TheVariants.{GivesUpSessions};
 ghost use Rattle.ssh_rules.specs.declared.messages.Spoken.TheVariants.{Settles};
 ghost use Rattle.ssh_rules.specs.Layout.{at_once};
@@ -16,11 +16,11 @@ ghost use Rattle.ssh_rules.specs.Heard.{AreSame};
 ghost use Rattle.ssh_session.specs.Serve.{Refines, Does, Turned, HasEffect, IsSameSession};
 ghost use Rattle.ssh_session.specs.Serve.{IsSuited, IsUnchanged};
 
-use crate::apply::Done;
+use crate::commands::Done;
 use crate::outside::Outside;
 use crate::{RunError, Session};
 use ssh_auth::Judged;
-use ssh_link::{Frame, Notice};
+use ssh_link::{CommandOutcome, Frame, Notice};
 use ssh_wire::Text;
 use ssh_wire::message::{REQUEST_FAILURE, REQUEST_SUCCESS};
 
@@ -77,7 +77,7 @@ impl Session {
         if !self.common.wants_reply {
             return Ok(());
         }
-        self.write(reply_frame(granted, port))?;
+        self.table.stage(reply_frame(granted, port))?;
         self.want_global(false);
         Ok(())
     }
@@ -108,11 +108,11 @@ impl Session {
         ensures session { IsSameSession self.old self.new }
     {
         self.settle_global(granted, None)?;
-        Ok(Done::accepted())
+        Ok(Done::quiet(CommandOutcome::Accepted))
     }
 
     /// Whether connections to an address are forwarded is the handler's to say, and the reply.
-    pub(crate) fn asked_to_forward<O: Outside>(
+    pub(crate) fn forward_requested<O: Outside>(
         &mut self,
         outside: &mut O,
         wanted: bool,
@@ -121,7 +121,7 @@ impl Session {
     ) -> Result<(), RunError<O::Error, O::KexError>>
         requires suits { IsSuited O.suits self.old }
         ensures does { (w : World) → Refines self.old w →
-            Does (spoken_acts w (AsksToForward wanted address port)) w
+            Does (spoken_acts w (RequestsForward wanted address port)) w
             (O.Transport.heard outside.old) (O.Transport.heard outside.new) self.new result }
         ensures same { AreSame (O.Transport.heard outside.old) (O.Transport.heard outside.new) }
     {
@@ -131,7 +131,7 @@ impl Session {
     }
 
     /// Whether another global request is granted is the handler's to say, and the reply.
-    pub(crate) fn asked_globally<O: Outside>(
+    pub(crate) fn globally_requested<O: Outside>(
         &mut self,
         outside: &mut O,
         wanted: bool,
@@ -139,7 +139,7 @@ impl Session {
     ) -> Result<(), RunError<O::Error, O::KexError>>
         requires suits { IsSuited O.suits self.old }
         ensures does { (w : World) → Refines self.old w →
-            Does (spoken_acts w (AsksGlobally wanted judged)) w (O.Transport.heard outside.old)
+            Does (spoken_acts w (RequestsGlobally wanted judged)) w (O.Transport.heard outside.old)
             (O.Transport.heard outside.new) self.new result }
         ensures same { AreSame (O.Transport.heard outside.old) (O.Transport.heard outside.new) }
     {
@@ -149,12 +149,12 @@ impl Session {
     }
 
     /// A global request that is not known is answered by failure.
-    pub(crate) fn asked_globally_unknown<E, F>(
+    pub(crate) fn unknown_globally_requested<E, F>(
         &mut self,
         wanted: bool,
     ) -> Result<(), RunError<E, F>>
         ensures does { (w : World) → Refines self.old w →
-            Turned (spoken_acts w (AsksGloballyUnknown wanted)) w self.new result }
+            Turned (spoken_acts w (RequestsGloballyUnknown wanted)) w self.new result }
         ensures session { IsSameSession self.old self.new }
     {
         self.want_global(wanted);

@@ -3,24 +3,18 @@
 //! send.
 #![tactic(auto)]
 
-mod apply;
 mod authentication;
 mod between;
-mod callbacks;
 mod channel_calls;
-mod channel_requests;
-mod channels;
 mod commands;
+mod common;
+mod connection;
 mod endings;
-mod exchange;
 mod exchange_data;
-mod finish;
 mod flush;
-mod gate;
 mod global_calls;
-mod global_requests;
 mod globals;
-mod messages;
+mod key_exchange;
 mod open_calls;
 mod opens;
 mod outside;
@@ -33,13 +27,13 @@ mod replies;
 mod run;
 mod service;
 mod session;
-mod state;
+mod sides;
 mod step;
 mod ticks;
 mod windows;
 
+pub use common::CommonSession;
 pub use exchange_data::Exchange;
 pub use run::run_stream;
 pub use session::Session;
 pub use ssh_rules::{EncryptedState, Flow, FlushError, RunError};
-pub use state::CommonSession;

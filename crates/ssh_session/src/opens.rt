@@ -1,24 +1,30 @@
-// Opens of the peer (RFC 4254 section 5.1).
+// Opens of the peer, and their answers (RFC 4254 section 5.1).
 ghost use Rattle.std.specs.Prelude.{◌≡◌, ◌≢◌, ◌<◌, ◌^◌, ◌⊎◌, ℕ, Some, None, length};
-ghost use Rattle.std.specs.Prelude.{IfOk, IfErr, IsErrOf};
+ghost use Rattle.std.specs.Prelude.{IfOk, IfErr, IsErrOf, OnErr};
+ghost use Rattle.ssh_wire.specs.Open.{open_failure};
+ghost use Rattle.ssh_wire.specs.OpenFailures.{open_failure_code};
 ghost use Rattle.ssh_channels.specs.declared.error.TableError.TheVariants.{NoMemory};
 ghost use Rattle.ssh_channels.specs.Lines.{next_number};
 ghost use Rattle.ssh_rules.specs.World.{World};
 ghost use Rattle.ssh_rules.specs.Types.{type_refusal};
 ghost use Rattle.ssh_rules.specs.Reading.{Said, SaysOpen, Open};
 ghost use Rattle.ssh_rules.specs.Rows.{row, owed, waits, asks_first, turns_first};
+ghost use Rattle.ssh_rules.specs.Opens.{opening_of};
+ghost use Rattle.ssh_rules.specs.Effect.{decides_open, confirms, fails_open, failure_of};
 ghost use Rattle.ssh_rules.specs.Heard.{AreSame};
 ghost use Rattle.ssh_session.specs.Serve.{Refines, Does, Completes, Turned, IsSuited};
-ghost use Rattle.ssh_session.specs.Serve.{IsSameSession};
+ghost use Rattle.ssh_session.specs.Serve.{HasEffect, IsSameSession, IsUnchanged};
 
+use crate::commands::Done;
 use crate::outside::Outside;
 use crate::peer_open::PeerOpen;
 use crate::{Flow, RunError, Session};
 use ssh_auth::{Lent, OpenType};
-use ssh_channels::TableError;
-use ssh_messages::type_refusal_frame;
+use ssh_channels::{ChannelParams, TableError};
+use ssh_link::{CommandOutcome, Notice, OpenAnswer, Refusal};
+use ssh_messages::{confirmation_frame, failure_frame, type_refusal_frame};
 use ssh_rules::{Handling, handled_by};
-use ssh_wire::{ChannelId, ChannelOpenFailure, OpenChannelMessage, Reader};
+use ssh_wire::{ChannelId, ChannelOpenFailure, OpenChannelMessage, Reader, Text, WireError};
 
 impl Session {
     /// CHANNEL_OPEN.
@@ -138,5 +144,122 @@ impl Session {
         let frame = type_refusal_frame(self.alloc, number, peer, reason, description)?;
         self.table.stage(frame)?;
         Ok(())
+    }
+
+    /// The answer to an open of the peer (RFC 4254 section 5.1).
+    pub(crate) fn decide_open<E, F>(&mut self, answer: OpenAnswer) -> Result<Done, RunError<E, F>>
+        ensures does { (w : World) → Refines self.old w →
+            HasEffect (decides_open answer (opening_of answer.channel.0 w) w) self.new result }
+        ensures unchanged { OnErr result (IsUnchanged self.old self.new) }
+        ensures session { IsSameSession self.old self.new }
+    {
+        let OpenAnswer {
+            channel,
+            rejection,
+            texts,
+        } = answer;
+        let Some(opening) = self.opens.get(&channel.0).copied() else {
+            drop(texts);
+            return Ok(Done::quiet(CommandOutcome::Accepted));
+        };
+        match rejection {
+            None => {
+                drop(texts);
+                self.confirm_open(channel, opening)
+            }
+            Some(reason) => self.refuse_open(channel, opening, reason, texts),
+        }
+    }
+
+    /// The open becomes a channel.
+    fn confirm_open<E, F>(
+        &mut self,
+        channel: ChannelId,
+        said: PeerOpen,
+    ) -> Result<Done, RunError<E, F>>
+        ensures does { (w : World) → Refines self.old w →
+            HasEffect (confirms channel.0 said w) self.new result }
+        ensures unchanged { OnErr result (IsUnchanged self.old self.new) }
+        ensures session { IsSameSession self.old self.new }
+    {
+        let room = self.common.config.window_size;
+        let own_packet = self.common.config.maximum_packet_size;
+        let frame = confirmation_frame(self.alloc, channel, said.peer, room, own_packet)?;
+        let params = ChannelParams::new(
+            self.alloc,
+            said.peer,
+            channel,
+            said.window,
+            room,
+            said.packet,
+            own_packet,
+        );
+        self.table.insert_with(params, frame)?;
+        let _ = self.opens.remove(&channel.0);
+        Ok(Done {
+            notice: Some(Notice::Ready {
+                channel,
+                window: said.window,
+                packet: said.packet,
+            }),
+            outcome: CommandOutcome::Accepted,
+        })
+    }
+
+    /// The open is refused, with these words or those of the reason.
+    fn refuse_open<E, F>(
+        &mut self,
+        channel: ChannelId,
+        said: PeerOpen,
+        reason: ChannelOpenFailure,
+        texts: Option<(Text, Text)>,
+    ) -> Result<Done, RunError<E, F>>
+        ensures does { (w : World) → Refines self.old w →
+            HasEffect (fails_open channel.0 (failure_of said reason texts) w) self.new result }
+        ensures unchanged { OnErr result (IsUnchanged self.old self.new) }
+        ensures session { IsSameSession self.old self.new }
+    {
+        match texts {
+            Some((description, language)) => {
+                let done = self.fail_open(
+                    channel,
+                    said,
+                    reason,
+                    description.as_str(),
+                    language.as_str(),
+                );
+                drop(description);
+                drop(language);
+                done
+            }
+            None => self.fail_open(channel, said, reason, reason.description(), "en"),
+        }
+    }
+
+    fn fail_open<E, F>(
+        &mut self,
+        channel: ChannelId,
+        said: PeerOpen,
+        reason: ChannelOpenFailure,
+        description: &str,
+        language: &str,
+    ) -> Result<Done, RunError<E, F>>
+        ensures does { (w : World) → Refines self.old w →
+            HasEffect (fails_open channel.0 (open_failure said.peer (open_failure_code reason)
+            description.now language.now) w) self.new result }
+        ensures unchanged { OnErr result (IsUnchanged self.old self.new) }
+        ensures session { IsSameSession self.old self.new }
+    {
+        let alloc = self.alloc;
+        match failure_frame(alloc, channel, said.peer, reason, description, language) {
+            Ok(refusal) => {
+                self.table.stage(refusal)?;
+                self.table.drop_pending(channel);
+                let _ = self.opens.remove(&channel.0);
+                Ok(Done::quiet(CommandOutcome::Accepted))
+            }
+            Err(WireError::TooLong) => Ok(Done::quiet(CommandOutcome::Refused(Refusal::TooLong))),
+            Err(_) => Err(RunError::NoMemory),
+        }
     }
 }

@@ -1,23 +1,37 @@
-// Whom a session tells and asks: one outside, of a handler, an exchange of keys and a link.
-ghost use Rattle.std.specs.Prelude.{◌≡◌, ◌<◌, ◌^◌, [], None, List, ℕ, length, drop, All, IfOk};
+// Whom a session tells and asks, and what it tells and asks.
+ghost use Rattle.std.specs.Prelude.{◌≡◌, ◌<◌, ◌^◌, ◌∷◌, [], ℕ, Bool, List, None, length, drop};
+ghost use Rattle.std.specs.Prelude.{Ok, Err, All, IfOk, OnOk, MatchResult};
 ghost use Rattle.ssh_link.specs.Exchange.{IsKexinit, IsOfTransport};
 ghost use Rattle.ssh_link.specs.declared.kex.KexCall.TheVariants.{Begun, Stepped};
 ghost use Rattle.ssh_link.specs.declared.link.TraceEntry.TheVariants.{Noticed, Answered, Sent};
 ghost use Rattle.ssh_handler.specs.declared.config.Config.{Config as ConfigOf};
-ghost use Rattle.ssh_auth.specs.Calls.{lent_call, judged_call};
 ghost use Rattle.ssh_auth.specs.Serve.{IsNumbered};
 ghost use Rattle.ssh_auth.specs.declared.call.Call.TheVariants.{AuthenticationBanner, AdjustWindow};
-ghost use Rattle.ssh_auth.specs.declared.call.Call.TheVariants.{CommandDone, TcpipForward};
-ghost use Rattle.ssh_rules.specs.Heard.{Heard, Gives, Exchanges, Calls, AnswersRequest};
-ghost use Rattle.ssh_rules.specs.Heard.{AnswersResponse};
+ghost use Rattle.ssh_auth.specs.declared.call.Call.TheVariants.{CommandDone};
+ghost use Rattle.ssh_auth.specs.declared.question.Question.TheVariants.{Lends, Judges, Listens};
+ghost use Rattle.ssh_auth.specs.Plan.{Plan, Ask, Tell};
+ghost use Rattle.ssh_rules.specs.World.{World};
+ghost use Rattle.ssh_rules.specs.Outcome.{Outcome};
+ghost use Rattle.ssh_rules.specs.Acts.{Calls, done_all};
+ghost use Rattle.ssh_rules.specs.Rows.{told_and_aimed, aims_if};
+ghost use Rattle.ssh_rules.specs.Heard.{Heard, Gives, IsExchanged, IsCalled, AnswersRequest};
+ghost use Rattle.ssh_rules.specs.Heard.{AnswersResponse, AreSame};
+ghost use Rattle.ssh_rules.specs.Cause.{Puts};
+ghost use Rattle.ssh_session.specs.Serve.{Refines, Does, Serves, IsSuited, IsSameSession, lends};
+ghost use Rattle.ssh_session.specs.Serve.{TellsEach};
 
+use crate::{RunError, Session};
 use bytes::Bytes;
-use ssh_auth::{AuthError, AuthRequest, AuthStep, Judged, Lent, serve_request, serve_response};
-use ssh_handler::{Commands, Handler, ask, judge};
+use ssh_auth::{AuthError, AuthRequest, AuthStep, Happening, Judged, Lent};
+use ssh_handler::Commands;
 use ssh_keys::Verifier;
-use ssh_link::{CommandOutcome, Frame, Kex, KexFault, KexStep, Link, LinkFault, Notice};
+use ssh_link::{
+    ChannelMsg, CommandList, CommandOutcome, Frame, KexFault, KexStep, LinkFault, Notice,
+};
+use ssh_rules::ChannelRequest;
 use ssh_wire::{ChannelId, Text};
 use std::alloc::Global;
+use std::collections::VecDeque;
 
 /// What a session tells and asks but for its handler: a link and an exchange of keys.
 pub(crate) trait Transport {
@@ -48,12 +62,12 @@ pub(crate) trait Transport {
 
     /// Begins an exchange of keys, and answers this side's KEXINIT (RFC 4253 section 7.1).
     fn begin_exchange(&mut self) -> Result<Bytes, KexFault<Self::KexError>>
-        ensures begun { Exchanges (heard self.old) (heard self.new) Begun result }
+        ensures begun { IsExchanged (heard self.old) (heard self.new) Begun result }
         ensures kexinit { IfOk result (λ payload. IsKexinit payload) };
 
     /// Hands a payload of the peer's to the exchange of keys (RFC 4253 section 7).
     fn step_exchange(&mut self, payload: &[u8]) -> Result<KexStep, KexFault<Self::KexError>>
-        ensures stepped { Exchanges (heard self.old) (heard self.new) (Stepped payload.now) result }
+        ensures stepped { IsExchanged (heard self.old) (heard self.new) (Stepped payload.now) result }
         ensures frames { IfOk result (λ step. All IsOfTransport step.frames) };
 }
 
@@ -64,7 +78,7 @@ pub(crate) trait Outside: Transport {
 
     /// Asks for the banner (RFC 4252 section 5.4).
     fn banner(&mut self) -> Result<Option<Text>, Self::Error>
-        ensures { Calls (Self.heard self.old)
+        ensures { IsCalled (Self.heard self.old)
             (Self.heard self.new) result (AuthenticationBanner result) };
 
     /// Serves a request of authentication (RFC 4252 section 5).
@@ -95,227 +109,248 @@ pub(crate) trait Outside: Transport {
         ensures { AnswersResponse (drop 1 payload.now) (Self.heard self.old)
             (Self.heard self.new) auth.old auth.new result };
 
-    /// Makes a callback that is lent commands.
-    fn ask(&mut self, lent: Lent, session: &mut Commands<'_>) -> Result<(), Self::Error>
-        requires fresh { session.old.recorded ≡ [] }
-        requires suits { suits session.old.config session.old.remote_sshid }
-        ensures { Calls (Self.heard self.old) (Self.heard self.new) result
-            (lent_call lent result session.new.recorded) };
+    /// Makes a callback, which is lent what the session lends, and answers the commands that it
+    /// recorded.
+    fn ask(&mut self, session: &Session, lent: Lent) -> Result<CommandList, Self::Error>
+        requires suits { IsSuited suits session.now }
+        ensures { Puts (Lends lent) (Self.heard self.old) (Self.heard self.new) result };
 
-    /// Makes a callback that is lent commands, and answers whether something is granted.
-    fn judge(&mut self, judged: Judged, session: &mut Commands<'_>) -> Result<bool, Self::Error>
-        requires fresh { session.old.recorded ≡ [] }
-        requires suits { suits session.old.config session.old.remote_sshid }
-        ensures { Calls (Self.heard self.old) (Self.heard self.new) result
-            (judged_call judged result session.new.recorded) };
+    /// Makes a callback that says whether something is granted, and answers that and the commands
+    /// that it recorded.
+    fn judge(
+        &mut self,
+        session: &Session,
+        judged: Judged,
+    ) -> Result<(bool, CommandList), Self::Error>
+        requires suits { IsSuited suits session.now }
+        ensures { MatchResult result
+            (λ given. Puts (Judges judged) (Self.heard self.old) (Self.heard self.new)
+            (Ok (record { granted = given.0; commands = given.1 })))
+            (λ e. Puts (Judges judged) (Self.heard self.old) (Self.heard self.new) (Err e)) };
 
-    /// Asks whether connections to an address are forwarded, and at which port the handler listens.
+    /// Asks whether connections to an address are forwarded, and answers that, the port that the
+    /// handler listens at, and the commands that it recorded.
     fn listen(
         &mut self,
+        session: &Session,
         address: &str,
-        port: &mut u32,
-        session: &mut Commands<'_>,
-    ) -> Result<bool, Self::Error>
-        requires fresh { session.old.recorded ≡ [] }
-        requires suits { suits session.old.config session.old.remote_sshid }
-        ensures { Calls (Self.heard self.old) (Self.heard self.new) result
-            (TcpipForward address.now port.old port.new result session.new.recorded) };
+        port: u32,
+    ) -> Result<(bool, u32, CommandList), Self::Error>
+        requires suits { IsSuited suits session.now }
+        ensures { MatchResult result
+            (λ given. Puts (Listens address.now port) (Self.heard self.old) (Self.heard self.new)
+            (Ok (record { granted = given.0; port = given.1; commands = given.2 })))
+            (λ e. Puts (Listens address.now port) (Self.heard self.old) (Self.heard self.new)
+            (Err e)) };
 
     /// Asks how large the window of a channel is from now on.
     fn adjust_window(&mut self, channel: ChannelId, current: u32) -> Result<u32, Self::Error>
-        ensures { Calls (Self.heard self.old) (Self.heard self.new) result
+        ensures { IsCalled (Self.heard self.old) (Self.heard self.new) result
             (AdjustWindow channel current result) };
 
     /// Tells what came of a command that a callback recorded.
     fn command_done(&mut self, place: usize, outcome: CommandOutcome) -> Result<(), Self::Error>
-        ensures { Calls (Self.heard self.old) (Self.heard self.new) result
+        ensures { IsCalled (Self.heard self.old) (Self.heard self.new) result
             (CommandDone place outcome result) };
 }
 
-/// A handler, an exchange of keys and a link.
-#[derive(Drop)]
-pub(crate) struct Sides<'a, H, K, L> {
-    pub(crate) handler: &'a mut H,
-    pub(crate) kex: &'a mut K,
-    pub(crate) link: &'a mut L,
+/// Hands frames on, in order.
+pub(crate) fn send_each<O: Transport>(
+    outside: &mut O,
+    frames: Vec<Frame>,
+) -> Result<(), RunError<O::Error, O::KexError>>
+    ensures does { TellsEach Sent frames.items (O.heard outside.old) (O.heard outside.new) result }
+    ensures same { AreSame (O.heard outside.old) (O.heard outside.new) }
+{
+    for frame in frames {
+        outside.send(frame)?;
+    }
+    Ok(())
 }
 
-impl<'a, H: Handler, K: Kex, L: Link> Sides<'a, H, K, L> {
-    /// These three.
-    pub(crate) fn new(handler: &'a mut H, kex: &'a mut K, link: &'a mut L) -> Sides<'a, H, K, L>
-        ensures same_handler { result.handler.ghost_name ≡ handler.entry.ghost_name }
-        ensures same_kex { result.kex.ghost_name ≡ kex.entry.ghost_name }
-        ensures same_link { result.link.ghost_name ≡ link.entry.ghost_name }
-        ensures handler { result.handler.now ≡ handler.old }
-        ensures kex { result.kex.now ≡ kex.old }
-        ensures link { result.link.now ≡ link.old }
+/// Tells notices, in order, and takes them away as they are told.
+pub(crate) fn tell_each<O: Transport>(
+    outside: &mut O,
+    notices: &mut VecDeque<Notice>,
+) -> Result<(), RunError<O::Error, O::KexError>>
+    ensures does { TellsEach Noticed notices.old.items (O.heard outside.old)
+        (O.heard outside.new) result }
+    ensures told { OnOk result (notices.new.items ≡ []) }
+    ensures same { AreSame (O.heard outside.old) (O.heard outside.new) }
+{
+    for _told in 0..notices.len() {
+        let Some(notice) = notices.pop_front() else {
+            return Ok(());
+        };
+        outside.notice(notice)?;
+    }
+    Ok(())
+}
+
+impl Session {
+    /// What a callback is lent. Nothing is recorded yet.
+    pub(crate) fn lend(&self) -> Commands<'_>
+        ensures { result ≡ lends self.now }
     {
-        Sides { handler, kex, link }
-    }
-}
-
-impl<'a, H: Handler, K: Kex, L: Link> Transport for Sides<'a, H, K, L> {
-    type Error = H::Error;
-
-    type KexError = K::Error;
-
-    ghost heard = { λ sides. record {
-      calls = H.AuthHandler.told sides.handler.now;
-      steps = K.steps sides.kex.now;
-      trace = L.trace sides.link.now;
-      faults = L.faults sides.link.now;
-      starved = L.starved sides.link.now;
-      handler = sides.handler.ghost_name;
-      kex = sides.kex.ghost_name;
-      link = sides.link.ghost_name;
-      repeats = K.repeats sides.kex.now;
-    } };
-
-    fn notice(&mut self, notice: Notice) -> Result<(), LinkFault> {
-        self.link.notice(notice)
-    }
-
-    fn answer(&mut self, ticket: u64, outcome: CommandOutcome) -> Result<(), LinkFault> {
-        self.link.answer(ticket, outcome)
-    }
-
-    fn send(&mut self, frame: Frame) -> Result<(), LinkFault> {
-        self.link.send(frame)
-    }
-
-    fn repeatable(&self) -> bool {
-        self.kex.repeatable()
-    }
-
-    fn begin_exchange(&mut self) -> Result<Bytes, KexFault<K::Error>> {
-        self.kex.begin()
-    }
-
-    fn step_exchange(&mut self, payload: &[u8]) -> Result<KexStep, KexFault<K::Error>> {
-        self.kex.step(payload)
-    }
-}
-
-impl<'a, H: Handler, K: Kex, L: Link> Outside for Sides<'a, H, K, L> {
-    ghost suits = { H.suits };
-
-    fn banner(&mut self) -> Result<Option<Text>, H::Error> {
-        self.handler.authentication_banner()
-    }
-
-    fn request<V: Verifier>(
-        &mut self,
-        alloc: Global,
-        auth: &mut AuthRequest,
-        verifier: &V,
-        session_id: &[u8],
-        moment: u64,
-        payload: &[u8],
-    ) -> Result<AuthStep, AuthError<H::Error>> {
-        serve_request(
-            alloc,
-            auth,
-            self.handler,
-            verifier,
-            session_id,
-            moment,
-            payload,
+        Commands::for_user(
+            self.alloc,
+            &self.table,
+            &self.common.config,
+            self.common.remote_sshid.as_slice(),
+            self.commands_wanted(),
+            self.replies_wanted(),
+            self.user(),
         )
     }
 
-    fn response(
-        &mut self,
-        alloc: Global,
-        auth: &mut AuthRequest,
-        payload: &[u8],
-    ) -> Result<AuthStep, AuthError<H::Error>> {
-        serve_response(alloc, auth, self.handler, payload)
-    }
-
-    fn ask(&mut self, lent: Lent, session: &mut Commands<'_>) -> Result<(), H::Error> {
-        ask(self.handler, lent, session)
-    }
-
-    fn judge(&mut self, judged: Judged, session: &mut Commands<'_>) -> Result<bool, H::Error> {
-        judge(self.handler, judged, session)
-    }
-
-    fn listen(
-        &mut self,
-        address: &str,
-        port: &mut u32,
-        session: &mut Commands<'_>,
-    ) -> Result<bool, H::Error> {
-        self.handler.tcpip_forward(address, port, session)
-    }
-
-    fn adjust_window(&mut self, channel: ChannelId, current: u32) -> Result<u32, H::Error> {
-        self.handler.adjust_window(channel, current)
-    }
-
-    fn command_done(&mut self, place: usize, outcome: CommandOutcome) -> Result<(), H::Error> {
-        self.handler.command_done(place, outcome)
-    }
-}
-
-/// An exchange of keys and a link, where no callback is made: the name of a handler is that of the
-/// exchange.
-#[derive(Drop)]
-pub(crate) struct Ends<'a, K, L> {
-    pub(crate) kex: &'a mut K,
-    pub(crate) link: &'a mut L,
-}
-
-impl<'a, K: Kex, L: Link> Ends<'a, K, L> {
-    /// These two.
-    pub(crate) fn new(kex: &'a mut K, link: &'a mut L) -> Ends<'a, K, L>
-        ensures same_kex { result.kex.ghost_name ≡ kex.entry.ghost_name }
-        ensures same_link { result.link.ghost_name ≡ link.entry.ghost_name }
-        ensures kex { result.kex.now ≡ kex.old }
-        ensures link { result.link.now ≡ link.old }
+    /// Tells the users of the channels.
+    pub(crate) fn note<O: Transport>(
+        &self,
+        outside: &mut O,
+        notice: Notice,
+    ) -> Result<(), RunError<O::Error, O::KexError>>
+        ensures does { (w : World) → Refines self.now w → (next : Plan Outcome) →
+            Serves (Tell (Noticed notice) next) (λ _ _. next) (O.heard outside.old)
+            (O.heard outside.new) self.now result }
+        ensures same { AreSame (O.heard outside.old) (O.heard outside.new) }
     {
-        Ends { kex, link }
-    }
-}
-
-impl<'a, K: Kex, L: Link> Transport for Ends<'a, K, L> {
-    type Error = ();
-
-    type KexError = K::Error;
-
-    ghost heard = { λ ends. record {
-      calls = None;
-      steps = K.steps ends.kex.now;
-      trace = L.trace ends.link.now;
-      faults = L.faults ends.link.now;
-      starved = L.starved ends.link.now;
-      handler = ends.kex.ghost_name;
-      kex = ends.kex.ghost_name;
-      link = ends.link.ghost_name;
-      repeats = K.repeats ends.kex.now;
-    } };
-
-    fn notice(&mut self, notice: Notice) -> Result<(), LinkFault> {
-        self.link.notice(notice)
+        outside.notice(notice)?;
+        Ok(())
     }
 
-    fn answer(&mut self, ticket: u64, outcome: CommandOutcome) -> Result<(), LinkFault> {
-        self.link.answer(ticket, outcome)
+    /// Makes a callback, which tells of the request `at` where there is one, and does the commands
+    /// that it recorded.
+    pub(crate) fn call<O: Outside>(
+        &mut self,
+        outside: &mut O,
+        at: Option<ChannelRequest>,
+        lent: Lent,
+    ) -> Result<(), RunError<O::Error, O::KexError>>
+        requires suits { IsSuited O.suits self.old }
+        ensures does { (w : World) → Refines self.old w →
+            Does (Calls at lent ∷ []) w (O.Transport.heard outside.old)
+            (O.Transport.heard outside.new) self.new result }
+        ensures session { IsSameSession self.old self.new }
+        ensures same { AreSame (O.Transport.heard outside.old) (O.Transport.heard outside.new) }
+    {
+        match outside.ask(self, lent) {
+            Ok(commands) => self.finish_commands(outside, at, commands),
+            Err(e) => Err(RunError::Handler(e)),
+        }
     }
 
-    fn send(&mut self, frame: Frame) -> Result<(), LinkFault> {
-        self.link.send(frame)
+    /// Makes a callback that says whether something is granted, which is what the request `at` asks
+    /// where there is one, and does the commands that it recorded.
+    pub(crate) fn judge<O: Outside>(
+        &mut self,
+        outside: &mut O,
+        at: Option<ChannelRequest>,
+        judged: Judged,
+    ) -> Result<bool, RunError<O::Error, O::KexError>>
+        requires suits { IsSuited O.suits self.old }
+        ensures does { (w : World) → Refines self.old w → (next : Bool → World → Plan Outcome) →
+            Serves (Ask (Judges judged) (λ judgement. done_all at 0 judgement.commands w
+            (next judgement.granted))) next (O.Transport.heard outside.old)
+            (O.Transport.heard outside.new) self.new result }
+        ensures session { IsSameSession self.old self.new }
+        ensures same { AreSame (O.Transport.heard outside.old) (O.Transport.heard outside.new) }
+    {
+        match outside.judge(self, judged) {
+            Ok((granted, commands)) => match self.finish_commands(outside, at, commands) {
+                Ok(()) => Ok(granted),
+                Err(e) => Err(e),
+            },
+            Err(e) => Err(RunError::Handler(e)),
+        }
     }
 
-    fn repeatable(&self) -> bool {
-        self.kex.repeatable()
+    /// Asks whether connections to an address are forwarded, does the commands that the callback
+    /// recorded, and answers that and the port that the handler listens at.
+    pub(crate) fn listen<O: Outside>(
+        &mut self,
+        outside: &mut O,
+        address: &str,
+        port: u32,
+    ) -> Result<(bool, u32), RunError<O::Error, O::KexError>>
+        requires suits { IsSuited O.suits self.old }
+        ensures does { (w : World) → Refines self.old w →
+            (next : Bool → ℕ → World → Plan Outcome) →
+            Serves (Ask (Listens address.now port) (λ listening. done_all None 0 listening.commands w
+            (next listening.granted listening.port)))
+            (λ given. next given.0 given.1) (O.Transport.heard outside.old)
+            (O.Transport.heard outside.new) self.new result }
+        ensures session { IsSameSession self.old self.new }
+        ensures same { AreSame (O.Transport.heard outside.old) (O.Transport.heard outside.new) }
+    {
+        match outside.listen(self, address, port) {
+            Ok((granted, bound, commands)) => match self.finish_commands(outside, None, commands) {
+                Ok(()) => Ok((granted, bound)),
+                Err(e) => Err(e),
+            },
+            Err(e) => Err(RunError::Handler(e)),
+        }
     }
 
-    fn begin_exchange(&mut self) -> Result<Bytes, KexFault<K::Error>> {
-        self.kex.begin()
+    /// Tells a message of a channel: its user by a notice, and the handler by a callback. It is the
+    /// request `at`, where there is one. Between both the handler is asked for the next window,
+    /// where the room was filled up to `filled` bytes.
+    pub(crate) fn tell<O: Outside>(
+        &mut self,
+        outside: &mut O,
+        at: Option<ChannelRequest>,
+        channel: ChannelId,
+        filled: Option<u32>,
+        message: ChannelMsg,
+        happening: Happening,
+    ) -> Result<(), RunError<O::Error, O::KexError>>
+        requires suits { IsSuited O.suits self.old }
+        ensures does { (w : World) → Refines self.old w →
+            Does (told_and_aimed at channel filled message happening) w
+            (O.Transport.heard outside.old) (O.Transport.heard outside.new) self.new result }
+        ensures session { IsSameSession self.old self.new }
+        ensures same { AreSame (O.Transport.heard outside.old) (O.Transport.heard outside.new) }
+    {
+        match self.note(outside, Notice::Channel(channel, message)) {
+            Ok(()) => {}
+            Err(e) => {
+                drop(happening);
+                return Err(e);
+            }
+        }
+        match self.aim(outside, channel, filled) {
+            Ok(()) => self.call(outside, at, Lent::Happened(channel, happening)),
+            Err(e) => {
+                drop(happening);
+                Err(e)
+            }
+        }
     }
 
-    fn step_exchange(&mut self, payload: &[u8]) -> Result<KexStep, KexFault<K::Error>> {
-        self.kex.step(payload)
+    /// Where the room was filled up to so many bytes, asks how large the channel's window is from
+    /// now on; 0 leaves it as it is.
+    fn aim<O: Outside>(
+        &mut self,
+        outside: &mut O,
+        channel: ChannelId,
+        filled: Option<u32>,
+    ) -> Result<(), RunError<O::Error, O::KexError>>
+        ensures does { (w : World) → Refines self.old w → Does (aims_if channel filled) w
+            (O.Transport.heard outside.old) (O.Transport.heard outside.new) self.new result }
+        ensures session { IsSameSession self.old self.new }
+        ensures same { AreSame (O.Transport.heard outside.old) (O.Transport.heard outside.new) }
+    {
+        let Some(current) = filled else {
+            return Ok(());
+        };
+        match outside.adjust_window(channel, current) {
+            Ok(window) => {
+                if window == 0 {
+                    return Ok(());
+                }
+                let _is_there = self.table.set_target(channel, window);
+                Ok(())
+            }
+            Err(e) => Err(RunError::Handler(e)),
+        }
     }
 }

@@ -7,101 +7,18 @@ ghost use Rattle.ssh_rules.specs.declared.error.RunError.TheVariants as error;
 ghost use Rattle.ssh_rules.specs.World.{World, awaits, ends_by};
 ghost use Rattle.ssh_rules.specs.Effect.{said, sends};
 ghost use Rattle.ssh_rules.specs.OwnMessages.{OwnMessage, IsBuilt, IsUnbuilt};
-ghost use Rattle.ssh_rules.specs.OwnMessages as own;
 ghost use Rattle.ssh_session.specs.Serve.{Refines, HasEffect, IsSameSession, IsUnchanged};
 
-use crate::apply::Done;
+use crate::commands::Done;
 use crate::{RunError, Session};
-use ssh_link::Refusal;
-use ssh_messages::{
-    address_payload, cancel_under, debug_payload, disconnect_payload, forward_under, frame_at_once,
-    keepalive_payload,
-};
+use ssh_link::{CommandOutcome, Refusal};
+use ssh_messages::frame_at_once;
 use ssh_rules::Outstanding;
-use ssh_wire::{Disconnect, Text, WireError};
+use ssh_wire::WireError;
 
 impl Session {
-    /// Asks the peer to forward connections to this address.
-    pub(crate) fn forward<E, F>(
-        &mut self,
-        address: &Text,
-        port: u32,
-        slot: Option<u64>,
-    ) -> Result<Done, RunError<E, F>>
-        ensures does { (w : World) → Refines self.old w →
-            HasEffect (sends (own.forward address.now port slot) w) self.new result }
-        ensures unchanged { OnErr result (IsUnchanged self.old self.new) }
-        ensures session { IsSameSession self.old self.new }
-    {
-        let alloc = self.alloc;
-        let payload = address_payload(alloc, "tcpip-forward", address, port, slot.is_some());
-        self.send(payload, forward_under(slot), false)
-    }
-
-    /// Asks the peer to forward them no longer.
-    pub(crate) fn cancel_forward<E, F>(
-        &mut self,
-        address: &Text,
-        port: u32,
-        slot: Option<u64>,
-    ) -> Result<Done, RunError<E, F>>
-        ensures does { (w : World) → Refines self.old w →
-            HasEffect (sends (own.cancel address.now port slot) w) self.new result }
-        ensures unchanged { OnErr result (IsUnchanged self.old self.new) }
-        ensures session { IsSameSession self.old self.new }
-    {
-        let alloc = self.alloc;
-        let name = "cancel-tcpip-forward";
-        let payload = address_payload(alloc, name, address, port, slot.is_some());
-        self.send(payload, cancel_under(slot), false)
-    }
-
-    /// Asks the peer for a sign of life.
-    pub(crate) fn ask_alive<E, F>(&mut self, awaited: Outstanding) -> Result<Done, RunError<E, F>>
-        ensures does { (w : World) → Refines self.old w →
-            HasEffect (sends (own.alive awaited) w) self.new result }
-        ensures unchanged { OnErr result (IsUnchanged self.old self.new) }
-        ensures session { IsSameSession self.old self.new }
-    {
-        let payload = keepalive_payload(self.alloc);
-        self.send(payload, Some(awaited), false)
-    }
-
-    /// Tells the peer something for people to read.
-    pub(crate) fn say_debug<E, F>(
-        &mut self,
-        always: bool,
-        text: &Text,
-        language: &Text,
-    ) -> Result<Done, RunError<E, F>>
-        ensures does { (w : World) → Refines self.old w →
-            HasEffect (sends (own.debug always text.now language.now) w) self.new result }
-        ensures unchanged { OnErr result (IsUnchanged self.old self.new) }
-        ensures session { IsSameSession self.old self.new }
-    {
-        let payload = debug_payload(self.alloc, always, text, language);
-        self.send(payload, None, false)
-    }
-
-    /// Ends the connection: nothing goes out behind this.
-    pub(crate) fn say_disconnect<E, F>(
-        &mut self,
-        reason: Disconnect,
-        description: &Text,
-        language: &Text,
-    ) -> Result<Done, RunError<E, F>>
-        ensures does { (w : World) → Refines self.old w →
-            HasEffect (sends (own.disconnect reason description.now language.now) w) self.new
-            result }
-        ensures unchanged { OnErr result (IsUnchanged self.old self.new) }
-        ensures session { IsSameSession self.old self.new }
-    {
-        let payload = disconnect_payload(self.alloc, reason, description, language);
-        self.send(payload, None, true)
-    }
-
     /// A message with this payload goes out, or is refused where it is too long.
-    fn send<E, F>(
+    pub(crate) fn send<E, F>(
         &mut self,
         payload: Result<Vec<u8>, WireError>,
         awaited: Option<Outstanding>,
@@ -118,9 +35,9 @@ impl Session {
         match payload {
             Ok(payload) => {
                 self.say(payload, awaited, ends)?;
-                Ok(Done::accepted())
+                Ok(Done::quiet(CommandOutcome::Accepted))
             }
-            Err(WireError::TooLong) => Ok(Done::refused(Refusal::TooLong)),
+            Err(WireError::TooLong) => Ok(Done::quiet(CommandOutcome::Refused(Refusal::TooLong))),
             Err(_) => Err(RunError::NoMemory),
         }
     }

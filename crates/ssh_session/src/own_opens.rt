@@ -4,18 +4,18 @@ ghost use Rattle.ssh_rules.specs.declared.messages.Spoken.TheVariants.{Failed};
 ghost use Rattle.ssh_rules.specs.World.{World, is_waiting};
 ghost use Rattle.ssh_rules.specs.Reading.{Said, SaysConfirmation};
 ghost use Rattle.ssh_rules.specs.Rows.{row, confirmation_acts, spoken_acts};
-ghost use Rattle.ssh_rules.specs.OwnOpens.{asking};
+ghost use Rattle.ssh_rules.specs.OwnOpens.{own_open_of};
 ghost use Rattle.ssh_rules.specs.Effect.{no_user, lacks, opens_need, opens_or_not, opens};
 ghost use Rattle.ssh_rules.specs.Heard.{AreSame};
 ghost use Rattle.ssh_session.specs.Serve.{Refines, Does, Completes, HasEffect, IsSuited};
 ghost use Rattle.ssh_session.specs.Serve.{IsSameSession, IsUnchanged};
 
-use crate::apply::Done;
+use crate::commands::Done;
 use crate::outside::Outside;
 use crate::{Flow, RunError, Session};
 use ssh_auth::Happening;
 use ssh_link::{ChannelMsg, Command, CommandOutcome, Notice, Refusal};
-use ssh_messages::{own_open_frame, put_own_fields, type_name};
+use ssh_messages::{is_there, own_open_frame, put_own_fields, type_name};
 use ssh_rules::EncryptedState;
 use ssh_wire::{ChannelId, ChannelOpenConfirmation, ChannelOpenFailure, Reader, WireError};
 
@@ -82,6 +82,7 @@ impl Session {
             outside,
             None,
             channel,
+            None,
             ChannelMsg::Open {
                 id: channel,
                 max_packet_size: packet,
@@ -107,7 +108,7 @@ impl Session {
             (O.Transport.heard outside.new) self.new result }
         ensures same { AreSame (O.Transport.heard outside.old) (O.Transport.heard outside.new) }
     {
-        if self.is_there(channel) {
+        if is_there(&self.table, channel) {
             return Err(RunError::Inconsistent);
         }
         let waited = self.table.fail_open(channel);
@@ -133,7 +134,7 @@ impl Session {
     /// Why a command cannot open a channel, where it would.
     pub(crate) fn no_opening(&self, command: &Command) -> Option<Refusal>
         ensures { (w : World) → Refines self.now w →
-            result ≡ lacks w (opens_need (asking command.now)) }
+            result ≡ lacks w (opens_need (own_open_of command.now)) }
     {
         match type_name(command) {
             Some(_) => self.no_user(),
@@ -144,17 +145,17 @@ impl Session {
     /// A command that opens a channel; what a client alone may say does nothing.
     pub(crate) fn do_open<E, F>(&mut self, command: &Command) -> Result<Done, RunError<E, F>>
         ensures does { (w : World) → Refines self.old w →
-            HasEffect (opens_or_not (asking command.now) w) self.new result }
+            HasEffect (opens_or_not (own_open_of command.now) w) self.new result }
         ensures unchanged { OnErr result (IsUnchanged self.old self.new) }
         ensures session { IsSameSession self.old self.new }
     {
         let Some(name) = type_name(command) else {
-            return Ok(Done::accepted());
+            return Ok(Done::quiet(CommandOutcome::Accepted));
         };
         let mut fields = Vec::new(self.alloc);
         match put_own_fields(&mut fields, command) {
             Ok(()) => self.open_own(name, fields.as_slice()),
-            Err(WireError::TooLong) => Ok(Done::refused(Refusal::TooLong)),
+            Err(WireError::TooLong) => Ok(Done::quiet(CommandOutcome::Refused(Refusal::TooLong))),
             Err(_) => Err(RunError::NoMemory),
         }
     }
@@ -167,19 +168,16 @@ impl Session {
         ensures session { IsSameSession self.old self.new }
     {
         if name.len().saturating_add(fields.len()) > MAX_OPEN_PARTS {
-            return Ok(Done::refused(Refusal::TooLong));
+            return Ok(Done::quiet(CommandOutcome::Refused(Refusal::TooLong)));
         }
         let window = self.common.config.window_size;
         let packet = self.common.config.maximum_packet_size;
         let Some(number) = self.table.next_channel_id() else {
-            return Ok(Done::refused(Refusal::NumbersFull));
+            return Ok(Done::quiet(CommandOutcome::Refused(Refusal::NumbersFull)));
         };
         let frame = own_open_frame(self.alloc, number, name, window, packet, fields)?;
         match self.table.new_channel_with(window, packet, frame) {
-            Ok(channel) => Ok(Done {
-                notice: None,
-                outcome: CommandOutcome::Opened(channel),
-            }),
+            Ok(channel) => Ok(Done::quiet(CommandOutcome::Opened(channel))),
             Err(_) => Err(RunError::NoMemory),
         }
     }

@@ -1,13 +1,13 @@
 // Requests of this side on a channel (RFC 4254 section 5.4).
 ghost use Rattle.std.specs.Prelude.{◌≡◌, ◌<◌, ◌^◌, length, OnErr};
 ghost use Rattle.ssh_rules.specs.World.{World};
-ghost use Rattle.ssh_rules.specs.Effect.{requests, lacks, Established};
+ghost use Rattle.ssh_rules.specs.Effect.{requests};
 ghost use Rattle.ssh_rules.specs.OwnRequests as own;
 ghost use Rattle.ssh_session.specs.Serve.{Refines, HasEffect, IsSameSession, IsUnchanged};
 
-use crate::apply::{Done, unusable};
+use crate::commands::Done;
 use crate::{RunError, Session};
-use ssh_link::Refusal;
+use ssh_link::{CommandOutcome, Refusal};
 use ssh_messages::{put_exit_signal, request_frame};
 use ssh_wire::{ChannelId, Sig, Text, WireError};
 
@@ -16,44 +16,6 @@ use ssh_wire::{ChannelId, Sig, Text, WireError};
 const MAX_REQUEST_PARTS: usize = u32::MAX as usize - 10;
 
 impl Session {
-    /// Why nothing can be said on the channel.
-    pub(crate) fn not_established(&self, channel: ChannelId) -> Option<Refusal>
-        ensures { (w : World) → Refines self.now w → result ≡ lacks w (Established channel) }
-    {
-        match self.table.params(channel) {
-            Some(line) => unusable(line.confirmed, false),
-            None => Some(Refusal::UnknownChannel),
-        }
-    }
-
-    /// Whether the client may do the flow control itself (RFC 4254 section 6.8).
-    pub(crate) fn xon_xoff<E, F>(
-        &mut self,
-        channel: ChannelId,
-        client_can_do: bool,
-    ) -> Result<Done, RunError<E, F>>
-        ensures does { (w : World) → Refines self.old w →
-            HasEffect (requests channel (own.xon_xoff client_can_do) w) self.new result }
-        ensures unchanged { OnErr result (IsUnchanged self.old self.new) }
-        ensures session { IsSameSession self.old self.new }
-    {
-        self.request(channel, "xon-xoff", &[client_can_do as u8])
-    }
-
-    /// How the program on the channel ended (RFC 4254 section 6.10).
-    pub(crate) fn exit_status<E, F>(
-        &mut self,
-        channel: ChannelId,
-        exit_status: u32,
-    ) -> Result<Done, RunError<E, F>>
-        ensures does { (w : World) → Refines self.old w →
-            HasEffect (requests channel (own.exit_status exit_status) w) self.new result }
-        ensures unchanged { OnErr result (IsUnchanged self.old self.new) }
-        ensures session { IsSameSession self.old self.new }
-    {
-        self.request(channel, "exit-status", &exit_status.to_be_bytes())
-    }
-
     /// Which signal ended the program on the channel (RFC 4254 section 6.10).
     pub(crate) fn exit_signal<E, F>(
         &mut self,
@@ -72,13 +34,13 @@ impl Session {
         let mut fields = Vec::new(self.alloc);
         match put_exit_signal(&mut fields, signal, core_dumped, message, language) {
             Ok(()) => self.request(channel, "exit-signal", fields.as_slice()),
-            Err(WireError::TooLong) => Ok(Done::refused(Refusal::TooLong)),
+            Err(WireError::TooLong) => Ok(Done::quiet(CommandOutcome::Refused(Refusal::TooLong))),
             Err(_) => Err(RunError::NoMemory),
         }
     }
 
     /// A request of this name with these own fields, which wants no reply.
-    fn request<E, F>(
+    pub(crate) fn request<E, F>(
         &mut self,
         channel: ChannelId,
         name: &str,
@@ -92,16 +54,16 @@ impl Session {
         ensures session { IsSameSession self.old self.new }
     {
         if name.len().saturating_add(fields.len()) > MAX_REQUEST_PARTS {
-            return Ok(Done::refused(Refusal::TooLong));
+            return Ok(Done::quiet(CommandOutcome::Refused(Refusal::TooLong)));
         }
         match self.table.params(channel) {
             Some(line) => {
                 let peer = line.recipient_channel;
                 let frame = request_frame(self.alloc, channel, peer, name, fields)?;
-                self.write(frame)?;
-                Ok(Done::accepted())
+                self.table.stage(frame)?;
+                Ok(Done::quiet(CommandOutcome::Accepted))
             }
-            None => Ok(Done::accepted()),
+            None => Ok(Done::quiet(CommandOutcome::Accepted)),
         }
     }
 }

@@ -68,7 +68,7 @@ impl Session {
         ensures world { (w : World) → Refines self.now w → result ≡ wants_commands w }
         ensures lent { result ≡ (lends self.now).commands_wanted }
     {
-        !self.in_exchange() && !self.table.has_any_pending_data()
+        !self.keys.exchange.is_running() && !self.table.has_any_pending_data()
     }
 
     /// Whether answers to opens are taken from outside: no exchange of keys runs.
@@ -76,7 +76,7 @@ impl Session {
         ensures world { (w : World) → Refines self.now w → result ≡ not (in_exchange w) }
         ensures lent { result ≡ (lends self.now).replies_wanted }
     {
-        !self.in_exchange()
+        !self.keys.exchange.is_running()
     }
 
     /// The most bytes of data that the peer may send on the channel in one message now, and 0 where

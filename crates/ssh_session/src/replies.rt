@@ -2,9 +2,9 @@
 // 5.4).
 ghost use Rattle.std.specs.Prelude.{◌≡◌, IfOk, IfErr, OnOk, OnErr};
 ghost use Rattle.ssh_channels.specs.declared.error.TableError.TheVariants.{NoMemory};
-ghost use Rattle.ssh_rules.specs.declared.messages.Spoken.TheVariants.{Asks, AsksForAgent};
-ghost use Rattle.ssh_rules.specs.declared.messages.Spoken.TheVariants.{AsksUnknown};
-ghost use Rattle.ssh_rules.specs.World.{World, lined, asked_on, wants_if, settles_one};
+ghost use Rattle.ssh_rules.specs.declared.messages.Spoken.TheVariants.{Requests, RequestsAgent};
+ghost use Rattle.ssh_rules.specs.declared.messages.Spoken.TheVariants.{RequestsUnknown};
+ghost use Rattle.ssh_rules.specs.World.{World, lined, request_at, wants_if, settles_one};
 ghost use Rattle.ssh_rules.specs.World.{settles_for, unless_ended};
 ghost use Rattle.ssh_rules.specs.Effect.{accepts};
 ghost use Rattle.ssh_rules.specs.Rows.{spoken_acts};
@@ -12,12 +12,12 @@ ghost use Rattle.ssh_rules.specs.Heard.{AreSame};
 ghost use Rattle.ssh_session.specs.Serve.{Refines, Does, Turned, HasEffect, IsSameSession};
 ghost use Rattle.ssh_session.specs.Serve.{IsSuited, IsUnchanged};
 
-use crate::apply::Done;
+use crate::commands::Done;
 use crate::outside::Outside;
 use crate::{RunError, Session};
 use ssh_auth::{Happening, Judged};
 use ssh_channels::TableError;
-use ssh_link::{ChannelMsg, Notice};
+use ssh_link::{ChannelMsg, CommandOutcome, Notice};
 use ssh_rules::ChannelRequest;
 use ssh_wire::ChannelId;
 
@@ -25,7 +25,7 @@ impl Session {
     /// A request comes on the channel. Its reply is owed from now on, where it wants one.
     fn owe_reply(&mut self, channel: ChannelId, wanted: bool) -> Result<ChannelRequest, TableError>
         ensures asked { (w : World) → Refines self.old w →
-            IfOk result (λ asked. asked ≡ asked_on channel wanted w) }
+            IfOk result (λ asked. asked ≡ request_at channel wanted w) }
         ensures world { OnOk result ((w : World) → Refines self.old w →
             Refines self.new (lined (wants_if wanted channel.0) w)) }
         ensures memory { IfErr result (λ e. e ≡ NoMemory) }
@@ -107,7 +107,7 @@ impl Session {
         ensures session { IsSameSession self.old self.new }
     {
         self.settle_for(at, channel, success)?;
-        Ok(Done::accepted())
+        Ok(Done::quiet(CommandOutcome::Accepted))
     }
 
     /// The reply of this request is settled, unless a command of its callback ended the connection.
@@ -128,7 +128,7 @@ impl Session {
     }
 
     /// A request: its channel's user and the handler are told, and the reply is theirs.
-    pub(crate) fn asked<O: Outside>(
+    pub(crate) fn channel_requested<O: Outside>(
         &mut self,
         outside: &mut O,
         channel: ChannelId,
@@ -138,12 +138,12 @@ impl Session {
     ) -> Result<(), RunError<O::Error, O::KexError>>
         requires suits { IsSuited O.suits self.old }
         ensures does { (w : World) → Refines self.old w →
-            Does (spoken_acts w (Asks channel wanted message happening)) w
+            Does (spoken_acts w (Requests channel wanted message happening)) w
             (O.Transport.heard outside.old) (O.Transport.heard outside.new) self.new result }
         ensures same { AreSame (O.Transport.heard outside.old) (O.Transport.heard outside.new) }
     {
         match self.owe_reply(channel, wanted) {
-            Ok(asked) => self.tell(outside, Some(asked), channel, message, happening),
+            Ok(asked) => self.tell(outside, Some(asked), channel, None, message, happening),
             Err(e) => {
                 drop(message);
                 drop(happening);
@@ -153,13 +153,13 @@ impl Session {
     }
 
     /// A request that is not known is answered by failure.
-    pub(crate) fn asked_unknown<E, F>(
+    pub(crate) fn unknown_requested<E, F>(
         &mut self,
         channel: ChannelId,
         wanted: bool,
     ) -> Result<(), RunError<E, F>>
         ensures does { (w : World) → Refines self.old w →
-            Turned (spoken_acts w (AsksUnknown channel wanted)) w self.new result }
+            Turned (spoken_acts w (RequestsUnknown channel wanted)) w self.new result }
         ensures session { IsSameSession self.old self.new }
     {
         let asked = self.owe_reply(channel, wanted)?;
@@ -168,7 +168,7 @@ impl Session {
     }
 
     /// Whether the peer's agent may be reached is the handler's to say, and the reply.
-    pub(crate) fn asked_for_agent<O: Outside>(
+    pub(crate) fn agent_requested<O: Outside>(
         &mut self,
         outside: &mut O,
         channel: ChannelId,
@@ -176,7 +176,7 @@ impl Session {
     ) -> Result<(), RunError<O::Error, O::KexError>>
         requires suits { IsSuited O.suits self.old }
         ensures does { (w : World) → Refines self.old w →
-            Does (spoken_acts w (AsksForAgent channel wanted)) w (O.Transport.heard outside.old)
+            Does (spoken_acts w (RequestsAgent channel wanted)) w (O.Transport.heard outside.old)
             (O.Transport.heard outside.new) self.new result }
         ensures same { AreSame (O.Transport.heard outside.old) (O.Transport.heard outside.new) }
     {

@@ -5,6 +5,7 @@ ghost use Rattle.ssh_link.specs.Faults.{RoseIfKept};
 ghost use Rattle.ssh_rules.specs.Account.{told_by, RanTo, KeepsLaws};
 ghost use Rattle.ssh_session.specs.Serve.{Refines, BeginsSuited};
 
+use crate::sides::Sides;
 use crate::{Flow, RunError, Session};
 use ssh_handler::{Config, Handler};
 use ssh_keys::Verifier;
@@ -34,7 +35,8 @@ pub fn run_stream<H: Handler, V: Verifier, K: Kex, L: Link>(
         (V.accepts verifier.now) handler.old kex.old link.old handler.new kex.new link.new }
 {
     let mut session = Session::new(alloc, config, session_id, remote_sshid)?;
-    let result = run_inputs(&mut session, handler, verifier, kex, link, max_inputs);
+    let mut sides = Sides::new(handler, kex, link);
+    let result = run_inputs(&mut session, &mut sides, verifier, max_inputs);
     drop(session);
     result
 }
@@ -42,22 +44,27 @@ pub fn run_stream<H: Handler, V: Verifier, K: Kex, L: Link>(
 // The loop of a run, with a session before its first input.
 fn run_inputs<H: Handler, V: Verifier, K: Kex, L: Link>(
     session: &mut Session,
-    handler: &mut H,
+    sides: &mut Sides<'_, H, K, L>,
     verifier: &V,
-    kex: &mut K,
-    link: &mut L,
     max_inputs: u64,
 ) -> Result<(), RunError<H::Error, K::Error>>
     requires begins { BeginsSuited H.suits session.old }
-    ensures { (settings : Settings) → Refines session.old (opening_world settings) →
-        settings.repeatable ≡ K.repeats kex.old → RanTo (V.accepts verifier.now) settings
-        (told_by H.AuthHandler.told K.steps L.trace L.faults handler.old kex.old link.old)
-        (told_by H.AuthHandler.told K.steps L.trace L.faults handler.new kex.new link.new)
-        (RoseIfKept (L.starved link.old) (L.starved link.new)) max_inputs result }
+    ensures same_handler { sides.new.handler.ghost_name ≡ sides.old.handler.ghost_name }
+    ensures same_kex { sides.new.kex.ghost_name ≡ sides.old.kex.ghost_name }
+    ensures same_link { sides.new.link.ghost_name ≡ sides.old.link.ghost_name }
+    ensures ran { (settings : Settings) → Refines session.old (opening_world settings) →
+        settings.repeatable ≡ K.repeats sides.old.kex.now → RanTo (V.accepts verifier.now) settings
+        (told_by H.AuthHandler.told K.steps L.trace L.faults sides.old.handler.now
+        sides.old.kex.now sides.old.link.now)
+        (told_by H.AuthHandler.told K.steps L.trace L.faults sides.new.handler.now
+        sides.new.kex.now sides.new.link.now) (RoseIfKept (L.starved sides.old.link.now)
+        (L.starved sides.new.link.now)) max_inputs result }
 {
     for _ in 0..max_inputs {
-        let input = link.next(session.commands_wanted(), session.replies_wanted())?;
-        match session.step_on(handler, verifier, kex, link, input) {
+        let input = sides
+            .link
+            .next(session.commands_wanted(), session.replies_wanted())?;
+        match session.take(sides, verifier, input) {
             Ok(Flow::Continue) => {}
             Ok(Flow::Ended) => return Ok(()),
             Err(e) => return Err(e),

@@ -76,7 +76,7 @@ impl Session {
     {
         let accept = service_accept_frame(self.alloc)?;
         self.wait_for_requests();
-        self.write(accept)?;
+        self.table.stage(accept)?;
         Ok(())
     }
 
@@ -88,8 +88,8 @@ impl Session {
         let accept = service_accept_frame(self.alloc)?;
         let banner = banner_frame(self.alloc, message)?;
         self.wait_for_requests();
-        self.write(accept)?;
-        self.write(banner)?;
+        self.table.stage(accept)?;
+        self.table.stage(banner)?;
         Ok(())
     }
 

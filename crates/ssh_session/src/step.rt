@@ -1,30 +1,28 @@
 // One input, taken and finished.
-ghost use Rattle.std.specs.Prelude.{◌≡◌, ◌≢◌, [], Ok, Err, OnOk, true, drop};
-ghost use Rattle.ssh_link.specs.Faults.{NeverFalls, RoseIfKept};
+ghost use Rattle.std.specs.Prelude.{◌≡◌, ◌≢◌, [], Ok, Err, OnOk, true, cond};
+ghost use Rattle.ssh_link.specs.Faults.{RoseIfKept};
 ghost use Rattle.ssh_auth.specs.Plan.{Plan};
 ghost use Rattle.ssh_rules.specs.Outcome.{Outcome};
-ghost use Rattle.ssh_rules.specs.World.{World, circumstances, hears};
-ghost use Rattle.ssh_rules.specs.Gate.{gate_of};
-ghost use Rattle.ssh_rules.specs.Reading.{Said, Says};
-ghost use Rattle.ssh_rules.specs.Rows.{row};
-ghost use Rattle.ssh_rules.specs.Run.{OwesKind, OwesPayload, Owes, asks_for_keys};
+ghost use Rattle.ssh_rules.specs.World.{World, hears, is_empty};
+ghost use Rattle.ssh_rules.specs.Run.{OwesKind, OwesPayload, Owes, asks_for_keys, hand_on};
+ghost use Rattle.ssh_rules.specs.Run.{goes_unless_ended, handed_on, is_over};
 ghost use Rattle.ssh_rules.specs.Heard.{AreSame};
 ghost use Rattle.ssh_session.specs.Between.{StepsBehind, CutsBehind, TakesBehind, OwesUnlessEnded};
 ghost use Rattle.ssh_session.specs.Between.{untold};
 ghost use Rattle.ssh_rules.specs.Account.{told_by};
 ghost use Rattle.ssh_rules.specs.Cut.{IsCut};
-ghost use Rattle.ssh_session.specs.Handing.{CompletesTo, IsCutInRow};
-ghost use Rattle.ssh_session.specs.Steps.{StepsTo, StepsBy};
-ghost use Rattle.ssh_session.specs.Serve.{Refines, Completes, is_spent, IsSuited, IsSameSession};
+ghost use Rattle.ssh_session.specs.Handing.{CompletesTo, IsCutBehind, IsCutByLink, IsCutInRow};
+ghost use Rattle.ssh_session.specs.Handing.{ServesTo};
+ghost use Rattle.ssh_session.specs.Serve.{Refines, is_spent, IsSameSession, IsSuited};
 
-use crate::finish::tell_each;
-use crate::outside::{Outside, Sides};
-use crate::ticks::ticks_behind;
+use crate::outside::{Outside, Transport, send_each, tell_each};
+use crate::sides::Sides;
 use crate::{Flow, RunError, Session};
+use ssh_channels::FrameSink;
 use ssh_handler::Handler;
 use ssh_keys::Verifier;
 use ssh_link::{Command, Input, InputKind, Kex, Link, Notice};
-use ssh_rules::{Gate, Passage};
+use ssh_rules::{Gate, Passage, payload_gate};
 use ssh_wire::fields_of;
 use std::collections::VecDeque;
 
@@ -33,6 +31,13 @@ fn asks_for_keys(kind: &InputKind) -> bool
     ensures { result ≡ asks_for_keys kind.now }
 {
     matches!(kind, InputKind::RekeyTick)
+}
+
+/// How many keepalive ticks count behind this payload: one that is not empty is a sign of life.
+fn ticks_behind(payload: &[u8], keepalives: u64) -> u64
+    ensures { result ≡ cond (is_empty payload.now) keepalives 0 }
+{
+    if payload.is_empty() { keepalives } else { 0 }
 }
 
 impl Session {
@@ -81,29 +86,6 @@ impl Session {
         let outcome = self.step_behind(&mut sides, verifier, &mut notices, input);
         self.keep_untold(notices);
         outcome
-    }
-
-    /// An input of a run, between whose inputs nothing is done. The session is not spent.
-    pub(crate) fn step_on<H: Handler, V: Verifier, K: Kex, L: Link>(
-        &mut self,
-        handler: &mut H,
-        verifier: &V,
-        kex: &mut K,
-        link: &mut L,
-        input: Input,
-    ) -> Result<Flow, RunError<H::Error, K::Error>>
-        requires suits { IsSuited H.suits self.old }
-        ensures taken { (w : World) → Refines self.old w → w.settings.repeatable
-            ≡ K.repeats kex.old → StepsBy (Owes (V.accepts verifier.now) w input)
-            (told_by H.AuthHandler.told K.steps L.trace L.faults) handler.old kex.old link.old
-            handler.new kex.new link.new (RoseIfKept (L.starved link.old) (L.starved link.new))
-            self.new result }
-        ensures counted { (w : World) → Refines self.old w → w.settings.repeatable
-            ≡ K.repeats kex.old → NeverFalls (L.starved link.old) (L.starved link.new) }
-        ensures repeats { K.repeats kex.new ≡ K.repeats kex.old }
-    {
-        let mut sides = Sides::new(handler, kex, link);
-        self.take_over(&mut sides, verifier, input)
     }
 
     /// An input behind these notices, over these three.
@@ -182,35 +164,6 @@ impl Session {
         self.take(outside, verifier, input)
     }
 
-    /// An input of a session that is not spent, over these three.
-    fn take_over<H: Handler, V: Verifier, K: Kex, L: Link>(
-        &mut self,
-        sides: &mut Sides<'_, H, K, L>,
-        verifier: &V,
-        input: Input,
-    ) -> Result<Flow, RunError<H::Error, K::Error>>
-        requires suits { IsSuited H.suits self.old }
-        ensures same_handler { sides.new.handler.ghost_name ≡ sides.old.handler.ghost_name }
-        ensures same_kex { sides.new.kex.ghost_name ≡ sides.old.kex.ghost_name }
-        ensures same_link { sides.new.link.ghost_name ≡ sides.old.link.ghost_name }
-        ensures repeats { K.repeats sides.new.kex.now ≡ K.repeats sides.old.kex.now }
-        ensures taken { (w : World) → Refines self.old w → w.settings.repeatable
-            ≡ K.repeats sides.old.kex.now → StepsTo (Owes (V.accepts verifier.now) w input)
-            (told_by H.AuthHandler.told K.steps L.trace L.faults sides.old.handler.now
-            sides.old.kex.now sides.old.link.now)
-            (told_by H.AuthHandler.told K.steps L.trace L.faults sides.new.handler.now
-            sides.new.kex.now sides.new.link.now) (RoseIfKept (L.starved sides.old.link.now)
-            (L.starved sides.new.link.now)) self.new result }
-        ensures counted { (w : World) → Refines self.old w → w.settings.repeatable
-            ≡ K.repeats sides.old.kex.now → NeverFalls (L.starved sides.old.link.now)
-            (L.starved sides.new.link.now) }
-        ensures spends { result ≢ Ok Flow.Continue → is_spent self.new ≡ true }
-    {
-        let outcome = self.take(sides, verifier, input);
-        self.note_end(&outcome);
-        outcome
-    }
-
     /// The session is spent by whatever does not let it continue.
     fn note_end<E, F>(&mut self, outcome: &Result<Flow, RunError<E, F>>)
         ensures continues { outcome.now ≡ Ok Flow.Continue → self.new ≡ self.old }
@@ -223,7 +176,7 @@ impl Session {
     }
 
     /// An input of a session that is not spent.
-    fn take<O: Outside, V: Verifier>(
+    pub(crate) fn take<O: Outside, V: Verifier>(
         &mut self,
         outside: &mut O,
         verifier: &V,
@@ -240,7 +193,11 @@ impl Session {
         let Input { moment, kind } = input;
         let ticked = asks_for_keys(&kind);
         let flow = self.serve(outside, verifier, moment, kind)?;
-        self.finish(outside, ticked, flow)
+        self.hand_on(outside)?;
+        match flow {
+            Flow::Continue => self.go_on(outside, ticked),
+            Flow::Ended => Ok(Flow::Ended),
+        }
     }
 
     /// An input, up to its end: makes the calls and tells the notices that it owes, and writes its
@@ -261,7 +218,6 @@ impl Session {
     {
         match kind {
             InputKind::Payload(payload) => {
-                self.hear(payload.as_slice());
                 let flow = self.serve_payload(outside, verifier, moment, payload.as_slice());
                 drop(payload);
                 flow
@@ -280,17 +236,8 @@ impl Session {
         }
     }
 
-    /// The peer was heard, where the payload is not empty, and its bytes count.
-    fn hear(&mut self, payload: &[u8])
-        ensures world { (w : World) → Refines self.old w →
-            Refines self.new (hears payload.now w) }
-        ensures session { IsSameSession self.old self.new }
-    {
-        self.keepalives = ticks_behind(payload, self.keepalives);
-        self.keys.hear(payload);
-    }
-
-    /// A payload: what is of an exchange of keys goes to it, and what may come is read.
+    /// A payload: the peer was heard by it, what is of an exchange of keys goes to that, and what
+    /// may come is read, by its number.
     fn serve_payload<O: Outside, V: Verifier>(
         &mut self,
         outside: &mut O,
@@ -300,12 +247,15 @@ impl Session {
     ) -> Result<Flow, RunError<O::Error, O::KexError>>
         requires suits { IsSuited O.suits self.old }
         ensures does { (w : World) → Refines self.old w → (plan : Plan Outcome)
-            × OwesPayload (V.accepts verifier.now) w moment payload.now plan
+            × OwesPayload (V.accepts verifier.now) (hears payload.now w) moment payload.now plan
             × CompletesTo IsCutInRow plan (O.Transport.heard outside.old)
             (O.Transport.heard outside.new) self.new result }
         ensures same { AreSame (O.Transport.heard outside.old) (O.Transport.heard outside.new) }
     {
-        match self.passage(payload) {
+        self.keepalives = ticks_behind(payload, self.keepalives);
+        self.keys.hear(payload);
+        let window = self.common.config.window_size;
+        match self.keys.exchange.passage(window, payload) {
             Passage::Begins => {
                 self.begin_exchange(outside)?;
                 self.step_exchange(outside, payload)?;
@@ -317,39 +267,76 @@ impl Session {
             }
             Passage::Barred => Err(RunError::Inconsistent),
             Passage::Late => Err(RunError::Pending),
-            Passage::Passes => self.serve_passed(outside, verifier, moment, payload),
+            Passage::Passes => match payload_gate(&self.common.config, &self.state, payload) {
+                Gate::Nothing => Ok(Flow::Continue),
+                Gate::Ends => Ok(Flow::Ended),
+                Gate::OverCap => self.serve_over_cap(),
+                Gate::ServiceRequest => self.serve_service_request(outside, fields_of(payload)),
+                Gate::UserauthRequest => {
+                    self.serve_userauth_request(outside, verifier, moment, payload)
+                }
+                Gate::InfoResponse => self.serve_info_response(outside, moment, payload),
+                Gate::ChannelOpen => self.serve_channel_open(outside, fields_of(payload)),
+                Gate::OpenConfirmation => {
+                    self.serve_open_confirmation(outside, fields_of(payload))
+                }
+                Gate::Connection(message) => {
+                    self.serve_connection_message(outside, message, fields_of(payload))
+                }
+            },
         }
     }
 
-    /// A payload that is not the exchange's, by what its number means to the session.
-    fn serve_passed<O: Outside, V: Verifier>(
+    /// The written frames are handed on, unless they are held.
+    pub(crate) fn hand_on<O: Transport>(
         &mut self,
         outside: &mut O,
-        verifier: &V,
-        moment: u64,
-        payload: &[u8],
-    ) -> Result<Flow, RunError<O::Error, O::KexError>>
-        requires suits { IsSuited O.suits self.old }
-        ensures does { (w : World) → Refines self.old w → (said : Said)
-            × Says (circumstances (V.accepts verifier.now) w.settings moment) w
-            (gate_of w payload.now) (drop 1 payload.now) said
-            × Completes (row w moment said) (O.Transport.heard outside.old)
-            (O.Transport.heard outside.new) self.new result }
-        ensures same { AreSame (O.Transport.heard outside.old) (O.Transport.heard outside.new) }
+    ) -> Result<(), RunError<O::Error, O::KexError>>
+        ensures does { (w : World) → Refines self.old w → (next : World → Plan Outcome) →
+            ServesTo IsCutByLink (hand_on w next) (λ _ _. next (handed_on w)) (O.heard outside.old)
+            (O.heard outside.new) self.new result }
+        ensures world { OnOk result ((w : World) → Refines self.old w →
+            Refines self.new (handed_on w)) }
+        ensures session { IsSameSession self.old self.new }
+        ensures same { AreSame (O.heard outside.old) (O.heard outside.new) }
     {
-        let fields = fields_of(payload);
-        match self.gate(payload) {
-            Gate::Nothing => Ok(Flow::Continue),
-            Gate::Ends => Ok(Flow::Ended),
-            Gate::OverCap => self.serve_over_cap(),
-            Gate::ServiceRequest => self.serve_service_request(outside, fields),
-            Gate::UserauthRequest => {
-                self.serve_userauth_request(outside, verifier, moment, payload)
-            }
-            Gate::InfoResponse => self.serve_info_response(outside, moment, payload),
-            Gate::ChannelOpen => self.serve_channel_open(outside, fields),
-            Gate::OpenConfirmation => self.serve_open_confirmation(outside, fields),
-            Gate::Connection(message) => self.serve_connection_message(outside, message, fields),
+        let mut sink = FrameSink::new(self.alloc);
+        let is_held = self.keys.exchange.is_running() && !self.common.disconnected;
+        self.table.flush(&mut sink, is_held)?;
+        let frames = sink.into_vec();
+        self.keys.give(frames.as_slice());
+        send_each(outside, frames)
+    }
+
+    /// Hands on what was written, with which the run is over.
+    fn end_run<O: Transport>(
+        &mut self,
+        outside: &mut O,
+    ) -> Result<Flow, RunError<O::Error, O::KexError>>
+        ensures does { (w : World) → Refines self.old w → CompletesTo IsCutBehind (hand_on w is_over)
+            (O.heard outside.old) (O.heard outside.new) self.new result }
+        ensures same { AreSame (O.heard outside.old) (O.heard outside.new) }
+    {
+        self.hand_on(outside)?;
+        Ok(Flow::Ended)
+    }
+
+    /// The run is over where the connection was ended (RFC 4253 section 11.1); elsewhere it goes
+    /// on, and keys are exchanged where that is due.
+    fn go_on<O: Transport>(
+        &mut self,
+        outside: &mut O,
+        ticked: bool,
+    ) -> Result<Flow, RunError<O::Error, O::KexError>>
+        ensures does { (w : World) → Refines self.old w → w.settings.repeatable
+            ≡ (O.heard outside.old).repeats → CompletesTo IsCutBehind (goes_unless_ended ticked w)
+            (O.heard outside.old) (O.heard outside.new) self.new result }
+        ensures same { AreSame (O.heard outside.old) (O.heard outside.new) }
+    {
+        if self.common.disconnected {
+            return Ok(Flow::Ended);
         }
+        self.begin_where_due(outside, ticked)?;
+        Ok(Flow::Continue)
     }
 }

@@ -1,6 +1,6 @@
 // Ticks, which come from whoever keeps the time.
-ghost use Rattle.std.specs.Prelude.{◌≡◌, cond};
-ghost use Rattle.ssh_rules.specs.World.{World, is_empty};
+ghost use Rattle.std.specs.Prelude.{◌≡◌};
+ghost use Rattle.ssh_rules.specs.World.{World};
 ghost use Rattle.ssh_rules.specs.Ticks.{keepalive_acts, ticked, is_too_many};
 ghost use Rattle.ssh_session.specs.Serve.{Refines, Turned, IsSameSession};
 
@@ -14,13 +14,6 @@ fn is_too_many(config: &Config, keepalives: u64) -> bool
     ensures { result ≡ is_too_many config.now keepalives }
 {
     config.keepalive_max > 0 && keepalives > config.keepalive_max as u64
-}
-
-/// How many keepalive ticks count behind this payload: one that is not empty is a sign of life.
-pub(crate) fn ticks_behind(payload: &[u8], keepalives: u64) -> u64
-    ensures { result ≡ cond (is_empty payload.now) keepalives 0 }
-{
-    if payload.is_empty() { keepalives } else { 0 }
 }
 
 impl Session {

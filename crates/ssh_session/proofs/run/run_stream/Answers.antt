@@ -1,10 +1,10 @@
-use Rattle.std.proofs.Common.{◌≡◌, refl, sym, ◌∙◌, ap, subst, Err}
+use Rattle.std.proofs.Common.{◌≡◌, rules, sym, ◌∙◌, ap, subst, Err}
 use Rattle.std.proofs.lemmas.Result.{err_from_is_err_and}
 use Rattle.ssh_rules.specs.declared.error.RunError.TheVariants as error
 use Rattle.ssh_rules.specs.Account.{Laws}
 use Rattle.ssh_rules.specs.Failure.{run_error_of}
 use Rattle.ssh_rules.specs.World.{settings_of}
-use Rattle.ssh_session.proofs.Runs.{not_begun, laws_of}
+use Rattle.ssh_session.proofs.Runs.{not_begun, laws_of, ran_known}
 use Rattle.ssh_session.proofs.run.run_stream.Goals as goal
 
 pub returns-in_err-session : goal.returns-in_err-session
@@ -31,8 +31,14 @@ returns g c =
     record {
       laws = laws_of (g.V.Verifier.accepts c.args.verifier.now) settings _ _ _
           c.args.max_inputs c.run_inputs-result.result
-          (c.run_inputs-result.ensures settings
-          (c.in_ok-session.ensures.opens (g.K.Kex.repeats c.args.kex.now)) refl);
+          (ran_known (g.V.Verifier.accepts c.args.verifier.now) settings _ _ _ _
+          (g.L.Link.starved c.new-sides.result.link.now) (g.L.Link.starved c.args.link.now)
+          (g.L.Link.starved c.run_inputs-result.new.sides.link.now)
+          (g.L.Link.starved c.link-1.given.0) c.args.max_inputs c.run_inputs-result.result (cc)
+          (search rules) (cc) (search rules)
+          (c.run_inputs-result.ensures.ran settings
+          (c.in_ok-session.ensures.opens (g.K.Kex.repeats c.args.kex.now))
+          (ap g.K.Kex.repeats (sym c.new-sides.ensures.kex))));
     }
 
 pub run_inputs-result-requires : goal.run_inputs-result-requires

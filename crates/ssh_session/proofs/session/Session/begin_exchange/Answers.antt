@@ -9,7 +9,7 @@ use Rattle.ssh_rules.specs.Exchange.{begun}
 use Rattle.ssh_rules.specs.Failure.{run_error_of}
 use Rattle.ssh_rules.specs.Outcome.{Outcome}
 use Rattle.ssh_session.specs.Serve.{Refines, Serves}
-use Rattle.ssh_rules.proofs.Exchanging.{kexinit_given}
+use Rattle.ssh_rules.proofs.Plans.Exchanging.{kexinit_given}
 use Rattle.ssh_session.proofs.Refining.{rekeyed}
 use Rattle.ssh_session.specs.Handing.{IsCutBefore, ServesTo}
 use Rattle.ssh_session.proofs.Handing.{asked_no_frame, exchange_failed_to, passed_to, starved_to}

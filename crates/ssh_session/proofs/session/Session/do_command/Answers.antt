@@ -1,14 +1,15 @@
-use Rattle.std.proofs.Common.{ap, subst, sym}
+use Rattle.std.proofs.Common.{◌∙◌, ◌∷◌, [], ap, subst, sym}
+use Rattle.std.specs.Prelude.{codes}
 use Rattle.ssh_channels.specs.declared.chunk.DataKind.TheVariants.{Plain, Extended}
 use Rattle.ssh_channels.specs.Calls.{Eof, Close}
 use Rattle.ssh_channels.specs.Layout.{chunk}
 use Rattle.ssh_channels.specs.Lines.{takes_data, takes_eof, takes_close}
-use Rattle.ssh_rules.specs.Effect.{done_by}
+use Rattle.ssh_rules.specs.Effect.{done_by, requests}
 use Rattle.ssh_rules.specs.Failure.{error_of_table}
 use Rattle.ssh_session.specs.Serve.{HasEffect}
 use Rattle.ssh_rules.specs.World.{in_exchange, lined}
-use Rattle.ssh_session.proofs.Effects.{accepted, starved_effect, done_other}
-use Rattle.ssh_session.proofs.Refining.{called, data_taken}
+use Rattle.ssh_session.proofs.Effects.{accepted, starved_effect, done_other, flag_byte}
+use Rattle.ssh_session.proofs.Refining.{called, data_taken, runs}
 use Rattle.ssh_session.proofs.session.Session.do_command.Goals as goal
 
 pub returns-in_err-data-in-Data-clause-does : goal.returns-in_err-data-in-Data-clause-does
@@ -22,9 +23,9 @@ returns-in_ok-data-in-Data-clause-does g c = λ w r.
     let piece = chunk Plain c.in-Data.bytes in
     accepted g.row.E.Denot g.row.F.Denot (done_by c.args.at w c.args.command)
     (lined (takes_data n piece (in_exchange w)) w) _
-    c.accepted.result (ap (done_by c.args.at w) c.in-Data.is)
-    c.accepted.ensures (data_taken n piece c.in_exchange-in_exchange.result c.args.self.now
-    c.data.new.self _ w (c.in_exchange-in_exchange.ensures.world w r)
+    c.quiet.result (ap (done_by c.args.at w) c.in-Data.is)
+    c.quiet.ensures (data_taken n piece c.is_running-in_exchange.result c.args.self.now
+    c.data.new.self _ w (c.is_running-in_exchange.ensures ∙ runs c.args.self.now w r)
     c.in_ok-data-in-Data.ensures.table r)
 
 pub returns-in_err-extended_data-in-ExtendedData-clause-does :
@@ -41,10 +42,10 @@ returns-in_ok-extended_data-in-ExtendedData-clause-does g c = λ w r.
     let piece = chunk (Extended c.in-ExtendedData.ext) c.in-ExtendedData.bytes in
     accepted g.row.E.Denot g.row.F.Denot (done_by c.args.at w c.args.command)
     (lined (takes_data n piece (in_exchange w)) w) _
-    c.accepted-in-ExtendedData.result
-    (ap (done_by c.args.at w) c.in-ExtendedData.is) c.accepted-in-ExtendedData.ensures
-    (data_taken n piece c.in_exchange-in_exchange-in-ExtendedData.result c.args.self.now
-    c.extended_data.new.self _ w (c.in_exchange-in_exchange-in-ExtendedData.ensures.world w r)
+    c.quiet-in-ExtendedData.result
+    (ap (done_by c.args.at w) c.in-ExtendedData.is) c.quiet-in-ExtendedData.ensures
+    (data_taken n piece c.is_running-in_exchange-in-ExtendedData.result c.args.self.now
+    c.extended_data.new.self _ w (c.is_running-in_exchange-in-ExtendedData.ensures ∙ runs c.args.self.now w r)
     c.in_ok-extended_data-in-ExtendedData.ensures.table r)
 
 pub returns-in_err-eof-in-Eof-clause-does : goal.returns-in_err-eof-in-Eof-clause-does
@@ -56,8 +57,8 @@ pub returns-in_ok-eof-in-Eof-clause-does : goal.returns-in_ok-eof-in-Eof-clause-
 returns-in_ok-eof-in-Eof-clause-does g c = λ w r.
     let n = c.in-Eof.channel.0 in
     accepted g.row.E.Denot g.row.F.Denot (done_by c.args.at w c.args.command) (lined (takes_eof n) w) _
-    c.accepted-in-Eof.result (ap (done_by c.args.at w) c.in-Eof.is)
-    c.accepted-in-Eof.ensures (called (Eof n) c.args.self.now c.eof.new.self _ w tt
+    c.quiet-in-Eof.result (ap (done_by c.args.at w) c.in-Eof.is)
+    c.quiet-in-Eof.ensures (called (Eof n) c.args.self.now c.eof.new.self _ w tt
     c.in_ok-eof-in-Eof.ensures.table r)
 
 pub returns-in_err-close-in-Close-clause-does : goal.returns-in_err-close-in-Close-clause-does
@@ -69,8 +70,8 @@ pub returns-in_ok-close-in-Close-clause-does : goal.returns-in_ok-close-in-Close
 returns-in_ok-close-in-Close-clause-does g c = λ w r.
     let n = c.in-Close.channel.0 in
     accepted g.row.E.Denot g.row.F.Denot (done_by c.args.at w c.args.command) (lined (takes_close n) w) _
-    c.accepted-in-Close.result (ap (done_by c.args.at w) c.in-Close.is)
-    c.accepted-in-Close.ensures (called (Close n) c.args.self.now c.close.new.self _ w tt
+    c.quiet-in-Close.result (ap (done_by c.args.at w) c.in-Close.is)
+    c.quiet-in-Close.ensures (called (Close n) c.args.self.now c.close.new.self _ w tt
     c.in_ok-close-in-Close.ensures.table r)
 
 pub returns-in-ChannelSuccess-clause-does : goal.returns-in-ChannelSuccess-clause-does
@@ -87,15 +88,20 @@ returns-in-ChannelFailure-clause-does g c = λ w r.
 
 pub returns-in-XonXoff-clause-does : goal.returns-in-XonXoff-clause-does
 returns-in-XonXoff-clause-does g c = λ w r.
-    subst (λ d. HasEffect d c.xon_xoff.new.self c.xon_xoff.result)
+    subst (λ d. HasEffect d c.request.new.self c.request.result)
     (sym (ap (done_by c.args.at w) c.in-XonXoff.is))
-    (c.xon_xoff.ensures.does w r)
+    (subst (λ byte. HasEffect (requests c.in-XonXoff.channel
+    (record { name = codes "xon-xoff"; fields = byte ∷ [] }) w) c.request.new.self c.request.result)
+    (flag_byte c.in-XonXoff.client_can_do) (c.request.ensures.does w r))
 
 pub returns-in-ExitStatus-clause-does : goal.returns-in-ExitStatus-clause-does
 returns-in-ExitStatus-clause-does g c = λ w r.
-    subst (λ d. HasEffect d c.exit_status.new.self c.exit_status.result)
+    subst (λ d. HasEffect d c.request-in-ExitStatus.new.self c.request-in-ExitStatus.result)
     (sym (ap (done_by c.args.at w) c.in-ExitStatus.is))
-    (c.exit_status.ensures.does w r)
+    (subst (λ fields. HasEffect (requests c.in-ExitStatus.channel
+    (record { name = codes "exit-status"; fields = fields }) w) c.request-in-ExitStatus.new.self
+    c.request-in-ExitStatus.result)
+    c.to_be_bytes.ensures (c.request-in-ExitStatus.ensures.does w r))
 
 pub returns-in-ExitSignal-clause-does : goal.returns-in-ExitSignal-clause-does
 returns-in-ExitSignal-clause-does g c = λ w r.

@@ -4,7 +4,7 @@ use Rattle.ssh_channels.specs.Does.{goes_out}
 use Rattle.ssh_channels.specs.Lines.{find, goes_on}
 use Rattle.ssh_session.specs.Serve.{Refines}
 use Rattle.ssh_rules.specs.World.{lined}
-use Rattle.ssh_rules.proofs.Results.{on_ok, if_ok}
+use Rattle.ssh_rules.proofs.Plans.Results.{on_ok, if_ok}
 use Rattle.ssh_session.proofs.Refining.{called, framed_same}
 use Rattle.ssh_session.proofs.Unchanged.{not_ended}
 use Rattle.ssh_session.proofs.session.Session.flush_pending.Goals as goal

@@ -2,7 +2,7 @@ use Rattle.std.proofs.Common.{None, true}
 use Rattle.ssh_rules.specs.Acts.{acts}
 use Rattle.ssh_rules.specs.Rows.{global_reply, gives_up_sessions}
 use Rattle.ssh_rules.specs.World.{wants_global, settles_global}
-use Rattle.ssh_rules.proofs.Results.{on_ok}
+use Rattle.ssh_rules.proofs.Plans.Results.{on_ok}
 use Rattle.ssh_session.proofs.Replying.{given_up}
 use Rattle.ssh_session.proofs.Serving.{turned_quietly}
 use Rattle.ssh_session.proofs.session.Session.gave_up_sessions.Goals as goal

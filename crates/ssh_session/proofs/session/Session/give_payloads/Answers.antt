@@ -4,9 +4,9 @@ use Rattle.ssh_rules.specs.Acts.{frames_given, gives, tell_all}
 use Rattle.ssh_rules.specs.Exchange.{given}
 use Rattle.ssh_rules.specs.Failure.{run_error_of}
 use Rattle.ssh_rules.specs.Layout.{at_once}
-use Rattle.ssh_rules.proofs.Exchanging.{all_given}
+use Rattle.ssh_rules.proofs.Plans.Exchanging.{all_given}
 use Rattle.ssh_session.proofs.Finishing.{told_all}
-use Rattle.ssh_rules.proofs.Results.{in_any_case}
+use Rattle.ssh_rules.proofs.Plans.Results.{in_any_case}
 use Rattle.ssh_session.proofs.Refining.{rekeyed}
 use Rattle.ssh_session.specs.Handing.{IsCutBefore, IsCutByLink}
 use Rattle.ssh_session.proofs.Handing.{starved_to, to_other}

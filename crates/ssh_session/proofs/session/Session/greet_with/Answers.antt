@@ -2,11 +2,12 @@ use Rattle.std.proofs.Common.{◌∷◌, ◌++◌, [], Some, Err, ap, subst, sym
 use Rattle.std.proofs.lemmas.Result.{err_from_is_err_and}
 use Rattle.ssh_rules.specs.Acts.{acts}
 use Rattle.ssh_rules.specs.Failure.{error_of_table, run_error_of}
-use Rattle.ssh_rules.specs.Layout.{at_once, banner}
+use Rattle.ssh_rules.specs.Layout.{at_once, banner, service_accept}
 use Rattle.ssh_rules.specs.Rows.{greets, greeting, served}
-use Rattle.ssh_session.specs.Serve.{Refines, Answers}
+use Rattle.ssh_session.specs.Serve.{ComesTo}
 use Rattle.ssh_rules.specs.World.{writes}
 use Rattle.ssh_session.proofs.Greeting.{both_written, greeted, not_greeted}
+use Rattle.ssh_session.proofs.Refining.{staged}
 use Rattle.ssh_session.proofs.Serving.{starved_quietly}
 use Rattle.ssh_session.proofs.session.Session.greet_with.Goals as goal
 
@@ -20,36 +21,36 @@ pub returns-in_err-banner : goal.returns-in_err-banner
 returns-in_err-banner g c = λ w r later.
     let p = err_from_is_err_and c.from_residual-in_err-banner.result
     c.from_residual-in_err-banner.ensures.1 in
-    subst (λ x. Answers {T = Unit {0}} (acts (greets (Some c.args.message.now) ++ later) w)
+    subst (λ x. ComesTo {T = Unit {0}} (acts (greets (Some c.args.message.now) ++ later) w)
     (λ (_ : Unit {0}). acts later) ⊥ []
     c.args.self.now x) (sym (p.1 ∙ ap Err p.2))
     (not_greeted g.row.E.Denot g.row.F.Denot c.args.message.now w later c.in_err-banner.field-0.0
     c.args.self.now
     c.in_err-banner.ensures.refused)
 
-pub returns-in_err-write : goal.returns-in_err-write
-returns-in_err-write g c = λ w r later.
+pub returns-in_err-stage : goal.returns-in_err-stage
+returns-in_err-stage g c = λ w r later.
     starved_quietly (acts (greets (Some c.args.message.now) ++ later) w) (λ (_ : Unit {0}).
     acts later) _ _ _
-    c.from_residual-in_err-write.ensures.1 (ap error_of_table c.in_err-write.ensures.memory)
+    c.from_residual-in_err-stage.ensures.1 (ap error_of_table c.in_err-stage.ensures.memory)
 
-pub returns-in_err-write-2 : goal.returns-in_err-write-2
-returns-in_err-write-2 g c = λ w r later.
+pub returns-in_err-stage-2 : goal.returns-in_err-stage-2
+returns-in_err-stage-2 g c = λ w r later.
     starved_quietly (acts (greets (Some c.args.message.now) ++ later) w) (λ (_ : Unit {0}).
     acts later) _ _ _
-    c.from_residual-in_err-write-2.ensures.1 (ap error_of_table c.in_err-write-2.ensures.memory)
+    c.from_residual-in_err-stage-2.ensures.1 (ap error_of_table c.in_err-stage-2.ensures.memory)
 
 pub returns : goal.returns
 returns g c = λ w r later.
-    let one = c.in_ok-accept.accept in
-    let other = c.in_ok-banner.banner in
-    let first = c.in_ok-write.ensures.world (served w) (c.wait_for_requests.ensures w r) in
-    let second = both_written c.write-2.new.self (served w) one other
-    (c.in_ok-write-2.ensures.world (writes (one ∷ []) (served w)) first) in (
+    let one = at_once service_accept in
+    let other = at_once (banner c.args.message.now) in
+    let first = staged c.in_ok-accept.accept one c.wait_for_requests.new.self c.stage.new.self
+    c.wait_for_requests.new.self.session_id_fits
+    (served w) c.in_ok-accept.ensures.ok c.in_ok-stage.ensures.table
+    (c.wait_for_requests.ensures w r) in (
       writes (greeting (Some c.args.message.now)) (served w),
       greeted c.args.message.now w later c.in_ok-banner.ensures.ok.1,
-      subst (λ f. Refines c.write-2.new.self (writes (f ∷ at_once (banner c.args.message.now) ∷ [])
-          (served w))) c.in_ok-accept.ensures.ok
-          (subst (λ f. Refines c.write-2.new.self (writes (one ∷ f ∷ []) (served w)))
-          c.in_ok-banner.ensures.ok.0 second),
+      both_written _ (served w) one other (staged c.in_ok-banner.banner other _
+          c.stage-2.new.self _ (writes (one ∷ []) (served w)) c.in_ok-banner.ensures.ok.0
+          c.in_ok-stage-2.ensures.table first),
     )

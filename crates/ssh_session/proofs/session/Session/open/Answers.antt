@@ -1,4 +1,4 @@
-use Rattle.std.proofs.Common.{◌≡◌, sym, ◌∙◌, ap}
+use Rattle.std.proofs.Common.{sym, ◌∙◌, ap}
 use Rattle.ssh_channels.specs.Lines.{next_number}
 use Rattle.ssh_rules.specs.Rows.{turns_first}
 use Rattle.ssh_rules.specs.Types.{handling, given_up, unsupported, unknown}

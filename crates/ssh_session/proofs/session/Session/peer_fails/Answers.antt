@@ -7,14 +7,15 @@ use Rattle.ssh_channels.specs.Calls.{Fail_open}
 use Rattle.ssh_channels.specs.Lines.{fails}
 use Rattle.ssh_rules.specs.Acts.{acts}
 use Rattle.ssh_rules.specs.World.{lined}
-use Rattle.ssh_session.proofs.Refining.{called}
+use Rattle.ssh_session.proofs.Refining.{called, there_same}
 use Rattle.ssh_session.proofs.Rows.{failure_by, open_waits_not, waiting_same, not_failed}
 use Rattle.ssh_session.proofs.Serving.{hears_nothing, serves_nothing, settled_by}
 use Rattle.ssh_session.proofs.session.Session.peer_fails.Goals as goal
 
 pub returns-then-is_there-clause-does : goal.returns-then-is_there-clause-does
 returns-then-is_there-clause-does g c = λ w r later.
-    let there = sym (c.is_there.ensures w r) ∙ c.if-is_there.true in
+    let there = sym (c.is_there.ensures ∙ there_same c.args.channel.0 c.args.self.now w r)
+    ∙ c.if-is_there.true in
     rw (failure_by w c.args.channel c.args.reason true false there
     (open_waits_not c.args.channel.0 w there)) ([], hears_nothing false _, refl)
 
@@ -22,7 +23,8 @@ pub returns-then-not-waited-clause-does : goal.returns-then-not-waited-clause-do
 returns-then-not-waited-clause-does g c = λ w r later.
     let n = c.args.channel.0 in
     let old = c.args.self.now in
-    let there = sym (c.is_there.ensures w r) ∙ c.if-is_there.false in
+    let there = sym (c.is_there.ensures ∙ there_same c.args.channel.0 c.args.self.now w r)
+    ∙ c.if-is_there.false in
     let none = sym (waiting_same n old w r) ∙ (sym c.fail_open-waited.ensures.answer
     ∙ c.if-not-waited.true) in
     let failed = called (Fail_open n) old c.fail_open-waited.new.self _ w tt
@@ -34,7 +36,8 @@ pub returns-clause-does : goal.returns-clause-does
 returns-clause-does g c = λ w r later.
     let n = c.args.channel.0 in
     let old = c.args.self.now in
-    let there = sym (c.is_there.ensures w r) ∙ c.if-is_there.false in
+    let there = sym (c.is_there.ensures ∙ there_same c.args.channel.0 c.args.self.now w r)
+    ∙ c.if-is_there.false in
     let waits = sym (waiting_same n old w r) ∙ (sym c.fail_open-waited.ensures.answer
     ∙ c.if-not-waited.false) in
     let failed = called (Fail_open n) old c.fail_open-waited.new.self _ w tt

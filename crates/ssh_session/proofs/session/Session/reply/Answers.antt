@@ -1,16 +1,16 @@
-use Rattle.std.proofs.Common.{◌∷◌, [], None, ap, refl, subst}
+use Rattle.std.proofs.Common.{◌∷◌, [], None, ap, refl}
 use Rattle.ssh_link.specs.Frames.{Frame}
 use Rattle.ssh_rules.specs.Acts.{acts, Turns}
 use Rattle.ssh_rules.specs.Failure.{error_of_table}
 use Rattle.ssh_rules.specs.Rows.{finishes}
-use Rattle.ssh_session.specs.Serve.{Refines}
 use Rattle.ssh_rules.specs.World.{writes}
+use Rattle.ssh_session.proofs.Refining.{staged}
 use Rattle.ssh_session.proofs.Requests.{noted_as}
 use Rattle.ssh_session.proofs.Serving.{starved_quietly}
 use Rattle.ssh_session.proofs.session.Session.reply.Goals as goal
 
-pub returns-in_err-write : goal.returns-in_err-write
-returns-in_err-write g c = λ w r later.
+pub returns-in_err-stage : goal.returns-in_err-stage
+returns-in_err-stage g c = λ w r later.
     let frame : Frame = record {
       payload = c.args.payload;
       hold_until = c.args.hold_until;
@@ -18,7 +18,7 @@ returns-in_err-write g c = λ w r later.
     } in
     starved_quietly (acts (Turns (λ v. writes (frame ∷ []) (finishes c.args.requested v)) ∷ later)
     w) (λ (_ : Unit {0}). acts later)
-    _ _ _ c.from_residual.ensures.1 (ap error_of_table c.in_err-write.ensures.memory)
+    _ _ _ c.from_residual.ensures.1 (ap error_of_table c.in_err-stage.ensures.memory)
 
 pub returns : goal.returns
 returns g c = λ w r later.
@@ -29,7 +29,7 @@ returns g c = λ w r later.
     } in (
       writes (frame ∷ []) (finishes c.args.requested w),
       refl,
-      noted_as c.args.requested c.write.new.self _ (writes (frame ∷ []) w)
-          (subst (λ f. Refines c.write.new.self (writes (f ∷ []) w)) c.new.ensures
-          (c.in_ok-write.ensures.world w r)),
+      noted_as c.args.requested _ _ (writes (frame ∷ []) w) (staged c.new.result frame
+          c.args.self.now c.stage.new.self c.args.self.now.session_id_fits w c.new.ensures
+          c.in_ok-stage.ensures.table r),
     )

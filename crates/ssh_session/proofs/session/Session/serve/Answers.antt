@@ -8,10 +8,9 @@ use Rattle.ssh_rules.specs.Outcome.{Goes, Ends}
 use Rattle.ssh_rules.specs.Run.{command_row}
 use Rattle.ssh_rules.specs.Cause.{comes}
 use Rattle.ssh_rules.specs.Ticks.{keepalive_acts, inactivity_acts}
-use Rattle.ssh_rules.specs.World.{hears}
 use Rattle.ssh_session.proofs.Serving.{serves_nothing, completes}
-use Rattle.ssh_rules.proofs.NeverBegun.{command_never, tick_never}
-use Rattle.ssh_rules.proofs.Telling.{acts_given, command_given}
+use Rattle.ssh_rules.proofs.Begins.Rows.{command_never, tick_never}
+use Rattle.ssh_rules.proofs.Plans.Telling.{acts_given, command_given}
 use Rattle.ssh_session.proofs.Handing.{plain_row}
 use Rattle.ssh_session.proofs.Stopping.{inactive_input}
 use Rattle.ssh_session.proofs.Serving.{goes_on, turned, passed}
@@ -19,9 +18,7 @@ use Rattle.ssh_session.proofs.session.Session.serve.Goals as goal
 
 pub returns-in-Payload-clause-does : goal.returns-in-Payload-clause-does
 returns-in-Payload-clause-does g c = λ w r.
-    let v = hears c.in-Payload.payload w in
-    let q = rw c.as_slice.ensures at (c.hear.ensures.world w r) in
-    let s = rw c.as_slice-in-Payload.ensures at (c.serve_payload-flow.ensures.does v q) in
+    let s = rw c.as_slice.ensures at (c.serve_payload-flow.ensures.does w r) in
     (s.0, rw c.in-Payload.is s.1, s.2)
 
 pub returns-in-Command-clause-does : goal.returns-in-Command-clause-does

@@ -2,7 +2,7 @@ use Rattle.std.proofs.Common.{Ok, Err}
 use Rattle.ssh_link.specs.declared.link.TraceEntry.TheVariants.{Answered}
 use Rattle.ssh_link.specs.declared.outcome.CommandOutcome.{CommandOutcome}
 use Rattle.ssh_auth.specs.Plan.{Plan, Finish, Tell}
-use Rattle.ssh_session.specs.declared.apply.Done.{Done}
+use Rattle.ssh_session.specs.declared.commands.Done.{Done}
 use Rattle.ssh_rules.specs.declared.error.Flow.{Flow}
 use Rattle.ssh_rules.specs.declared.error.Flow.TheVariants.{Continue}
 use Rattle.ssh_rules.specs.Effect.{effect}

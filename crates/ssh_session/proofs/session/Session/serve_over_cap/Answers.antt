@@ -1,4 +1,4 @@
-use Rattle.std.proofs.Common.{◌∷◌, [], ap, subst, refl}
+use Rattle.std.proofs.Common.{◌∷◌, [], ap, refl}
 use Rattle.ssh_auth.specs.Plan.{Finish}
 use Rattle.ssh_rules.specs.declared.error.Flow.{Flow}
 use Rattle.ssh_rules.specs.Failure.{error_of_table, run_error_of}
@@ -6,8 +6,8 @@ use Rattle.ssh_rules.specs.Layout.{at_once, too_many_attempts}
 use Rattle.ssh_rules.specs.Reading.{Over_cap}
 use Rattle.ssh_rules.specs.Rows.{row}
 use Rattle.ssh_rules.specs.Cause.{comes}
-use Rattle.ssh_session.specs.Serve.{Refines}
 use Rattle.ssh_rules.specs.World.{writes}
+use Rattle.ssh_session.proofs.Refining.{staged}
 use Rattle.ssh_session.proofs.Serving.{starved_quietly}
 use Rattle.ssh_session.proofs.session.Session.serve_over_cap.Goals as goal
 
@@ -17,15 +17,15 @@ returns-in_err-disconnect g c = λ w moment r.
     c.from_residual.ensures.1
     (ap run_error_of c.in_err-disconnect.ensures.memory)
 
-pub returns-in_err-write : goal.returns-in_err-write
-returns-in_err-write g c = λ w moment r.
+pub returns-in_err-stage : goal.returns-in_err-stage
+returns-in_err-stage g c = λ w moment r.
     starved_quietly (row w moment Over_cap) (λ (flow : Flow) world. Finish (comes flow world)) _ _ _
-    c.from_residual-in_err-write.ensures.1 (ap error_of_table c.in_err-write.ensures.memory)
+    c.from_residual-in_err-stage.ensures.1 (ap error_of_table c.in_err-stage.ensures.memory)
 
 pub returns : goal.returns
 returns g c = λ w moment r. (
   writes (at_once too_many_attempts ∷ []) w,
   refl,
-  subst (λ f. Refines c.write.new.self (writes (f ∷ []) w)) c.in_ok-disconnect.ensures.ok
-      (c.in_ok-write.ensures.world w r),
+  staged c.in_ok-disconnect.disconnect _ c.args.self.now c.stage.new.self _ w
+      c.in_ok-disconnect.ensures.ok c.in_ok-stage.ensures.table r,
 )

@@ -1,37 +1,44 @@
 use Rattle.std.proofs.Common.{◌∷◌, [], Ok, Err, refl, subst, inl}
 use Rattle.ssh_auth.specs.Plan.{Finish}
 use Rattle.ssh_rules.specs.declared.error.Flow.{Flow}
-use Rattle.ssh_rules.specs.declared.error.Flow.TheVariants.{Continue}
+use Rattle.ssh_rules.specs.declared.error.Flow.TheVariants.{Continue, Ended}
 use Rattle.ssh_rules.specs.declared.exchange.Passage.TheVariants as passage
+use Rattle.ssh_rules.specs.declared.gate.Gate.TheVariants as gate
 use Rattle.ssh_rules.specs.Acts.{Exchanges, Stepping, acts}
 use Rattle.ssh_rules.specs.Outcome.{Goes}
+use Rattle.ssh_rules.specs.Reading.{Nothing, Disconnect, Over_cap, Service, Connection, said_of}
 use Rattle.ssh_rules.specs.Rows.{exchange_acts, row}
 use Rattle.ssh_rules.specs.Run.{OwesPassed}
 use Rattle.ssh_rules.specs.Cause.{comes}
-use Rattle.ssh_rules.proofs.NeverBegun.{row_never}
-use Rattle.ssh_rules.proofs.Telling.{row_given}
+use Rattle.ssh_rules.specs.World.{hears}
 use Rattle.ssh_session.specs.Handing.{IsCutBefore, IsCutInRow}
-use Rattle.ssh_session.proofs.Handing.{before_in_row, completes_to, passed_to, plain_row}
-use Rattle.ssh_session.proofs.Handing.{then_kexinit, to_other}
+use Rattle.ssh_session.proofs.Handing.{before_in_row, completes_to, passed_to, then_kexinit}
+use Rattle.ssh_session.proofs.Handing.{to_other}
+use Rattle.ssh_session.proofs.Reading.{read_row}
+use Rattle.ssh_session.proofs.Refining.{gate_same, heard_by, passage_same}
 use Rattle.ssh_session.proofs.Stopping.{barred_input, late_input}
-use Rattle.ssh_session.proofs.Serving.{served_both}
+use Rattle.ssh_session.proofs.Serving.{quiet, served_both, serves_nothing}
 use Rattle.ssh_session.proofs.session.Session.serve_payload.Goals as goal
 
 pub returns-in_err-begin_exchange-in-Begins-clause-does :
     goal.returns-in_err-begin_exchange-in-Begins-clause-does
 returns-in_err-begin_exchange-in-Begins-clause-does g c = λ w r.
     let payload = c.args.payload.now in
-    let plan = acts (exchange_acts payload passage.Begins) w in (
+    let old = c.args.self.now in
+    let v = hears payload w in
+    let q = heard_by old c.ticks_behind-self.result c.hear.new.self _ w payload
+    c.ticks_behind-self.ensures c.hear.ensures r in
+    let plan = acts (exchange_acts payload passage.Begins) v in (
       plan,
-      subst (λ at. OwesPassed at (g.V.Verifier.accepts c.args.verifier.now) w c.args.moment payload
-          plan) (c.in-Begins.ensures w r) refl,
+      subst (λ at. OwesPassed at (g.V.Verifier.accepts c.args.verifier.now) v c.args.moment payload
+          plan) (passage_same _ v payload _ q c.in-Begins.ensures) refl,
       passed_to IsCutInRow plan (λ (_ : Unit {0}). acts (Exchanges (Stepping payload) ∷ []))
           (λ flow world. Finish (comes flow world)) _ _ c.begin_exchange.new.self
           c.begin_exchange.new.self _ _ c.from_residual.ensures.1
           (to_other IsCutBefore IsCutInRow plan
           (λ (_ : Unit {0}). acts (Exchanges (Stepping payload) ∷ [])) _ _
           c.begin_exchange.new.self (Err _)
-          (c.in_err-begin_exchange-in-Begins.ensures.does w r (Exchanges (Stepping payload) ∷ []))
+          (c.in_err-begin_exchange-in-Begins.ensures.does v q (Exchanges (Stepping payload) ∷ []))
           (λ cause events cut. before_in_row cause _ plan events cut)),
     )
 
@@ -39,37 +46,45 @@ pub returns-in_err-step_exchange-in-Begins-clause-does :
     goal.returns-in_err-step_exchange-in-Begins-clause-does
 returns-in_err-step_exchange-in-Begins-clause-does g c = λ w r.
     let payload = c.args.payload.now in
+    let old = c.args.self.now in
+    let v = hears payload w in
+    let q = heard_by old c.ticks_behind-self.result c.hear.new.self _ w payload
+    c.ticks_behind-self.ensures c.hear.ensures r in
     let step = Exchanges (Stepping payload) ∷ [] in
-    let plan = acts (exchange_acts payload passage.Begins) w in (
+    let plan = acts (exchange_acts payload passage.Begins) v in (
       plan,
-      subst (λ at. OwesPassed at (g.V.Verifier.accepts c.args.verifier.now) w c.args.moment payload
-          plan) (c.in-Begins.ensures w r) refl,
-      then_kexinit payload w (λ flow world. Finish (comes flow world)) _ _ _
+      subst (λ at. OwesPassed at (g.V.Verifier.accepts c.args.verifier.now) v c.args.moment payload
+          plan) (passage_same _ v payload _ q c.in-Begins.ensures) refl,
+      then_kexinit payload v (λ flow world. Finish (comes flow world)) _ _ _
           c.begin_exchange.new.self c.step_exchange.new.self _
-          (c.in_ok-begin_exchange-in-Begins.ensures.does w r step).0
-          (λ v q. passed_to IsCutBefore (acts step v)
+          (c.in_ok-begin_exchange-in-Begins.ensures.does v q step).0
+          (λ u s. passed_to IsCutBefore (acts step u)
           (λ (_ : Unit {0}) world. Finish (Goes world)) (λ flow world. Finish (comes flow world))
           _ _ c.step_exchange.new.self c.step_exchange.new.self _ _
           c.from_residual-in_err-step_exchange-in-Begins.ensures.1
-          (completes_to IsCutBefore step v _ _ c.step_exchange.new.self (Err _)
-          (c.in_err-step_exchange-in-Begins.ensures.does v q))),
+          (completes_to IsCutBefore step u _ _ c.step_exchange.new.self (Err _)
+          (c.in_err-step_exchange-in-Begins.ensures.does u s))),
     )
 
 pub returns-in_ok-step_exchange-in-Begins-clause-does :
     goal.returns-in_ok-step_exchange-in-Begins-clause-does
 returns-in_ok-step_exchange-in-Begins-clause-does g c = λ w r.
     let payload = c.args.payload.now in
+    let old = c.args.self.now in
+    let v = hears payload w in
+    let q = heard_by old c.ticks_behind-self.result c.hear.new.self _ w payload
+    c.ticks_behind-self.ensures c.hear.ensures r in
     let step = Exchanges (Stepping payload) ∷ [] in
-    let plan = acts (exchange_acts payload passage.Begins) w in (
+    let plan = acts (exchange_acts payload passage.Begins) v in (
       plan,
-      subst (λ at. OwesPassed at (g.V.Verifier.accepts c.args.verifier.now) w c.args.moment payload
-          plan) (c.in-Begins.ensures w r) refl,
+      subst (λ at. OwesPassed at (g.V.Verifier.accepts c.args.verifier.now) v c.args.moment payload
+          plan) (passage_same _ v payload _ q c.in-Begins.ensures) refl,
       (
         served_both tt plan (λ (_ : Unit {0}). acts step) (λ flow world. Finish (comes flow world))
             _ _ _ c.begin_exchange.new.self c.step_exchange.new.self (Ok Continue)
-            (c.in_ok-begin_exchange-in-Begins.ensures.does w r step).0
-            (λ v q. (completes_to IsCutBefore step v _ _ c.step_exchange.new.self (Ok tt)
-            (c.in_ok-step_exchange-in-Begins.ensures.does v q)).0),
+            (c.in_ok-begin_exchange-in-Begins.ensures.does v q step).0
+            (λ u s. (completes_to IsCutBefore step u _ _ c.step_exchange.new.self (Ok tt)
+            (c.in_ok-step_exchange-in-Begins.ensures.does u s)).0),
         tt,
       ),
     )
@@ -78,19 +93,23 @@ pub returns-in_err-step_exchange-in-Steps-clause-does :
     goal.returns-in_err-step_exchange-in-Steps-clause-does
 returns-in_err-step_exchange-in-Steps-clause-does g c = λ w r.
     let payload = c.args.payload.now in
+    let old = c.args.self.now in
+    let v = hears payload w in
+    let q = heard_by old c.ticks_behind-self.result c.hear.new.self _ w payload
+    c.ticks_behind-self.ensures c.hear.ensures r in
     let step = Exchanges (Stepping payload) ∷ [] in
-    let plan = acts step w in (
+    let plan = acts step v in (
       plan,
-      subst (λ at. OwesPassed at (g.V.Verifier.accepts c.args.verifier.now) w c.args.moment payload
-          plan) (c.in-Steps.ensures w r) refl,
+      subst (λ at. OwesPassed at (g.V.Verifier.accepts c.args.verifier.now) v c.args.moment payload
+          plan) (passage_same _ v payload _ q c.in-Steps.ensures) refl,
       passed_to IsCutInRow plan (λ (_ : Unit {0}) world. Finish (Goes world))
           (λ flow world. Finish (comes flow world)) _ _ c.step_exchange-in-Steps.new.self
           c.step_exchange-in-Steps.new.self _ _
           c.from_residual-in_err-step_exchange-in-Steps.ensures.1
           (to_other IsCutBefore IsCutInRow plan (λ (_ : Unit {0}) world. Finish (Goes world)) _ _
           c.step_exchange-in-Steps.new.self (Err _)
-          (completes_to IsCutBefore step w _ _ c.step_exchange-in-Steps.new.self (Err _)
-          (c.in_err-step_exchange-in-Steps.ensures.does w r))
+          (completes_to IsCutBefore step v _ _ c.step_exchange-in-Steps.new.self (Err _)
+          (c.in_err-step_exchange-in-Steps.ensures.does v q))
           (λ cause events cut. before_in_row cause _ plan events cut)),
     )
 
@@ -98,14 +117,18 @@ pub returns-in_ok-step_exchange-in-Steps-clause-does :
     goal.returns-in_ok-step_exchange-in-Steps-clause-does
 returns-in_ok-step_exchange-in-Steps-clause-does g c = λ w r.
     let payload = c.args.payload.now in
+    let old = c.args.self.now in
+    let v = hears payload w in
+    let q = heard_by old c.ticks_behind-self.result c.hear.new.self _ w payload
+    c.ticks_behind-self.ensures c.hear.ensures r in
     let step = Exchanges (Stepping payload) ∷ [] in
-    let plan = acts step w in (
+    let plan = acts step v in (
       plan,
-      subst (λ at. OwesPassed at (g.V.Verifier.accepts c.args.verifier.now) w c.args.moment payload
-          plan) (c.in-Steps.ensures w r) refl,
+      subst (λ at. OwesPassed at (g.V.Verifier.accepts c.args.verifier.now) v c.args.moment payload
+          plan) (passage_same _ v payload _ q c.in-Steps.ensures) refl,
       (
-        (completes_to IsCutBefore step w _ _ c.step_exchange-in-Steps.new.self (Ok tt)
-            (c.in_ok-step_exchange-in-Steps.ensures.does w r)).0,
+        (completes_to IsCutBefore step v _ _ c.step_exchange-in-Steps.new.self (Ok tt)
+            (c.in_ok-step_exchange-in-Steps.ensures.does v q)).0,
         tt,
       ),
     )
@@ -114,10 +137,15 @@ pub returns-in-Barred-clause-does : goal.returns-in-Barred-clause-does
 unfolding barred_input
 returns-in-Barred-clause-does g c = λ w r.
     let payload = c.args.payload.now in
-    let plan = acts (exchange_acts payload passage.Barred) w in (
+    let old = c.args.self.now in
+    let v = hears payload w in
+    let q = heard_by old c.ticks_behind-self.result c.hear.new.self old.session_id_fits w
+    payload
+    c.ticks_behind-self.ensures c.hear.ensures r in
+    let plan = acts (exchange_acts payload passage.Barred) v in (
       plan,
-      subst (λ at. OwesPassed at (g.V.Verifier.accepts c.args.verifier.now) w c.args.moment payload
-          plan) (c.in-Barred.ensures w r) refl,
+      subst (λ at. OwesPassed at (g.V.Verifier.accepts c.args.verifier.now) v c.args.moment payload
+          plan) (passage_same _ v payload _ q c.in-Barred.ensures) refl,
       (barred_input (λ (flow : Flow) world. Finish (comes flow world)) _ c.args.self.now, inl refl),
     )
 
@@ -125,21 +153,136 @@ pub returns-in-Late-clause-does : goal.returns-in-Late-clause-does
 unfolding late_input
 returns-in-Late-clause-does g c = λ w r.
     let payload = c.args.payload.now in
-    let plan = acts (exchange_acts payload passage.Late) w in (
+    let old = c.args.self.now in
+    let v = hears payload w in
+    let q = heard_by old c.ticks_behind-self.result c.hear.new.self old.session_id_fits w
+    payload
+    c.ticks_behind-self.ensures c.hear.ensures r in
+    let plan = acts (exchange_acts payload passage.Late) v in (
       plan,
-      subst (λ at. OwesPassed at (g.V.Verifier.accepts c.args.verifier.now) w c.args.moment payload
-          plan) (c.in-Late.ensures w r) refl,
+      subst (λ at. OwesPassed at (g.V.Verifier.accepts c.args.verifier.now) v c.args.moment payload
+          plan) (passage_same _ v payload _ q c.in-Late.ensures) refl,
       (late_input (λ (flow : Flow) world. Finish (comes flow world)) _ c.args.self.now, inl refl),
     )
 
-pub returns-in-Passes-clause-does : goal.returns-in-Passes-clause-does
-returns-in-Passes-clause-does g c = λ w r.
+pub returns-in-Nothing-clause-does : goal.returns-in-Nothing-clause-does
+returns-in-Nothing-clause-does g c = λ w r.
     let payload = c.args.payload.now in
-    let s = c.serve_passed.ensures.does w r in
-    let plan = row w c.args.moment s.0 in (
-      plan,
-      subst (λ at. OwesPassed at (g.V.Verifier.accepts c.args.verifier.now) w c.args.moment payload
-          plan) (c.in-Passes.ensures w r) (s.0, s.1, refl),
-      plain_row plan _ _ c.serve_passed.new.self c.serve_passed.result
-          (row_never w c.args.moment s.0) (row_given w c.args.moment s.0) s.2,
-    )
+    let old = c.args.self.now in
+    let v = hears payload w in
+    let q = heard_by old c.ticks_behind-self.result c.hear.new.self _ w payload
+    c.ticks_behind-self.ensures c.hear.ensures r in
+    read_row (g.V.Verifier.accepts c.args.verifier.now) v c.args.moment payload gate.Nothing
+    Nothing _ _ _ (Ok Continue) (passage_same _ v payload _ q c.in-Passes.ensures)
+    (gate_same _ v payload _ q c.in-Nothing.ensures.gate) refl
+    (serves_nothing Continue (λ flow world. Finish (comes flow world)) _ v _ q)
+
+pub returns-in-Ends-clause-does : goal.returns-in-Ends-clause-does
+returns-in-Ends-clause-does g c = λ w r.
+    let payload = c.args.payload.now in
+    let old = c.args.self.now in
+    let v = hears payload w in
+    let q = heard_by old c.ticks_behind-self.result c.hear.new.self _ w payload
+    c.ticks_behind-self.ensures c.hear.ensures r in
+    read_row (g.V.Verifier.accepts c.args.verifier.now) v c.args.moment payload gate.Ends
+    Disconnect _ _ _ (Ok Ended) (passage_same _ v payload _ q c.in-Passes.ensures)
+    (gate_same _ v payload _ q c.in-Ends.ensures.gate) refl
+    (serves_nothing Ended (λ flow world. Finish (comes flow world)) _ v _ q)
+
+pub returns-in-OverCap-clause-does : goal.returns-in-OverCap-clause-does
+returns-in-OverCap-clause-does g c = λ w r.
+    let payload = c.args.payload.now in
+    let old = c.args.self.now in
+    let v = hears payload w in
+    let q = heard_by old c.ticks_behind-self.result c.hear.new.self _ w payload
+    c.ticks_behind-self.ensures c.hear.ensures r in
+    read_row (g.V.Verifier.accepts c.args.verifier.now) v c.args.moment payload gate.OverCap
+    Over_cap _ _ c.serve_over_cap.new.self c.serve_over_cap.result
+    (passage_same _ v payload _ q c.in-Passes.ensures)
+    (gate_same _ v payload _ q c.in-OverCap.ensures.gate) refl
+    (quiet (row v c.args.moment Over_cap) (λ flow world. Finish (comes flow world)) _
+    c.serve_over_cap.new.self c.serve_over_cap.result (c.serve_over_cap.ensures v c.args.moment q))
+
+pub returns-in-ServiceRequest-clause-does : goal.returns-in-ServiceRequest-clause-does
+returns-in-ServiceRequest-clause-does g c = λ w r.
+    let payload = c.args.payload.now in
+    let old = c.args.self.now in
+    let v = hears payload w in
+    let q = heard_by old c.ticks_behind-self.result c.hear.new.self _ w payload
+    c.ticks_behind-self.ensures c.hear.ensures r in
+    let served = rw c.fields_of.ensures at (c.serve_service_request.ensures.does v
+    c.args.moment q) in
+    read_row (g.V.Verifier.accepts c.args.verifier.now) v c.args.moment payload gate.ServiceRequest
+    (said_of Service served.0) _ _ c.serve_service_request.new.self c.serve_service_request.result
+    (passage_same _ v payload _ q c.in-Passes.ensures)
+    (gate_same _ v payload _ q c.in-ServiceRequest.ensures.gate) (served.0, served.1, refl) served.2
+
+pub returns-in-UserauthRequest-clause-does : goal.returns-in-UserauthRequest-clause-does
+returns-in-UserauthRequest-clause-does g c = λ w r.
+    let payload = c.args.payload.now in
+    let old = c.args.self.now in
+    let v = hears payload w in
+    let q = heard_by old c.ticks_behind-self.result c.hear.new.self _ w payload
+    c.ticks_behind-self.ensures c.hear.ensures r in
+    let served = c.serve_userauth_request.ensures.does v q in
+    read_row (g.V.Verifier.accepts c.args.verifier.now) v c.args.moment payload gate.UserauthRequest
+    served.0 _ _ c.serve_userauth_request.new.self c.serve_userauth_request.result
+    (passage_same _ v payload _ q c.in-Passes.ensures)
+    (gate_same _ v payload _ q c.in-UserauthRequest.ensures.gate) served.1 served.2
+
+pub returns-in-InfoResponse-clause-does : goal.returns-in-InfoResponse-clause-does
+returns-in-InfoResponse-clause-does g c = λ w r.
+    let payload = c.args.payload.now in
+    let old = c.args.self.now in
+    let v = hears payload w in
+    let q = heard_by old c.ticks_behind-self.result c.hear.new.self _ w payload
+    c.ticks_behind-self.ensures c.hear.ensures r in
+    let served = c.serve_info_response.ensures.does v q in
+    read_row (g.V.Verifier.accepts c.args.verifier.now) v c.args.moment payload gate.InfoResponse
+    served.0 _ _ c.serve_info_response.new.self c.serve_info_response.result
+    (passage_same _ v payload _ q c.in-Passes.ensures)
+    (gate_same _ v payload _ q c.in-InfoResponse.ensures.gate) served.1 served.2
+
+pub returns-in-ChannelOpen-clause-does : goal.returns-in-ChannelOpen-clause-does
+returns-in-ChannelOpen-clause-does g c = λ w r.
+    let payload = c.args.payload.now in
+    let old = c.args.self.now in
+    let v = hears payload w in
+    let q = heard_by old c.ticks_behind-self.result c.hear.new.self _ w payload
+    c.ticks_behind-self.ensures c.hear.ensures r in
+    let served = rw c.fields_of-in-ChannelOpen.ensures at (c.serve_channel_open.ensures.does v
+    c.args.moment q) in
+    read_row (g.V.Verifier.accepts c.args.verifier.now) v c.args.moment payload gate.ChannelOpen
+    served.0 _ _ c.serve_channel_open.new.self c.serve_channel_open.result
+    (passage_same _ v payload _ q c.in-Passes.ensures)
+    (gate_same _ v payload _ q c.in-ChannelOpen.ensures.gate) served.1 served.2
+
+pub returns-in-OpenConfirmation-clause-does : goal.returns-in-OpenConfirmation-clause-does
+returns-in-OpenConfirmation-clause-does g c = λ w r.
+    let payload = c.args.payload.now in
+    let old = c.args.self.now in
+    let v = hears payload w in
+    let q = heard_by old c.ticks_behind-self.result c.hear.new.self _ w payload
+    c.ticks_behind-self.ensures c.hear.ensures r in
+    let served = rw c.fields_of-in-OpenConfirmation.ensures at
+    (c.serve_open_confirmation.ensures.does v c.args.moment q) in
+    read_row (g.V.Verifier.accepts c.args.verifier.now) v c.args.moment payload
+    gate.OpenConfirmation served.0 _ _ c.serve_open_confirmation.new.self
+    c.serve_open_confirmation.result
+    (passage_same _ v payload _ q c.in-Passes.ensures)
+    (gate_same _ v payload _ q c.in-OpenConfirmation.ensures.gate) served.1 served.2
+
+pub returns-in-Connection-clause-does : goal.returns-in-Connection-clause-does
+returns-in-Connection-clause-does g c = λ w r.
+    let payload = c.args.payload.now in
+    let old = c.args.self.now in
+    let v = hears payload w in
+    let q = heard_by old c.ticks_behind-self.result c.hear.new.self _ w payload
+    c.ticks_behind-self.ensures c.hear.ensures r in
+    let served = rw c.fields_of-in-Connection.ensures at (c.serve_connection_message.ensures.does v
+    c.args.moment q) in
+    read_row (g.V.Verifier.accepts c.args.verifier.now) v c.args.moment payload
+    (gate.Connection c.in-Connection.message) (said_of Connection served.0) _ _
+    c.serve_connection_message.new.self c.serve_connection_message.result
+    (passage_same _ v payload _ q c.in-Passes.ensures)
+    (gate_same _ v payload _ q c.in-Connection.ensures.gate) (served.0, served.1, refl) served.2

@@ -1,7 +1,7 @@
 use Rattle.std.proofs.Common.{[], false, refl}
 use Rattle.ssh_rules.specs.Acts.{acts}
-use Rattle.ssh_rules.specs.declared.messages.Spoken.TheVariants.{AsksUnknown}
-use Rattle.ssh_rules.specs.declared.messages.Spoken.TheVariants.{AsksGloballyUnknown}
+use Rattle.ssh_rules.specs.declared.messages.Spoken.TheVariants.{RequestsUnknown}
+use Rattle.ssh_rules.specs.declared.messages.Spoken.TheVariants.{RequestsGloballyUnknown}
 use Rattle.ssh_rules.specs.declared.messages.Spoken.TheVariants.{GivesUpSessions}
 use Rattle.ssh_rules.specs.Rows.{spoken_acts}
 use Rattle.ssh_session.proofs.Serving.{serves_nothing, turned, hears_nothing}
@@ -28,32 +28,32 @@ pub returns-in-Close-clause-does : goal.returns-in-Close-clause-does
 returns-in-Close-clause-does g c = λ w r later.
     rw c.in-Close.is (c.peer_close.ensures.does w r later)
 
-pub returns-in-Asks-clause-does : goal.returns-in-Asks-clause-does
-returns-in-Asks-clause-does g c = λ w r later. rw c.in-Asks.is (c.asked.ensures.does w r later)
+pub returns-in-Requests-clause-does : goal.returns-in-Requests-clause-does
+returns-in-Requests-clause-does g c = λ w r later. rw c.in-Requests.is (c.channel_requested.ensures.does w r later)
 
-pub returns-in-AsksForAgent-clause-does : goal.returns-in-AsksForAgent-clause-does
-returns-in-AsksForAgent-clause-does g c = λ w r later.
-    rw c.in-AsksForAgent.is (c.asked_for_agent.ensures.does w r later)
+pub returns-in-RequestsAgent-clause-does : goal.returns-in-RequestsAgent-clause-does
+returns-in-RequestsAgent-clause-does g c = λ w r later.
+    rw c.in-RequestsAgent.is (c.agent_requested.ensures.does w r later)
 
-pub returns-in-AsksUnknown-clause-does : goal.returns-in-AsksUnknown-clause-does
-returns-in-AsksUnknown-clause-does g c = λ w r later.
-    rw c.in-AsksUnknown.is (turned (spoken_acts w
-    (AsksUnknown c.in-AsksUnknown.channel c.in-AsksUnknown.wanted)) w _ c.asked_unknown.new.self
-    c.asked_unknown.result (c.asked_unknown.ensures.does w r) later)
+pub returns-in-RequestsUnknown-clause-does : goal.returns-in-RequestsUnknown-clause-does
+returns-in-RequestsUnknown-clause-does g c = λ w r later.
+    rw c.in-RequestsUnknown.is (turned (spoken_acts w
+    (RequestsUnknown c.in-RequestsUnknown.channel c.in-RequestsUnknown.wanted)) w _ c.unknown_requested.new.self
+    c.unknown_requested.result (c.unknown_requested.ensures.does w r) later)
 
-pub returns-in-AsksToForward-clause-does : goal.returns-in-AsksToForward-clause-does
-returns-in-AsksToForward-clause-does g c = λ w r later.
-    rw c.in-AsksToForward.is (c.asked_to_forward.ensures.does w r later)
+pub returns-in-RequestsForward-clause-does : goal.returns-in-RequestsForward-clause-does
+returns-in-RequestsForward-clause-does g c = λ w r later.
+    rw c.in-RequestsForward.is (c.forward_requested.ensures.does w r later)
 
-pub returns-in-AsksGlobally-clause-does : goal.returns-in-AsksGlobally-clause-does
-returns-in-AsksGlobally-clause-does g c = λ w r later.
-    rw c.in-AsksGlobally.is (c.asked_globally.ensures.does w r later)
+pub returns-in-RequestsGlobally-clause-does : goal.returns-in-RequestsGlobally-clause-does
+returns-in-RequestsGlobally-clause-does g c = λ w r later.
+    rw c.in-RequestsGlobally.is (c.globally_requested.ensures.does w r later)
 
-pub returns-in-AsksGloballyUnknown-clause-does : goal.returns-in-AsksGloballyUnknown-clause-does
-returns-in-AsksGloballyUnknown-clause-does g c = λ w r later.
-    rw c.in-AsksGloballyUnknown.is (turned (spoken_acts w
-    (AsksGloballyUnknown c.in-AsksGloballyUnknown.wanted)) w _ c.asked_globally_unknown.new.self
-    c.asked_globally_unknown.result (c.asked_globally_unknown.ensures.does w r) later)
+pub returns-in-RequestsGloballyUnknown-clause-does : goal.returns-in-RequestsGloballyUnknown-clause-does
+returns-in-RequestsGloballyUnknown-clause-does g c = λ w r later.
+    rw c.in-RequestsGloballyUnknown.is (turned (spoken_acts w
+    (RequestsGloballyUnknown c.in-RequestsGloballyUnknown.wanted)) w _ c.unknown_globally_requested.new.self
+    c.unknown_globally_requested.result (c.unknown_globally_requested.ensures.does w r) later)
 
 pub returns-in-GivesUpSessions-clause-does : goal.returns-in-GivesUpSessions-clause-does
 returns-in-GivesUpSessions-clause-does g c = λ w r later.

@@ -3,6 +3,7 @@ use Rattle.ssh_rules.specs.Layout.{at_once}
 use Rattle.ssh_rules.specs.Rows.{global_reply}
 use Rattle.ssh_session.specs.Serve.{Refines}
 use Rattle.ssh_rules.specs.World.{wants_global, writes}
+use Rattle.ssh_session.proofs.Refining.{staged}
 use Rattle.ssh_session.proofs.session.Session.settle_global.Goals as goal
 
 pub returns-clause-world : goal.returns-clause-world
@@ -11,7 +12,5 @@ returns-clause-world g c = λ w r.
     let wanted = sym r.wanted ∙ c.if-not-self.false in
     subst (Refines c.want_global.new.self)
     (sym (ap (λ b. cond b (writes (frame ∷ []) (wants_global false w)) w) wanted))
-    (subst (λ f. Refines c.want_global.new.self (wants_global false (writes (f ∷ []) w)))
-    c.reply_frame.ensures
-    (c.want_global.ensures.world (writes (c.reply_frame.result ∷ []) w)
-    (c.in_ok-write.ensures.world w r)))
+    (c.want_global.ensures.world (writes (frame ∷ []) w) (staged c.reply_frame.result frame
+    c.args.self.now c.stage.new.self _ w c.reply_frame.ensures c.in_ok-stage.ensures.table r))

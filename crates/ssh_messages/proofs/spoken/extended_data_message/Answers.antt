@@ -1,0 +1,157 @@
+use Rattle.std.proofs.Common.{◌≡◌, ◌∷◌, [], ◌∙◌, inl, inr, refl, sym, subst, Ok, Err, true, false}
+use Rattle.ssh_wire.specs.Field.{Bytes, Number, SpellsAll, SpellsWhole, MisfitsAll}
+use Rattle.ssh_wire.proofs.Fields.{spells_more_all, misfit_here_all, misfit_later_all}
+use Rattle.ssh_wire.proofs.Fields.{misfits_whole, trailing}
+use Rattle.ssh_channels.specs.declared.chunk.DataKind.TheVariants.{Extended}
+use Rattle.ssh_channels.specs.Layout.{chunk}
+use Rattle.ssh_rules.specs.declared.messages.Spoken.TheVariants.{Nothing, Data}
+use Rattle.ssh_rules.specs.Messages.{extended_data, extended_on}
+use Rattle.ssh_rules.specs.Spelling.{Spells}
+use Rattle.ssh_rules.proofs.Read.Misread.{misread, unkept}
+use Rattle.ssh_messages.proofs.spoken.extended_data_message.Goals as goal
+
+pub returns-in_err-number : goal.returns-in_err-number
+returns-in_err-number c = λ there same.
+    let why = c.in_err-number.field-0.0 in
+    misread (extended_data there) c.args.fields.now _ _ c.from_residual.ensures.1 (inr (
+      why,
+      subst (λ l. MisfitsAll (Number ∷ []) l why) c.new-reader.ensures.left
+          (misfit_here_all Number [] c.new-reader.result.left why c.in_err-number.ensures.misfit),
+      refl,
+    ))
+
+pub returns-then-not-is_there : goal.returns-then-not-is_there
+returns-then-not-is_there c = λ there same.
+    let n = c.in_ok-number.number in
+    let rest = c.u32.new.self.left in
+    let no = sym (c.is_there.ensures ∙ same n) ∙ c.if-not-is_there.true in
+    inl (
+      (n, tt),
+      rest,
+      subst (λ l. SpellsAll (Number ∷ []) (n, tt) l rest) c.new-reader.ensures.left
+          (spells_more_all Number [] c.new-reader.result c.u32.new.self n tt rest
+          c.in_ok-number.ensures.ok refl),
+      subst (λ b. Spells (extended_on b n) rest (Ok Nothing)) (sym no) refl,
+    )
+
+pub returns-in_err-code : goal.returns-in_err-code
+returns-in_err-code c = λ there same.
+    let n = c.in_ok-number.number in
+    let rest = c.u32.new.self.left in
+    let yes = sym (c.is_there.ensures ∙ same n) ∙ c.if-not-is_there.false in
+    let why = c.in_err-code.field-0.0 in
+    misread (extended_data there) c.args.fields.now _ _
+    c.from_residual-in_err-code.ensures.1 (inl (
+      (n, tt),
+      rest,
+      subst (λ l. SpellsAll (Number ∷ []) (n, tt) l rest) c.new-reader.ensures.left
+          (spells_more_all Number [] c.new-reader.result c.u32.new.self n tt rest
+          c.in_ok-number.ensures.ok refl),
+      subst (λ b. Spells (extended_on b n) rest (Err why)) (sym yes) (inr (
+        why,
+        misfits_whole (Number ∷ Bytes ∷ []) rest why
+            (misfit_here_all Number (Bytes ∷ []) rest why c.in_err-code.ensures.misfit),
+        refl,
+      )),
+    ))
+
+pub returns-in_err-sent : goal.returns-in_err-sent
+returns-in_err-sent c = λ there same.
+    let n = c.in_ok-number.number in
+    let rest = c.u32.new.self.left in
+    let yes = sym (c.is_there.ensures ∙ same n) ∙ c.if-not-is_there.false in
+    let why = c.in_err-sent.field-0.0 in
+    misread (extended_data there) c.args.fields.now _ _
+    c.from_residual-in_err-sent.ensures.1 (inl (
+      (n, tt),
+      rest,
+      subst (λ l. SpellsAll (Number ∷ []) (n, tt) l rest) c.new-reader.ensures.left
+          (spells_more_all Number [] c.new-reader.result c.u32.new.self n tt rest
+          c.in_ok-number.ensures.ok refl),
+      subst (λ b. Spells (extended_on b n) rest (Err why)) (sym yes) (inr (
+        why,
+        misfits_whole (Number ∷ Bytes ∷ []) rest why
+            (misfit_later_all Number (Bytes ∷ []) c.u32.new.self c.u32-2.new.self
+            c.in_ok-code.code why c.in_ok-code.ensures.ok
+            (misfit_here_all Bytes [] c.u32-2.new.self.left why c.in_err-sent.ensures.misfit)),
+        refl,
+      )),
+    ))
+
+pub returns-in_err-end : goal.returns-in_err-end
+returns-in_err-end c = λ there same.
+    let n = c.in_ok-number.number in
+    let rest = c.u32.new.self.left in
+    let yes = sym (c.is_there.ensures ∙ same n) ∙ c.if-not-is_there.false in
+    let why = c.in_err-end.field-0.0 in
+    let code = c.in_ok-code.code in
+    let sent = c.in_ok-sent.sent.now in
+    let more = c.bytes.new.self.left in
+    misread (extended_data there) c.args.fields.now _ _
+    c.from_residual-in_err-end.ensures.1 (inl (
+      (n, tt),
+      rest,
+      subst (λ l. SpellsAll (Number ∷ []) (n, tt) l rest) c.new-reader.ensures.left
+          (spells_more_all Number [] c.new-reader.result c.u32.new.self n tt rest
+          c.in_ok-number.ensures.ok refl),
+      subst (λ b. Spells (extended_on b n) rest (Err why)) (sym yes) (inr (
+        why,
+        trailing (Number ∷ Bytes ∷ []) (code, (sent, tt)) rest more why
+            (spells_more_all Number (Bytes ∷ []) c.u32.new.self c.u32-2.new.self code (sent, tt)
+            more c.in_ok-code.ensures.ok
+            (spells_more_all Bytes [] c.u32-2.new.self c.bytes.new.self sent tt more
+            c.in_ok-sent.ensures.ok refl))
+            (λ none. let e : false ≡ true = c.in_err-end.ensures.ok.1 none in cc)
+            c.in_err-end.ensures.trailing,
+        refl,
+      )),
+    ))
+
+pub returns-in_err-bytes : goal.returns-in_err-bytes
+returns-in_err-bytes c = λ there same.
+    let n = c.in_ok-number.number in
+    let rest = c.u32.new.self.left in
+    let yes = sym (c.is_there.ensures ∙ same n) ∙ c.if-not-is_there.false in
+    let code = c.in_ok-code.code in
+    let sent = c.in_ok-sent.sent.now in
+    let said = Data (record { 0 = n }) (chunk (Extended code) sent) in
+    unkept (extended_data there) c.args.fields.now _ (Ok said) _
+    c.from_residual-in_err-bytes.ensures.1 refl (inl (
+      (n, tt),
+      rest,
+      subst (λ l. SpellsAll (Number ∷ []) (n, tt) l rest) c.new-reader.ensures.left
+          (spells_more_all Number [] c.new-reader.result c.u32.new.self n tt rest
+          c.in_ok-number.ensures.ok refl),
+      subst (λ b. Spells (extended_on b n) rest (Ok said)) (sym yes) (inl (
+        (code, (sent, tt)),
+        spells_more_all Number (Bytes ∷ []) c.u32.new.self c.u32-2.new.self code (sent, tt) []
+            c.in_ok-code.ensures.ok
+            (spells_more_all Bytes [] c.u32-2.new.self c.bytes.new.self sent tt []
+            c.in_ok-sent.ensures.ok (c.in_ok-end.ensures.ok.0 refl)),
+        refl,
+      )),
+    ))
+
+pub returns : goal.returns
+returns c = λ there same.
+    let n = c.in_ok-number.number in
+    let rest = c.u32.new.self.left in
+    let yes = sym (c.is_there.ensures ∙ same n) ∙ c.if-not-is_there.false in
+    let code = c.in_ok-code.code in
+    let sent = c.in_ok-sent.sent.now in
+    let bytes = c.in_ok-bytes.bytes in
+    let said = Data (record { 0 = n }) (chunk (Extended code) bytes) in
+    let spells = subst (λ b. SpellsWhole (Number ∷ Bytes ∷ []) (code, (b, tt)) rest)
+    (sym c.in_ok-bytes.ensures)
+    (spells_more_all Number (Bytes ∷ []) c.u32.new.self c.u32-2.new.self code (sent, tt) []
+    c.in_ok-code.ensures.ok
+    (spells_more_all Bytes [] c.u32-2.new.self c.bytes.new.self sent tt [] c.in_ok-sent.ensures.ok
+    (c.in_ok-end.ensures.ok.0 refl))) in
+    inl (
+      (n, tt),
+      rest,
+      subst (λ l. SpellsAll (Number ∷ []) (n, tt) l rest) c.new-reader.ensures.left
+          (spells_more_all Number [] c.new-reader.result c.u32.new.self n tt rest
+          c.in_ok-number.ensures.ok refl),
+      subst (λ b. Spells (extended_on b n) rest (Ok said)) (sym yes) (inl ((code, (bytes, tt)), spells, refl)),
+    )
