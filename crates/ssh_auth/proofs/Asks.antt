@@ -156,7 +156,7 @@ in_connection fields user service name rest is h =
     subst (λ s. SpellsAll head_fields (user, (s, (name, tt))) fields rest) is h
 
 -- a request that was served once its principal was bound
-pub begun_as : {E : Type 0} (says : Method → Type 0) (auth bound : AuthRequest)
+begun_as : {E : Type 0} (says : Method → Type 0) (auth bound : AuthRequest)
     (user service : List ℕ) (a b : Option (List (Call E))) (auth' : AuthRequest)
     (result : Result AuthStep (AuthError E)) →
     service ≡ codes "ssh-connection" → bound ≡ bound_to auth user service →
@@ -168,7 +168,7 @@ begun_as says auth bound user service a b auth' result is same h =
     same h)
 
 -- a request is served as it says, or memory was wanting to read it
-pub as_it_says : {E : Type 0} (given : Circumstances) (fields user name rest : List ℕ)
+as_it_says : {E : Type 0} (given : Circumstances) (fields user name rest : List ℕ)
     (auth : AuthRequest) (a b : Option (List (Call E))) (auth' : AuthRequest)
     (result : Result AuthStep (AuthError E)) →
     SpellsAll head_fields (user, (codes "ssh-connection", (name, tt))) fields rest →
@@ -183,7 +183,7 @@ as_it_says given fields user name rest auth a b auth' result spelled (inr h) = (
 -- ---- the names of methods
 
 -- a method of this name
-pub of_named : {E : Type 0} (given : Circumstances) (all fields : List ℕ) (named other : Named)
+of_named : {E : Type 0} (given : Circumstances) (all fields : List ℕ) (named other : Named)
     (auth : AuthRequest) (user : List ℕ) (a b : Option (List (Call E))) (auth' : AuthRequest)
     (result : Result AuthStep (AuthError E)) → other ≡ named →
     CarriesOutMethod (SaysMethod given all named fields) auth user a b auth' result →
@@ -191,6 +191,28 @@ pub of_named : {E : Type 0} (given : Circumstances) (all fields : List ℕ) (nam
 of_named given all fields named other auth user a b auth' result is h =
     subst (λ n. CarriesOutMethod (SaysMethod given all n fields) auth user a b auth' result) (sym is)
     h
+
+-- a request for ssh-connection, once its principal is bound, is served as the fields of its method
+-- say it, or memory was wanting to read them
+pub served_as : {E : Type 0} (given : Circumstances) (fields user service name rest : List ℕ)
+    (named : Named) (auth bound : AuthRequest) (a b : Option (List (Call E))) (auth' : AuthRequest)
+    (result : Result AuthStep (AuthError E)) → named_by name ≡ named
+    → bytes_eq service (codes "ssh-connection") ≡ true
+    → SpellsAll head_fields (user, (service, (name, tt))) fields rest
+    → bound ≡ bound_to auth user service →
+    CarriesOutMethod (SaysMethod given fields named rest) (record bound { partial_success = false })
+    user a b auth' result →
+    (said : Requested) × SaysRequest given fields said × CarriesOut (verdict auth said) a b auth'
+    result
+served_as given fields user service name rest named auth bound a b auth' result is connection
+    spelled same h =
+    let begins = record bound { partial_success = false } in
+    let service_is = same_text service (codes "ssh-connection") connection in
+    as_it_says given fields user name rest auth a b auth' result
+    (in_connection fields user service name rest service_is spelled)
+    (begun_as (SaysMethod given fields (named_by name) rest) auth bound user service a b auth' result
+    service_is same
+    (of_named given fields rest named (named_by name) begins user a b auth' result is h))
 
 pub named_none : (name : List ℕ) → bytes_eq name (codes "none") ≡ true → named_by name ≡ Is_none
 named_none name none = rw none refl

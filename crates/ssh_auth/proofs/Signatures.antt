@@ -1,11 +1,12 @@
 -- Signature fields that do not fit, and the part of a request that a signature covers.
 use Rattle.std.proofs.Common.{◌≡◌, ◌⊎◌, ℕ, ◌-◌, List, [], ◌∷◌, ◌++◌, length, take, Result, Ok, Err}
 use Rattle.std.proofs.Common.{IsErrAnd, MatchResult, inl, inr, refl, sym, ◌∙◌, ap, subst}
+use Rattle.std.specs.Prelude.{◌==◌, not}
 use Rattle.std.proofs.Common.{append_assoc, arith, length-append}
 use Rattle.std.proofs.Math.Seq.{take-append_seam}
 use Rattle.ssh_wire.specs.declared.error.WireError.{WireError}
 use Rattle.ssh_wire.specs.declared.error.WireError.TheVariants.{Trailing}
-use Rattle.ssh_wire.specs.Field.{Field, Bytes, Value, Values, SpellsAll}
+use Rattle.ssh_wire.specs.Field.{Field, Byte, Bytes, Flag, Value, Values, SpellsAll}
 use Rattle.ssh_wire.specs.Reading.{Reading, Reads}
 use Rattle.ssh_keys.specs.declared.error.KeyError.{KeyError}
 use Rattle.ssh_keys.specs.declared.error.KeyError.TheVariants.{Blob, NoMemory}
@@ -29,6 +30,17 @@ field_first field old new bytes value is read =
       read.2.0,
       refl,
     )
+
+-- a byte that was read is a flag, too
+pub flag_read : (old new : Reading) (byte : ℕ) → Reads Byte old new byte
+    → Reads Flag old new (not (byte == 0))
+flag_read old new byte read = (read.0, (byte, read.1.0, read.1.1, refl), read.2)
+
+-- a flag that was read from the front of these bytes
+pub flag_first : (old new : Reading) (bytes : List ℕ) (byte : ℕ) → old.left ≡ bytes
+    → Reads Byte old new byte → SpellsAll (Flag ∷ []) (not (byte == 0), tt) bytes new.left
+flag_first old new bytes byte is read =
+    field_first Flag old new bytes (not (byte == 0)) is (flag_read old new byte read)
 
 -- a signature field that holds no signature
 pub no_signature : {E : Type 0} (result : Result Signature (AuthError E)) (e : KeyError)

@@ -11,7 +11,6 @@ ghost use Rattle.ssh_auth.specs.Publickey.{IsOffered, IsUsable, OffersNothing, o
 ghost use Rattle.ssh_auth.specs.Read.{SignatureFails};
 
 use crate::AuthError;
-use crate::request::read_flag;
 use ssh_keys::{Algorithm, KeyError, PublicKeyOrCertificate, Signature, Verifier};
 use ssh_wire::{Reader, WireError, put_bytes};
 use std::alloc::Global;
@@ -77,7 +76,7 @@ pub(crate) fn read_offer_fields(fields: &[u8]) -> Result<OfferFields<'_>, WireEr
         (λ why. MisfitsAll offer_fields fields.now why) }
 {
     let mut reader = Reader::new(fields);
-    let signed = read_flag(&mut reader)?;
+    let signed = reader.u8()? != 0;
     let name = reader.text()?;
     let blob = reader.bytes()?;
     let rest = reader.rest();

@@ -9,7 +9,7 @@ ghost use Rattle.ssh_auth.specs.Layout.{prompts_fields, info_request};
 ghost use Rattle.ssh_auth.specs.Plan.{Finish};
 ghost use Rattle.ssh_auth.specs.Serve.{Concludes};
 ghost use Rattle.ssh_auth.specs.Verdict.{Replies, Fails, Encoding, rejected, rejected_naming};
-ghost use Rattle.ssh_auth.specs.Verdict.{taken_away, refused, is_none, after_method, after_offer};
+ghost use Rattle.ssh_auth.specs.Verdict.{taken_away, refused, is_none, after_offer};
 ghost use Rattle.ssh_auth.specs.Verdict.{after_proof, after_prompts};
 ghost use Rattle.ssh_auth.specs.declared.auth.Auth.TheVariants.{Accept};
 ghost use Rattle.ssh_auth.specs.declared.auth_request.CurrentRequest.TheVariants.{PublicKey};
@@ -266,7 +266,7 @@ pub(crate) fn answer_proof(
 }
 
 /// The methods that can continue without the refused one.
-fn methods_without(methods: MethodSet, refused: MethodKind) -> MethodSet
+pub(crate) fn methods_without(methods: MethodSet, refused: MethodKind) -> MethodSet
     ensures { result ≡ without refused methods }
 {
     let mut left = methods;
@@ -275,7 +275,7 @@ fn methods_without(methods: MethodSet, refused: MethodKind) -> MethodSet
 }
 
 /// Whether it is the method none.
-fn is_none(method: MethodKind) -> bool
+pub(crate) fn is_none(method: MethodKind) -> bool
     ensures { result ≡ is_none method }
 {
     match method {
@@ -300,38 +300,6 @@ pub(crate) fn take_away(
         partial_success: false,
     };
     reject(alloc, auth, rejection)
-}
-
-/// What the answer to a request of method none or password means.
-pub(crate) fn answer(
-    alloc: Global,
-    auth: &mut AuthRequest,
-    method: MethodKind,
-    answer: &Auth,
-) -> Result<AuthStep, WireError>
-    ensures ok { IfOk result (λ step. after_method auth.old method answer.now
-        ≡ Replies step.reply step.verdict auth.new) }
-    ensures memory { IfErr result (λ e. e ≡ NoMemory) }
-{
-    match answer {
-        Auth::Accept => Ok(AuthStep {
-            reply: Bytes::copy_from_slice(alloc, &[USERAUTH_SUCCESS])?,
-            verdict: AuthVerdict::Accepted,
-        }),
-        Auth::Reject {
-            proceed_with_methods,
-            partial_success,
-        } => {
-            let left = methods_without(auth.methods, method);
-            let rejection = Rejection {
-                none_method: is_none(method),
-                methods: proceed_with_methods.unwrap_or(left),
-                partial_success: *partial_success,
-            };
-            reject(alloc, auth, rejection)
-        }
-        Auth::UnsupportedMethod | Auth::Partial { .. } => take_away(alloc, auth, method),
-    }
 }
 
 /// How many prompts there are, and then each with its echo flag (RFC 4256 section 3.2). `TooLong`

@@ -1,20 +1,22 @@
 // One request of authentication, from its payload to its verdict.
 ghost use Rattle.std.specs.Prelude.{◌≡◌, ◌<◌, ◌^◌, [], length, drop, MatchResult, IfOk, IfErr};
-ghost use Rattle.ssh_wire.specs.Field.{Flag, SpellsAll, Misfits, MisfitsAll, MisfitsWhole};
+ghost use Rattle.ssh_wire.specs.declared.error.WireError.TheVariants.{NoMemory};
+ghost use Rattle.ssh_wire.specs.Field.{SpellsAll, MisfitsAll, MisfitsWhole};
 ghost use Rattle.ssh_wire.specs.Messages.{userauth_request};
-ghost use Rattle.ssh_wire.specs.Reading.{Reads};
 ghost use Rattle.ssh_auth.specs.Requested.{Requested, SaysRequest, Unfit_method, head_fields};
-ghost use Rattle.ssh_auth.specs.Requested.{SaysMethod, SaysNone, SaysPassword, named_by};
-ghost use Rattle.ssh_auth.specs.Verdict.{verdict};
+ghost use Rattle.ssh_auth.specs.Requested.{SaysNone, SaysPassword};
+ghost use Rattle.ssh_auth.specs.Verdict.{Replies, after_method, verdict};
 ghost use Rattle.ssh_auth.specs.Proven.{IsProvenCall, AllAdded};
 ghost use Rattle.ssh_auth.specs.Serve.{IsNumbered, CarriesOut, CarriesOutMethod};
-ghost use Rattle.ssh_auth.specs.Read.{password_method, circumstances, all_fields, IsWhole};
+ghost use Rattle.ssh_auth.specs.Read.{password_method};
 
 use crate::interactive::serve_interactive;
 use crate::publickey::serve_publickey;
-use crate::reply::{answer, refuse, take_away};
-use crate::{AuthError, AuthHandler, AuthRequest, AuthStep};
+use crate::reply::{Rejection, is_none, methods_without, refuse, reject, take_away};
+use crate::{Auth, AuthError, AuthHandler, AuthRequest, AuthStep, AuthVerdict};
+use bytes::Bytes;
 use ssh_keys::Verifier;
+use ssh_wire::message::USERAUTH_SUCCESS;
 use ssh_wire::{MethodKind, Reader, WireError, fields_of};
 use std::alloc::Global;
 
@@ -92,41 +94,25 @@ pub fn serve_request<H: AuthHandler, V: Verifier>(
     }
     auth.bind_or_reset_principal(alloc, head.user, head.service)?;
     auth.partial_success = false;
-    let request = Request {
-        session_id,
-        moment,
-        payload,
-        user: head.user,
-        fields: head.rest,
-    };
-    serve_method(alloc, auth, handler, verifier, head.method, &request)
-}
-
-/// A request by the method of this name, once its principal is bound.
-fn serve_method<H: AuthHandler, V: Verifier>(
-    alloc: Global,
-    auth: &mut AuthRequest,
-    handler: &mut H,
-    verifier: &V,
-    name: &str,
-    request: &Request<'_>,
-) -> Result<AuthStep, AuthError<H::Error>>
-    requires { IsWhole request.now }
-    ensures { CarriesOutMethod (SaysMethod (circumstances (V.accepts verifier.now) request.now)
-        (all_fields request.now) (named_by name.now) request.now.fields.now)
-        auth.old request.now.user.now (H.told handler.old) (H.told handler.new) auth.new result }
-{
+    let name = head.method;
     if name == "none" {
-        return serve_none(alloc, auth, handler, request.user, request.fields);
+        return serve_none(alloc, auth, handler, head.user, head.rest);
     }
     if name == "password" {
-        return serve_password(alloc, auth, handler, request.user, request.fields);
+        return serve_password(alloc, auth, handler, head.user, head.rest);
     }
     if name == "publickey" {
-        return serve_publickey(alloc, auth, handler, verifier, request);
+        let request = Request {
+            session_id,
+            moment,
+            payload,
+            user: head.user,
+            fields: head.rest,
+        };
+        return serve_publickey(alloc, auth, handler, verifier, &request);
     }
     if name == "keyboard-interactive" {
-        return serve_interactive(alloc, auth, handler, request.user, request.fields);
+        return serve_interactive(alloc, auth, handler, head.user, head.rest);
     }
     Ok(refuse(alloc, auth)?)
 }
@@ -182,6 +168,38 @@ fn serve_password<H: AuthHandler>(
     }
 }
 
+/// What the answer to a request of method none or password means.
+fn answer(
+    alloc: Global,
+    auth: &mut AuthRequest,
+    method: MethodKind,
+    answer: &Auth,
+) -> Result<AuthStep, WireError>
+    ensures ok { IfOk result (λ step. after_method auth.old method answer.now
+        ≡ Replies step.reply step.verdict auth.new) }
+    ensures memory { IfErr result (λ e. e ≡ NoMemory) }
+{
+    match answer {
+        Auth::Accept => Ok(AuthStep {
+            reply: Bytes::copy_from_slice(alloc, &[USERAUTH_SUCCESS])?,
+            verdict: AuthVerdict::Accepted,
+        }),
+        Auth::Reject {
+            proceed_with_methods,
+            partial_success,
+        } => {
+            let left = methods_without(auth.methods, method);
+            let rejection = Rejection {
+                none_method: is_none(method),
+                methods: proceed_with_methods.unwrap_or(left),
+                partial_success: *partial_success,
+            };
+            reject(alloc, auth, rejection)
+        }
+        Auth::UnsupportedMethod | Auth::Partial { .. } => take_away(alloc, auth, method),
+    }
+}
+
 /// The head of a USERAUTH_REQUEST (RFC 4252 section 5).
 pub(crate) fn read_request_head(fields: &[u8]) -> Result<RequestHead<'_>, WireError>
     ensures { MatchResult result
@@ -209,15 +227,6 @@ pub(crate) fn read_none(fields: &[u8]) -> Result<(), WireError>
     Reader::new(fields).end()
 }
 
-/// A boolean, which is false exactly at 0 (RFC 4251 section 5).
-pub(crate) fn read_flag(reader: &mut Reader<'_>) -> Result<bool, WireError>
-    ensures ok { IfOk result (Reads Flag reader.old reader.new) }
-    ensures misfit { IfErr result (Misfits Flag reader.old.left) }
-{
-    let byte = reader.u8()?;
-    Ok(byte != 0)
-}
-
 /// The fields of the method password (RFC 4252 section 8).
 pub(crate) fn read_password(fields: &[u8]) -> Result<PasswordRequest<'_>, WireError>
     ensures { MatchResult result
@@ -225,7 +234,7 @@ pub(crate) fn read_password(fields: &[u8]) -> Result<PasswordRequest<'_>, WireEr
         (λ why. SaysPassword fields.now (Unfit_method why)) }
 {
     let mut reader = Reader::new(fields);
-    let is_change = read_flag(&mut reader)?;
+    let is_change = reader.u8()? != 0;
     let password = reader.text()?;
     if is_change {
         let new_password = reader.text()?;

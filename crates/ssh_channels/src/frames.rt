@@ -1,14 +1,10 @@
-// The frames that a table writes. None of them takes memory.
-ghost use Rattle.std.specs.Prelude.{◌≡◌, ◌≤◌, ◌^◌, ◌-◌, length};
+// The frames without data that a table writes. None of them takes memory.
+ghost use Rattle.std.specs.Prelude.{◌≡◌};
 ghost use Rattle.ssh_channels.specs.Layout as layout;
 
-use crate::DataKind;
-use bytes::Bytes;
 use ssh_link::Frame;
 use ssh_wire::ChannelId;
-use ssh_wire::message::{
-    CHANNEL_CLOSE, CHANNEL_EOF, CHANNEL_FAILURE, CHANNEL_SUCCESS, CHANNEL_WINDOW_ADJUST,
-};
+use ssh_wire::message::{CHANNEL_CLOSE, CHANNEL_EOF, CHANNEL_FAILURE, CHANNEL_SUCCESS};
 
 /// The channel that a frame is for.
 #[derive(Clone, Copy)]
@@ -17,18 +13,6 @@ pub(crate) struct Recipient {
     pub(crate) own: ChannelId,
     /// The peer's number of the channel.
     pub(crate) peer: u32,
-}
-
-/// CHANNEL_DATA or CHANNEL_EXTENDED_DATA with this piece, which the frame shares (RFC 4254 section
-/// 5.2).
-pub(crate) fn data_frame(to: Recipient, kind: DataKind, piece: Bytes) -> Frame
-    requires { length piece ≤ 2 ^ 32 - 14 }
-    ensures { result ≡ layout.data_frame to.own.0 to.peer (layout.chunk kind piece) }
-{
-    match kind {
-        DataKind::Plain => Frame::data(to.own, to.peer, piece),
-        DataKind::Extended(code) => Frame::extended(to.own, to.peer, code, piece),
-    }
 }
 
 /// A message that says no more than its number and its channel.
@@ -51,16 +35,6 @@ pub(crate) fn close_frame(to: Recipient) -> Frame
     ensures { result ≡ layout.close_frame to.own.0 to.peer }
 {
     bare_frame(to, CHANNEL_CLOSE)
-}
-
-/// CHANNEL_WINDOW_ADJUST: the peer may send `amount` bytes more (RFC 4254 section 5.2).
-pub(crate) fn adjust_frame(to: Recipient, amount: u32) -> Frame
-    ensures { result ≡ layout.adjust_frame to.own.0 to.peer amount }
-{
-    let [a, b, c, d] = to.peer.to_be_bytes();
-    let [e, f, g, h] = amount.to_be_bytes();
-    let payload = [CHANNEL_WINDOW_ADJUST, a, b, c, d, e, f, g, h];
-    Frame::short(&payload, None, Some(to.own))
 }
 
 /// CHANNEL_SUCCESS or CHANNEL_FAILURE: what became of a request (RFC 4254 section 5.4).

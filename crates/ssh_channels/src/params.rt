@@ -5,7 +5,7 @@ ghost use Rattle.ssh_channels.specs.declared.error.TableError.TheVariants.{NoMem
 ghost use Rattle.ssh_channels.specs.Line as line;
 ghost use Rattle.ssh_channels.specs.Window as window;
 
-use crate::frames::{Recipient, close_frame, data_frame, eof_frame};
+use crate::frames::{Recipient, close_frame, eof_frame};
 use crate::replies::Replies;
 use crate::waiting::{Waiting, longest_piece};
 use crate::{Chunk, TableError};
@@ -147,12 +147,14 @@ impl ChannelParams {
         self.confirmed && count <= self.sender_window_size as usize
     }
 
-    /// Whether one message takes these bytes, within the credit.
-    fn takes_whole(&self, bytes: &Bytes) -> bool
-        ensures { result ≡ line.takes_whole bytes.now self.now }
+    /// Whether one message takes these bytes at once: nothing waits before them, and they are within
+    /// the credit.
+    pub(crate) fn takes_whole(&self, bytes: &Bytes) -> bool
+        ensures { result ≡ line.nothing_waits self.now && line.takes_whole bytes.now self.now }
     {
         let count = bytes.len();
-        count > 0
+        self.waiting.is_empty()
+            && count > 0
             && count <= self.recipient_window_size as usize
             && count <= longest_piece(self.recipient_maximum_packet_size)
     }
@@ -311,13 +313,6 @@ impl ChannelParams {
             if !chunk.bytes.is_empty() {
                 self.waiting.push(chunk)?;
             }
-            return Ok(());
-        }
-        if self.takes_whole(&chunk.bytes) {
-            // They need no list of pieces.
-            let count = chunk.bytes.len() as u32;
-            staged.push_back(data_frame(self.recipient(own), chunk.kind, chunk.bytes))?;
-            self.recipient_window_size -= count;
             return Ok(());
         }
         self.waiting.push(chunk)?;

@@ -10,8 +10,8 @@ ghost use Rattle.ssh_channels.specs.Table as table;
 ghost use Rattle.ssh_channels.specs.Calls as calls;
 ghost use Rattle.ssh_channels.specs.Paths as paths;
 
-use crate::frames::bare_frame;
-use crate::waiting::{keep_if, note};
+use crate::frames::{Recipient, bare_frame};
+use crate::waiting::{data_frame, keep_if, note};
 use crate::{Chunk, DataKind, Encrypted, TableError};
 use bytes::Bytes;
 use ssh_link::Frame;
@@ -98,6 +98,17 @@ impl Encrypted {
         };
         if !line.may_send() {
             return Ok(false);
+        }
+        let is_one = !is_rekeying && line.takes_whole(&chunk.bytes);
+        if is_one {
+            // They need no list of pieces, and nothing waits after them that did not before.
+            let peer = line.recipient_channel;
+            let count = chunk.bytes.len() as u32;
+            let to = Recipient { own: channel, peer };
+            let frame = data_frame(to, chunk.kind, chunk.bytes);
+            self.staged.push_back(frame)?;
+            line.recipient_window_size -= count;
+            return Ok(true);
         }
         let waits = line.waits_with(&chunk, is_rekeying);
         note(&mut self.waiting, channel.0, waits)?;

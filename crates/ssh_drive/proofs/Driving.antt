@@ -17,7 +17,7 @@ use Rattle.ssh_session.specs.Between.{untold}
 use Rattle.ssh_rules.specs.Cause.{cause_of}
 use Rattle.ssh_session.specs.Serve.{Refines, IsSuited, is_spent}
 use Rattle.ssh_rules.specs.World.{Settings, World, opening_world}
-use Rattle.ssh_session.proofs.Serving.{told_none, caused_rose}
+use Rattle.ssh_serving.proofs.Serving.{told_none, caused_rose}
 use Rattle.ssh_drive.specs.declared.moves.Move.{Move}
 use Rattle.ssh_drive.specs.declared.moves.MoveError.{MoveError}
 use Rattle.ssh_drive.specs.declared.moves.MoveError.TheVariants as error

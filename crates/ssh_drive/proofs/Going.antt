@@ -9,7 +9,7 @@ use Rattle.ssh_session.specs.declared.session.Session.{Session}
 use Rattle.ssh_rules.specs.Account.{Told}
 use Rattle.ssh_session.specs.Serve.{Refines, IsSuited}
 use Rattle.ssh_rules.specs.World.{Settings, World}
-use Rattle.ssh_session.proofs.Serving.{told_then}
+use Rattle.ssh_serving.proofs.Serving.{told_then}
 
 -- what was told of those before, and of these
 pub told_both : {A B : Type 0} (stops : Bool) (f : A → List B) (xs ys : List A)
@@ -27,8 +27,9 @@ pub suits_yet : (suits : Config → List ℕ → Type 0) (settings : Settings) (
     (w : World) → Refines session w → w.settings ≡ settings
     → suits settings.config settings.remote_sshid → IsSuited suits session
 suits_yet suits settings session w r set h =
-    let config : session.common.config ≡ settings.config = r.config ∙ ap (λ s. s.config) set in
-    let line : session.common.remote_sshid ≡ settings.remote_sshid = r.remote_sshid
+    let config : session.server.common.config ≡ settings.config = r.server.config ∙ ap (λ s. s.config) set in
+    let line : session.server.common.remote_sshid ≡ settings.remote_sshid
+    = r.server.remote_sshid
     ∙ ap (λ s. s.remote_sshid) set in
-    subst (λ c. suits c session.common.remote_sshid) (sym config)
+    subst (λ c. suits c session.server.common.remote_sshid) (sym config)
     (subst (suits settings.config) (sym line) h)

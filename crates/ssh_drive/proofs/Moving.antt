@@ -28,7 +28,7 @@ use Rattle.ssh_rules.specs.Outcome.{Outcome}
 use Rattle.ssh_rules.specs.Cause.{IsCaused}
 use Rattle.ssh_session.specs.Serve.{Refines}
 use Rattle.ssh_rules.specs.World.{World, lined, unless_ended}
-use Rattle.ssh_session.proofs.Serving.{told_none}
+use Rattle.ssh_serving.proofs.Serving.{told_none}
 use Rattle.ssh_drive.specs.declared.moves.Move.TheVariants.{Payload, Say, LetOut, HandOn}
 use Rattle.ssh_drive.specs.declared.moves.MoveError.{MoveError}
 use Rattle.ssh_drive.specs.declared.moves.MoveError.TheVariants as error

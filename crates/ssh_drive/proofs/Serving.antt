@@ -42,7 +42,7 @@ use Rattle.ssh_rules.proofs.Ledger.LastInput.{last_ledgered}
 use Rattle.ssh_rules.proofs.LastWord.Run.{last_word}
 use Rattle.ssh_rules.proofs.Received.Run.{received}
 use Rattle.ssh_rules.proofs.Replied.Run.{replied}
-use Rattle.ssh_session.proofs.Serving.{told_none, caused_rose}
+use Rattle.ssh_serving.proofs.Serving.{told_none, caused_rose}
 use Rattle.ssh_rules.proofs.Plans.Settled.{stays_set}
 use Rattle.ssh_drive.specs.Served.{kind_of, told_of, EndsSo, Served}
 use Rattle.ssh_drive.proofs.Going.{told_both, rises, suits_yet}

@@ -9,7 +9,7 @@ use Rattle.ssh_wire.specs.declared.channel_id.ChannelId.{ChannelId}
 use Rattle.ssh_link.specs.Asked.{IsAsked}
 use Rattle.ssh_link.specs.Told.{Adds, ToldBy}
 use Rattle.ssh_link.proofs.Tellings.{adds_nil, adds_both, adds_weak}
-use Rattle.ssh_session.proofs.Serving.{told_then}
+use Rattle.ssh_serving.proofs.Serving.{told_then}
 use Rattle.ssh_link.specs.declared.command.Command.TheVariants as command
 use Rattle.ssh_link.specs.declared.frame.Input.{Input}
 use Rattle.ssh_link.specs.declared.frame.InputKind.{InputKind}

@@ -11,7 +11,7 @@ use Rattle.ssh_auth.specs.declared.question.Happening.{Happening}
 use Rattle.ssh_auth.specs.declared.question.Lent.TheVariants.{Happened}
 use Rattle.ssh_auth.specs.declared.question.Question.{Question}
 use Rattle.ssh_auth.specs.declared.question.Question.TheVariants.{Lends}
-use Rattle.ssh_session.proofs.Serving.{told_then}
+use Rattle.ssh_serving.proofs.Serving.{told_then}
 use Rattle.ssh_gateway.specs.declared.switchboard.Connection.{Connection}
 use Rattle.ssh_gateway.specs.declared.targets.TargetCall.{TargetCall}
 use Rattle.ssh_gateway.specs.declared.targets.TargetFault.{TargetFault}

@@ -33,15 +33,13 @@ opened_denied channel t = ((AdministrativelyProhibited, refl), tt)
 
 replied_denied : (channel : ChannelId) (happening : Happening)
     → AllBuilt IsDenial (replied channel happening)
-replied_denied channel (what.PtyRequest term columns rows width height modes) = (tt, tt)
-replied_denied channel (what.X11Request single protocol cookie screen) = (tt, tt)
-replied_denied channel (what.EnvRequest name value) = (tt, tt)
-replied_denied channel what.ShellRequest = (tt, tt)
-replied_denied channel (what.ExecRequest bytes) = (tt, tt)
-replied_denied channel (what.SubsystemRequest name) = (tt, tt)
-replied_denied channel (what.WindowChangeRequest columns rows width height) = (tt, tt)
-replied_denied channel (what.Signal signal) = (tt, tt)
-replied_denied channel happening = tt
+replied_denied channel (what.Confirmed packet window) = tt
+replied_denied channel (what.Data bytes) = tt
+replied_denied channel (what.ExtendedData code bytes) = tt
+replied_denied channel what.Eof = tt
+replied_denied channel what.Close = tt
+replied_denied channel (what.WindowAdjusted new_size) = tt
+replied_denied channel happening = (tt, tt)
 
 records_denied : (lent : Lent) → AllBuilt IsDenial (records lent)
 records_denied Succeeded = tt

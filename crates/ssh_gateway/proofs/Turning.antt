@@ -31,7 +31,7 @@ use Rattle.ssh_rules.specs.Run.{Turn, IsTaken}
 use Rattle.ssh_rules.specs.Valid.{IsValid, IsComplete}
 use Rattle.ssh_rules.specs.World.{World}
 use Rattle.ssh_rules.proofs.Complete.Run.{complete}
-use Rattle.ssh_session.proofs.Serving.{told_then, caused_rose}
+use Rattle.ssh_serving.proofs.Serving.{told_then, caused_rose}
 use Rattle.ssh_session.specs.declared.session.Session.{Session}
 use Rattle.ssh_drive.specs.Served.{EndsSo}
 use Rattle.ssh_drive.proofs.Serving.{ends_before}

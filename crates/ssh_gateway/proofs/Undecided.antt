@@ -244,23 +244,14 @@ failed_hold past all channel outcome hold =
 happened_hold : {E F : Type 0} (past : List Deed) (all : List Asking) (channel : ChannelId)
     (happening : Happening) (events : List (Event E F)) → Hold past all
     → Hold (behind past (deeds_from 0 (replied channel happening) events)) all
-happened_hold past all channel (what.PtyRequest term columns rows width height modes) events hold =
+happened_hold past all channel (what.Confirmed packet window) events hold = hold
+happened_hold past all channel (what.Data bytes) events hold = hold
+happened_hold past all channel (what.ExtendedData code bytes) events hold = hold
+happened_hold past all channel what.Eof events hold = hold
+happened_hold past all channel what.Close events hold = hold
+happened_hold past all channel (what.WindowAdjusted new_size) events hold = hold
+happened_hold past all channel happening events hold =
     failed_hold past all channel (outcome_at 0 events) hold
-happened_hold past all channel (what.X11Request single protocol cookie screen) events hold =
-    failed_hold past all channel (outcome_at 0 events) hold
-happened_hold past all channel (what.EnvRequest name value) events hold =
-    failed_hold past all channel (outcome_at 0 events) hold
-happened_hold past all channel what.ShellRequest events hold =
-    failed_hold past all channel (outcome_at 0 events) hold
-happened_hold past all channel (what.ExecRequest bytes) events hold =
-    failed_hold past all channel (outcome_at 0 events) hold
-happened_hold past all channel (what.SubsystemRequest name) events hold =
-    failed_hold past all channel (outcome_at 0 events) hold
-happened_hold past all channel (what.WindowChangeRequest columns rows width height) events hold =
-    failed_hold past all channel (outcome_at 0 events) hold
-happened_hold past all channel (what.Signal signal) events hold =
-    failed_hold past all channel (outcome_at 0 events) hold
-happened_hold past all channel happening events hold = hold
 
 opened_hold : {E F : Type 0} (past : List Deed) (all : List Asking) (channel : ChannelId)
     (t : OpenType) (events : List (Event E F)) → waits_on channel.0 past ≡ false → Hold past all

@@ -39,18 +39,13 @@ opened channel _ = command.Answer (refusal channel) ∷ []
 
 -- each request on a channel fails (section 5.4), and nothing else that happens there is answered
 abbrev pub replied : ChannelId → Happening → List Command
-replied channel (what.PtyRequest term columns rows width height modes) =
-    command.ChannelFailure channel ∷ []
-replied channel (what.X11Request single protocol cookie screen) =
-    command.ChannelFailure channel ∷ []
-replied channel (what.EnvRequest name value) = command.ChannelFailure channel ∷ []
-replied channel what.ShellRequest = command.ChannelFailure channel ∷ []
-replied channel (what.ExecRequest bytes) = command.ChannelFailure channel ∷ []
-replied channel (what.SubsystemRequest name) = command.ChannelFailure channel ∷ []
-replied channel (what.WindowChangeRequest columns rows width height) =
-    command.ChannelFailure channel ∷ []
-replied channel (what.Signal signal) = command.ChannelFailure channel ∷ []
-replied channel _ = []
+replied channel (what.Confirmed packet window) = []
+replied channel (what.Data bytes) = []
+replied channel (what.ExtendedData code bytes) = []
+replied channel what.Eof = []
+replied channel what.Close = []
+replied channel (what.WindowAdjusted new_size) = []
+replied channel _ = command.ChannelFailure channel ∷ []
 
 -- the commands that a callback records
 abbrev pub records : Lent → List Command

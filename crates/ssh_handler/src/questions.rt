@@ -1,7 +1,7 @@
 // Each question goes to the callback of its name.
 ghost use Rattle.std.specs.Prelude.{◌≡◌, []};
 ghost use Rattle.ssh_link.specs.Told.{Tells};
-ghost use Rattle.ssh_auth.specs.Calls.{happened, judged_call, lent_call, opened};
+ghost use Rattle.ssh_auth.specs.Calls.{judged_call, lent_call, opened};
 
 use crate::{Commands, Handler};
 use ssh_auth::{Happening, Judged, Lent, OpenType};
@@ -23,7 +23,101 @@ pub fn ask<H: Handler>(
     match lent {
         Lent::Succeeded => handler.auth_succeeded(session),
         Lent::Opens(channel, typ) => ask_opened(handler, channel, typ, session),
-        Lent::Happened(channel, happening) => ask_happened(handler, channel, happening, session),
+        Lent::Happened(channel, happening) => match happening {
+            Happening::Confirmed {
+                max_packet_size,
+                window_size,
+            } => handler.channel_open_confirmation(channel, max_packet_size, window_size, session),
+            Happening::Data { bytes } => {
+                let told = handler.data(channel, bytes.as_slice(), session);
+                drop(bytes);
+                told
+            }
+            Happening::ExtendedData { code, bytes } => {
+                let told = handler.extended_data(channel, code, bytes.as_slice(), session);
+                drop(bytes);
+                told
+            }
+            Happening::Eof => handler.channel_eof(channel, session),
+            Happening::Close => handler.channel_close(channel, session),
+            Happening::WindowAdjusted { new_size } => {
+                handler.window_adjusted(channel, new_size, session)
+            }
+            Happening::PtyRequest {
+                term,
+                col_width,
+                row_height,
+                pix_width,
+                pix_height,
+                modes,
+            } => {
+                let told = handler.pty_request(
+                    channel,
+                    term.as_str(),
+                    col_width,
+                    row_height,
+                    pix_width,
+                    pix_height,
+                    modes.as_slice(),
+                    session,
+                );
+                drop(term);
+                drop(modes);
+                told
+            }
+            Happening::X11Request {
+                single_connection,
+                x11_auth_protocol,
+                x11_auth_cookie,
+                x11_screen_number,
+            } => {
+                let told = handler.x11_request(
+                    channel,
+                    single_connection,
+                    x11_auth_protocol.as_str(),
+                    x11_auth_cookie.as_str(),
+                    x11_screen_number,
+                    session,
+                );
+                drop(x11_auth_protocol);
+                drop(x11_auth_cookie);
+                told
+            }
+            Happening::EnvRequest {
+                variable_name,
+                variable_value,
+            } => {
+                let told = handler.env_request(
+                    channel,
+                    variable_name.as_str(),
+                    variable_value.as_str(),
+                    session,
+                );
+                drop(variable_name);
+                drop(variable_value);
+                told
+            }
+            Happening::ShellRequest => handler.shell_request(channel, session),
+            Happening::ExecRequest { bytes } => {
+                let told = handler.exec_request(channel, bytes.as_slice(), session);
+                drop(bytes);
+                told
+            }
+            Happening::SubsystemRequest { name } => {
+                let told = handler.subsystem_request(channel, name.as_str(), session);
+                drop(name);
+                told
+            }
+            Happening::WindowChangeRequest {
+                col_width,
+                row_height,
+                pix_width,
+                pix_height,
+            } => handler.window_change_request(
+                channel, col_width, row_height, pix_width, pix_height, session,
+            ),
+            Happening::Signal { signal } => handler.signal(channel, signal, session),
+        },
     }
 }
 
@@ -104,115 +198,6 @@ fn ask_opened<H: Handler>(
             drop(socket_path);
             told
         }
-    }
-}
-
-// This happened on the channel.
-fn ask_happened<H: Handler>(
-    handler: &mut H,
-    channel: ChannelId,
-    happening: Happening,
-    session: &mut Commands<'_>,
-) -> Result<(), H::Error>
-    requires fresh { session.old.recorded ≡ [] }
-    requires suits { H.suits session.old.config session.old.remote_sshid }
-    ensures { Tells (H.AuthHandler.told handler.old) (H.AuthHandler.told handler.new) result
-        (happened channel happening result session.new.recorded) }
-{
-    match happening {
-        Happening::Confirmed {
-            max_packet_size,
-            window_size,
-        } => handler.channel_open_confirmation(channel, max_packet_size, window_size, session),
-        Happening::Data { bytes } => {
-            let told = handler.data(channel, bytes.as_slice(), session);
-            drop(bytes);
-            told
-        }
-        Happening::ExtendedData { code, bytes } => {
-            let told = handler.extended_data(channel, code, bytes.as_slice(), session);
-            drop(bytes);
-            told
-        }
-        Happening::Eof => handler.channel_eof(channel, session),
-        Happening::Close => handler.channel_close(channel, session),
-        Happening::WindowAdjusted { new_size } => {
-            handler.window_adjusted(channel, new_size, session)
-        }
-        Happening::PtyRequest {
-            term,
-            col_width,
-            row_height,
-            pix_width,
-            pix_height,
-            modes,
-        } => {
-            let told = handler.pty_request(
-                channel,
-                term.as_str(),
-                col_width,
-                row_height,
-                pix_width,
-                pix_height,
-                modes.as_slice(),
-                session,
-            );
-            drop(term);
-            drop(modes);
-            told
-        }
-        Happening::X11Request {
-            single_connection,
-            x11_auth_protocol,
-            x11_auth_cookie,
-            x11_screen_number,
-        } => {
-            let told = handler.x11_request(
-                channel,
-                single_connection,
-                x11_auth_protocol.as_str(),
-                x11_auth_cookie.as_str(),
-                x11_screen_number,
-                session,
-            );
-            drop(x11_auth_protocol);
-            drop(x11_auth_cookie);
-            told
-        }
-        Happening::EnvRequest {
-            variable_name,
-            variable_value,
-        } => {
-            let told = handler.env_request(
-                channel,
-                variable_name.as_str(),
-                variable_value.as_str(),
-                session,
-            );
-            drop(variable_name);
-            drop(variable_value);
-            told
-        }
-        Happening::ShellRequest => handler.shell_request(channel, session),
-        Happening::ExecRequest { bytes } => {
-            let told = handler.exec_request(channel, bytes.as_slice(), session);
-            drop(bytes);
-            told
-        }
-        Happening::SubsystemRequest { name } => {
-            let told = handler.subsystem_request(channel, name.as_str(), session);
-            drop(name);
-            told
-        }
-        Happening::WindowChangeRequest {
-            col_width,
-            row_height,
-            pix_width,
-            pix_height,
-        } => handler.window_change_request(
-            channel, col_width, row_height, pix_width, pix_height, session,
-        ),
-        Happening::Signal { signal } => handler.signal(channel, signal, session),
     }
 }
 

@@ -448,7 +448,7 @@ impl CommandList {
     pub fn len(&self) -> usize
         ensures { result ≡ length self.now }
     {
-        self.as_slice().len()
+        self.items.len() - self.taken
     }
 
     /// Whether there is no command.

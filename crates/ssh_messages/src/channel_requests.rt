@@ -15,7 +15,6 @@ use crate::message::{
     Terminal, read_data, read_end, read_request, read_size, read_terminal, read_text, read_texts,
     read_x11,
 };
-use crate::spoken::is_there;
 use crate::terminal::read_modes;
 use bytes::Bytes;
 use ssh_auth::Happening;
@@ -271,20 +270,16 @@ fn request_shell(asking: ChannelRequestHead, rest: &[u8]) -> Result<Spoken, Wire
 fn request_exec(asking: ChannelRequestHead, rest: &[u8]) -> Result<Spoken, WireError>
     ensures { IsRead (request_layout (Some known.exec) asking.channel asking.wanted) rest.now result }
 {
-    match read_data(rest) {
-        Ok(command) => requests(asking, exec_told(asking, command)),
-        Err(e) => Err(e),
-    }
+    let command = read_data(rest)?;
+    requests(asking, exec_told(asking, command))
 }
 
 fn request_subsystem(asking: ChannelRequestHead, rest: &[u8]) -> Result<Spoken, WireError>
     ensures { IsRead (request_layout (Some known.subsystem) asking.channel asking.wanted) rest.now
         result }
 {
-    match read_text(rest) {
-        Ok(name) => requests(asking, subsystem_told(asking, name)),
-        Err(e) => Err(e),
-    }
+    let name = read_text(rest)?;
+    requests(asking, subsystem_told(asking, name))
 }
 
 fn request_window_change(asking: ChannelRequestHead, rest: &[u8]) -> Result<Spoken, WireError>
@@ -314,10 +309,8 @@ fn request_window_change(asking: ChannelRequestHead, rest: &[u8]) -> Result<Spok
 fn request_signal(asking: ChannelRequestHead, rest: &[u8]) -> Result<Spoken, WireError>
     ensures { IsRead (request_layout (Some known.signal) asking.channel asking.wanted) rest.now result }
 {
-    match read_text(rest) {
-        Ok(name) => requests(asking, signal_told(asking.alloc, name)),
-        Err(e) => Err(e),
-    }
+    let name = read_text(rest)?;
+    requests(asking, signal_told(asking.alloc, name))
 }
 
 fn request_agent(asking: ChannelRequestHead, rest: &[u8]) -> Result<Spoken, WireError>
@@ -359,7 +352,7 @@ pub fn request_message(alloc: Global, table: &Encrypted, fields: &[u8]) -> Resul
         channel: asked.channel,
         wanted: asked.wanted,
     };
-    if !is_there(table, asked.channel) {
+    if !table.is_established(asked.channel) {
         return Ok(Spoken::Nothing);
     }
     channel_request(asking, asked.name, asked.rest)

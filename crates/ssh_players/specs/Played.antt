@@ -142,21 +142,16 @@ replies requested.Success channel = command.ChannelSuccess channel ∷ []
 replies requested.Failure channel = command.ChannelFailure channel ∷ []
 replies requested.Silent channel = []
 
--- what a callback records of what happens on a channel: an answer to data, and to each request
+-- what a callback records of what happens on a channel: an answer to data and to each request, and
+-- nothing of the rest
 abbrev pub responses : Standing → ChannelId → Happening → List Command
 responses standing channel (what.Data bytes) = echoes standing.incoming channel bytes
-responses standing channel (what.PtyRequest term columns rows width height modes) =
-    replies standing.requests channel
-responses standing channel (what.X11Request single protocol cookie screen) =
-    replies standing.requests channel
-responses standing channel (what.EnvRequest name value) = replies standing.requests channel
-responses standing channel what.ShellRequest = replies standing.requests channel
-responses standing channel (what.ExecRequest bytes) = replies standing.requests channel
-responses standing channel (what.SubsystemRequest name) = replies standing.requests channel
-responses standing channel (what.WindowChangeRequest columns rows width height) =
-    replies standing.requests channel
-responses standing channel (what.Signal signal) = replies standing.requests channel
-responses standing channel _ = []
+responses standing channel (what.Confirmed packet window) = []
+responses standing channel (what.ExtendedData code bytes) = []
+responses standing channel what.Eof = []
+responses standing channel what.Close = []
+responses standing channel (what.WindowAdjusted new_size) = []
+responses standing channel _ = replies standing.requests channel
 
 -- what a callback records that answers nothing: of a channel that the peer opens, the answer
 abbrev pub records : Standing → Lent → List Command

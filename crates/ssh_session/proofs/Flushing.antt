@@ -1,6 +1,6 @@
 -- The end of an input without one.
 use Rattle.std.proofs.Common.{◌≡◌, ◌⊎◌, ℕ, Option, Bool, true, false, cond, List, [], ◌∷◌, ◌++◌, map}
-use Rattle.std.proofs.Common.{Result, Ok, Err, refl, sym, ◌∙◌, ap, subst, inl, inr}
+use Rattle.std.proofs.Common.{Result, Ok, Err, OnErr, refl, sym, ◌∙◌, ap, subst, inl, inr}
 use Rattle.ssh_link.specs.Faults.{Rose, RoseIfKept}
 use Rattle.ssh_link.specs.declared.link.TraceEntry.{TraceEntry}
 use Rattle.ssh_link.specs.declared.link.TraceEntry.TheVariants.{Noticed, Sent}
@@ -16,8 +16,10 @@ use Rattle.ssh_rules.specs.declared.error.RunError.{RunError}
 use Rattle.ssh_rules.specs.declared.error.RunError.TheVariants as error
 use Rattle.ssh_session.specs.declared.session.Session.{Session}
 use Rattle.ssh_rules.specs.Acts.{Beginning, acts, frames_given, moved, tell_all}
+use Rattle.ssh_serving.specs.declared.server.Server.{Server}
+use Rattle.ssh_serving.specs.Serve as served
 use Rattle.ssh_session.specs.Between.{ComesFlushed, Flushes, FlushesTo, flush_cause_of, flushed}
-use Rattle.ssh_session.specs.Handing.{DoesTo, IsCutBefore, IsCutBehind, ServesTo}
+use Rattle.ssh_serving.specs.Handing.{DoesTo, IsCutBefore, IsCutBehind, ServesTo}
 use Rattle.ssh_rules.specs.Account.{Told}
 use Rattle.ssh_rules.specs.Cut.{IsCut}
 use Rattle.ssh_rules.specs.Failure.{flush_error_of}
@@ -29,21 +31,27 @@ use Rattle.ssh_rules.specs.Cause.{Cause, Wants_memory, Link_failed, Limit_reache
 use Rattle.ssh_session.specs.Serve.{IsUnchanged, Refines}
 use Rattle.ssh_rules.specs.Cause.{Faulty, Refused_by, Broken_by, IsCaused, cause_of}
 use Rattle.ssh_rules.specs.World.{World}
-use Rattle.ssh_session.proofs.Finishing.{begun_behind}
-use Rattle.ssh_session.proofs.Serving.{serves_nothing}
-use Rattle.ssh_session.proofs.Stepping.{told_of}
+use Rattle.ssh_serving.proofs.Finishing.{begun_behind}
+use Rattle.ssh_serving.proofs.Serving.{serves_nothing}
+use Rattle.ssh_session.proofs.Stepping.{StandsBy, told_of}
+
+-- what holds where a call failed, from what it says of itself
+pub on_err : {T E : Type 0} (A B : Type 0) (result : Result T E) → (A → B) → OnErr result A
+    → OnErr result B
+on_err A B (Ok value) f h = tt
+on_err A B (Err e) f h = f h
 
 -- ---- behind the frames
 
-ended_step : {E F : Type 0} (ended due : Bool) (w : World) (a : Heard E F) (session : Session) →
-    ended ≡ true → Refines session w →
+ended_step : {E F : Type 0} (ended due : Bool) (w : World) (a : Heard E F) (session : Server) →
+    ended ≡ true → served.Refines session w →
     ServesTo IsCutBehind (cond ended (Finish (Goes w)) (acts (begins due) w))
     (λ (_ : Unit {0}) world. Finish (Goes world)) a a session (Ok tt)
 ended_step true due w a session is r =
     (serves_nothing tt (λ (_ : Unit {0}) world. Finish (Goes world)) a w session r, tt)
 ended_step false due w a session is r = absurd (cc)
 
-stands_step : {E F : Type 0} (ended due : Bool) (w : World) (a b : Heard E F) (session : Session)
+stands_step : {E F : Type 0} (ended due : Bool) (w : World) (a b : Heard E F) (session : Server)
     (result : Result (Unit {0}) (RunError E F)) → ended ≡ false →
     ServesTo IsCutBehind (acts (begins due) w) (λ (_ : Unit {0}) world. Finish (Goes world)) a b
     session result →
@@ -53,14 +61,14 @@ stands_step true due w a b session result stands h = absurd (cc)
 stands_step false due w a b session result stands h = h
 
 -- the connection was ended
-pub flush_ended : {E F : Type 0} (w : World) (a : Heard E F) (session : Session) →
-    w.disconnected ≡ true → Refines session w →
+pub flush_ended : {E F : Type 0} (w : World) (a : Heard E F) (session : Server) →
+    w.disconnected ≡ true → served.Refines session w →
     ServesTo IsCutBehind (flushed w) (λ (_ : Unit {0}) world. Finish (Goes world)) a a session
     (Ok tt)
 flush_ended w a session is r = ended_step w.disconnected (is_due false w) w a session is r
 
 -- it was not: an exchange of keys began where one is due, or did not begin
-pub flush_due : {E F : Type 0} (w : World) (a b : Heard E F) (session : Session)
+pub flush_due : {E F : Type 0} (w : World) (a b : Heard E F) (session : Server)
     (result : Result (Unit {0}) (RunError E F)) → w.disconnected ≡ false →
     DoesTo IsCutBefore (begins (is_due false w)) w a b session result →
     ServesTo IsCutBehind (flushed w) (λ (_ : Unit {0}) world. Finish (Goes world)) a b session
@@ -233,10 +241,11 @@ fails_cut error.InactivityTimeout starved plan events h = cut_nowhere h
 
 -- it is finished
 pub flush_goes : {E F : Type 0} (notices : List Notice) (w : World) (a b : Heard E F)
-    (session : Session) → ServesTo IsCut (tell_all (map Noticed notices) (hand_on w flushed))
+    (session : Server) (session' : Session) → StandsBy session session' →
+    ServesTo IsCut (tell_all (map Noticed notices) (hand_on w flushed))
     (λ (_ : Unit {0}) world. Finish (Goes world)) a b session (Ok tt) →
-    FlushesTo notices w (told_of a) (told_of b) (RoseIfKept a.starved b.starved) session (Ok tt)
-flush_goes notices w a b session (h, _) =
+    FlushesTo notices w (told_of a) (told_of b) (RoseIfKept a.starved b.starved) session' (Ok tt)
+flush_goes notices w a b session session' stands (h, _) =
     let owed = tell_all (map Noticed notices) (hand_on w flushed) in (
       record {
         plan = owed;
@@ -246,14 +255,14 @@ flush_goes notices w a b session (h, _) =
         told = h.1.told;
         later = h.1.later;
         stepped = h.1.stepped;
-        comes = (h.2.0, h.2.1, h.2.2);
+        comes = (h.2.0, h.2.1, stands h.2.0 h.2.2);
       },
       tt,
     )
 
 -- it is not, and the session is spent
 pub flush_fails : {E F : Type 0} (notices : List Notice) (w : World) (a b : Heard E F)
-    (session session' : Session) (e : RunError E F) →
+    (session : Server) (session' : Session) (e : RunError E F) →
     ServesTo IsCut (tell_all (map Noticed notices) (hand_on w flushed))
     (λ (_ : Unit {0}) world. Finish (Goes world)) a b session (Err e) →
     FlushesTo notices w (told_of a) (told_of b) (RoseIfKept a.starved b.starved) session'

@@ -33,8 +33,8 @@ use Rattle.ssh_session.specs.Serve.{Refines, IsSuited}
 use Rattle.ssh_rules.specs.World.{Settings, World, in_exchange, opening_world}
 use Rattle.ssh_rules.proofs.Lawful.{lawful}
 use Rattle.ssh_rules.proofs.Plans.Settled.{stays_set}
-use Rattle.ssh_session.proofs.Handing.{cut_later}
-use Rattle.ssh_session.proofs.Serving.{told_then, told_none, caused_rose}
+use Rattle.ssh_serving.proofs.Handing.{cut_later}
+use Rattle.ssh_serving.proofs.Serving.{told_then, told_none, caused_rose}
 
 -- a run that goes on: this many inputs were finished
 pub record Going {E F : Type 0} (accepts : Acceptance) (settings : Settings)
@@ -401,11 +401,12 @@ pub still_suits : {E F : Type 0} (suits : Config → List ℕ → Type 0) (accep
     IsSuited suits session
 still_suits suits accepts settings a b count session going h =
     let r = going.refines in
-    let config : session.common.config ≡ settings.config = r.config
+    let config : session.server.common.config ≡ settings.config = r.server.config
     ∙ ap (λ s. s.config) going.set in
-    let line : session.common.remote_sshid ≡ settings.remote_sshid = r.remote_sshid
+    let line : session.server.common.remote_sshid ≡ settings.remote_sshid
+    = r.server.remote_sshid
     ∙ ap (λ s. s.remote_sshid) going.set in
-    subst (λ c. suits c session.common.remote_sshid) (sym config)
+    subst (λ c. suits c session.server.common.remote_sshid) (sym config)
     (subst (suits settings.config) (sym line) h)
 
 -- whether this side can begin an exchange of keys is no part of a session
@@ -413,19 +414,21 @@ pub repeating : (session : Session) (settings : Settings) (repeatable : Bool) �
     Refines session (opening_world settings) →
     Refines session (opening_world (record settings { repeatable = repeatable }))
 repeating session settings repeatable r = record {
-  config = r.config;
-  session_id = r.session_id;
-  remote_sshid = r.remote_sshid;
-  state = r.state;
-  requested = r.requested;
-  name = r.name;
-  table = r.table;
-  opens = r.opens;
-  no_more_sessions = r.no_more_sessions;
-  wanted = r.wanted;
-  outstanding = r.outstanding;
-  keepalives = r.keepalives;
-  disconnected = r.disconnected;
-  keys = r.keys;
+  server = record {
+    config = r.server.config;
+    session_id = r.server.session_id;
+    remote_sshid = r.server.remote_sshid;
+    state = r.server.state;
+    requested = r.server.requested;
+    name = r.server.name;
+    table = r.server.table;
+    opens = r.server.opens;
+    no_more_sessions = r.server.no_more_sessions;
+    wanted = r.server.wanted;
+    outstanding = r.server.outstanding;
+    keepalives = r.server.keepalives;
+    disconnected = r.server.disconnected;
+    keys = r.server.keys;
+  };
   live = r.live;
 }

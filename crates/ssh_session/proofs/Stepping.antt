@@ -1,5 +1,5 @@
 -- A step, from what serving its input does.
-use Rattle.std.proofs.Common.{◌≡◌, ℕ, Option, List, Result, Ok, Err, refl, sym, subst, inl, inr}
+use Rattle.std.proofs.Common.{◌≡◌, ℕ, Option, List, Result, Ok, Err, false, refl, sym, subst, inl, inr}
 use Rattle.ssh_link.specs.declared.frame.Input.{Input}
 use Rattle.ssh_link.specs.declared.notice.Notice.{Notice}
 use Rattle.ssh_auth.specs.Publickey.{Acceptance}
@@ -10,14 +10,21 @@ use Rattle.ssh_rules.specs.declared.error.RunError.{RunError}
 use Rattle.ssh_session.specs.declared.session.Session.{Session}
 use Rattle.ssh_rules.specs.Account.{Told}
 use Rattle.ssh_session.specs.Steps.{Comes, Steps, StepsTo}
+use Rattle.ssh_serving.specs.declared.server.Server.{Server}
 use Rattle.ssh_session.specs.Between.{OwesBehind, OwesNotices, StepsAfter, CutsAfter, TakesBehind}
-use Rattle.ssh_session.specs.Handing.{CompletesTo}
+use Rattle.ssh_serving.specs.Handing.{CompletesTo}
 use Rattle.ssh_rules.specs.Cut.{IsCut}
 use Rattle.ssh_rules.specs.Heard.{Heard}
 use Rattle.ssh_rules.specs.Outcome.{Outcome}
-use Rattle.ssh_session.specs.Serve.{Refines, Completes, IsUnchanged}
+use Rattle.ssh_serving.specs.Serve.{Completes}
+use Rattle.ssh_serving.specs.Serve as served
+use Rattle.ssh_session.specs.Serve.{Refines, IsUnchanged}
 use Rattle.ssh_rules.specs.World.{World}
 use Rattle.ssh_link.specs.Faults.{Rose, RoseIfKept}
+
+-- the session stands for the worlds of this server of its
+abbrev pub StandsBy : Server → Session → Type 0
+StandsBy server session = (w : World) → served.Refines server w → Refines session w
 
 -- what the three of an outside have told
 abbrev pub told_of : {E F : Type 0} → Heard E F → Told E F
@@ -28,9 +35,9 @@ told_of heard = record {
   faults = heard.faults;
 }
 
-comes_so : {E F : Type 0} (plan : Plan Outcome) (a b : Heard E F) (session session' : Session)
-    (result : Result Flow (RunError E F)) →
-    (result ≡ Ok Continue → IsUnchanged session session') → (h : Completes plan a b session result)
+comes_so : {E F : Type 0} (plan : Plan Outcome) (a b : Heard E F) (session : Server)
+    (session' : Session) (result : Result Flow (RunError E F)) →
+    (result ≡ Ok Continue → StandsBy session session') → (h : Completes plan a b session result)
     →
     Comes plan h.0 (Rose a.faults b.faults) session' result
 comes_so plan a b session session' (Ok Continue) same h =
@@ -40,8 +47,8 @@ comes_so plan a b session session' (Err e) same h = h.2
 
 -- what is owed was done, and then the session is spent or goes on
 noted_step : {E F : Type 0} (IsOwed : Plan Outcome → Type 0) (a b : Heard E F)
-    (session session' : Session) (result : Result Flow (RunError E F)) →
-    (result ≡ Ok Continue → IsUnchanged session session') → (plan : Plan Outcome) → IsOwed plan →
+    (session : Server) (session' : Session) (result : Result Flow (RunError E F)) →
+    (result ≡ Ok Continue → StandsBy session session') → (plan : Plan Outcome) → IsOwed plan →
     Completes plan a b session result → Steps IsOwed (told_of a) (told_of b) session' result
 noted_step IsOwed a b session session' result same plan owes h = record {
   plan = plan;
@@ -55,8 +62,8 @@ noted_step IsOwed a b session session' result same plan owes h = record {
 }
 
 pub noted : {E F : Type 0} (IsOwed : Plan Outcome → Type 0) (a b : Heard E F)
-    (session session' : Session) (result : Result Flow (RunError E F)) →
-    (result ≡ Ok Continue → IsUnchanged session session') →
+    (session : Server) (session' : Session) (result : Result Flow (RunError E F)) →
+    (result ≡ Ok Continue → StandsBy session session') →
     ((plan : Plan Outcome) × IsOwed plan × CompletesTo IsCut plan a b session result) →
     StepsTo IsOwed (told_of a) (told_of b) (RoseIfKept a.starved b.starved) session' result
 unfolding noted_step
@@ -65,9 +72,11 @@ noted IsOwed a b session session' (Ok flow) same p =
 noted IsOwed a b session session' (Err e) same p =
     (noted_step IsOwed a b session session' (Err e) same p.0 p.1 p.2.0, p.2.1)
 
--- the same session, as far as worlds go
-pub unchanged_by : (session session' : Session) → session' ≡ session → IsUnchanged session session'
-unchanged_by session session' same = λ w r. subst (λ s. Refines s w) (sym same) r
+-- the session that has this server, and is not spent
+pub stands_by : (session session' : Session) → session' ≡ session → session.spent ≡ false →
+    StandsBy session.server session'
+stands_by session session' same live =
+    λ w r. subst (λ s. Refines s w) (sym same) (record { server = r; live = live })
 
 still_comes : {E F : Type 0} (plan : Plan Outcome) (events : List (Event E F)) (rose : Type 0)
     (session session' : Session) (result : Result Flow (RunError E F)) →
@@ -108,8 +117,8 @@ steps_to_still IsOwed a b starved session session' (Err e) same h =
 
 -- what was taken behind notices was done, and then the session is spent or goes on
 pub noted_behind : {E F : Type 0} (notices : List Notice) (accepts : Acceptance) (w : World)
-    (input : Input) (a b : Heard E F) (session session' : Session)
-    (result : Result Flow (RunError E F)) → (result ≡ Ok Continue → IsUnchanged session session') →
+    (input : Input) (a b : Heard E F) (session : Server) (session' : Session)
+    (result : Result Flow (RunError E F)) → (result ≡ Ok Continue → StandsBy session session') →
     TakesBehind notices accepts w input a b session result →
     CutsAfter notices accepts w input (told_of a) (told_of b) (RoseIfKept a.starved b.starved)
     session' result

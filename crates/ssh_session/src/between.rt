@@ -9,8 +9,8 @@ ghost use Rattle.ssh_session.specs.Serve.{Refines, IsSameSession, IsUnchanged, i
 ghost use Rattle.ssh_rules.specs.World.{World};
 
 use crate::Session;
-use crate::commands::Done;
 use ssh_link::{Command, CommandOutcome, Notice};
+use ssh_serving::Done;
 use ssh_wire::WireError;
 use std::collections::VecDeque;
 use std::mem;
@@ -61,7 +61,7 @@ impl Session {
             drop(command);
             return Err(WireError::NoMemory);
         }
-        match self.carry_out::<(), ()>(None, command) {
+        match self.server.carry_out::<(), ()>(None, command) {
             Ok(Done { notice, outcome }) => {
                 add(notices, notice);
                 Ok(outcome)
@@ -79,7 +79,7 @@ impl Session {
         ensures unchanged { IsUnchanged self.old self.new }
         ensures session { IsSameSession self.old self.new }
     {
-        mem::replace(&mut self.untold, VecDeque::new(self.alloc))
+        mem::replace(&mut self.untold, VecDeque::new(self.server.alloc))
     }
 
     /// Keeps these notices to be told.

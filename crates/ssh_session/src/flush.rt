@@ -11,18 +11,19 @@ ghost use Rattle.ssh_session.specs.Between.{FlushesBy, CutsFlush, told_beneath, 
 ghost use Rattle.ssh_session.specs.Between.{goes_out_unless_ended};
 ghost use Rattle.ssh_rules.specs.Cut.{IsCut};
 ghost use Rattle.ssh_rules.specs.Failure.{flush_error_of};
-ghost use Rattle.ssh_rules.specs.Heard.{AreSame};
 ghost use Rattle.ssh_rules.specs.Outcome.{Goes};
 ghost use Rattle.ssh_rules.specs.Run.{hand_on};
-ghost use Rattle.ssh_session.specs.Handing.{ServesTo, IsCutBehind};
+ghost use Rattle.ssh_serving.specs.Handing.{ServesTo, IsCutBehind};
+ghost use Rattle.ssh_serving.specs.Serve as served;
 ghost use Rattle.ssh_session.specs.Serve.{Refines, IsSameSession, is_spent};
 ghost use Rattle.ssh_rules.specs.World.{World, lined, unless_ended};
 
-use crate::outside::{Transport, tell_each};
+use crate::run::{begin_where_due, hand_on};
 use crate::sides::Ends;
 use crate::{FlushError, RunError, Session};
 use ssh_channels::TableError;
 use ssh_link::{Kex, Link, Notice};
+use ssh_serving::{Server, Transport, tell_each};
 use ssh_wire::ChannelId;
 use std::collections::VecDeque;
 
@@ -88,50 +89,13 @@ impl Session {
         ensures session { OnOk result (IsSameSession self.old self.new) }
         ensures spends { OnErr result (is_spent self.new ≡ true) }
     {
-        match self.flush_over(ends, notices) {
+        match flush_over(&mut self.server, ends, notices) {
             Ok(()) => Ok(()),
             Err(error) => {
                 self.spent = true;
                 Err(flush_error(error))
             }
         }
-    }
-
-    /// The end of an input without one, over an outside.
-    fn flush_over<O: Transport>(
-        &mut self,
-        outside: &mut O,
-        notices: &mut VecDeque<Notice>,
-    ) -> Result<(), RunError<O::Error, O::KexError>>
-        ensures does { (w : World) → Refines self.old w → w.settings.repeatable
-            ≡ (O.heard outside.old).repeats → ServesTo IsCut
-            (tell_all (map Noticed notices.old.items) (hand_on w flushed))
-            (λ _ world. Finish (Goes world)) (O.heard outside.old) (O.heard outside.new) self.new
-            result }
-        ensures told { OnOk result (notices.new.items ≡ []) }
-        ensures session { IsSameSession self.old self.new }
-        ensures same { AreSame (O.heard outside.old) (O.heard outside.new) }
-    {
-        tell_each(outside, notices)?;
-        self.hand_on(outside)?;
-        self.begin_unless_ended(outside)
-    }
-
-    /// Keys are exchanged where that is due, unless the connection was ended.
-    fn begin_unless_ended<O: Transport>(
-        &mut self,
-        outside: &mut O,
-    ) -> Result<(), RunError<O::Error, O::KexError>>
-        ensures does { (w : World) → Refines self.old w → w.settings.repeatable
-            ≡ (O.heard outside.old).repeats → ServesTo IsCutBehind (flushed w)
-            (λ _ world. Finish (Goes world)) (O.heard outside.old) (O.heard outside.new) self.new result }
-        ensures session { IsSameSession self.old self.new }
-        ensures same { AreSame (O.heard outside.old) (O.heard outside.new) }
-    {
-        if self.common.disconnected {
-            return Ok(());
-        }
-        self.begin_where_due(outside, false)
     }
 
     /// What waits on the channel is written as far as the credit goes, and then the EOF and the
@@ -152,9 +116,44 @@ impl Session {
         ensures memory { IfErr result (λ e. e ≡ NoMemory) }
         ensures session { IsSameSession self.old self.new }
     {
-        if self.common.disconnected {
+        if self.server.common.disconnected {
             return Ok(0);
         }
-        self.table.flush_pending(channel)
+        self.server.flush_pending(channel)
     }
+}
+
+/// The end of an input without one, over an outside.
+fn flush_over<O: Transport>(
+    server: &mut Server,
+    outside: &mut O,
+    notices: &mut VecDeque<Notice>,
+) -> Result<(), RunError<O::Error, O::KexError>>
+    ensures does { (w : World) → served.Refines server.old w → w.settings.repeatable
+        ≡ (O.heard outside.old).repeats → ServesTo IsCut
+        (tell_all (map Noticed notices.old.items) (hand_on w flushed))
+        (λ _ world. Finish (Goes world)) (O.heard outside.old) (O.heard outside.new) server.new
+        result }
+    ensures told { OnOk result (notices.new.items ≡ []) }
+    ensures stays { served.Stays O.heard server.old server.new outside.old outside.new }
+{
+    tell_each(outside, notices)?;
+    hand_on(server, outside)?;
+    begin_unless_ended(server, outside)
+}
+
+/// Keys are exchanged where that is due, unless the connection was ended.
+fn begin_unless_ended<O: Transport>(
+    server: &mut Server,
+    outside: &mut O,
+) -> Result<(), RunError<O::Error, O::KexError>>
+    ensures does { (w : World) → served.Refines server.old w → w.settings.repeatable
+        ≡ (O.heard outside.old).repeats → ServesTo IsCutBehind (flushed w)
+        (λ _ world. Finish (Goes world)) (O.heard outside.old) (O.heard outside.new) server.new result }
+    ensures stays { served.Stays O.heard server.old server.new outside.old outside.new }
+{
+    if server.common.disconnected {
+        return Ok(());
+    }
+    begin_where_due(server, outside, false)
 }

@@ -13,7 +13,7 @@ ghost use Rattle.ssh_session.specs.Serve.{Refines, lends};
 
 use crate::Session;
 use ssh_handler::{Config, max_packet_size, window_size, writable_packet_size};
-use ssh_rules::{EncryptedState, is_let_in};
+use ssh_rules::{EncryptedState, user_let_in};
 use ssh_wire::ChannelId;
 
 /// What a session says of itself, and lends to each callback. Channels go by this side's numbers,
@@ -23,7 +23,7 @@ impl Session {
     pub fn config(&self) -> &Config
         ensures { result.now ≡ (lends self.now).config }
     {
-        &self.common.config
+        &self.server.common.config
     }
 
     /// The name of the user who was let in, and None before (RFC 4252 section 5).
@@ -31,11 +31,7 @@ impl Session {
         ensures world { (w : World) → Refines self.now w → option_copied result ≡ who w.user }
         ensures lent { option_copied result ≡ (lends self.now).user }
     {
-        if is_let_in(&self.state) {
-            Some(self.common.auth_user.as_str())
-        } else {
-            None
-        }
+        user_let_in(&self.server.state, self.server.common.auth_user.as_str())
     }
 
     /// How far authentication has come (RFC 4252). With `session_id` it is what
@@ -43,7 +39,7 @@ impl Session {
     pub fn state(&self) -> &EncryptedState
         ensures { (w : World) → Refines self.now w → result.now ≡ w.user.state }
     {
-        &self.state
+        &self.server.state
     }
 
     /// The session id: the exchange hash of the first exchange of keys (RFC 4253 section 7.2).
@@ -51,7 +47,7 @@ impl Session {
         ensures world { (w : World) → Refines self.now w → result.now ≡ w.settings.session_id }
         ensures short { length result.now < 2 ^ 32 }
     {
-        self.session_id.as_slice()
+        self.server.session_id.as_slice()
     }
 
     /// The line by which the peer's software named itself, without its line end (RFC 4253 section
@@ -59,7 +55,7 @@ impl Session {
     pub fn remote_sshid(&self) -> &[u8]
         ensures { result.now ≡ (lends self.now).remote_sshid }
     {
-        self.common.remote_sshid.as_slice()
+        self.server.common.remote_sshid.as_slice()
     }
 
     /// Whether commands are taken from outside: no exchange of keys runs, and on no channel data
@@ -68,7 +64,7 @@ impl Session {
         ensures world { (w : World) → Refines self.now w → result ≡ wants_commands w }
         ensures lent { result ≡ (lends self.now).commands_wanted }
     {
-        !self.keys.exchange.is_running() && !self.table.has_any_pending_data()
+        self.server.commands_wanted()
     }
 
     /// Whether answers to opens are taken from outside: no exchange of keys runs.
@@ -76,7 +72,7 @@ impl Session {
         ensures world { (w : World) → Refines self.now w → result ≡ not (in_exchange w) }
         ensures lent { result ≡ (lends self.now).replies_wanted }
     {
-        !self.keys.exchange.is_running()
+        self.server.replies_wanted()
     }
 
     /// The most bytes of data that the peer may send on the channel in one message now, and 0 where
@@ -85,7 +81,7 @@ impl Session {
         ensures world { (w : World) → Refines self.now w → result ≡ writable_on channel.now.0 w }
         ensures lent { result ≡ receiving.takes_at channel.now.0 (lends self.now).table }
     {
-        writable_packet_size(&self.table, *channel)
+        writable_packet_size(&self.server.table, *channel)
     }
 
     /// How many bytes of data the peer may still send on the channel, and 0 where there is no such
@@ -94,7 +90,7 @@ impl Session {
         ensures world { (w : World) → Refines self.now w → result ≡ room_on channel.now.0 w }
         ensures lent { result ≡ calls.room_at channel.now.0 (lends self.now).table }
     {
-        window_size(&self.table, *channel)
+        window_size(&self.server.table, *channel)
     }
 
     /// The most bytes of data that this side takes on the channel in one message, and 0 where there
@@ -103,7 +99,7 @@ impl Session {
         ensures world { (w : World) → Refines self.now w → result ≡ packet_on channel.now.0 w }
         ensures lent { result ≡ receiving.packet_at channel.now.0 (lends self.now).table }
     {
-        max_packet_size(&self.table, *channel)
+        max_packet_size(&self.server.table, *channel)
     }
 
     /// `window_size`, as a count.
@@ -111,14 +107,14 @@ impl Session {
         ensures world { (w : World) → Refines self.now w → result ≡ room_on channel.0 w }
         ensures lent { result ≡ calls.room_at channel.0 (lends self.now).table }
     {
-        self.table.sender_window_size(channel)
+        self.server.table.sender_window_size(channel)
     }
 
     /// Whether data wait on the channel to be sent.
     pub fn has_pending_data(&self, channel: ChannelId) -> bool
         ensures { result ≡ table_of.has line.data_waits channel.0 (lends self.now).table }
     {
-        self.table.has_pending_data(channel)
+        self.server.table.has_pending_data(channel)
     }
 
     /// Whether data would be accepted on the channel: it is established, and neither an EOF nor a
@@ -128,6 +124,6 @@ impl Session {
             result ≡ has more_may_come channel.0 w.channels.lines }
         ensures lent { result ≡ table_of.has line.may_send channel.0 (lends self.now).table }
     {
-        self.table.can_send(channel)
+        self.server.table.can_send(channel)
     }
 }

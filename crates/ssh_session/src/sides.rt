@@ -1,8 +1,6 @@
 // The outside of a run, of a handler, an exchange of keys and a link, and that of a flush.
 ghost use Rattle.std.specs.Prelude.{◌≡◌, None};
 
-use crate::Session;
-use crate::outside::{Outside, Transport};
 use bytes::Bytes;
 use ssh_auth::{AuthError, AuthRequest, AuthStep, Judged, Lent, serve_request, serve_response};
 use ssh_handler::{Handler, ask, judge};
@@ -10,6 +8,7 @@ use ssh_keys::Verifier;
 use ssh_link::{
     CommandList, CommandOutcome, Frame, Kex, KexFault, KexStep, Link, LinkFault, Notice,
 };
+use ssh_serving::{Outside, Server, Transport};
 use ssh_wire::{ChannelId, Text};
 use std::alloc::Global;
 
@@ -113,8 +112,8 @@ impl<'a, H: Handler, K: Kex, L: Link> Outside for Sides<'a, H, K, L> {
         serve_response(alloc, auth, self.handler, payload)
     }
 
-    fn ask(&mut self, session: &Session, lent: Lent) -> Result<CommandList, H::Error> {
-        let mut commands = session.lend();
+    fn ask(&mut self, server: &Server, lent: Lent) -> Result<CommandList, H::Error> {
+        let mut commands = server.lend();
         match ask(self.handler, lent, &mut commands) {
             Ok(()) => Ok(commands.into_list()),
             Err(e) => {
@@ -124,12 +123,8 @@ impl<'a, H: Handler, K: Kex, L: Link> Outside for Sides<'a, H, K, L> {
         }
     }
 
-    fn judge(
-        &mut self,
-        session: &Session,
-        judged: Judged,
-    ) -> Result<(bool, CommandList), H::Error> {
-        let mut commands = session.lend();
+    fn judge(&mut self, server: &Server, judged: Judged) -> Result<(bool, CommandList), H::Error> {
+        let mut commands = server.lend();
         match judge(self.handler, judged, &mut commands) {
             Ok(granted) => Ok((granted, commands.into_list())),
             Err(e) => {
@@ -141,11 +136,11 @@ impl<'a, H: Handler, K: Kex, L: Link> Outside for Sides<'a, H, K, L> {
 
     fn listen(
         &mut self,
-        session: &Session,
+        server: &Server,
         address: &str,
         port: u32,
     ) -> Result<(bool, u32, CommandList), H::Error> {
-        let mut commands = session.lend();
+        let mut commands = server.lend();
         let mut bound = port;
         match self
             .handler

@@ -1,12 +1,23 @@
-// A cursor over the bytes of a message.
+// The fields of a message, and a cursor over its bytes.
 ghost use Rattle.std.specs.Prelude.{◌≡◌, ◌≢◌, ◌+◌, ◌<◌, [], length, IfOk, IfErr, OnOk, OnErr, IsOk};
-ghost use Rattle.std.specs.Prelude.{◌↔◌};
+ghost use Rattle.std.specs.Prelude.{◌↔◌, drop};
 ghost use Rattle.ssh_wire.specs.Field.{Byte, Number, Long, Bytes, Text, Misfits};
 ghost use Rattle.ssh_wire.specs.Reading.{Passes, Reads};
 ghost use Rattle.ssh_wire.specs.declared.error.WireError.TheVariants.{Trailing};
 
 use crate::WireError;
 use std::marker::Model;
+
+/// The fields of a payload: what follows its message number (RFC 4253 section 6, RFC 4251 section
+/// 5). An empty payload has neither.
+pub fn fields_of(payload: &[u8]) -> &[u8]
+    ensures { result.now ≡ drop 1 payload.now }
+{
+    if payload.is_empty() {
+        return payload;
+    }
+    &payload[1..]
+}
 
 /// Reads the fields of a message one after another. A clause sees how many bytes were read and
 /// the bytes that are left. A call that is refused leaves both as they were.

@@ -1,24 +1,27 @@
 -- What the code reads of a request is what the table of requests has (RFC 4254 section 6).
 use Rattle.std.proofs.Common.{◌≡◌, ◌⊎◌, ◌∙◌, ℕ, List, [], ◌∷◌, Bool, Some, refl, sym, ap, subst}
 use Rattle.std.proofs.Common.{inl, inr, true, false, length, None, rules}
-use Rattle.std.specs.Prelude.{bytes_eq, codes}
-use Rattle.std.specs.Prelude.{Result, Ok, Err, IfOk, IfErr}
+use Rattle.std.specs.Prelude.{Option, bytes_eq, cond, find}
+use Rattle.std.specs.Prelude.{Result, Ok, Err, IfOk, IfErr, IsErrAnd}
 use Rattle.ssh_wire.specs.Field.{Flag, Number, Text}
 use Rattle.ssh_wire.specs.Field.{Field, Values, SpellsAll, SpellsWhole, MisfitsAll, MisfitsWhole}
 use Rattle.ssh_wire.specs.declared.channel_id.ChannelId.{ChannelId}
 use Rattle.ssh_wire.specs.declared.error.WireError.{WireError}
 use Rattle.ssh_wire.specs.declared.error.WireError.TheVariants.{NoMemory, Short, NotUtf8, Trailing}
 use Rattle.ssh_wire.specs.declared.error.WireError.TheVariants.{TooLong}
+use Rattle.ssh_wire.specs.declared.pty.Pty.{Pty}
 use Rattle.ssh_link.specs.declared.notice.ChannelMsg.{ChannelMsg}
 use Rattle.ssh_auth.specs.declared.question.Happening.{Happening}
 use Rattle.ssh_rules.specs.declared.messages.Spoken.{Spoken}
 use Rattle.ssh_rules.specs.declared.messages.Spoken.TheVariants as spoken
 use Rattle.ssh_rules.specs.ChannelRequests.{KnownRequest, request_layout, to_the_end, request_said}
-use Rattle.ssh_rules.specs.ChannelRequests.{request_named}
+use Rattle.ssh_rules.specs.ChannelRequests.{request_named, known_requests, terminal_request}
 use Rattle.ssh_rules.specs.Messages.{request, request_on}
 use Rattle.ssh_rules.specs.Opens.{own}
+use Rattle.ssh_rules.specs.Received.{data_length}
 use Rattle.ssh_rules.specs.Spelling.{Layout, Fields, Spells, IsRead}
-use Rattle.ssh_rules.proofs.Read.Misread.{misread_so}
+use Rattle.ssh_rules.specs.Terminal.{modes_of}
+use Rattle.ssh_rules.proofs.Read.Misread.{misread, misread_so}
 
 -- it says what is served
 abbrev pub IsConsistent : Spoken → Type 0
@@ -134,35 +137,12 @@ unlike_step false text name is other = is
 pub unlike : (text name : List ℕ) → (name ≡ text → ⊥) → bytes_eq text name ≡ false
 unlike text name other = unlike_step (bytes_eq text name) text name refl other
 
--- the name is none of the table's
-pub record IsUnknown (name : List ℕ) : Type 0 where
-  pub is_not_terminal : bytes_eq (codes "pty-req") name ≡ false
-  pub is_not_x11 : bytes_eq (codes "x11-req") name ≡ false
-  pub is_not_environment : bytes_eq (codes "env") name ≡ false
-  pub is_not_shell : bytes_eq (codes "shell") name ≡ false
-  pub is_not_exec : bytes_eq (codes "exec") name ≡ false
-  pub is_not_subsystem : bytes_eq (codes "subsystem") name ≡ false
-  pub is_not_window_change : bytes_eq (codes "window-change") name ≡ false
-  pub is_not_signal : bytes_eq (codes "signal") name ≡ false
-  pub is_not_agent : bytes_eq (codes "auth-agent-req@openssh.com") name ≡ false
-
 -- nothing of it is read
 pub unknown_by : (name : List ℕ) (channel : ChannelId) (wanted : Bool) (rest : List ℕ)
-    → IsUnknown name
+    → request_named name ≡ None
     → IsRead (request_layout (request_named name) channel wanted) rest
     (Ok (spoken.RequestsUnknown channel wanted))
-unknown_by name channel wanted rest other =
-    let none : request_named name ≡ None = rw (
-      other.is_not_terminal,
-      other.is_not_x11,
-      other.is_not_environment,
-      other.is_not_shell,
-      other.is_not_exec,
-      other.is_not_subsystem,
-      other.is_not_window_change,
-      other.is_not_signal,
-      other.is_not_agent,
-    ) refl in
+unknown_by name channel wanted rest none =
     subst (λ k. IsRead (request_layout k channel wanted) rest (Ok (spoken.RequestsUnknown channel wanted)))
     (sym none) refl
 
@@ -202,6 +182,13 @@ module _ (known : KnownRequest) (channel : ChannelId) (wanted : Bool)
         → IsRead layout bytes (Err why)
     misasked bytes why h = misread_so layout bytes why (unread_whole bytes why h)
 
+    -- .. and the reading ends there
+    pub misasked_at : (bytes : List ℕ) (why : WireError) (result : Result Spoken WireError)
+        → IsErrAnd result (λ x. x ≡ why) → MisfitsWhole known.fields bytes why
+        → IsRead layout bytes result
+    misasked_at bytes why result is h =
+        misread layout bytes why result is (unread_whole bytes why h)
+
     -- the fields were read, and what is told of them was kept, or memory was wanting for that
     pub asked_whole : (values : Values known.fields) (bytes : List ℕ) (message : ChannelMsg)
         (happening : Happening) (told : Result (ChannelMsg × Happening) WireError)
@@ -230,3 +217,54 @@ read_behind is_there bytes rest n name wanted result spells there h =
     fields_then (Number ∷ Text ∷ Flag ∷ []) (λ (channel, (name, (wanted, _))).
     request_on (is_there channel) wanted channel name) (n, (name, (wanted, tt))) bytes rest result
     spells (subst (λ b. IsRead (request_on b wanted n name) rest result) (sym there) h)
+
+-- ---- the table, an entry at a time
+
+abbrev pub Every : (P : KnownRequest → Type 0) → List KnownRequest → Type 0
+Every P [] = Unit {0}
+Every P (one ∷ more) = P one × Every P more
+
+found_step : (P : KnownRequest → Type 0) (b : Bool) (known one : KnownRequest)
+    (o : Option KnownRequest) → P one → (o ≡ Some known → P known)
+    → cond b (Some one) o ≡ Some known → P known
+found_step P true known one o q h is = let same : one ≡ known = cc in subst P same q
+found_step P false known one o q h is = h is
+
+-- what is so of each request is so of the one that is found
+found : (P : KnownRequest → Type 0) (test : KnownRequest → Bool) (table : List KnownRequest)
+    (known : KnownRequest) → Every P table → find test table ≡ Some known → P known
+found P test [] known q is = absurd (cc)
+found P test (one ∷ more) known q is = found_step P (test one) known one (find test more) q.0
+    (λ h. found P test more known q.1 h) is
+
+-- it is of this channel and this flag, and no data come with it
+abbrev pub IsOwn : (channel : ChannelId) (wanted : Bool) → Spoken → Type 0
+IsOwn channel wanted (spoken.Requests at flag message happening) =
+    (at ≡ channel) × (flag ≡ wanted) × (data_length happening ≡ [])
+IsOwn channel wanted (spoken.RequestsAgent at flag) = (at ≡ channel) × (flag ≡ wanted)
+IsOwn channel wanted spoken.Inconsistent = Unit {0}
+IsOwn channel wanted said = ⊥
+
+-- whatever its fields are
+abbrev pub SaysOwn : KnownRequest → Type 0
+SaysOwn known = (channel : ChannelId) (wanted : Bool) (values : Values known.fields)
+    → IsOwn channel wanted (known.says channel wanted values)
+
+terminal_own : (channel : ChannelId) (wanted : Bool) (term : List ℕ) (columns rows width height : ℕ)
+    (modes : Option (List (Pty × ℕ)))
+    → IsOwn channel wanted (terminal_request channel wanted term columns rows width height modes)
+terminal_own channel wanted term columns rows width height None = tt
+terminal_own channel wanted term columns rows width height (Some modes) = (refl, refl, refl)
+
+-- of a terminal by its modes, and of each other request at once
+table_own : Every SaysOwn known_requests
+table_own = (
+  λ channel wanted values. terminal_own channel wanted values.0 values.1.0 values.1.1.0
+      values.1.1.1.0 values.1.1.1.1.0 (modes_of 130 values.1.1.1.1.1.0),
+  search,
+)
+
+pub known_own : (name : List ℕ) (known : KnownRequest) → request_named name ≡ Some known
+    → SaysOwn known
+known_own name known is =
+    found SaysOwn (λ known. bytes_eq known.name name) known_requests known table_own is

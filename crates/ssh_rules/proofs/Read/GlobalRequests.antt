@@ -1,6 +1,6 @@
 -- What the code reads of a global request is what the table of them has (RFC 4254 section 4).
-use Rattle.std.proofs.Common.{◌≡◌, ℕ, List, Bool, Some, None, refl, sym, ap, subst, inl, inr, false}
-use Rattle.std.specs.Prelude.{Result, Ok, IsErrAnd, bytes_eq, codes}
+use Rattle.std.proofs.Common.{◌≡◌, ℕ, List, Bool, Some, None, refl, sym, ap, subst, inl, inr}
+use Rattle.std.specs.Prelude.{Result, Ok, IsErrAnd}
 use Rattle.ssh_wire.specs.Field.{Values, SpellsWhole, MisfitsWhole}
 use Rattle.ssh_wire.specs.declared.error.WireError.{WireError}
 use Rattle.ssh_wire.specs.declared.error.WireError.TheVariants.{NoMemory}
@@ -34,25 +34,10 @@ module _ (known : KnownGlobal) (wanted : Bool) where
       → IsRead layout bytes (Ok said)
   asked_so values bytes said s is = inl (values, s, ap Ok is)
 
--- the name is none of the table's
-pub record IsUnknownGlobal (name : List ℕ) : Type 0 where
-  pub is_not_forward : bytes_eq (codes "tcpip-forward") name ≡ false
-  pub is_not_cancel_forward : bytes_eq (codes "cancel-tcpip-forward") name ≡ false
-  pub is_not_forward_socket : bytes_eq (codes "streamlocal-forward@openssh.com") name ≡ false
-  pub is_not_cancel_socket : bytes_eq (codes "cancel-streamlocal-forward@openssh.com") name ≡ false
-  pub is_not_no_more_sessions : bytes_eq (codes "no-more-sessions@openssh.com") name ≡ false
-
--- nothing is read of such a request
-pub unknown_by : (name : List ℕ) (wanted : Bool) (rest : List ℕ) → IsUnknownGlobal name
+-- nothing is read of a request whose name is none of the table's
+pub unknown_by : (name : List ℕ) (wanted : Bool) (rest : List ℕ) → global_named name ≡ None
     → IsRead (global_layout (global_named name) wanted) rest
     (Ok (spoken.RequestsGloballyUnknown wanted))
-unknown_by name wanted rest other =
-    let none : global_named name ≡ None = rw (
-      other.is_not_forward,
-      other.is_not_cancel_forward,
-      other.is_not_forward_socket,
-      other.is_not_cancel_socket,
-      other.is_not_no_more_sessions,
-    ) refl in
+unknown_by name wanted rest none =
     subst (λ k. IsRead (global_layout k wanted) rest (Ok (spoken.RequestsGloballyUnknown wanted)))
     (sym none) refl

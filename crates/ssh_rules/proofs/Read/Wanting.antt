@@ -1,9 +1,9 @@
 -- Whether a request wants a reply, by the payload's bytes and by what is read of it (RFC 4254
 -- section 5.4).
 use Rattle.std.proofs.Common.{◌≡◌, ◌==◌, ◌&&◌, ℕ, List, [], ◌∷◌, ◌++◌, Bool, true}
-use Rattle.std.proofs.Common.{false, not, cond, Option, Some, None, Result, Ok, Err, get_or}
+use Rattle.std.proofs.Common.{false, not, Option, Some, None, Result, Ok, Err, get_or}
 use Rattle.std.proofs.Common.{arith, drop, refl, sym, ◌∙◌, ap, subst, inl, inr}
-use Rattle.std.specs.Prelude.{if◌then◌else◌, ◌||◌, ◌⊎◌, bytes_eq, find, flat_map, option_to_list}
+use Rattle.std.specs.Prelude.{if◌then◌else◌, ◌||◌, ◌⊎◌, flat_map, option_to_list}
 use Rattle.std.proofs.lemmas.Bool.{eqb-true}
 use Rattle.std.proofs.lemmas.Nat.{from_be_bytes-to_be_bytes_4}
 use Rattle.std.proofs.Math.Seq.{get_or-append_seam}
@@ -11,7 +11,6 @@ use Rattle.ssh_wire.specs.Field.{Values, SpellsAll, number, string}
 use Rattle.ssh_wire.specs.Messages.{channel_request, global_request}
 use Rattle.ssh_wire.specs.declared.channel_id.ChannelId.{ChannelId}
 use Rattle.ssh_wire.specs.declared.error.WireError.{WireError}
-use Rattle.ssh_wire.specs.declared.pty.Pty.{Pty}
 use Rattle.ssh_wire.proofs.Numbers.{string_length}
 use Rattle.ssh_handler.specs.declared.config.Config.{Config}
 use Rattle.ssh_link.specs.declared.frame.InputKind.TheVariants as input
@@ -32,8 +31,6 @@ use Rattle.ssh_rules.specs.declared.state.EncryptedState.TheVariants.{WaitingAut
 use Rattle.ssh_rules.specs.declared.state.EncryptedState.TheVariants.{InitCompression}
 use Rattle.ssh_rules.specs.declared.state.EncryptedState.TheVariants.{Authenticated}
 use Rattle.ssh_rules.specs.ChannelRequests.{KnownRequest, request_named, request_layout, to_the_end}
-use Rattle.ssh_rules.specs.ChannelRequests.{terminal_request}
-use Rattle.ssh_rules.specs.ChannelRequests.{known_requests}
 use Rattle.ssh_rules.specs.Gate.{gate_of, state_gate, authentication_gate, connection_gate}
 use Rattle.ssh_rules.specs.Gate.{is_over_cap, of_connection}
 use Rattle.ssh_rules.specs.Globals.{KnownGlobal, global_layout, global_named}
@@ -51,10 +48,10 @@ use Rattle.ssh_rules.specs.Reading.{Said, Service, Open, Agreed, Unread, Connect
 use Rattle.ssh_rules.specs.Reading.{Without_packets, Says, SaysOpen, SaysConfirmation, said_of}
 use Rattle.ssh_rules.specs.Replied.{recipient_of, wanted_of, wants_reply_on}
 use Rattle.ssh_rules.specs.Spelling.{Layout, Leaves, Rest, Whole, Fields, Spells}
-use Rattle.ssh_rules.specs.Terminal.{modes_of}
 use Rattle.ssh_rules.specs.World.{World, is_there}
 use Rattle.ssh_rules.proofs.Measure.Commands.{Claims, OfRequest}
 use Rattle.ssh_rules.proofs.Measure.Rows.{OfRead}
+use Rattle.ssh_rules.proofs.Read.ChannelRequests.{IsOwn, SaysOwn, known_own}
 
 -- ---- by the bytes
 
@@ -137,61 +134,15 @@ extended_say so true channel = λ values. tt
 
 -- ---- the table of requests
 
--- where this is so of a channel and a flag, what the request says on it is so
-abbrev SaysSo : (so : Claims) → KnownRequest → Type 0
-SaysSo so known = (channel : ChannelId) (wanted : Bool) (values : Values known.fields) →
-    so.on channel wanted → OfRequest so (known.says channel wanted values)
-
-abbrev AllSaySo : (so : Claims) → List KnownRequest → Type 0
-AllSaySo so [] = Unit {0}
-AllSaySo so (known ∷ more) = SaysSo so known × AllSaySo so more
-
-terminal_says : (so : Claims) (channel : ChannelId) (wanted : Bool)
-    (term : List ℕ) (columns rows width height : ℕ) (modes : Option (List (Pty × ℕ))) →
-    so.on channel wanted →
-    OfRequest so (terminal_request channel wanted term columns rows width height modes)
-terminal_says so channel wanted term columns rows width height None h = tt
-terminal_says so channel wanted term columns rows width height (Some modes) h = h
-
-table_says : (so : Claims) → AllSaySo so known_requests
-table_says so = (
-  λ channel wanted values h. terminal_says so channel wanted values.0 values.1.0 values.1.1.0
-      values.1.1.1.0 values.1.1.1.1.0 (modes_of 130 values.1.1.1.1.1.0) h,
-  (
-    λ channel wanted values h. h,
-    (
-      λ channel wanted values h. h,
-      (
-        λ channel wanted values h. h,
-        (
-          λ channel wanted values h. h,
-          (
-            λ channel wanted values h. h,
-            (
-              λ channel wanted values h. h,
-              (λ channel wanted values h. h, (λ channel wanted values h. h, tt)),
-            ),
-          ),
-        ),
-      ),
-    ),
-  ),
-)
-
-found_step : (b : Bool) (so : Claims) (known one : KnownRequest)
-    (o : Option KnownRequest) → SaysSo so one → (o ≡ Some known → SaysSo so known) →
-    cond b (Some one) o ≡ Some known → SaysSo so known
-found_step true so known one o q h is =
-    let same : one ≡ known = cc in subst (SaysSo so) same q
-found_step false so known one o q h is = h is
-
-found_says : (so : Claims) (test : KnownRequest → Bool)
-    (table : List KnownRequest) (known : KnownRequest) → AllSaySo so table →
-    find test table ≡ Some known → SaysSo so known
-found_says so test [] known q is = absurd (cc)
-found_says so test (one ∷ more) known q is =
-    found_step (test one) so known one (find test more) q.0
-    (λ h. found_says so test more known q.1 h) is
+-- where this is so of the channel and the flag, what a request says on it is so
+own_says : (so : Claims) (channel : ChannelId) (wanted : Bool) (said : Spoken) →
+    IsOwn channel wanted said → so.on channel wanted → OfRequest so said
+own_says so channel wanted (spoken.Requests at flag message happening) is h =
+    subst (λ c. so.on c flag) (sym is.0) (subst (so.on channel) (sym is.1) h)
+own_says so channel wanted (spoken.RequestsAgent at flag) is h =
+    subst (λ c. so.on c flag) (sym is.0) (subst (so.on channel) (sym is.1) h)
+own_says so channel wanted spoken.Inconsistent is h = tt
+own_says so channel wanted said is h = absurd is
 
 ended_say : (so : Claims) (said : Spoken) → OfRequest so said →
     AllSay (OfRequest so) (to_the_end said)
@@ -199,20 +150,19 @@ ended_say so spoken.Inconsistent h = tt
 ended_say so said h = λ values. h
 
 asked_say : (so : Claims) (o : Option KnownRequest) (channel : ChannelId)
-    (wanted : Bool) → ((known : KnownRequest) → o ≡ Some known → SaysSo so known) →
+    (wanted : Bool) → ((known : KnownRequest) → o ≡ Some known → SaysOwn known) →
     so.on channel wanted → AllSay (OfRequest so) (request_layout o channel wanted)
 asked_say so None channel wanted q h = h
 asked_say so (Some known) channel wanted q h = λ values.
-    ended_say so (known.says channel wanted values) (q known refl channel wanted values h)
+    let said = known.says channel wanted values in
+    ended_say so said (own_says so channel wanted said (q known refl channel wanted values) h)
 
 request_say : (so : Claims) (there wanted : Bool) (channel : ℕ)
     (name : List ℕ) → so.on (own channel) wanted →
     AllSay (OfRequest so) (request_on there wanted channel name)
 request_say so false wanted channel name h = tt
 request_say so true wanted channel name h =
-    asked_say so (request_named name) (own channel) wanted
-    (λ known is. found_says so (λ known. bytes_eq known.name name) known_requests known (table_says so)
-    is) h
+    asked_say so (request_named name) (own channel) wanted (known_own name) h
 
 -- ---- messages of no channel
 

@@ -1,12 +1,10 @@
 -- What is told of a payload brings no data, but for CHANNEL_DATA and CHANNEL_EXTENDED_DATA (RFC
 -- 4254 section 5.2).
-use Rattle.std.proofs.Common.{◌≡◌, ℕ, List, [], ◌∷◌, Bool, true, false, cond, Option, Some, None}
+use Rattle.std.proofs.Common.{◌≡◌, ℕ, List, [], Bool, true, false, Option, Some, None}
 use Rattle.std.proofs.Common.{Result, Ok, Err, refl, sym, subst, inl, inr}
-use Rattle.std.specs.Prelude.{bytes_eq, find}
 use Rattle.ssh_wire.specs.Field.{Values}
 use Rattle.ssh_wire.specs.declared.channel_id.ChannelId.{ChannelId}
 use Rattle.ssh_wire.specs.declared.error.WireError.{WireError}
-use Rattle.ssh_wire.specs.declared.pty.Pty.{Pty}
 use Rattle.ssh_auth.specs.Publickey.{Circumstances}
 use Rattle.ssh_rules.specs.declared.gate.Gate.{Gate}
 use Rattle.ssh_rules.specs.declared.gate.Gate.TheVariants as gate
@@ -17,8 +15,6 @@ use Rattle.ssh_rules.specs.declared.messages.Spoken.TheVariants as spoken
 use Rattle.ssh_rules.specs.declared.outstanding.Outstanding.{Outstanding}
 use Rattle.ssh_rules.specs.declared.outstanding.Outstanding.TheVariants as outstanding
 use Rattle.ssh_rules.specs.ChannelRequests.{KnownRequest, request_named, request_layout, to_the_end}
-use Rattle.ssh_rules.specs.ChannelRequests.{terminal_request}
-use Rattle.ssh_rules.specs.ChannelRequests.{known_requests}
 use Rattle.ssh_rules.specs.Globals.{KnownGlobal, global_layout, global_named, global_request_said}
 use Rattle.ssh_rules.specs.Globals.{Globally, Listens, Judges, oldest, success, denied}
 use Rattle.ssh_rules.specs.Globals.{Gives_up_sessions}
@@ -28,8 +24,8 @@ use Rattle.ssh_rules.specs.Reading.{Said, Service, Open, Agreed, Unread, Connect
 use Rattle.ssh_rules.specs.Reading.{Without_packets, Says, SaysOpen, SaysConfirmation, said_of}
 use Rattle.ssh_rules.specs.Received.{data_length}
 use Rattle.ssh_rules.specs.Spelling.{Layout, Leaves, Rest, Whole, Fields, Spells}
-use Rattle.ssh_rules.specs.Terminal.{modes_of}
 use Rattle.ssh_rules.specs.World.{World, is_there}
+use Rattle.ssh_rules.proofs.Read.ChannelRequests.{IsOwn, SaysOwn, known_own}
 
 -- no data come with what happened on the channel
 abbrev pub IsBareSpoken : Spoken → Type 0
@@ -74,74 +70,30 @@ extended_bare true channel = λ values. tt
 
 -- ---- the table of requests
 
-abbrev SaysBare : KnownRequest → Type 0
-SaysBare known = (channel : ChannelId) (wanted : Bool) (values : Values known.fields) →
-    IsBareSpoken (known.says channel wanted values)
-
-abbrev AllSayBare : List KnownRequest → Type 0
-AllSayBare [] = Unit {0}
-AllSayBare (known ∷ more) = SaysBare known × AllSayBare more
-
-terminal_bare : (channel : ChannelId) (wanted : Bool) (term : List ℕ)
-    (columns rows width height : ℕ) (modes : Option (List (Pty × ℕ))) →
-    IsBareSpoken (terminal_request channel wanted term columns rows width height modes)
-terminal_bare channel wanted term columns rows width height None = tt
-terminal_bare channel wanted term columns rows width height (Some modes) = refl
-
-table_bare : AllSayBare known_requests
-table_bare = (
-  λ channel wanted values. terminal_bare channel wanted values.0 values.1.0 values.1.1.0
-      values.1.1.1.0 values.1.1.1.1.0 (modes_of 130 values.1.1.1.1.1.0),
-  (
-    λ channel wanted values. refl,
-    (
-      λ channel wanted values. refl,
-      (
-        λ channel wanted values. refl,
-        (
-          λ channel wanted values. refl,
-          (
-            λ channel wanted values. refl,
-            (
-              λ channel wanted values. refl,
-              (λ channel wanted values. refl, (λ channel wanted values. tt, tt)),
-            ),
-          ),
-        ),
-      ),
-    ),
-  ),
-)
-
-found_step : (b : Bool) (known one : KnownRequest) (o : Option KnownRequest) → SaysBare one →
-    (o ≡ Some known → SaysBare known) → cond b (Some one) o ≡ Some known → SaysBare known
-found_step true known one o q h is = let same : one ≡ known = cc in subst SaysBare same q
-found_step false known one o q h is = h is
-
-found_bare : (test : KnownRequest → Bool) (table : List KnownRequest) (known : KnownRequest) →
-    AllSayBare table → find test table ≡ Some known → SaysBare known
-found_bare test [] known q is = absurd (cc)
-found_bare test (one ∷ more) known q is =
-    found_step (test one) known one (find test more) q.0
-    (λ h. found_bare test more known q.1 h) is
+own_bare : (channel : ChannelId) (wanted : Bool) (said : Spoken) → IsOwn channel wanted said →
+    IsBareSpoken said
+own_bare channel wanted (spoken.Requests at flag message happening) is = is.2
+own_bare channel wanted (spoken.RequestsAgent at flag) is = tt
+own_bare channel wanted spoken.Inconsistent is = tt
+own_bare channel wanted said is = absurd is
 
 ended_bare : (said : Spoken) → IsBareSpoken said → AllBare (to_the_end said)
 ended_bare spoken.Inconsistent h = tt
 ended_bare said h = λ values. h
 
 asked_bare : (o : Option KnownRequest) (channel : ChannelId) (wanted : Bool) →
-    ((known : KnownRequest) → o ≡ Some known → SaysBare known) →
+    ((known : KnownRequest) → o ≡ Some known → SaysOwn known) →
     AllBare (request_layout o channel wanted)
 asked_bare None channel wanted q = tt
 asked_bare (Some known) channel wanted q = λ values.
-    ended_bare (known.says channel wanted values) (q known refl channel wanted values)
+    let said = known.says channel wanted values in
+    ended_bare said (own_bare channel wanted said (q known refl channel wanted values))
 
 request_bare : (there wanted : Bool) (channel : ℕ) (name : List ℕ) →
     AllBare (request_on there wanted channel name)
 request_bare false wanted channel name = tt
 request_bare true wanted channel name =
-    asked_bare (request_named name) (own channel) wanted
-    (λ known is. found_bare (λ known. bytes_eq known.name name) known_requests known table_bare is)
+    asked_bare (request_named name) (own channel) wanted (known_own name)
 
 -- ---- messages of no channel
 

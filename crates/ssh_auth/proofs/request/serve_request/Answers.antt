@@ -1,12 +1,14 @@
-use Rattle.std.proofs.Common.{◌≡◌, rules, ◌∷◌, [], true, false, ◌∙◌, ap, refl}
+use Rattle.std.proofs.Common.{◌≡◌, rules, ◌∷◌, [], true, false, ◌∙◌, ap, refl, inr, Ok}
 use Rattle.std.specs.Prelude.{bytes_eq, codes, drop}
 use Rattle.ssh_link.proofs.Tellings.{adds_nil}
-use Rattle.ssh_auth.specs.Requested.{head_fields, Other_service, Unfit, Unread}
+use Rattle.ssh_auth.specs.declared.auth_request.AuthRequest.{AuthRequest}
+use Rattle.ssh_auth.specs.Requested.{head_fields, Other_service, Unfit, Unread, named_by}
+use Rattle.ssh_auth.specs.Requested.{Is_none, Is_password, Is_publickey, Is_interactive}
 use Rattle.ssh_auth.specs.Verdict.{Fails, Starved}
 use Rattle.ssh_auth.specs.Plan.{Finish}
 use Rattle.ssh_auth.specs.Publickey.{Circumstances}
-use Rattle.ssh_auth.proofs.Asks.{starved, unfit, same_text, other_text, in_connection, begun_as}
-use Rattle.ssh_auth.proofs.Asks.{as_it_says}
+use Rattle.ssh_auth.proofs.Asks.{starved, unfit, other_text, served_as, other_method}
+use Rattle.ssh_auth.proofs.Asks.{named_none, named_password, named_publickey, named_interactive}
 use Rattle.ssh_auth.proofs.Misfits.{all_error}
 use Rattle.ssh_auth.proofs.Proving.{none_unproven, all_proven}
 use Rattle.ssh_auth.proofs.Signatures.{spells_front}
@@ -78,8 +80,61 @@ returns-in_err-bind_or_reset_principal g c =
           told;
     }
 
-pub serve_method-requires : goal.serve_method-requires
-serve_method-requires g c =
+pub returns-then-eq : goal.returns-then-eq
+returns-then-eq g c =
+    let head = c.in_ok-head.head in
+    let name = head.method.now in
+    let connection : bytes_eq head.service.now (codes "ssh-connection") ≡ true = search rules in
+    let none : bytes_eq name (codes "none") ≡ true = search rules in
+    let fields = drop 1 c.args.payload.now in
+    let given : Circumstances = record {
+      accepts = g.V.Verifier.accepts c.args.verifier.now;
+      session_id = c.args.session_id.now;
+      moment = c.args.moment;
+    } in
+    let before = g.H.AuthHandler.told c.args.handler.now in
+    let after = g.H.AuthHandler.told c.serve_none.new.handler in
+    let served = served_as given fields head.user.now head.service.now name head.rest.now Is_none
+    c.args.auth.now c.bind_or_reset_principal.new.self before after c.serve_none.new.auth c.serve_none.result
+    (named_none name none) connection
+    (rw c.fields_of.ensures at c.in_ok-head.ensures)
+    c.in_ok-bind_or_reset_principal.ensures.ok
+    c.serve_none.ensures in
+    record {
+      verdict = served;
+      proven = all_proven given fields c.args.auth.now served.0 before after c.serve_none.new.auth c.serve_none.result
+          served.1 served.2;
+    }
+
+pub returns-then-eq-2 : goal.returns-then-eq-2
+returns-then-eq-2 g c =
+    let head = c.in_ok-head.head in
+    let name = head.method.now in
+    let connection : bytes_eq head.service.now (codes "ssh-connection") ≡ true = search rules in
+    let none : bytes_eq name (codes "none") ≡ false = search rules in
+    let password : bytes_eq name (codes "password") ≡ true = search rules in
+    let fields = drop 1 c.args.payload.now in
+    let given : Circumstances = record {
+      accepts = g.V.Verifier.accepts c.args.verifier.now;
+      session_id = c.args.session_id.now;
+      moment = c.args.moment;
+    } in
+    let before = g.H.AuthHandler.told c.args.handler.now in
+    let after = g.H.AuthHandler.told c.serve_password.new.handler in
+    let served = served_as given fields head.user.now head.service.now name head.rest.now Is_password
+    c.args.auth.now c.bind_or_reset_principal.new.self before after c.serve_password.new.auth c.serve_password.result
+    (named_password name none password) connection
+    (rw c.fields_of.ensures at c.in_ok-head.ensures)
+    c.in_ok-bind_or_reset_principal.ensures.ok
+    c.serve_password.ensures in
+    record {
+      verdict = served;
+      proven = all_proven given fields c.args.auth.now served.0 before after c.serve_password.new.auth c.serve_password.result
+          served.1 served.2;
+    }
+
+pub serve_publickey-requires : goal.serve_publickey-requires
+serve_publickey-requires g c =
     let head = c.in_ok-head.head in
     let numbered = c.requires.numbered in
     let fields = rw (c.fields_of.ensures, numbered.1) at c.in_ok-head.ensures in
@@ -87,31 +142,117 @@ serve_method-requires g c =
     numbered.0 head.rest.now fields in
     (c.requires.session_id, (front.0, numbered.1 ∙ ap (λ x. 50 ∷ x) front.1))
 
-pub returns : goal.returns
-returns g c =
+pub returns-then-eq-3 : goal.returns-then-eq-3
+returns-then-eq-3 g c =
     let head = c.in_ok-head.head in
+    let name = head.method.now in
     let connection : bytes_eq head.service.now (codes "ssh-connection") ≡ true = search rules in
-    let same = same_text head.service.now (codes "ssh-connection") connection in
+    let none : bytes_eq name (codes "none") ≡ false = search rules in
+    let password : bytes_eq name (codes "password") ≡ false = search rules in
+    let publickey : bytes_eq name (codes "publickey") ≡ true = search rules in
     let fields = drop 1 c.args.payload.now in
-    let spelled = rw c.fields_of.ensures at c.in_ok-head.ensures in
     let given : Circumstances = record {
       accepts = g.V.Verifier.accepts c.args.verifier.now;
       session_id = c.args.session_id.now;
       moment = c.args.moment;
     } in
     let before = g.H.AuthHandler.told c.args.handler.now in
-    let after = g.H.AuthHandler.told c.serve_method.new.handler in
-    let state = c.serve_method.new.auth in
-    let result = c.serve_method.result in
-    let served =
-    as_it_says given fields head.user.now head.method.now head.rest.now c.args.auth.now before after
-    state result
-    (in_connection fields head.user.now head.service.now head.method.now head.rest.now same spelled)
-    (begun_as _ c.args.auth.now c.bind_or_reset_principal.new.self head.user.now head.service.now
-    before after state result same c.in_ok-bind_or_reset_principal.ensures.ok
-    c.serve_method.ensures) in
+    let after = g.H.AuthHandler.told c.serve_publickey.new.handler in
+    let served = served_as given fields head.user.now head.service.now name head.rest.now Is_publickey
+    c.args.auth.now c.bind_or_reset_principal.new.self before after c.serve_publickey.new.auth c.serve_publickey.result
+    (named_publickey name none password publickey) connection
+    (rw c.fields_of.ensures at c.in_ok-head.ensures)
+    c.in_ok-bind_or_reset_principal.ensures.ok
+    c.serve_publickey.ensures in
     record {
       verdict = served;
-      proven = all_proven given fields c.args.auth.now served.0 before
-          after state result served.1 served.2;
+      proven = all_proven given fields c.args.auth.now served.0 before after c.serve_publickey.new.auth c.serve_publickey.result
+          served.1 served.2;
+    }
+
+pub returns-then-eq-4 : goal.returns-then-eq-4
+returns-then-eq-4 g c =
+    let head = c.in_ok-head.head in
+    let name = head.method.now in
+    let connection : bytes_eq head.service.now (codes "ssh-connection") ≡ true = search rules in
+    let none : bytes_eq name (codes "none") ≡ false = search rules in
+    let password : bytes_eq name (codes "password") ≡ false = search rules in
+    let publickey : bytes_eq name (codes "publickey") ≡ false = search rules in
+    let interactive : bytes_eq name (codes "keyboard-interactive") ≡ true = search rules in
+    let fields = drop 1 c.args.payload.now in
+    let given : Circumstances = record {
+      accepts = g.V.Verifier.accepts c.args.verifier.now;
+      session_id = c.args.session_id.now;
+      moment = c.args.moment;
+    } in
+    let before = g.H.AuthHandler.told c.args.handler.now in
+    let after = g.H.AuthHandler.told c.serve_interactive.new.handler in
+    let served = served_as given fields head.user.now head.service.now name head.rest.now Is_interactive
+    c.args.auth.now c.bind_or_reset_principal.new.self before after c.serve_interactive.new.auth c.serve_interactive.result
+    (named_interactive name none password publickey interactive) connection
+    (rw c.fields_of.ensures at c.in_ok-head.ensures)
+    c.in_ok-bind_or_reset_principal.ensures.ok
+    c.serve_interactive.ensures in
+    record {
+      verdict = served;
+      proven = all_proven given fields c.args.auth.now served.0 before after c.serve_interactive.new.auth c.serve_interactive.result
+          served.1 served.2;
+    }
+
+pub returns-in_err-refuse : goal.returns-in_err-refuse
+returns-in_err-refuse g c =
+    let head = c.in_ok-head.head in
+    let name = head.method.now in
+    let connection : bytes_eq head.service.now (codes "ssh-connection") ≡ true = search rules in
+    let r = c.from_residual-in_err-refuse in
+    let fields = drop 1 c.args.payload.now in
+    let given : Circumstances = record {
+      accepts = g.V.Verifier.accepts c.args.verifier.now;
+      session_id = c.args.session_id.now;
+      moment = c.args.moment;
+    } in
+    let before = g.H.AuthHandler.told c.args.handler.now in
+    let served = served_as given fields head.user.now head.service.now name head.rest.now (named_by name)
+    c.args.auth.now c.bind_or_reset_principal.new.self before before c.refuse.new.auth r.result
+    refl connection
+    (rw c.fields_of.ensures at c.in_ok-head.ensures)
+    c.in_ok-bind_or_reset_principal.ensures.ok
+    (inr (starved (Finish (Fails Starved)) before c.refuse.new.auth c.in_err-refuse.field-0.0
+    r.result r.ensures.1 c.in_err-refuse.ensures.memory)) in
+    record {
+      verdict = served;
+      proven = all_proven given fields c.args.auth.now served.0 before before c.refuse.new.auth r.result
+          served.1 served.2;
+    }
+
+pub returns : goal.returns
+returns g c =
+    let head = c.in_ok-head.head in
+    let name = head.method.now in
+    let connection : bytes_eq head.service.now (codes "ssh-connection") ≡ true = search rules in
+    let none : bytes_eq name (codes "none") ≡ false = search rules in
+    let password : bytes_eq name (codes "password") ≡ false = search rules in
+    let publickey : bytes_eq name (codes "publickey") ≡ false = search rules in
+    let interactive : bytes_eq name (codes "keyboard-interactive") ≡ false = search rules in
+    let fields = drop 1 c.args.payload.now in
+    let given : Circumstances = record {
+      accepts = g.V.Verifier.accepts c.args.verifier.now;
+      session_id = c.args.session_id.now;
+      moment = c.args.moment;
+    } in
+    let before = g.H.AuthHandler.told c.args.handler.now in
+    let begins : AuthRequest =
+    record c.bind_or_reset_principal.new.self { partial_success = false } in
+    let step = c.in_ok-refuse.field-0 in
+    let served = served_as given fields head.user.now head.service.now name head.rest.now (named_by name)
+    c.args.auth.now c.bind_or_reset_principal.new.self before before c.refuse.new.auth (Ok step)
+    refl connection
+    (rw c.fields_of.ensures at c.in_ok-head.ensures)
+    c.in_ok-bind_or_reset_principal.ensures.ok
+    (other_method given fields name head.rest.now begins head.user.now before c.refuse.new.auth step
+    none password publickey interactive c.in_ok-refuse.ensures.ok) in
+    record {
+      verdict = served;
+      proven = all_proven given fields c.args.auth.now served.0 before before c.refuse.new.auth (Ok step)
+          served.1 served.2;
     }

@@ -19,11 +19,11 @@ returns-in_err-number c = λ there same.
       refl,
     ))
 
-pub returns-then-not-is_there : goal.returns-then-not-is_there
-returns-then-not-is_there c = λ there same.
+pub returns-then-not-is_established : goal.returns-then-not-is_established
+returns-then-not-is_established c = λ there same.
     let n = c.in_ok-number.number in
     let rest = c.u32.new.self.left in
-    let no = sym (c.is_there.ensures ∙ same n) ∙ c.if-not-is_there.true in
+    let no = sym (c.is_established.ensures ∙ same n) ∙ c.if-not-is_established.true in
     inl (
       (n, tt),
       rest,
@@ -37,7 +37,7 @@ pub returns-in_err-sent : goal.returns-in_err-sent
 returns-in_err-sent c = λ there same.
     let n = c.in_ok-number.number in
     let rest = c.u32.new.self.left in
-    let yes = sym (c.is_there.ensures ∙ same n) ∙ c.if-not-is_there.false in
+    let yes = sym (c.is_established.ensures ∙ same n) ∙ c.if-not-is_established.false in
     let why = c.in_err-sent.field-0.0 in
     misread (plain_data there) c.args.fields.now _ _
     c.from_residual-in_err-sent.ensures.1 (inl (
@@ -58,7 +58,7 @@ pub returns-in_err-end : goal.returns-in_err-end
 returns-in_err-end c = λ there same.
     let n = c.in_ok-number.number in
     let rest = c.u32.new.self.left in
-    let yes = sym (c.is_there.ensures ∙ same n) ∙ c.if-not-is_there.false in
+    let yes = sym (c.is_established.ensures ∙ same n) ∙ c.if-not-is_established.false in
     let why = c.in_err-end.field-0.0 in
     let sent = c.in_ok-sent.sent.now in
     let more = c.bytes.new.self.left in
@@ -84,7 +84,7 @@ pub returns-in_err-bytes : goal.returns-in_err-bytes
 returns-in_err-bytes c = λ there same.
     let n = c.in_ok-number.number in
     let rest = c.u32.new.self.left in
-    let yes = sym (c.is_there.ensures ∙ same n) ∙ c.if-not-is_there.false in
+    let yes = sym (c.is_established.ensures ∙ same n) ∙ c.if-not-is_established.false in
     let sent = c.in_ok-sent.sent.now in
     let said = Data (record { 0 = n }) (chunk Plain sent) in
     unkept (plain_data there) c.args.fields.now _ (Ok said) _
@@ -106,7 +106,7 @@ pub returns : goal.returns
 returns c = λ there same.
     let n = c.in_ok-number.number in
     let rest = c.u32.new.self.left in
-    let yes = sym (c.is_there.ensures ∙ same n) ∙ c.if-not-is_there.false in
+    let yes = sym (c.is_established.ensures ∙ same n) ∙ c.if-not-is_established.false in
     let sent = c.in_ok-sent.sent.now in
     let bytes = c.in_ok-bytes.bytes in
     let said = Data (record { 0 = n }) (chunk Plain bytes) in

@@ -20,11 +20,11 @@ returns-in_err-number c = λ there same.
       refl,
     ))
 
-pub returns-then-not-is_there : goal.returns-then-not-is_there
-returns-then-not-is_there c = λ there same.
+pub returns-then-not-is_established : goal.returns-then-not-is_established
+returns-then-not-is_established c = λ there same.
     let n = c.in_ok-number.number in
     let rest = c.u32.new.self.left in
-    let no = sym (c.is_there.ensures ∙ same n) ∙ c.if-not-is_there.true in
+    let no = sym (c.is_established.ensures ∙ same n) ∙ c.if-not-is_established.true in
     inl (
       (n, tt),
       rest,
@@ -38,7 +38,7 @@ pub returns-in_err-code : goal.returns-in_err-code
 returns-in_err-code c = λ there same.
     let n = c.in_ok-number.number in
     let rest = c.u32.new.self.left in
-    let yes = sym (c.is_there.ensures ∙ same n) ∙ c.if-not-is_there.false in
+    let yes = sym (c.is_established.ensures ∙ same n) ∙ c.if-not-is_established.false in
     let why = c.in_err-code.field-0.0 in
     misread (extended_data there) c.args.fields.now _ _
     c.from_residual-in_err-code.ensures.1 (inl (
@@ -59,7 +59,7 @@ pub returns-in_err-sent : goal.returns-in_err-sent
 returns-in_err-sent c = λ there same.
     let n = c.in_ok-number.number in
     let rest = c.u32.new.self.left in
-    let yes = sym (c.is_there.ensures ∙ same n) ∙ c.if-not-is_there.false in
+    let yes = sym (c.is_established.ensures ∙ same n) ∙ c.if-not-is_established.false in
     let why = c.in_err-sent.field-0.0 in
     misread (extended_data there) c.args.fields.now _ _
     c.from_residual-in_err-sent.ensures.1 (inl (
@@ -82,7 +82,7 @@ pub returns-in_err-end : goal.returns-in_err-end
 returns-in_err-end c = λ there same.
     let n = c.in_ok-number.number in
     let rest = c.u32.new.self.left in
-    let yes = sym (c.is_there.ensures ∙ same n) ∙ c.if-not-is_there.false in
+    let yes = sym (c.is_established.ensures ∙ same n) ∙ c.if-not-is_established.false in
     let why = c.in_err-end.field-0.0 in
     let code = c.in_ok-code.code in
     let sent = c.in_ok-sent.sent.now in
@@ -111,7 +111,7 @@ pub returns-in_err-bytes : goal.returns-in_err-bytes
 returns-in_err-bytes c = λ there same.
     let n = c.in_ok-number.number in
     let rest = c.u32.new.self.left in
-    let yes = sym (c.is_there.ensures ∙ same n) ∙ c.if-not-is_there.false in
+    let yes = sym (c.is_established.ensures ∙ same n) ∙ c.if-not-is_established.false in
     let code = c.in_ok-code.code in
     let sent = c.in_ok-sent.sent.now in
     let said = Data (record { 0 = n }) (chunk (Extended code) sent) in
@@ -136,7 +136,7 @@ pub returns : goal.returns
 returns c = λ there same.
     let n = c.in_ok-number.number in
     let rest = c.u32.new.self.left in
-    let yes = sym (c.is_there.ensures ∙ same n) ∙ c.if-not-is_there.false in
+    let yes = sym (c.is_established.ensures ∙ same n) ∙ c.if-not-is_established.false in
     let code = c.in_ok-code.code in
     let sent = c.in_ok-sent.sent.now in
     let bytes = c.in_ok-bytes.bytes in

@@ -7,7 +7,7 @@ use Rattle.ssh_rules.specs.Run.{Owes}
 use Rattle.ssh_rules.specs.World.{Settings}
 use Rattle.ssh_session.proofs.Runs.{starts, goes_on, ends, stopped, link_left, limit_reached}
 use Rattle.ssh_session.proofs.Runs.{still_suits, repeating}
-use Rattle.ssh_session.proofs.Stepping.{noted, unchanged_by}
+use Rattle.ssh_session.proofs.Stepping.{noted}
 use Rattle.ssh_session.proofs.run.run_inputs.Goals as goal
 
 pub loop-init : goal.loop-init
@@ -48,40 +48,40 @@ returns-in-Ok-Ended-clause-ran g c = λ settings r repeats.
     ends (g.V.Verifier.accepts c.args.verifier.now) settings _ _ _ _
     (RoseIfKept (g.L.Link.starved c.next.new.self) (g.L.Link.starved c.take.new.outside.link.now)) _
     c.loop.counter
-    c.args.max_inputs c.loop.session c.take.new.self
+    c.args.max_inputs c.loop.session (record c.loop.session { server = c.take.new.server })
     c.commands_wanted.result c.replies_wanted.result c.in_ok-input.input (c.loop.invariant.0 settings r repeats)
     (record {
       took = c.in_ok-input.ensures.took;
       uncalled = refl;
       unstepped = refl;
       asked = c.in_ok-input.ensures.asked;
-      for_commands = c.commands_wanted.ensures.world;
-      for_replies = c.replies_wanted.ensures.world;
+      for_commands = λ w r. c.commands_wanted.ensures.world w r.server;
+      for_replies = λ w r. c.replies_wanted.ensures.world w r.server;
       later = c.next.ensures.later;
     })
     (λ w k set. rw c.in-Ok-Ended.field-0-is at (noted
     (Owes (g.V.Verifier.accepts c.args.verifier.now) w c.in_ok-input.input) _ _
-    c.take.new.self c.take.new.self (Ok c.in-Ok-Ended.field-0)
-    (λ _. unchanged_by c.take.new.self c.take.new.self refl) (c.in-Ok-Ended.ensures.does w k
+    c.take.new.server (record c.loop.session { server = c.take.new.server }) (Ok c.in-Ok-Ended.field-0)
+    (λ _ v q. record { server = q; live = k.live }) (c.in-Ok-Ended.ensures.does w k.server
     (ap (λ s. s.repeatable) set ∙ repeats ∙ sym c.loop.invariant.1)))) c.loop-test.true
 
 pub returns-in-Err-clause-ran : goal.returns-in-Err-clause-ran
 returns-in-Err-clause-ran g c = λ settings r repeats.
     stopped (g.V.Verifier.accepts c.args.verifier.now) settings _ _ _ _ _ _ c.loop.counter
-    c.args.max_inputs c.loop.session c.take.new.self
+    c.args.max_inputs c.loop.session (record c.loop.session { server = c.take.new.server })
     c.commands_wanted.result c.replies_wanted.result c.in_ok-input.input c.in-Err.e (c.loop.invariant.0 settings r repeats)
     (record {
       took = c.in_ok-input.ensures.took;
       uncalled = refl;
       unstepped = refl;
       asked = c.in_ok-input.ensures.asked;
-      for_commands = c.commands_wanted.ensures.world;
-      for_replies = c.replies_wanted.ensures.world;
+      for_commands = λ w r. c.commands_wanted.ensures.world w r.server;
+      for_replies = λ w r. c.replies_wanted.ensures.world w r.server;
       later = c.next.ensures.later;
     })
     (λ w k set. noted (Owes (g.V.Verifier.accepts c.args.verifier.now) w c.in_ok-input.input) _ _
-    c.take.new.self c.take.new.self (Err c.in-Err.e)
-    (λ _. unchanged_by c.take.new.self c.take.new.self refl) (c.in-Err.ensures.does w k
+    c.take.new.server (record c.loop.session { server = c.take.new.server }) (Err c.in-Err.e)
+    (λ _ v q. record { server = q; live = k.live }) (c.in-Err.ensures.does w k.server
     (ap (λ s. s.repeatable) set ∙ repeats ∙ sym c.loop.invariant.1))) c.loop-test.true
     (λ rose. rose_later (g.L.Link.starved c.args.sides.now.link.now)
     (g.L.Link.starved c.next.new.self) (g.L.Link.starved c.take.new.outside.link.now)
@@ -93,34 +93,34 @@ pub loop-preserved : goal.loop-preserved
 loop-preserved g c = (
   λ settings r repeats. goes_on (g.V.Verifier.accepts c.args.verifier.now) settings _ _ _ _
       (RoseIfKept (g.L.Link.starved c.next.new.self) (g.L.Link.starved c.take.new.outside.link.now))
-      c.loop.counter c.loop.session c.take.new.self c.commands_wanted.result
+      c.loop.counter c.loop.session (record c.loop.session { server = c.take.new.server }) c.commands_wanted.result
       c.replies_wanted.result c.in_ok-input.input (c.loop.invariant.0 settings r repeats)
       (record {
         took = c.in_ok-input.ensures.took;
         uncalled = refl;
         unstepped = refl;
         asked = c.in_ok-input.ensures.asked;
-        for_commands = c.commands_wanted.ensures.world;
-        for_replies = c.replies_wanted.ensures.world;
+        for_commands = λ w r. c.commands_wanted.ensures.world w r.server;
+        for_replies = λ w r. c.replies_wanted.ensures.world w r.server;
         later = c.next.ensures.later;
       })
       (λ w k set. rw c.in-Ok-Continue.field-0-is at (noted
       (Owes (g.V.Verifier.accepts c.args.verifier.now) w c.in_ok-input.input) _ _
-      c.take.new.self c.take.new.self (Ok c.in-Ok-Continue.field-0)
-      (λ _. unchanged_by c.take.new.self c.take.new.self refl) (c.in-Ok-Continue.ensures.does w k
+      c.take.new.server (record c.loop.session { server = c.take.new.server }) (Ok c.in-Ok-Continue.field-0)
+      (λ _ v q. record { server = q; live = k.live }) (c.in-Ok-Continue.ensures.does w k.server
       (ap (λ s. s.repeatable) set ∙ repeats ∙ sym c.loop.invariant.1)))),
-  c.in-Ok-Continue.ensures.same.3 ∙ c.loop.invariant.1,
+  c.in-Ok-Continue.ensures.stays.1.3 ∙ c.loop.invariant.1,
   λ settings r repeats.
       let going = c.loop.invariant.0 settings r repeats in
       counted_both (g.L.Link.starved c.args.sides.now.link.now) (g.L.Link.starved c.next.new.self)
       (g.L.Link.starved c.take.new.outside.link.now)
       (counted_both (g.L.Link.starved c.args.sides.now.link.now)
       (g.L.Link.starved c.loop.sides.link.now) (g.L.Link.starved c.next.new.self) (c.loop.invariant.2 settings r repeats)
-      c.next.ensures.counted) (c.in-Ok-Continue.ensures.does going.world going.refines
+      c.next.ensures.counted) (c.in-Ok-Continue.ensures.does going.world going.refines.server
       (ap (λ s. s.repeatable) going.set ∙ repeats ∙ sym c.loop.invariant.1)).2.0.1.counted,
-  c.in-Ok-Continue.ensures.same.0 ∙ c.loop.invariant.3,
-  c.in-Ok-Continue.ensures.same.1 ∙ c.loop.invariant.4,
-  c.in-Ok-Continue.ensures.same.2 ∙ c.loop.invariant.5,
+  c.in-Ok-Continue.ensures.stays.1.0 ∙ c.loop.invariant.3,
+  c.in-Ok-Continue.ensures.stays.1.1 ∙ c.loop.invariant.4,
+  c.in-Ok-Continue.ensures.stays.1.2 ∙ c.loop.invariant.5,
 )
 
 pub returns-clause-ran : goal.returns-clause-ran

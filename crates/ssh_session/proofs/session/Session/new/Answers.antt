@@ -1,21 +1,8 @@
-use Rattle.std.proofs.Common.{rules, refl}
+use Rattle.std.proofs.Common.{refl}
 use Rattle.ssh_session.proofs.session.Session.new.Goals as goal
 
 pub returns-clause-opens : goal.returns-clause-opens
 returns-clause-opens c = λ repeatable. record {
-  config = refl;
-  session_id = search rules;
-  remote_sshid = search rules;
-  state = refl;
-  requested = refl;
-  name = search rules;
-  table = search rules;
-  opens = search rules;
-  no_more_sessions = refl;
-  wanted = refl;
-  outstanding = search rules;
-  keepalives = refl;
-  disconnected = refl;
-  keys = search rules;
+  server = c.in_ok-new.ensures.opens repeatable;
   live = refl;
 }

@@ -1,0 +1,16 @@
+pub mod Serving
+pub mod Handing
+pub mod Finishing
+pub mod Commanding
+pub mod Refining
+pub mod Effects
+pub mod Established
+pub mod Reading
+pub mod Rows
+pub mod Opened
+pub mod OwnOpens
+pub mod Unchanged
+pub mod Greeting
+pub mod Replying
+pub mod Requests
+pub mod Stopping

@@ -1,0 +1,4 @@
+use Rattle.ssh_session.proofs.session.Session.replies_wanted.Goals as goal
+
+pub returns-clause-world : goal.returns-clause-world
+returns-clause-world c = λ w r. c.replies_wanted.ensures.world w r.server
