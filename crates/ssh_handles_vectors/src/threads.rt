@@ -16,7 +16,7 @@ use std::test::*;
 use std::thread::{Threads, join};
 
 /// How often a gate looks before it gives up.
-const LOOKS: u64 = 1_000_000_000;
+const LOOKS: u64 = 10_000_000_000;
 
 // What two threads tell each other: 1 once the first waits for its window, 2 once the second was
 // answered, 3 where one gave up.

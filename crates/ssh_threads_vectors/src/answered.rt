@@ -12,7 +12,7 @@ use ssh_hub_link::HubLink;
 use ssh_link::{ChannelMsg, Link, Refusal};
 use ssh_threads::serve_over;
 use ssh_wire::message::{CHANNEL_OPEN, CHANNEL_REQUEST, GLOBAL_REQUEST};
-use ssh_wire::{ChannelOpenFailure, Text};
+use ssh_wire::{ChannelOpenFailure, Disconnect, Text};
 use std::alloc::Global;
 use std::sync::{Arc, Wait};
 use std::test::*;
@@ -43,7 +43,6 @@ static ROWS: [Row; 5] = [
                 CHANNEL_OPEN,
                 b"\x5c\0\0\0\x02\0\0\0\x09\0\0\0\x02no\0\0\0\x02en",
             ),
-            Step::End,
         ],
         wanted: Err(HandleError::OpenFailed(ChannelOpenFailure::AdministrativelyProhibited)),
     },
@@ -57,7 +56,6 @@ static ROWS: [Row; 5] = [
                 CHANNEL_OPEN,
                 b"\x5c\0\0\0\x02\0\0\0\x02\0\0\0\x02no\0\0\0\x02en",
             ),
-            Step::End,
         ],
         wanted: Err(HandleError::OpenFailed(ChannelOpenFailure::ConnectFailed)),
     },
@@ -68,7 +66,6 @@ static ROWS: [Row; 5] = [
             SERVICE,
             USER,
             Step::Answer(GLOBAL_REQUEST, b"\x52"),
-            Step::End,
         ],
         wanted: Err(HandleError::Denied),
     },
@@ -79,7 +76,6 @@ static ROWS: [Row; 5] = [
             SERVICE,
             USER,
             Step::Answer(GLOBAL_REQUEST, b"\x51\0\0\x0f\xb6"),
-            Step::End,
         ],
         wanted: Ok(Told::Port(4022)),
     },
@@ -97,7 +93,6 @@ static ROWS: [Row; 5] = [
             ),
             Step::Answer(CHANNEL_REQUEST, b"\x64\0\0\0\x02"),
             Step::Answer(CHANNEL_REQUEST, b"\x60\0\0\0\x02"),
-            Step::End,
         ],
         wanted: Ok(Told::Asked {
             is_refused: true,
@@ -218,6 +213,16 @@ fn asks_for_shell<R: Wait>(rt: &R, lock: &HubLock, handle: &mut Handle) -> Resul
     Ok(Told::Asked { is_refused, is_eof })
 }
 
+// Ends the connection, and with it the run. The peer stays until then: a call that still waits when
+// the hub ends may be told of the end in place of the answer.
+fn leaves<R: Wait>(rt: &R, alloc: Global, handle: &mut Handle) -> Result<u64, HandleError>
+    ensures { handle_hub handle.new ≡ handle_hub handle.old }
+{
+    let description = Text::new(alloc, "bye").or(Err(HandleError::NoMemory))?;
+    let language = Text::new(alloc, "").or(Err(HandleError::NoMemory))?;
+    handle.disconnect(rt, Disconnect::ByApplication, description, language)
+}
+
 // The application's part.
 fn calls<R: Wait>(
     rt: &R,
@@ -228,10 +233,14 @@ fn calls<R: Wait>(
 ) -> Result<Told, HandleError>
     requires { handle_hub handle ≡ lock.now }
 {
-    match call {
+    let told = match call {
         Call::Session => opens(rt, &mut handle),
         Call::Forward => forwards(rt, alloc, &mut handle),
         Call::Shell => asks_for_shell(rt, lock, &mut handle),
+    };
+    match leaves(rt, alloc, &mut handle) {
+        Ok(_) => told,
+        Err(e) => Err(e),
     }
 }
 

@@ -10,7 +10,7 @@ use std::test::*;
 use std::thread::Threads;
 
 /// How often each looks for the other's flag before it gives up.
-const LOOKS: u64 = 1_000_000_000;
+const LOOKS: u64 = 10_000_000_000;
 
 // The flag of the peer and that of the gate; whether the gate waited in vain.
 #[derive(Drop)]
