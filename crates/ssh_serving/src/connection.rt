@@ -24,6 +24,8 @@ use ssh_wire::{ChannelId, WireError};
 
 impl Server {
     /// What the message says: one line a message.
+    // (inlined, as `serve_spoken` is, since what it answers is large and would be moved)
+    #[inline(always)]
     pub(crate) fn read_message(
         &self,
         message: ConnectionMessage,
@@ -61,6 +63,7 @@ impl Server {
     }
 
     /// Does what a message says: one line a group of rows.
+    #[inline(always)]
     pub(crate) fn serve_spoken<O: Outside>(
         &mut self,
         outside: &mut O,
