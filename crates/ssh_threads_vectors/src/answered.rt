@@ -62,11 +62,7 @@ static ROWS: [Row; 5] = [
     // REQUEST_FAILURE (RFC 4254 section 4).
     Row {
         call: Call::Forward,
-        steps: &[
-            SERVICE,
-            USER,
-            Step::Answer(GLOBAL_REQUEST, b"\x52"),
-        ],
+        steps: &[SERVICE, USER, Step::Answer(GLOBAL_REQUEST, b"\x52")],
         wanted: Err(HandleError::Denied),
     },
     // REQUEST_SUCCESS with port 4022 (RFC 4254 section 7.1).
