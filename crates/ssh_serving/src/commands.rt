@@ -48,6 +48,7 @@ impl Done {
 
 impl Server {
     /// A command from outside, or a reply to an open: its ticket is answered.
+    #[inline(always)]
     pub fn serve_command<O: Outside>(
         &mut self,
         outside: &mut O,

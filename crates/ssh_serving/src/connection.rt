@@ -15,16 +15,15 @@ use ssh_auth::Happening;
 use ssh_channels::{Adjusted, Chunk};
 use ssh_link::{ChannelMsg, Notice};
 use ssh_messages::{
-    close_message, data_message, data_told, extended_data_message, failure_message,
+    close_message, data_message, data_told, eof_message, extended_data_message, failure_message,
     global_request_message, grant_message, open_failure_message, request_message, success_message,
-    tells_message,
 };
 use ssh_rules::{ConnectionMessage, Outstanding, RunError, Spoken};
 use ssh_wire::{ChannelId, WireError};
 
 impl Server {
     /// What the message says: one line a message.
-    // (inlined, as `serve_spoken` is, since what it answers is large and would be moved)
+    // (inlined, as what serves it is, since what it answers is large and would be moved)
     #[inline(always)]
     pub(crate) fn read_message(
         &self,
@@ -46,7 +45,7 @@ impl Server {
                 &self.table,
                 fields,
             ),
-            ConnectionMessage::Eof => tells_message(fields, ChannelMsg::Eof, Happening::Eof),
+            ConnectionMessage::Eof => eof_message(fields),
             ConnectionMessage::Close => close_message(fields),
             ConnectionMessage::Request => request_message(self.alloc, &self.table, fields),
         }
@@ -150,6 +149,7 @@ impl Server {
 
     /// Data come in: those that are larger than the room are dropped. Both are told of the others,
     /// and the handler is asked for the next window where the room was filled up.
+    #[inline(always)]
     fn peer_data<O: Outside>(
         &mut self,
         outside: &mut O,
@@ -162,16 +162,13 @@ impl Server {
     {
         let target = self.table.target(channel);
         let sent = piece.bytes.as_slice();
-        match self.table.adjust_window_size(channel, sent, target)? {
-            Adjusted::Dropped => Ok(()),
-            Adjusted::Kept => {
-                let (message, happening) = data_told(piece)?;
-                self.tell(outside, None, channel, None, message, happening)
-            }
-            Adjusted::Granted(_) => {
-                let (message, happening) = data_told(piece)?;
-                self.tell(outside, None, channel, Some(target), message, happening)
-            }
-        }
+        let filled = match self.table.adjust_window_size(channel, sent, target)? {
+            Adjusted::Dropped => return Ok(()),
+            Adjusted::Kept => None,
+            Adjusted::Granted(_) => Some(target),
+        };
+        let copy = piece.bytes.clone()?;
+        let (message, happening) = data_told(piece, copy);
+        self.tell(outside, None, channel, filled, message, happening)
     }
 }

@@ -289,6 +289,7 @@ impl Server {
     /// Tells a message of a channel: its user by a notice, and the handler by a callback. It is the
     /// request `at`, where there is one. Between both the handler is asked for the next window,
     /// where the room was filled up to `filled` bytes.
+    #[inline(always)]
     pub(crate) fn tell<O: Outside>(
         &mut self,
         outside: &mut O,

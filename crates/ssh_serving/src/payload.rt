@@ -10,7 +10,7 @@ ghost use Rattle.ssh_serving.specs.Serve.{Stays, Refines, IsSuited};
 use crate::Server;
 use crate::outside::Outside;
 use ssh_keys::Verifier;
-use ssh_rules::{Flow, Gate, Passage, RunError, payload_gate};
+use ssh_rules::{ConnectionMessage, Flow, Gate, Passage, RunError, payload_gate};
 use ssh_wire::fields_of;
 
 /// How many keepalive ticks count behind this payload: one that is not empty is a sign of life.
@@ -63,6 +63,12 @@ impl Server {
                 Gate::ChannelOpen => self.serve_channel_open(outside, fields_of(payload)),
                 Gate::OpenConfirmation => {
                     self.serve_open_confirmation(outside, fields_of(payload))
+                }
+                // (as the next, by itself: data come most, and what the others say is larger to move)
+                Gate::Connection(ConnectionMessage::Data) => {
+                    let spoken = self.read_message(ConnectionMessage::Data, fields_of(payload))?;
+                    self.serve_spoken(outside, spoken)?;
+                    Ok(Flow::Continue)
                 }
                 Gate::Connection(message) => {
                     let spoken = self.read_message(message, fields_of(payload))?;

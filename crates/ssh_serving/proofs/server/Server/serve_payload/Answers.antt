@@ -1,10 +1,11 @@
-use Rattle.std.proofs.Common.{◌∷◌, [], Ok, Err, refl, subst, inl, drop}
+use Rattle.std.proofs.Common.{◌∷◌, ◌∙◌, [], Ok, Err, ap, refl, sym, subst, inl, drop}
 use Rattle.ssh_auth.specs.Plan.{Finish}
 use Rattle.ssh_rules.specs.declared.error.Flow.{Flow}
 use Rattle.ssh_rules.specs.declared.error.Flow.TheVariants.{Continue, Ended}
 use Rattle.ssh_rules.specs.declared.exchange.Passage.TheVariants as passage
 use Rattle.ssh_rules.specs.declared.gate.Gate.TheVariants as gate
 use Rattle.ssh_rules.specs.Acts.{Exchanges, Stepping, acts}
+use Rattle.ssh_rules.specs.declared.messages.ConnectionMessage.TheVariants.{Data}
 use Rattle.ssh_rules.specs.Messages.{message_layout}
 use Rattle.ssh_rules.specs.Spelling.{IsRead}
 use Rattle.ssh_rules.specs.Outcome.{Goes}
@@ -274,6 +275,69 @@ returns-in-OpenConfirmation-clause-does g c = λ w r.
     (passage_same _ v payload _ q c.in-Passes.ensures.passage)
     (gate_same _ v payload _ q c.in-OpenConfirmation.ensures.gate) served.1 served.2
 
+pub returns-in_err-spoken-in-Connection-Data-clause-does :
+    goal.returns-in_err-spoken-in-Connection-Data-clause-does
+returns-in_err-spoken-in-Connection-Data-clause-does g c = λ w r.
+    let payload = c.args.payload.now in
+    let old = c.args.self.now in
+    let v = hears payload w in
+    let q = heard_by old c.ticks_behind-self.result c.admit.new.self _ w payload
+    c.ticks_behind-self.ensures c.in-Passes.ensures.keys r in
+    let served = unserved v c.args.moment (message_layout v Data)
+    (drop 1 payload) c.in_err-spoken-in-Connection-Data.field-0.0
+    (g.O.Transport.heard c.args.outside.now) _ _
+    c.from_residual-in_err-spoken-in-Connection-Data.result
+    c.from_residual-in_err-spoken-in-Connection-Data.ensures.1 refl
+    (subst (λ l. IsRead (message_layout v Data) l
+    (Err c.in_err-spoken-in-Connection-Data.field-0.0)) c.fields_of-in-Connection-Data.ensures
+    (c.in_err-spoken-in-Connection-Data.ensures v q)) in
+    read_row (g.V.Verifier.accepts c.args.verifier.now) v c.args.moment payload
+    (gate.Connection Data) (said_of Connection served.0) _ _ _ _
+    (passage_same _ v payload _ q c.in-Passes.ensures.passage)
+    (sym (ap gate.Connection c.in-Connection-Data.field-0-is)
+    ∙ gate_same _ v payload _ q c.in-Connection-Data.ensures.gate) (served.0, served.1, refl) served.2
+
+pub returns-in_err-serve_spoken-in-Connection-Data-clause-does :
+    goal.returns-in_err-serve_spoken-in-Connection-Data-clause-does
+returns-in_err-serve_spoken-in-Connection-Data-clause-does g c = λ w r.
+    let payload = c.args.payload.now in
+    let old = c.args.self.now in
+    let v = hears payload w in
+    let q = heard_by old c.ticks_behind-self.result c.admit.new.self _ w payload
+    c.ticks_behind-self.ensures c.in-Passes.ensures.keys r in
+    let said = c.in_ok-spoken-in-Connection-Data.spoken in
+    read_row (g.V.Verifier.accepts c.args.verifier.now) v c.args.moment payload
+    (gate.Connection Data) (Connection said) _ _ c.serve_spoken.new.self _
+    (passage_same _ v payload _ q c.in-Passes.ensures.passage)
+    (sym (ap gate.Connection c.in-Connection-Data.field-0-is)
+    ∙ gate_same _ v payload _ q c.in-Connection-Data.ensures.gate)
+    (Ok said, rw c.fields_of-in-Connection-Data.ensures at (c.in_ok-spoken-in-Connection-Data.ensures v q), refl)
+    (passed (row v c.args.moment (Connection said)) (λ (_ : Unit {0}) world. Finish (Goes world))
+    (λ (flow : Flow) world. Finish (comes flow world)) _ _
+    c.serve_spoken.new.self c.serve_spoken.new.self _ _
+    c.from_residual-in_err-serve_spoken-in-Connection-Data.ensures.1
+    (completes (spoken_acts v said) v _ _ c.serve_spoken.new.self
+    (Err c.in_err-serve_spoken-in-Connection-Data.field-0.0)
+    (c.in_err-serve_spoken-in-Connection-Data.ensures.does v q)))
+
+pub returns-in_ok-serve_spoken-in-Connection-Data-clause-does :
+    goal.returns-in_ok-serve_spoken-in-Connection-Data-clause-does
+returns-in_ok-serve_spoken-in-Connection-Data-clause-does g c = λ w r.
+    let payload = c.args.payload.now in
+    let old = c.args.self.now in
+    let v = hears payload w in
+    let q = heard_by old c.ticks_behind-self.result c.admit.new.self _ w payload
+    c.ticks_behind-self.ensures c.in-Passes.ensures.keys r in
+    let said = c.in_ok-spoken-in-Connection-Data.spoken in
+    read_row (g.V.Verifier.accepts c.args.verifier.now) v c.args.moment payload
+    (gate.Connection Data) (Connection said) _ _ c.serve_spoken.new.self (Ok Continue)
+    (passage_same _ v payload _ q c.in-Passes.ensures.passage)
+    (sym (ap gate.Connection c.in-Connection-Data.field-0-is)
+    ∙ gate_same _ v payload _ q c.in-Connection-Data.ensures.gate)
+    (Ok said, rw c.fields_of-in-Connection-Data.ensures at (c.in_ok-spoken-in-Connection-Data.ensures v q), refl)
+    (goes_on (spoken_acts v said) v _ _ c.serve_spoken.new.self
+    (c.in_ok-serve_spoken-in-Connection-Data.ensures.does v q))
+
 pub returns-in_err-spoken-in-Connection-clause-does :
     goal.returns-in_err-spoken-in-Connection-clause-does
 returns-in_err-spoken-in-Connection-clause-does g c = λ w r.
@@ -305,15 +369,15 @@ returns-in_err-serve_spoken-in-Connection-clause-does g c = λ w r.
     c.ticks_behind-self.ensures c.in-Passes.ensures.keys r in
     let said = c.in_ok-spoken-in-Connection.spoken in
     read_row (g.V.Verifier.accepts c.args.verifier.now) v c.args.moment payload
-    (gate.Connection c.in-Connection.message) (Connection said) _ _ c.serve_spoken.new.self _
+    (gate.Connection c.in-Connection.message) (Connection said) _ _ c.serve_spoken-in-Connection.new.self _
     (passage_same _ v payload _ q c.in-Passes.ensures.passage)
     (gate_same _ v payload _ q c.in-Connection.ensures.gate)
     (Ok said, rw c.fields_of-in-Connection.ensures at (c.in_ok-spoken-in-Connection.ensures v q), refl)
     (passed (row v c.args.moment (Connection said)) (λ (_ : Unit {0}) world. Finish (Goes world))
     (λ (flow : Flow) world. Finish (comes flow world)) _ _
-    c.serve_spoken.new.self c.serve_spoken.new.self _ _
+    c.serve_spoken-in-Connection.new.self c.serve_spoken-in-Connection.new.self _ _
     c.from_residual-in_err-serve_spoken-in-Connection.ensures.1
-    (completes (spoken_acts v said) v _ _ c.serve_spoken.new.self
+    (completes (spoken_acts v said) v _ _ c.serve_spoken-in-Connection.new.self
     (Err c.in_err-serve_spoken-in-Connection.field-0.0)
     (c.in_err-serve_spoken-in-Connection.ensures.does v q)))
 
@@ -327,9 +391,9 @@ returns-in_ok-serve_spoken-in-Connection-clause-does g c = λ w r.
     c.ticks_behind-self.ensures c.in-Passes.ensures.keys r in
     let said = c.in_ok-spoken-in-Connection.spoken in
     read_row (g.V.Verifier.accepts c.args.verifier.now) v c.args.moment payload
-    (gate.Connection c.in-Connection.message) (Connection said) _ _ c.serve_spoken.new.self (Ok Continue)
+    (gate.Connection c.in-Connection.message) (Connection said) _ _ c.serve_spoken-in-Connection.new.self (Ok Continue)
     (passage_same _ v payload _ q c.in-Passes.ensures.passage)
     (gate_same _ v payload _ q c.in-Connection.ensures.gate)
     (Ok said, rw c.fields_of-in-Connection.ensures at (c.in_ok-spoken-in-Connection.ensures v q), refl)
-    (goes_on (spoken_acts v said) v _ _ c.serve_spoken.new.self
+    (goes_on (spoken_acts v said) v _ _ c.serve_spoken-in-Connection.new.self
     (c.in_ok-serve_spoken-in-Connection.ensures.does v q))
